@@ -1,0 +1,4 @@
+-- Lemmas on terms and arenas.
+pub mod Equality
+pub mod Parts
+pub mod Arenas

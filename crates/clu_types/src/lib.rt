@@ -1,0 +1,10 @@
+//! Types as numbered terms: two types are equal exactly where their numbers are.
+//! Beside the arena of types stand the parts of a module's specification, which are written over them.
+#![tactic(auto)]
+
+mod arena;
+mod term;
+
+pub use arena::TypeArena;
+pub use clu_base::{Const, ObjConst};
+pub use term::{Actual, Exception, Field, Heading, Term, TypeId};
