@@ -30,7 +30,7 @@ pub join3 : {A B C D : Type 0} (f : A → B → C → D) {a a' : A} {b b' : B} {
 join3 f p q r = cc
 
 -- lists are compared item by item
-items : {A : Type 0} {E : A → A → Bool} → ((a b : A) → Decides (E a b) (a ≡ b)) → (xs ys : List A) → Decides (pointwise E xs ys) (xs ≡ ys)
+pub items : {A : Type 0} {E : A → A → Bool} → ((a b : A) → Decides (E a b) (a ≡ b)) → (xs ys : List A) → Decides (pointwise E xs ys) (xs ≡ ys)
 items same xs ys = slice_eq-Decides same xs ys _ refl
 
 pub same_id : (a b : TypeId) → Decides ((ids.ghosts).eq a b) (a ≡ b)

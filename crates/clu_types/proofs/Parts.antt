@@ -19,11 +19,11 @@ module _ (m n : ℕ) (le : m ≤ n) where
   ids_more [] b = tt
   ids_more (id ∷ ids) b = (omega arith, ids_more ids b.1)
 
-  fields_more : (fs : List Field) → FieldsBelow m fs → FieldsBelow n fs
+  pub fields_more : (fs : List Field) → FieldsBelow m fs → FieldsBelow n fs
   fields_more [] b = tt
   fields_more (f ∷ fs) b = (omega arith, fields_more fs b.1)
 
-  signals_more : (ss : List Exception) → SignalsBelow m ss → SignalsBelow n ss
+  pub signals_more : (ss : List Exception) → SignalsBelow m ss → SignalsBelow n ss
   signals_more [] b = tt
   signals_more (s ∷ ss) b = (ids_more s.objects b.0, signals_more ss b.1)
 
@@ -117,7 +117,7 @@ module _ (ks : List CluType) (n : ℕ) (distinct : (a b : TypeId) → a.0 < n �
   fields_back [] (y ∷ ys) p q e = cc
   fields_back (x ∷ xs) [] p q e = cc
 
-  signal_back : (s t : Exception) → AreBelow n s.objects → AreBelow n t.objects → s.name ≡ t.name → types_at ks s.objects ≡ types_at ks t.objects → s ≡ t
+  pub signal_back : (s t : Exception) → AreBelow n s.objects → AreBelow n t.objects → s.name ≡ t.name → types_at ks s.objects ≡ types_at ks t.objects → s ≡ t
   signal_back s t p q e h =
       join (λ (x : List ℕ) (ids : List TypeId). let s : Exception = record { name = x; objects = ids } in s) e (ids_back s.objects t.objects p q h)
 

@@ -13,7 +13,7 @@ use std::marker::Model;
 /// Types by number. Equal numbers are equal types, and equal types have one number.
 #[derive(Drop)]
 pub struct TypeArena {
-    terms: IndexSet<Term>,
+    pub(crate) terms: IndexSet<Term>,
 }
 
 impl Model for TypeArena {

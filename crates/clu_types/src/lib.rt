@@ -2,7 +2,11 @@
 //! Beside the arena of types stand the parts of a module's specification, which are written over them.
 #![tactic(auto)]
 
+mod actuals;
 mod arena;
+mod carry;
+mod included;
+
 mod term;
 
 pub use arena::TypeArena;
