@@ -4,7 +4,7 @@ use borrow.Author.Tests.{ltb-true, ltb-false}
 use Rattle.std.proofs.Math.Dec.{ltb}
 use Rattle.std.specs.Bool.{Decides}
 use Rattle.std.specs.List.{list_any}
-use Rattle.std.proofs.lemmas.List.{append-nil, length-take}
+use Rattle.std.proofs.lemmas.List.{append-nil, length-take, take_more, get_or-take}
 use Rattle.std.proofs.lemmas.List.Sums.{fold-append}
 use Rattle.std.proofs.lemmas.List.Folds.{list_any_at}
 use Rattle.std.proofs.lemmas.Option.{get_or_from_slice_get, slice_get-get_or}
@@ -59,7 +59,7 @@ read_seam : (front rest : List Term) (t : Term) → PartsBelow (length front) t
 read_seam front rest t b =
     let inside : length front < length (front ++ t ∷ []) = omega (arith, length-append front (t ∷ [])) in
     let at_end : get_or (types_of front ++ type_of (types_of front) t ∷ []) (length front) null_type ≡ type_of (types_of front) t =
-        rw (← length-types_of front) (get_or-append_seam (types_of front) (type_of (types_of front) t) [] null_type) in
+    rw (← length-types_of front) (get_or-append_seam (types_of front) (type_of (types_of front) t) [] null_type) in
     ap (λ (xs : List Term). type_at (types_of xs) (number (length front))) (sym (append_assoc front (t ∷ []) rest))
     ∙ types_kept (front ++ t ∷ []) rest (number (length front)) inside
     ∙ ap (λ (ks : List CluType). type_at ks (number (length front))) (types_of-push front t)
@@ -90,9 +90,9 @@ distinct_below ts arena (suc n) le a b p q e =
     let below_a = parts_more a.0 n (omega arith) (get_or ts a.0 d) (arena.parts a.0 d in_a) in
     let below_b = parts_more b.0 n (omega arith) (get_or ts b.0 d) (arena.parts b.0 d in_b) in
     let alike : type_of (types_of ts) (get_or ts a.0 d) ≡ type_of (types_of ts) (get_or ts b.0 d) =
-        sym (type_read ts arena a d in_a) ∙ e ∙ type_read ts arena b d in_b in
+    sym (type_read ts arena a d in_a) ∙ e ∙ type_read ts arena b d in_b in
     same_number a b (arena.once a.0 b.0 d in_a in_b
-        (term_back (types_of ts) n (distinct_below ts arena n (omega arith)) _ _ below_a below_b alike))
+    (term_back (types_of ts) n (distinct_below ts arena n (omega arith)) _ _ below_a below_b alike))
 
 pub distinct : (ts : List Term) → IsArena ts → (a b : TypeId) → a.0 < length ts → b.0 < length ts → type_at (types_of ts) a ≡ type_at (types_of ts) b → a ≡ b
 distinct ts arena = distinct_below ts arena (length ts) (omega arith)
@@ -117,8 +117,8 @@ push_arena ts t arena b fresh = record { parts = parts; once = once }
     once : (i j : ℕ) (d : Term) → i < length (ts ++ t ∷ []) → j < length (ts ++ t ∷ []) → get_or (ts ++ t ∷ []) i d ≡ get_or (ts ++ t ∷ []) j d → i ≡ j
     once i j d p q e =
         elim (item ts t i d p) [
-          inl h ↦ elim (item ts t j d q) [ inl k ↦ arena.once i j d h.0 k.0 (sym h.1 ∙ e ∙ k.1) | inr k ↦ absurd (fresh i d h.0 (sym h.1 ∙ e ∙ k.1)) ]
-        | inr h ↦ elim (item ts t j d q) [ inl k ↦ absurd (fresh j d k.0 (sym k.1 ∙ sym e ∙ h.1)) | inr k ↦ h.0 ∙ sym k.0 ]
+          | inl h ↦ elim (item ts t j d q) [ inl k ↦ arena.once i j d h.0 k.0 (sym h.1 ∙ e ∙ k.1) | inr k ↦ absurd (fresh i d h.0 (sym h.1 ∙ e ∙ k.1)) ]
+          | inr h ↦ elim (item ts t j d q) [ inl k ↦ absurd (fresh j d k.0 (sym k.1 ∙ sym e ∙ h.1)) | inr k ↦ h.0 ∙ sym k.0 ]
         ]
 
 pub insert_arena : (eq : Term → Term → Bool) → ((x y : Term) → Decides (eq x y) (x ≡ y)) → (ts : List Term) (t : Term) → IsArena ts → PartsBelow (length ts) t → IsArena (insert_key eq ts t)
@@ -148,3 +148,23 @@ type_grown old new t id arena grows b found lt =
 pub equal_ids : (ts : List Term) → IsArena ts → (a b : TypeId) → a.0 < length ts → b.0 < length ts → (r : Bool) → Decides r (a ≡ b)
     → (IsTrue r → type_at (types_of ts) a ≡ type_at (types_of ts) b) × (type_at (types_of ts) a ≡ type_at (types_of ts) b → IsTrue r)
 equal_ids ts arena a b p q r same = (λ e. ap (type_at (types_of ts)) (same.0 e), λ e. same.1 (distinct ts arena a b p q e))
+
+pub insert_adds : (eq : Term → Term → Bool) (ts : List Term) (t : Term) → (insert_key eq ts t ≡ ts) ⊎ (insert_key eq ts t ≡ ts ++ t ∷ [])
+insert_adds eq ts t = by (list_any (eq t) ts) refl
+  where
+    by : (found : Bool) → list_any (eq t) ts ≡ found → (insert_key eq ts t ≡ ts) ⊎ (insert_key eq ts t ≡ ts ++ t ∷ [])
+    by true e = inl (rw e refl)
+    by false e = inr (rw e refl)
+
+-- the next term of an arena is none of those before it, so interning it adds it
+pub next_added : (ts new : List Term) → IsArena ts → (i : ℕ) (t : Term) (id : TypeId) → i < length ts → t ≡ get_or ts i t
+    → (new ≡ take i ts) ⊎ (new ≡ take i ts ++ t ∷ []) → slice_get new id.0 ≡ Some t → id.0 < length new → new ≡ take (i + 1) ts
+next_added ts new arena i t id lt is added found within = elim added [ inl e ↦ absurd (there e) | inr e ↦ e ∙ ap (λ (x : Term). take i ts ++ x ∷ []) is ∙ sym (take_more ts i t lt) ]
+  where
+    there : new ≡ take i ts → ⊥
+    there e =
+        let front : id.0 < i = omega (arith, ap (λ (x : List Term). length x) e, length-take i ts) in
+        let inside : id.0 < length ts = omega arith in
+        let read : get_or ts id.0 t ≡ t = sym (get_or-take i ts id.0 t front) ∙ ap (λ (x : List Term). get_or x id.0 t) (sym e) ∙ get_or_from_slice_get new id.0 t t found in
+        let same : id.0 ≡ i = arena.once id.0 i t inside lt (read ∙ is) in
+        omega arith

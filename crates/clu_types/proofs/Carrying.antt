@@ -42,15 +42,14 @@ module _ {X D : Type 0} (at : List CluType → List X → D) (put : Actuals → 
     (below-append : (n : ℕ) (xs ys : List X) → below n xs → below n ys → below n (xs ++ ys))
     (more : (m n : ℕ) → m ≤ n → (xs : List X) → below m xs → below n xs)
     (same : (ks ls : List CluType) (n : ℕ) → ((id : TypeId) → id.0 < n → type_at ks id ≡ type_at ls id) → (xs : List X) → below n xs → at ks xs ≡ at ls xs) where
-
   turn : Turn at put below
   turn old new newer source given xs made i x y d lt is b h g in_y e =
       let longer = length_grows new newer g in
       let g_old : Actuals = actuals_at (types_of old) given in
       let front : at (types_of newer) made ≡ put g_old (at source (take i xs)) =
-          same (types_of newer) (types_of new) (length new) (types_grown new newer g) made h.within ∙ h.of_types in
+      same (types_of newer) (types_of new) (length new) (types_grown new newer g) made h.within ∙ h.of_types in
       let last : at (types_of newer) (y ∷ []) ≡ put g_old (at source (x ∷ [])) =
-          e ∙ ap (λ (g : Actuals). put g (at source (x ∷ []))) (actuals_grown old new h.grows given b) in
+      e ∙ ap (λ (g : Actuals). put g (at source (x ∷ []))) (actuals_grown old new h.grows given b) in
       let done : take (i + 1) xs ≡ take i xs ++ x ∷ [] = take_more xs i d lt ∙ ap (λ (z : X). take i xs ++ z ∷ []) (sym is) in
       record {
         grows = grows_on old new newer h.grows g;
@@ -61,7 +60,7 @@ module _ {X D : Type 0} (at : List CluType → List X → D) (put : Actuals → 
             ∙ (ap (λ (d : D). both (put g_old (at source (take i xs))) d) last
             ∙ (sym (put-both g_old (at source (take i xs)) (at source (x ∷ [])))
             ∙ (ap (put g_old) (sym (at-append source (take i xs) (x ∷ [])))
-            ∙ ap (λ (d : List X). put g_old (at source d)) (sym done)))))
+            ∙ ap (λ (d : List X). put g_old (at source d)) (sym done)))));
       }
 
 -- types
@@ -220,5 +219,5 @@ heading_carried s0 s1 s2 s3 given args results signals a b c g1 g2 g3 in_given i
       args_of = types_same (types_of s3) (types_of s1) (length s1) (types_grown s1 s3 g13) args in_args ∙ e;
       results_of = types_same (types_of s3) (types_of s2) (length s2) (types_grown s2 s3 g3) results in_results ∙ f ∙ ap (λ (g : Actuals). types_substituted g b) (actuals_grown s0 s1 g1 given in_given);
       signals_of = h ∙ ap (λ (g : Actuals). signals_substituted g c) (actuals_grown s0 s2 g02 given in_given);
-      within = (ids_grown s1 s3 g13 args in_args, ids_grown s2 s3 g3 results in_results, in_signals)
+      within = (ids_grown s1 s3 g13 args in_args, ids_grown s2 s3 g3 results in_results, in_signals);
     }

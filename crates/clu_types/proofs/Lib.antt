@@ -6,3 +6,4 @@ pub mod PutIn
 pub mod Carrying
 pub mod Identity
 pub mod Inclusion
+pub mod Ascending

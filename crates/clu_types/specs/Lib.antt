@@ -5,3 +5,4 @@ pub mod Included
 pub mod Substituted
 pub mod Actual
 pub mod Narrower
+pub mod Specs

@@ -1,7 +1,7 @@
 //! The arena of types. A type is a term whose parts are numbers of earlier terms, and a term that was
 //! interned before is found again by its hash.
 
-ghost use Rattle.std.specs.Prelude.{◌≡◌, ◌↔◌, ◌<◌, ◌≤◌, [], length, slice_get, IfOk, IsTrue, Some};
+ghost use Rattle.std.specs.Prelude.{◌≡◌, ◌↔◌, ◌<◌, ◌⊎◌, [], ◌∷◌, ◌++◌, length, slice_get, IfOk, OnOk, IsTrue, Some};
 ghost use Rattle.clu_types.specs.Arena.{type_at, type_of, types_of, AreBelow, FieldsBelow, SignalsBelow, ActualBelow, ActualsBelow, HeadingBelow, PartsBelow, Grows};
 
 use crate::term::{Actual, Exception, Field, Heading, Term, TypeId};
@@ -11,7 +11,7 @@ use std::alloc::Global;
 use std::marker::Model;
 
 /// Types by number. Equal numbers are equal types, and equal types have one number.
-#[derive(Drop)]
+#[derive(Debug, Drop)]
 pub struct TypeArena {
     pub(crate) terms: IndexSet<Term>,
 }
@@ -45,6 +45,7 @@ impl TypeArena {
         ensures found { IfOk result (λ id. slice_get self.new id.0 ≡ Some term) }
         ensures within { IfOk result (λ id. id.0 < length self.new) }
         ensures kept { Grows self.old self.new }
+        ensures nothing_else { OnOk result ((self.new ≡ self.old) ⊎ (self.new ≡ self.old ++ term ∷ [])) }
     {
         let (number, _) = self.terms.insert_full(term)?;
         Ok(TypeId(number as u64))
@@ -143,11 +144,17 @@ fn parts_below(term: &Term, n: u64) -> bool
 {
     match term {
         Term::Array(of) | Term::Sequence(of) => of.0 < n,
-        Term::Record(fields) | Term::Struct(fields) | Term::Oneof(fields) | Term::Variant(fields) => {
-            fields_below(fields.as_slice(), n)
-        }
+        Term::Record(fields) | Term::Struct(fields) | Term::Oneof(fields) | Term::Variant(fields) =>
+            { fields_below(fields.as_slice(), n) }
         Term::Proc(heading) | Term::Iter(heading) => heading_below(heading, n),
         Term::Cluster(_, actuals) => actuals_below(actuals.as_slice(), n),
-        Term::Null | Term::Bool | Term::Int | Term::Char | Term::Str | Term::Any | Term::Stream | Term::Param(_) => true,
+        Term::Null
+        | Term::Bool
+        | Term::Int
+        | Term::Char
+        | Term::Str
+        | Term::Any
+        | Term::Stream
+        | Term::Param(_) => true,
     }
 }

@@ -30,7 +30,13 @@ impl TypeArena {
     /// The type that `t` has in the other arena, in this one, with actuals of this one put in for its parameters.
     /// A parameter that has no actual of its kind stays. After want of memory this arena may have grown.
     #[cycle(carry)]
-    pub fn carry(&mut self, alloc: Global, from: &TypeArena, t: TypeId, actuals: &[Actual]) -> Result<TypeId, Memory>
+    pub fn carry(
+        &mut self,
+        alloc: Global,
+        from: &TypeArena,
+        t: TypeId,
+        actuals: &[Actual],
+    ) -> Result<TypeId, Memory>
         requires t_in { t.0 < length from.now }
         requires actuals_in { ActualsBelow (length self.old) actuals.now }
         ensures of_type { IfOk result (λ id. type_at (types_of self.new) id ≡ substituted (actuals_at (types_of self.old) actuals.now) (type_at (types_of from.now) t)) }
@@ -90,7 +96,14 @@ impl TypeArena {
 
     /// Parts of the type `whole` of the other arena, one after another.
     #[cycle(carry)]
-    fn carry_types(&mut self, alloc: Global, from: &TypeArena, ids: &[TypeId], whole: TypeId, actuals: &[Actual]) -> Result<Sequence<TypeId>, Memory>
+    fn carry_types(
+        &mut self,
+        alloc: Global,
+        from: &TypeArena,
+        ids: &[TypeId],
+        whole: TypeId,
+        actuals: &[Actual],
+    ) -> Result<Sequence<TypeId>, Memory>
         requires whole_in { whole.0 < length from.now }
         requires parts { AreBelow whole.0 ids.now }
         requires actuals_in { ActualsBelow (length self.old) actuals.now }
@@ -106,7 +119,14 @@ impl TypeArena {
     }
 
     #[cycle(carry)]
-    fn carry_fields(&mut self, alloc: Global, from: &TypeArena, fields: &[Field], whole: TypeId, actuals: &[Actual]) -> Result<Sequence<Field>, Memory>
+    fn carry_fields(
+        &mut self,
+        alloc: Global,
+        from: &TypeArena,
+        fields: &[Field],
+        whole: TypeId,
+        actuals: &[Actual],
+    ) -> Result<Sequence<Field>, Memory>
         requires whole_in { whole.0 < length from.now }
         requires parts { FieldsBelow whole.0 fields.now }
         requires actuals_in { ActualsBelow (length self.old) actuals.now }
@@ -117,13 +137,23 @@ impl TypeArena {
         let mut made = Vec::new(alloc);
         for field in fields {
             let of = self.carry(alloc, from, field.of, actuals)?;
-            made.push(Field { name: field.name.copy(alloc)?, of })?;
+            made.push(Field {
+                name: field.name.copy(alloc)?,
+                of,
+            })?;
         }
         Ok(Sequence::from_vec(made))
     }
 
     #[cycle(carry)]
-    fn carry_signals(&mut self, alloc: Global, from: &TypeArena, signals: &[Exception], whole: TypeId, actuals: &[Actual]) -> Result<Sequence<Exception>, Memory>
+    fn carry_signals(
+        &mut self,
+        alloc: Global,
+        from: &TypeArena,
+        signals: &[Exception],
+        whole: TypeId,
+        actuals: &[Actual],
+    ) -> Result<Sequence<Exception>, Memory>
         requires whole_in { whole.0 < length from.now }
         requires parts { SignalsBelow whole.0 signals.now }
         requires actuals_in { ActualsBelow (length self.old) actuals.now }
@@ -134,13 +164,23 @@ impl TypeArena {
         let mut made = Vec::new(alloc);
         for signal in signals {
             let objects = self.carry_types(alloc, from, signal.objects.as_slice(), whole, actuals)?;
-            made.push(Exception { name: signal.name.copy(alloc)?, objects })?;
+            made.push(Exception {
+                name: signal.name.copy(alloc)?,
+                objects,
+            })?;
         }
         Ok(Sequence::from_vec(made))
     }
 
     #[cycle(carry)]
-    fn carry_heading(&mut self, alloc: Global, from: &TypeArena, heading: &Heading, whole: TypeId, actuals: &[Actual]) -> Result<Heading, Memory>
+    fn carry_heading(
+        &mut self,
+        alloc: Global,
+        from: &TypeArena,
+        heading: &Heading,
+        whole: TypeId,
+        actuals: &[Actual],
+    ) -> Result<Heading, Memory>
         requires whole_in { whole.0 < length from.now }
         requires parts { HeadingBelow whole.0 heading.now }
         requires actuals_in { ActualsBelow (length self.old) actuals.now }
@@ -153,11 +193,22 @@ impl TypeArena {
         let args = self.carry_types(alloc, from, heading.args.as_slice(), whole, actuals)?;
         let results = self.carry_types(alloc, from, heading.results.as_slice(), whole, actuals)?;
         let signals = self.carry_signals(alloc, from, heading.signals.as_slice(), whole, actuals)?;
-        Ok(Heading { args, results, signals })
+        Ok(Heading {
+            args,
+            results,
+            signals,
+        })
     }
 
     #[cycle(carry)]
-    fn carry_actuals(&mut self, alloc: Global, from: &TypeArena, inner: &[Actual], whole: TypeId, actuals: &[Actual]) -> Result<Sequence<Actual>, Memory>
+    fn carry_actuals(
+        &mut self,
+        alloc: Global,
+        from: &TypeArena,
+        inner: &[Actual],
+        whole: TypeId,
+        actuals: &[Actual],
+    ) -> Result<Sequence<Actual>, Memory>
         requires whole_in { whole.0 < length from.now }
         requires parts { ActualsBelow whole.0 inner.now }
         requires actuals_in { ActualsBelow (length self.old) actuals.now }
@@ -173,7 +224,14 @@ impl TypeArena {
     }
 
     #[cycle(carry)]
-    fn carry_actual(&mut self, alloc: Global, from: &TypeArena, actual: &Actual, whole: TypeId, actuals: &[Actual]) -> Result<Actual, Memory>
+    fn carry_actual(
+        &mut self,
+        alloc: Global,
+        from: &TypeArena,
+        actual: &Actual,
+        whole: TypeId,
+        actuals: &[Actual],
+    ) -> Result<Actual, Memory>
         requires whole_in { whole.0 < length from.now }
         requires parts { ActualBelow whole.0 actual.now }
         requires actuals_in { ActualsBelow (length self.old) actuals.now }

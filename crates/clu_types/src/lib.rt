@@ -5,10 +5,17 @@
 mod actuals;
 mod arena;
 mod carry;
+mod copy;
 mod included;
-
+mod spec;
+mod specs;
 mod term;
 
 pub use arena::TypeArena;
 pub use clu_base::{Const, ObjConst};
+pub use spec::{Demand, Form, OpSpec, ParamKind, Spec};
+pub use specs::Specs;
 pub use term::{Actual, Exception, Field, Heading, Term, TypeId};
+
+#[cfg(test)]
+mod tests;

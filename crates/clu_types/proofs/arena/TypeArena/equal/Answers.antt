@@ -8,4 +8,4 @@ pub returns : goal.returns
 returns c =
     rw (← c.self.view_is)
     (equal_ids _ c.self.invariant c.args.a c.args.b (rw c.self.view_is c.requires.a_in) (rw c.self.view_is c.requires.b_in) c.eq.result
-        (rw c.eq.ensures (same_id c.args.a c.args.b)))
+    (rw c.eq.ensures (same_id c.args.a c.args.b)))
