@@ -2,7 +2,7 @@
 use Rattle.std.proofs.Common.{◌≡◌, ℕ, ◌+◌, ◌<◌, ◌≤◌, zero, suc, List, [], ◌∷◌, ◌++◌, length, take, get_or, refl, sym, ◌∙◌, ap, arith, length-append, append_assoc}
 use Rattle.std.proofs.lemmas.List.{take_more}
 use Rattle.clu_types.specs.CluType.{CluType, CluTypes, no_types, type_and, Fields, no_fields, field_and, Signals, no_signals, signal_and, Actuals, no_actuals, actual_type, actual_const, actual_param}
-use Rattle.clu_types.specs.Arena.{type_at, types_at, fields_at, signals_at, actual_at, actuals_at, types_of, AreBelow, FieldsBelow, SignalsBelow, ActualBelow, ActualsBelow, Grows}
+use Rattle.clu_types.specs.Arena.{type_at, types_at, fields_at, signals_at, actuals_at, types_of, AreBelow, FieldsBelow, SignalsBelow, ActualBelow, ActualsBelow, Grows}
 use Rattle.clu_types.specs.Substituted.{substituted, types_substituted, fields_substituted, signals_substituted, actuals_substituted, constant_put, constant_of_actual}
 use Rattle.clu_types.specs.declared.term.TypeId.{TypeId}
 use Rattle.clu_types.specs.declared.term.Field.{Field}

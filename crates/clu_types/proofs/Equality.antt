@@ -1,5 +1,5 @@
 -- The derived `==` of terms and of their parts says whether they are equal.
-use Rattle.std.proofs.Common.{◌≡◌, ℕ, List, Bool, true, refl, ap}
+use Rattle.std.proofs.Common.{◌≡◌, ℕ, List, Bool, refl, ap}
 use Rattle.std.specs.Bool.{Decides}
 use Rattle.std.proofs.lemmas.Bool.Decides.{Decides-like, Decides-and, Decides-eqb, Decides-int_eq}
 use Rattle.std.specs.Cmp.{booleans_Decides}

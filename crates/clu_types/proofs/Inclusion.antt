@@ -1,5 +1,5 @@
 -- Inclusion of routine types, by the numbers of their parts and by their types.
-use Rattle.std.proofs.Common.{◌≡◌, ℕ, ◌<◌, List, [], ◌∷◌, length, refl, ap, ◌⊎◌, inl, inr, Bool, IsTrue, arith, subst}
+use Rattle.std.proofs.Common.{◌≡◌, ℕ, ◌<◌, List, [], ◌∷◌, length, ap, inl, inr, Bool, IsTrue, arith, subst}
 use Rattle.clu_types.specs.CluType.{CluType}
 use Rattle.clu_types.specs.Arena.{type_at, types_at, signals_at, types_of, AreBelow, SignalsBelow, HeadingBelow, PartsBelow, IsArena, type_of}
 use Rattle.clu_types.specs.Included.{HasSignal, AreAmong, IsNarrower}

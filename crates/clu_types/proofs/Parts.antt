@@ -1,7 +1,6 @@
 -- The type of a term and its parts: it depends on their types alone, and it gives them back.
 use Rattle.std.proofs.Common.{◌≡◌, ℕ, ◌<◌, ◌≤◌, List, [], ◌∷◌, refl, ap, arith}
-use Rattle.clu_base.specs.declared.constants.Const.{Const}
-use Rattle.clu_types.specs.CluType.{CluType, CluTypes, type_and, Fields, field_and, Signals, signal_and, Actuals, actual_type}
+use Rattle.clu_types.specs.CluType.{CluType, Actuals}
 use Rattle.clu_types.specs.Arena.{type_at, types_at, fields_at, signals_at, actual_at, actuals_at, type_of, AreBelow, FieldsBelow, SignalsBelow, ActualBelow, ActualsBelow, HeadingBelow, PartsBelow}
 use Rattle.clu_types.specs.declared.term.TypeId.{TypeId}
 use Rattle.clu_types.specs.declared.term.Field.{Field}

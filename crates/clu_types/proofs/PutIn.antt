@@ -1,5 +1,5 @@
 -- What a parameter becomes, by the actual of its number.
-use Rattle.std.proofs.Common.{◌≡◌, ℕ, ◌<◌, zero, suc, List, [], ◌∷◌, Option, None, Some, slice_get, refl, sym, ◌∙◌, ap}
+use Rattle.std.proofs.Common.{◌≡◌, ℕ, zero, suc, List, [], ◌∷◌, Option, None, Some, slice_get, refl}
 use Rattle.clu_types.specs.CluType.{CluType, parameter, Actuals, actual_const, actual_param}
 use Rattle.clu_types.specs.Arena.{type_at, actuals_at, ActualBelow, ActualsBelow}
 use Rattle.clu_types.specs.Substituted.{type_of_actual, constant_of_actual, type_put, constant_put}

@@ -1,6 +1,6 @@
 -- When an object of one type may stand where another type is wanted.
 use Rattle.std.specs.Prelude.{◌≡◌, ℕ, List, ◌⊎◌}
-use Rattle.clu_types.specs.CluType.{CluType, null_type, bool_type, int_type, char_type, string_type, any_type, stream_type, array_of, sequence_of, record_of, struct_of, oneof_of, variant_of, proc_of, iter_of, cluster_of, parameter, CluTypes, Signals, no_signals, signal_and}
+use Rattle.clu_types.specs.CluType.{CluType, any_type, proc_of, iter_of, CluTypes, Signals, no_signals, signal_and}
 
 -- a signal of this name with these objects is listed
 abbrev pub HasSignal : List ℕ → CluTypes → Signals → Type 0

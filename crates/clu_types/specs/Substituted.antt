@@ -1,7 +1,6 @@
 -- A type with actual parameters put in for the parameters, which are numbered from 1.
 -- A parameter that has no actual of its kind stays.
-use Rattle.std.specs.Prelude.{ℕ, zero, suc, List}
-use Rattle.clu_base.specs.declared.constants.Const.{Const}
+use Rattle.std.specs.Prelude.{ℕ, zero, suc}
 use Rattle.clu_types.specs.CluType.{CluType, null_type, bool_type, int_type, char_type, string_type, any_type, stream_type, array_of, sequence_of, record_of, struct_of, oneof_of, variant_of, proc_of, iter_of, cluster_of, parameter, CluTypes, no_types, type_and, Fields, no_fields, field_and, Signals, no_signals, signal_and, Actuals, no_actuals, actual_type, actual_const, actual_param}
 
 -- the type at a place, from 0, or the other one

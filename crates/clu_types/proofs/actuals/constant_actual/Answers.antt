@@ -1,4 +1,4 @@
-use Rattle.std.proofs.Common.{◌≡◌, Some, None, sym, ◌∙◌, ap}
+use Rattle.std.proofs.Common.{Some, None, sym, ◌∙◌, ap}
 use Rattle.clu_base.specs.declared.constants.Const.{Const}
 use Rattle.clu_types.specs.CluType.{actual_const}
 use Rattle.clu_types.specs.declared.term.Actual.TheVariants as actual

@@ -1,5 +1,4 @@
-use Rattle.std.proofs.Common.{◌≡◌, Some, None, sym, ◌∙◌, ap}
-use Rattle.clu_types.specs.Actual.{nth}
+use Rattle.std.proofs.Common.{Some, None, sym, ◌∙◌, ap}
 use Rattle.clu_types.specs.declared.term.Actual.TheVariants as actual
 use Rattle.clu_types.proofs.PutIn.{type_put-nth, nth_below}
 use Rattle.clu_types.proofs.actuals.type_actual.Goals as goal

@@ -1,6 +1,6 @@
-use Rattle.std.proofs.Common.{◌≡◌, ◌<◌, length, get_or, arith, sym, ◌∙◌, ap, refl}
+use Rattle.std.proofs.Common.{◌<◌, get_or, arith, ap, refl}
 use Rattle.clu_types.specs.CluType.{type_and, no_types, field_and, no_fields, signal_and, no_signals, no_actuals}
-use Rattle.clu_types.specs.Arena.{types_at, types_of, AreBelow, actuals_at}
+use Rattle.clu_types.specs.Arena.{AreBelow}
 use Rattle.clu_types.specs.declared.term.TypeId.{TypeId}
 use Rattle.clu_types.specs.declared.term.Field.{Field}
 use Rattle.clu_types.specs.declared.term.Exception.{Exception}

@@ -1,4 +1,4 @@
-use Rattle.std.proofs.Common.{◌≡◌, ◌∙◌, length, get_or, ap, arith, sym}
+use Rattle.std.proofs.Common.{◌≡◌, ◌∙◌, length, get_or, ap, arith}
 use Rattle.std.proofs.lemmas.List.{length-take-le}
 use Rattle.clu_types.specs.Arena.{IsArena}
 use Rattle.clu_types.proofs.Arenas.{next_added}

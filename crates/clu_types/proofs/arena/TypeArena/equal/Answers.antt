@@ -1,5 +1,3 @@
-use Rattle.std.proofs.Common.{sym, ap, ◌≡◌, true}
-use Rattle.clu_types.specs.contracts.term.TypeIdPartialEq.TheImpl as ids
 use Rattle.clu_types.proofs.Equality.{same_id}
 use Rattle.clu_types.proofs.Arenas.{equal_ids}
 use Rattle.clu_types.proofs.arena.TypeArena.equal.Goals as goal

@@ -1,5 +1,4 @@
 use Rattle.std.proofs.Common.{Some, sym, ◌∙◌, ap}
-use Rattle.clu_types.specs.Arena.{types_of}
 use Rattle.clu_types.specs.contracts.term.TermPartialEq.TheImpl as terms
 use Rattle.clu_types.proofs.Equality.{same_term}
 use Rattle.clu_types.proofs.Arenas.{insert_arena, insert_grows, insert_adds, type_grown}

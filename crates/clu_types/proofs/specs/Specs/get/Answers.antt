@@ -1,4 +1,4 @@
-use Rattle.std.proofs.Common.{◌≡◌, sym, ◌∙◌, ap, Ok, Err}
+use Rattle.std.proofs.Common.{sym, ◌∙◌, ap}
 use Rattle.clu_types.proofs.Ascending.{find_at_place, found_at}
 use Rattle.clu_types.proofs.specs.Specs.get.Goals as goal
 

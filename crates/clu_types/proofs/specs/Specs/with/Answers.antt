@@ -1,4 +1,4 @@
-use Rattle.std.proofs.Common.{◌≡◌, sym, ◌∙◌, ap, subst}
+use Rattle.std.proofs.Common.{sym, ◌∙◌, ap, subst}
 use Rattle.clu_types.specs.Specs.{AreAscending}
 use Rattle.clu_types.proofs.Ascending.{with_at_place, put_at, ascending_with}
 use Rattle.clu_types.proofs.specs.Specs.with.Goals as goal
