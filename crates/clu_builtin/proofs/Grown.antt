@@ -1,15 +1,13 @@
 -- Numbers keep their types while the arena grows, and the lists that are made meanwhile.
 use Rattle.std.proofs.Common.{◌≡◌, ℕ, ◌+◌, ◌<◌, ◌≤◌, List, [], ◌∷◌, ◌++◌, length, take, get_or, refl, ap, sym, ◌∙◌, arith}
 use Rattle.std.proofs.lemmas.List.{take_more}
-use Rattle.clu_types.specs.CluType.{CluType, CluTypes, bool_type, no_types, type_and}
+use Rattle.clu_types.specs.CluType.{CluType, bool_type}
 use Rattle.clu_types.specs.Arena.{type_at, types_at, type_of, types_of, AreBelow, Grows}
 use Rattle.clu_types.specs.declared.term.TypeId.{TypeId}
 use Rattle.clu_types.specs.declared.term.Exception.{Exception}
-use Rattle.clu_types.specs.declared.term.Heading.{Heading}
 use Rattle.clu_types.specs.declared.term.Term.{Term}
 use Rattle.clu_types.specs.declared.term.Term.TheVariants as term
 use Rattle.clu_types.proofs.Arenas.{types_grown}
-use Rattle.clu_types.proofs.Parts.{types_same, ids_more}
 use Rattle.clu_types.proofs.Carrying.{grows_on, length_grows, id_below}
 use Rattle.clu_builtin.specs.Operation.{Needed, comparing, copying, asking}
 use Rattle.clu_builtin.specs.Built.{needs_at, NeedsBelow}
@@ -78,5 +76,5 @@ asks_more op wanted old new newer ids made i d x lt below asks g of_is op_is wit
           needs_at-append (types_of newer) made (x ∷ [])
           ∙ (rw (needs_same new newer g made asks.within, asks.needs, of_type, op_is, wanted_type) refl
           ∙ (sym (asking-push op wanted (types_of old) (take i ids) (get_or ids i d))
-          ∙ ap (λ (xs : List TypeId). asking op wanted (types_at (types_of old) xs)) (sym (take_more ids i d lt))))
+          ∙ ap (λ (xs : List TypeId). asking op wanted (types_at (types_of old) xs)) (sym (take_more ids i d lt))));
     }

@@ -1,6 +1,6 @@
 -- The rows of the code are the rows of the table.
 use Rattle.std.proofs.Common.{◌≡◌, refl}
-use Rattle.clu_types.specs.CluType.{CluType, bool_type, int_type, char_type, string_type, stream_type, array_of, sequence_of, CluTypes, no_types}
+use Rattle.clu_types.specs.CluType.{CluType, bool_type, int_type, char_type, string_type, stream_type, array_of, sequence_of, CluTypes}
 use Rattle.clu_builtin.specs.Operation.{one}
 use Rattle.clu_builtin.specs.Table.{plain_operations, bool_operations, int_operations, char_operations, string_operations, array_operations, sequence_operations, stream_operations, struct_operations, record_operations, struct_selectors, record_selectors, oneof_selectors, variant_selectors}
 use Rattle.clu_builtin.specs.Rows.{table_of}

@@ -1,9 +1,7 @@
 -- What a caller sees of a built-in operation: its heading and needs through the types of the arena.
-use Rattle.std.specs.Prelude.{◌≡◌, ℕ, ◌<◌, List, [], ◌∷◌, Option, None, Some}
-use Rattle.clu_types.specs.CluType.{CluType, bool_type, int_type, char_type, string_type, array_of}
-use Rattle.clu_types.specs.Arena.{type_at, types_at, signals_at, AreBelow, HeadingBelow}
-use Rattle.clu_types.specs.declared.term.TypeId.{TypeId}
-use Rattle.clu_types.specs.declared.term.Exception.{Exception}
+use Rattle.std.specs.Prelude.{ℕ, ◌<◌, List, [], ◌∷◌, Option, None, Some}
+use Rattle.clu_types.specs.CluType.{CluType}
+use Rattle.clu_types.specs.Arena.{type_at, types_at, signals_at, HeadingBelow}
 use Rattle.clu_builtin.specs.declared.needs.Need.{Need}
 use Rattle.clu_builtin.specs.declared.lookup.Builtin.{Builtin}
 use Rattle.clu_builtin.specs.Operation.{Needed, Operation}
@@ -18,7 +16,7 @@ operation_at types b = record {
   args = types_at types b.heading.args;
   results = types_at types b.heading.results;
   signals = signals_at types b.heading.signals;
-  needs = needs_at types b.needs
+  needs = needs_at types b.needs;
 }
 
 abbrev pub found_at : List CluType → Option Builtin → Option Operation

@@ -11,3 +11,6 @@ mod tables;
 
 pub use lookup::{Builtin, heading};
 pub use needs::Need;
+
+#[cfg(test)]
+mod tests;
