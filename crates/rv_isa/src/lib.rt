@@ -1,0 +1,13 @@
+//! RV64IM: its registers, its instructions and their encoding as words, and the image of a program.
+//!
+//! The encoding follows "The RISC-V Instruction Set Manual, Volume I: Unprivileged ISA", chapters
+//! RV32I, RV64I and the M extension.
+#![tactic(auto)]
+
+mod image;
+mod instr;
+mod reg;
+
+pub use image::Image;
+pub use instr::{Instr, Op};
+pub use reg::Reg;
