@@ -1,1 +1,4 @@
 pub mod Image
+pub mod Table
+pub mod Fields
+pub mod Decoded

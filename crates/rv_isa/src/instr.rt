@@ -1,72 +1,8 @@
 //! The instructions of RV64IM by their forms. An instruction's operands stand by name, its immediate
 //! as the number that the machine adds or loads.
 
+use crate::op::Op;
 use crate::reg::Reg;
-
-/// The mnemonics, other than those that are a form of `Instr` alone.
-#[derive(Clone, Copy, Debug, PartialEq, Eq)]
-pub enum Op {
-    Lui,
-    Auipc,
-    Beq,
-    Bne,
-    Blt,
-    Bge,
-    Bltu,
-    Bgeu,
-    Lb,
-    Lh,
-    Lw,
-    Ld,
-    Lbu,
-    Lhu,
-    Lwu,
-    Sb,
-    Sh,
-    Sw,
-    Sd,
-    Addi,
-    Slti,
-    Sltiu,
-    Xori,
-    Ori,
-    Andi,
-    Slli,
-    Srli,
-    Srai,
-    Add,
-    Sub,
-    Sll,
-    Slt,
-    Sltu,
-    Xor,
-    Srl,
-    Sra,
-    Or,
-    And,
-    Mul,
-    Mulh,
-    Mulhsu,
-    Mulhu,
-    Div,
-    Divu,
-    Rem,
-    Remu,
-    Addiw,
-    Slliw,
-    Srliw,
-    Sraiw,
-    Addw,
-    Subw,
-    Sllw,
-    Srlw,
-    Sraw,
-    Mulw,
-    Divw,
-    Divuw,
-    Remw,
-    Remuw,
-}
 
 /// An instruction. `imm` is the immediate after sign extension; of a shift by a constant it is the
 /// amount. LUI's and AUIPC's is the whole 32-bit number, its low 12 bits zero.

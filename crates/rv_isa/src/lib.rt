@@ -4,10 +4,15 @@
 //! RV32I, RV64I and the M extension.
 #![tactic(auto)]
 
+mod decoding;
+mod fields;
 mod image;
 mod instr;
+mod op;
 mod reg;
 
+pub use decoding::decode;
 pub use image::Image;
-pub use instr::{Instr, Op};
+pub use instr::Instr;
+pub use op::Op;
 pub use reg::Reg;

@@ -33,6 +33,14 @@ impl Reg {
         }
     }
 
+    /// The register of a number that is known to be one.
+    pub(crate) fn of(number: u8) -> Reg
+        requires { number < 32 }
+        ensures { result ≡ number }
+    {
+        Reg { number }
+    }
+
     /// The register's number.
     pub fn number(&self) -> u8
         ensures value { result ≡ self.now }
