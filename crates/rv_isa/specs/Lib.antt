@@ -2,3 +2,4 @@ pub mod Image
 pub mod Table
 pub mod Fields
 pub mod Decoded
+pub mod Encoded

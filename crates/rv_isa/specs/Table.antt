@@ -74,11 +74,11 @@ row_of op.Divuw = row Three 0x3b 5 0x01
 row_of op.Remw = row Three 0x3b 6 0x01
 row_of op.Remuw = row Three 0x3b 7 0x01
 
--- the row's numbers fit their fields
+-- the row's numbers fit their fields; bit 31 of no row is set
 pub record HasFields (r : Row) : Type 0 where
   pub opcode : r.opcode < 2 ^ 7
   pub funct3 : r.funct3 < 2 ^ 3
-  pub funct7 : r.funct7 < 2 ^ 7
+  pub funct7 : r.funct7 < 2 ^ 6
 
 -- whether the fields that name the form's instructions are the row's
 abbrev pub is_named : Form → Row → ℕ → ℕ → ℕ → Bool

@@ -5,6 +5,7 @@
 #![tactic(auto)]
 
 mod decoding;
+mod encoding;
 mod fields;
 mod image;
 mod instr;
@@ -12,6 +13,7 @@ mod op;
 mod reg;
 
 pub use decoding::decode;
+pub use encoding::encode;
 pub use image::Image;
 pub use instr::Instr;
 pub use op::Op;
