@@ -10,9 +10,13 @@ use Rattle.rv_isa.specs.declared.instr.Instr.TheVariants.{Upper, Jal, Jalr, Bran
 use Rattle.rv_isa.specs.Table.{row_of, has_row}
 use Rattle.rv_isa.specs.Fields.{opcode_of, rd_of, funct3_of, rs1_of, rs2_of, funct6_of, funct7_of, bits_of, i_imm, s_imm, b_imm, u_imm, j_imm}
 
+-- the mnemonic whose row has these fields: opcode, funct3, funct6 and funct7
+unfoldable pub named_by : ℕ → ℕ → ℕ → ℕ → Option Op
+named_by opcode funct3 funct6 funct7 = find (λ op. has_row (row_of op) opcode funct3 funct6 funct7) OPS
+
 -- the mnemonic whose row has the fields of the word
-unfoldable pub named : ℕ → Option Op
-named w = find (λ op. has_row (row_of op) (opcode_of w) (funct3_of w) (funct6_of w) (funct7_of w)) OPS
+abbrev pub named : ℕ → Option Op
+named w = named_by (opcode_of w) (funct3_of w) (funct6_of w) (funct7_of w)
 
 -- the instruction of a mnemonic of this form in the word
 abbrev pub instr_of : Form → Op → ℕ → Instr

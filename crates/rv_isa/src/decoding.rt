@@ -20,7 +20,7 @@ pub fn decode(w: u32) -> Option<Instr>
 }
 
 /// The mnemonic whose row has the fields of the word.
-#[tactic(auto, unfolding(crate::specs::Decoded::named))]
+#[tactic(auto, unfolding(crate::specs::Decoded::named_by))]
 fn named(w: u32) -> Option<Op>
     ensures { result ≡ name_of w }
 {

@@ -3,6 +3,7 @@
 ghost use Rattle.std.specs.Prelude.{◌≡◌, ◌≤◌, ◌<◌, ◌+◌, ◌*◌, ◌^◌};
 ghost use Rattle.std.specs.Int.{w32, cast_unsigned};
 ghost use Rattle.rv_isa.specs.Table.{HasFields};
+ghost use Rattle.rv_isa.specs.Valid.{IsValid};
 ghost use Rattle.rv_isa.specs.Encoded as words;
 
 use crate::fields::bits_of;
@@ -12,7 +13,7 @@ use crate::reg::Reg;
 
 /// The word of an instruction.
 pub fn encode(i: Instr) -> u32
-    requires { words.IsValid i }
+    requires { IsValid i }
     ensures { result ≡ words.encoded i }
 {
     match i {

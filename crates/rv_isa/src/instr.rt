@@ -4,7 +4,7 @@
 ghost use Rattle.std.specs.Prelude.{◌≡◌, ◌↔◌, ◌<◌, ◌≤◌, ◌%◌, ◌^◌, IsTrue};
 ghost use Rattle.std.specs.Int.{w32, cast_unsigned};
 ghost use Rattle.rv_isa.specs.Table.{row_of};
-ghost use Rattle.rv_isa.specs.Encoded.{IsWithin, IsDistance, FitsForm, IsValid};
+ghost use Rattle.rv_isa.specs.Valid.{IsWithin, IsDistance, IsUpper, FitsForm, IsValid};
 
 use crate::op::{Form, Op};
 use crate::reg::Reg;
@@ -83,7 +83,7 @@ impl Instr {
         ensures { IsTrue result ↔ IsValid self.now }
     {
         match *self {
-            Instr::Upper { op, imm, .. } => is_of(op, Form::Upper) && low_bits(imm, 4096) == 0,
+            Instr::Upper { op, imm, .. } => is_of(op, Form::Upper) && is_upper(imm),
             Instr::Jal { imm, .. } => is_distance(imm, 1 << 20),
             Instr::Branch { op, imm, .. } => is_of(op, Form::Branch) && is_distance(imm, 1 << 12),
             Instr::Load { op, imm, .. } => is_of(op, Form::Load) && is_within(imm, 1 << 11),
@@ -123,6 +123,12 @@ fn is_distance(imm: i32, half: u32) -> bool
     ensures { IsTrue result ↔ IsDistance half imm }
 {
     is_within(imm, half) && low_bits(imm, 2) == 0
+}
+
+fn is_upper(imm: i32) -> bool
+    ensures { IsTrue result ↔ IsUpper imm }
+{
+    low_bits(imm, 1 << 12) == 0
 }
 
 fn fits_form(imm: i32, form: Form) -> bool
