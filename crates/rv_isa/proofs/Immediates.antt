@@ -74,18 +74,18 @@ j_of w =
 
 -- an immediate from its bits
 
-shortened_12 : (z : ℤ) → IsWithin (2 ^ 11) z → sign_extended (2 ^ 11) (cast_unsigned w32 z % 2 ^ 12) ≡ z
+pub shortened_12 : (z : ℤ) → IsWithin (2 ^ 11) z → sign_extended (2 ^ 11) (cast_unsigned w32 z % 2 ^ 12) ≡ z
 shortened_12 (pos n) h = grind (arith, ints)
 shortened_12 (negsuc n) h = grind (arith, ints)
 
-shortened_13 : (z : ℤ) → IsWithin (2 ^ 12) z → sign_extended (2 ^ 12) (cast_unsigned w32 z % 2 ^ 13) ≡ z
+pub shortened_13 : (z : ℤ) → IsWithin (2 ^ 12) z → sign_extended (2 ^ 12) (cast_unsigned w32 z % 2 ^ 13) ≡ z
 shortened_13 (pos n) h = grind (arith, ints)
 shortened_13 (negsuc n) h = grind (arith, ints)
 
-shortened_21 : (z : ℤ) → IsWithin (2 ^ 20) z → sign_extended (2 ^ 20) (cast_unsigned w32 z % 2 ^ 21) ≡ z
+pub shortened_21 : (z : ℤ) → IsWithin (2 ^ 20) z → sign_extended (2 ^ 20) (cast_unsigned w32 z % 2 ^ 21) ≡ z
 shortened_21 (pos n) h = grind (arith, ints)
 shortened_21 (negsuc n) h = grind (arith, ints)
 
-upper_bits : (z : ℤ) → IsUpper z → cast_signed w32 (bits_of (cast_unsigned w32 z) 12 20 * 2 ^ 12) ≡ z
+pub upper_bits : (z : ℤ) → IsUpper z → cast_signed w32 (bits_of (cast_unsigned w32 z) 12 20 * 2 ^ 12) ≡ z
 upper_bits (pos n) h = grind (arith, ints)
 upper_bits (negsuc n) h = grind (arith, ints)
