@@ -2,6 +2,10 @@
 //! files, and the status with which it ends.
 #![tactic(auto)]
 
+mod literal;
+mod literal_code;
 mod outcome;
 
+pub use crate::literal::literal_output;
+pub use crate::literal_code::literal_image;
 pub use crate::outcome::{Outcome, USAGE, report};

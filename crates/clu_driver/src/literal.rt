@@ -47,12 +47,14 @@ pub fn literal_output(alloc: Global, source: &[u8]) -> Result<Option<Vec<u8>>, M
 }
 
 /// One call of a literal program.
+#[derive(Drop)]
 struct Call<'a> {
     literal: &'a [u8],
     ends_line: bool,
 }
 
 /// What is left of the source.
+#[derive(Drop)]
 struct Cursor<'a> {
     rest: &'a [u8],
 }
@@ -60,11 +62,11 @@ struct Cursor<'a> {
 impl<'a> Cursor<'a> {
     // Takes blanks, and tells whether there was one.
     fn takes_blanks(&mut self) -> bool {
-        let before = self.rest.len();
-        while let [b'\t'..=b'\r' | b' ', rest @ ..] = self.rest {
-            self.rest = rest;
-        }
-        self.rest.len() < before
+        let is_blank = |b: &u8| matches!(*b, b'\t'..=b'\r' | b' ');
+        let end = self.rest.iter().position(|b| !is_blank(b));
+        let blanks = end.unwrap_or(self.rest.len());
+        self.rest = &self.rest[blanks..];
+        blanks > 0
     }
 
     // Takes blanks and then these bytes; false where others stand there.
