@@ -5,7 +5,9 @@
 mod literal;
 mod literal_code;
 mod outcome;
+mod top;
 
 pub use crate::literal::literal_output;
 pub use crate::literal_code::literal_image;
 pub use crate::outcome::{Outcome, USAGE, report};
+pub use crate::top::clu;
