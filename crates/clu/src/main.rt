@@ -5,6 +5,9 @@
 mod disk;
 mod streams;
 
+#[cfg(test)]
+mod tests;
+
 use std::alloc::Global;
 use std::env;
 use std::io::ErrorKind;
