@@ -1,0 +1,4 @@
+pub mod Values
+pub mod State
+pub mod Steps
+pub mod Rows
