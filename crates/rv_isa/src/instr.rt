@@ -1,72 +1,13 @@
 //! The instructions of RV64IM by their forms. An instruction's operands stand by name, its immediate
 //! as the number that the machine adds or loads.
 
-use crate::reg::Reg;
+ghost use Rattle.std.specs.Prelude.{◌≡◌, ◌↔◌, ◌<◌, ◌≤◌, ◌%◌, ◌^◌, IsTrue};
+ghost use Rattle.std.specs.Int.{w32, cast_unsigned};
+ghost use Rattle.rv_isa.specs.Table.{row_of};
+ghost use Rattle.rv_isa.specs.Valid.{IsWithin, IsDistance, IsUpper, FitsForm, IsValid};
 
-/// The mnemonics, other than those that are a form of `Instr` alone.
-#[derive(Clone, Copy, Debug, PartialEq, Eq)]
-pub enum Op {
-    Lui,
-    Auipc,
-    Beq,
-    Bne,
-    Blt,
-    Bge,
-    Bltu,
-    Bgeu,
-    Lb,
-    Lh,
-    Lw,
-    Ld,
-    Lbu,
-    Lhu,
-    Lwu,
-    Sb,
-    Sh,
-    Sw,
-    Sd,
-    Addi,
-    Slti,
-    Sltiu,
-    Xori,
-    Ori,
-    Andi,
-    Slli,
-    Srli,
-    Srai,
-    Add,
-    Sub,
-    Sll,
-    Slt,
-    Sltu,
-    Xor,
-    Srl,
-    Sra,
-    Or,
-    And,
-    Mul,
-    Mulh,
-    Mulhsu,
-    Mulhu,
-    Div,
-    Divu,
-    Rem,
-    Remu,
-    Addiw,
-    Slliw,
-    Srliw,
-    Sraiw,
-    Addw,
-    Subw,
-    Sllw,
-    Srlw,
-    Sraw,
-    Mulw,
-    Divw,
-    Divuw,
-    Remw,
-    Remuw,
-}
+use crate::op::{Form, Op};
+use crate::reg::Reg;
 
 /// An instruction. `imm` is the immediate after sign extension; of a shift by a constant it is the
 /// amount. LUI's and AUIPC's is the whole 32-bit number, its low 12 bits zero.
@@ -134,4 +75,69 @@ pub enum Instr {
     Ecall,
     /// EBREAK.
     Ebreak,
+}
+
+impl Instr {
+    /// Whether the mnemonic is of the instruction's form and the immediate fits its field.
+    pub fn valid(&self) -> bool
+        ensures { IsTrue result ↔ IsValid self.now }
+    {
+        match *self {
+            Instr::Upper { op, imm, .. } => is_of(op, Form::Upper) && is_upper(imm),
+            Instr::Jal { imm, .. } => is_distance(imm, 1 << 20),
+            Instr::Branch { op, imm, .. } => is_of(op, Form::Branch) && is_distance(imm, 1 << 12),
+            Instr::Load { op, imm, .. } => is_of(op, Form::Load) && is_within(imm, 1 << 11),
+            Instr::Save { op, imm, .. } => is_of(op, Form::Save) && is_within(imm, 1 << 11),
+            Instr::Imm { op, imm, .. } => fits_form(imm, op.row().form),
+            Instr::Three { op, .. } => is_of(op, Form::Three),
+            Instr::Jalr { imm, .. } | Instr::Fence { imm, .. } => is_within(imm, 1 << 11),
+            Instr::Ecall | Instr::Ebreak => true,
+        }
+    }
+}
+
+fn is_of(op: Op, form: Form) -> bool
+    ensures { IsTrue result ↔ ((row_of op).form ≡ form) }
+{
+    op.row().form == form
+}
+
+/// The number of two's complement modulo `limit`, a power of two.
+fn low_bits(imm: i32, limit: u32) -> u32
+    requires { 0 < limit }
+    ensures { result ≡ cast_unsigned w32 imm % limit }
+{
+    imm.cast_unsigned() % limit
+}
+
+fn is_within(imm: i32, half: u32) -> bool
+    requires { half ≤ 2 ^ 20 }
+    ensures { IsTrue result ↔ IsWithin half imm }
+{
+    let half = half as i32;
+    -half <= imm && imm < half
+}
+
+fn is_distance(imm: i32, half: u32) -> bool
+    requires { half ≤ 2 ^ 20 }
+    ensures { IsTrue result ↔ IsDistance half imm }
+{
+    is_within(imm, half) && low_bits(imm, 2) == 0
+}
+
+fn is_upper(imm: i32) -> bool
+    ensures { IsTrue result ↔ IsUpper imm }
+{
+    low_bits(imm, 1 << 12) == 0
+}
+
+fn fits_form(imm: i32, form: Form) -> bool
+    ensures { IsTrue result ↔ FitsForm form imm }
+{
+    match form {
+        Form::Imm => is_within(imm, 1 << 11),
+        Form::Shift => 0 <= imm && imm < 64,
+        Form::ShiftWord => 0 <= imm && imm < 32,
+        _ => false,
+    }
 }

@@ -4,10 +4,17 @@
 //! RV32I, RV64I and the M extension.
 #![tactic(auto)]
 
+mod decoding;
+mod encoding;
+mod fields;
 mod image;
 mod instr;
+mod op;
 mod reg;
 
+pub use decoding::decode;
+pub use encoding::encode;
 pub use image::Image;
-pub use instr::{Instr, Op};
+pub use instr::Instr;
+pub use op::Op;
 pub use reg::Reg;

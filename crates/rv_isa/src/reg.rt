@@ -33,6 +33,22 @@ impl Reg {
         }
     }
 
+    /// The register's number as the bits of a word.
+    pub(crate) fn bits(self) -> u32
+        ensures value { result ≡ self }
+        ensures bound { result < 32 }
+    {
+        u32::from(self.number)
+    }
+
+    /// The register of a number that is known to be one.
+    pub(crate) fn of(number: u8) -> Reg
+        requires { number < 32 }
+        ensures { result ≡ number }
+    {
+        Reg { number }
+    }
+
     /// The register's number.
     pub fn number(&self) -> u8
         ensures value { result ≡ self.now }
