@@ -2,8 +2,7 @@
 use Rattle.std.specs.Prelude.{ℕ, ℤ, Option, Some, None}
 use Rattle.rv_isa.specs.declared.instr.Instr.{Instr}
 use Rattle.rv_isa.specs.declared.instr.Instr.TheVariants as instr
-use Rattle.rv_isa.specs.declared.instr.Op.{Op}
-use Rattle.rv_isa.specs.declared.instr.Op.TheVariants as op
+use Rattle.rv_isa.specs.declared.op.Op.TheVariants as op
 use Rattle.rv_machine.specs.declared.row.Code.{Code}
 use Rattle.rv_machine.specs.declared.row.Code.TheVariants as code
 use Rattle.rv_machine.specs.declared.row.Row.{Row}

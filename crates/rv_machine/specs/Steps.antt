@@ -1,31 +1,26 @@
--- One step of the machine without the calls of the environment: one definition for each form of
--- instruction. RISC-V unprivileged ISA, chapters "RV32I", "RV64I" and "M".
-use Rattle.std.specs.Prelude.{ℕ, ◌+◌, ◌-◌, ◌/◌, ◌%◌, ◌^◌, ℤ, Bool, true, false, ◌==◌, nat_lt, if◌then◌else◌, slice_get, Option, Some, None}
+-- One step of the hart, up to a call of the environment: one definition for each form of instruction.
+-- A step that is stopped changes nothing. RISC-V unprivileged ISA, chapters "RV32I", "RV64I" and "M".
+use Rattle.std.specs.Prelude.{ℕ, ◌-◌, ◌/◌, ◌%◌, ◌^◌, ℤ, Bool, true, false, ◌==◌, nat_lt, if◌then◌else◌, slice_get, Option, Some, None}
 use Rattle.std.specs.Option.{option_map}
 use Rattle.std.specs.Int.{cast_signed, w8, w16, w32, w64}
 use Rattle.rv_isa.specs.declared.instr.Instr.{Instr}
 use Rattle.rv_isa.specs.declared.instr.Instr.TheVariants as instr
-use Rattle.rv_isa.specs.declared.instr.Op.{Op}
-use Rattle.rv_isa.specs.declared.instr.Op.TheVariants as op
-use Rattle.rv_machine.specs.declared.ending.Ending.{Ending}
-use Rattle.rv_machine.specs.declared.ending.Ending.TheVariants.{BadAccess, BadInstruction, BadJump}
-use Rattle.rv_machine.specs.declared.ending.Stop.{Stop}
-use Rattle.rv_machine.specs.declared.ending.Stop.TheVariants.{End, Call}
+use Rattle.rv_isa.specs.declared.op.Op.{Op}
+use Rattle.rv_isa.specs.declared.op.Op.TheVariants as op
+use Rattle.rv_machine.specs.declared.trap.Trap.{Trap}
+use Rattle.rv_machine.specs.declared.trap.Trap.TheVariants as trap
 use Rattle.rv_machine.specs.State.{State, image_start, register, with_register, read_at, written_at}
 use Rattle.rv_machine.specs.Values.{sum, unsigned, value_of, is_taken}
 
--- a step goes on in the next state, or stops and leaves the state as it was
+-- the hart goes on in the next state, or is stopped in a state
 pub data Next : Type 0 where
   Goes : State → Next
-  Stops : Stop → State → Next
+  Stops : Trap → State → Next
 
 -- what a method of the machine did, by its answer and the state that it left
-abbrev pub next_of : Option Stop → State → Next
+abbrev pub next_of : Option Trap → State → Next
 next_of None s = Goes s
-next_of (Some stop) s = Stops stop s
-
-abbrev pub ends : Ending → State → Next
-ends e s = Stops (End e) s
+next_of (Some t) s = Stops t s
 
 -- the address of the next instruction; sums wrap
 abbrev pub next_pc : State → ℕ
@@ -44,10 +39,10 @@ put s rd n = Goes (advanced (with_register s rd n))
 
 -- JAL, JALR: the address of the next instruction goes to rd
 abbrev pub jump : State → ℕ → ℕ → Next
-jump s rd target = if target % 4 == 0 then Goes (record (with_register s rd (next_pc s)) { pc = target }) else ends (BadJump target) s
+jump s rd target = if target % 4 == 0 then Goes (record (with_register s rd (next_pc s)) { pc = target }) else Stops (trap.Jump target) s
 
 abbrev pub branch : State → Bool → ℕ → Next
-branch s true target = if target % 4 == 0 then Goes (record s { pc = target }) else ends (BadJump target) s
+branch s true target = if target % 4 == 0 then Goes (record s { pc = target }) else Stops (trap.Jump target) s
 branch s false target = Goes (advanced s)
 
 -- the value of a load, extended by its sign or by zeros
@@ -63,7 +58,7 @@ loaded other s at = None
 
 abbrev pub put_loaded : State → ℕ → ℕ → Option ℕ → Next
 put_loaded s rd at (Some n) = put s rd n
-put_loaded s rd at None = ends (BadAccess at) s
+put_loaded s rd at None = Stops (trap.Access at) s
 
 -- a store of the low bytes of n
 abbrev pub saved : Op → State → ℕ → ℕ → Option State
@@ -75,7 +70,7 @@ saved other s at n = None
 
 abbrev pub put_saved : State → ℕ → Option State → Next
 put_saved s at (Some after) = Goes (advanced after)
-put_saved s at None = ends (BadAccess at) s
+put_saved s at None = Stops (trap.Access at) s
 
 unfoldable pub executed : Instr → State → Next
 executed (instr.Upper op rd imm) s = put s rd (value_of op s.pc (word_of imm))
@@ -87,14 +82,15 @@ executed (instr.Save op rs1 rs2 imm) s = let at = sum (register s rs1) (word_of 
 executed (instr.Imm op rd rs1 imm) s = put s rd (value_of op (register s rs1) (word_of imm))
 executed (instr.Three op rd rs1 rs2) s = put s rd (value_of op (register s rs1) (register s rs2))
 executed (instr.Fence rd rs1 imm) s = Goes (advanced s)
-executed instr.Ecall s = Stops Call s
-executed instr.Ebreak s = ends (BadInstruction s.pc) s
+executed instr.Ecall s = Stops trap.Call s
+executed instr.Ebreak s = Stops (trap.Instruction s.pc) s
 
 -- the instruction at the pc, where the pc is in the code part and the word there decodes
 abbrev pub fetched : Option (Option Instr) → State → Next
-fetched None s = ends (BadJump s.pc) s
-fetched (Some None) s = ends (BadInstruction s.pc) s
+fetched None s = Stops (trap.Jump s.pc) s
+fetched (Some None) s = Stops (trap.Instruction s.pc) s
 fetched (Some (Some i)) s = executed i s
 
-unfoldable pub stepped : State → Next
-stepped s = if nat_lt s.pc image_start then ends (BadJump s.pc) s else fetched (slice_get s.code ((s.pc - image_start) / 4)) s
+-- one instruction
+unfoldable pub next : State → Next
+next s = if nat_lt s.pc image_start then Stops (trap.Jump s.pc) s else fetched (slice_get s.code ((s.pc - image_start) / 4)) s

@@ -3,8 +3,8 @@
 -- RISC-V unprivileged ISA, chapters "RV32I", "RV64I" and "M" (integer multiplication and division).
 use Rattle.std.specs.Prelude.{ℕ, ◌+◌, ◌-◌, ◌*◌, ◌/◌, ◌%◌, ◌^◌, ℤ, pos, ◌*ℤ◌, int_div, int_rem, int_lt, int_le, Bool, true, false, not, ◌==◌, nat_lt, nat_le, if◌then◌else◌, bit_and, bit_or, bit_xor}
 use Rattle.std.specs.Int.{cast_signed, cast_unsigned, int_shr, w32, w64}
-use Rattle.rv_isa.specs.declared.instr.Op.{Op}
-use Rattle.rv_isa.specs.declared.instr.Op.TheVariants as op
+use Rattle.rv_isa.specs.declared.op.Op.{Op}
+use Rattle.rv_isa.specs.declared.op.Op.TheVariants as op
 
 abbrev pub signed : ℕ → ℤ
 signed n = cast_signed w64 n

@@ -1,4 +1,4 @@
-//! How a run ends, and why a step stops.
+//! How a run ends.
 
 /// How a run ended, or that it has not ended in the given number of steps.
 #[derive(Clone, Copy, Debug, PartialEq, Eq)]
@@ -25,13 +25,4 @@ pub enum Ending {
     ReadFault,
     /// The output failed.
     WriteFault,
-}
-
-/// Why a step did not go on to the next instruction.
-#[derive(Clone, Copy)]
-pub enum Stop {
-    /// The run ends.
-    End(Ending),
-    /// The environment is called: ECALL.
-    Call,
 }

@@ -3,14 +3,15 @@
 
 ghost use Rattle.std.specs.Prelude.{◌≡◌, Some, ◌+◌, ◌≤◌, ◌<◌, ◌^◌, ◌%◌, length, IfSome, IfNone};
 ghost use Rattle.std.specs.Int.{w8, w16, w32, w64};
-ghost use Rattle.rv_isa.specs.declared.instr.Op.TheVariants as op;
+ghost use Rattle.rv_isa.specs.declared.op.Op.TheVariants as op;
 ghost use Rattle.rv_machine.specs.Rows.{instr_by};
 ghost use Rattle.rv_machine.specs.State.{State, register, location_of, accessed, region, offset_of, read_at, with_register, written_at};
-ghost use Rattle.rv_machine.specs.Steps.{advanced, next_pc, next_of, put, jump, branch, loaded, put_loaded, saved, put_saved, executed, fetched, stepped, word_of};
+ghost use Rattle.rv_machine.specs.Steps.{advanced, next_pc, next_of, put, jump, branch, loaded, put_loaded, saved, put_saved, executed, fetched, next, word_of};
 
-use crate::ending::{Ending, Stop};
+
 use crate::memory::{Location, put_u8, put_u16, put_u32, put_u64, u8_at, u16_at, u32_at, u64_at};
 use crate::row::{Code, Row};
+use crate::trap::Trap;
 use crate::{multiply, values};
 use rv_isa::Reg;
 use std::marker::Model;
@@ -86,7 +87,7 @@ impl Hart {
     }
 
     #[inline(always)]
-    fn put(&mut self, rd: Reg, n: u64) -> Option<Stop>
+    fn put(&mut self, rd: Reg, n: u64) -> Option<Trap>
         ensures { next_of result self.new ≡ put self.old rd n }
     {
         self.set_register(rd, n);
@@ -95,11 +96,11 @@ impl Hart {
     }
 
     #[inline(always)]
-    fn jump(&mut self, rd: Reg, target: u64) -> Option<Stop>
+    fn jump(&mut self, rd: Reg, target: u64) -> Option<Trap>
         ensures { next_of result self.new ≡ jump self.old rd target }
     {
         if target % 4 != 0 {
-            return Some(Stop::End(Ending::BadJump { target }));
+            return Some(Trap::Jump { target });
         }
         self.set_register(rd, self.next_pc());
         self.pc = target;
@@ -107,12 +108,12 @@ impl Hart {
     }
 
     #[inline(always)]
-    fn branch(&mut self, taken: bool, target: u64) -> Option<Stop>
+    fn branch(&mut self, taken: bool, target: u64) -> Option<Trap>
         ensures { next_of result self.new ≡ branch self.old taken target }
     {
         if taken {
             if target % 4 != 0 {
-                return Some(Stop::End(Ending::BadJump { target }));
+                return Some(Trap::Jump { target });
             }
             self.pc = target;
         } else {
@@ -208,12 +209,12 @@ impl Hart {
     }
 
     #[inline(always)]
-    fn put_loaded(&mut self, rd: Reg, at: u64, value: Option<u64>) -> Option<Stop>
+    fn put_loaded(&mut self, rd: Reg, at: u64, value: Option<u64>) -> Option<Trap>
         ensures { next_of result self.new ≡ put_loaded self.old rd at value }
     {
         match value {
             Some(n) => self.put(rd, n),
-            None => Some(Stop::End(Ending::BadAccess { address: at })),
+            None => Some(Trap::Access { address: at }),
         }
     }
 
@@ -266,68 +267,68 @@ impl Hart {
     }
 
     #[inline(always)]
-    fn write_u8(&mut self, at: u64, n: u8) -> Option<Stop>
+    fn write_u8(&mut self, at: u64, n: u8) -> Option<Trap>
         ensures { next_of result self.new ≡ put_saved self.old at (written_at w8 self.old at n) }
     {
         if at < self.data_start {
-            return Some(Stop::End(Ending::BadAccess { address: at }));
+            return Some(Trap::Access { address: at });
         }
         match self.access(at, 1) {
             Some(Location::Image(offset)) => put_u8(&mut self.image, offset, n),
             Some(Location::Store(offset)) => put_u8(&mut self.store, offset, n),
             Some(Location::Stack(offset)) => put_u8(&mut self.stack, offset, n),
-            None => return Some(Stop::End(Ending::BadAccess { address: at })),
+            None => return Some(Trap::Access { address: at }),
         }
         self.pc = self.next_pc();
         None
     }
 
     #[inline(always)]
-    fn write_u16(&mut self, at: u64, n: u16) -> Option<Stop>
+    fn write_u16(&mut self, at: u64, n: u16) -> Option<Trap>
         ensures { next_of result self.new ≡ put_saved self.old at (written_at w16 self.old at n) }
     {
         if at < self.data_start {
-            return Some(Stop::End(Ending::BadAccess { address: at }));
+            return Some(Trap::Access { address: at });
         }
         match self.access(at, 2) {
             Some(Location::Image(offset)) => put_u16(&mut self.image, offset, n),
             Some(Location::Store(offset)) => put_u16(&mut self.store, offset, n),
             Some(Location::Stack(offset)) => put_u16(&mut self.stack, offset, n),
-            None => return Some(Stop::End(Ending::BadAccess { address: at })),
+            None => return Some(Trap::Access { address: at }),
         }
         self.pc = self.next_pc();
         None
     }
 
     #[inline(always)]
-    fn write_u32(&mut self, at: u64, n: u32) -> Option<Stop>
+    fn write_u32(&mut self, at: u64, n: u32) -> Option<Trap>
         ensures { next_of result self.new ≡ put_saved self.old at (written_at w32 self.old at n) }
     {
         if at < self.data_start {
-            return Some(Stop::End(Ending::BadAccess { address: at }));
+            return Some(Trap::Access { address: at });
         }
         match self.access(at, 4) {
             Some(Location::Image(offset)) => put_u32(&mut self.image, offset, n),
             Some(Location::Store(offset)) => put_u32(&mut self.store, offset, n),
             Some(Location::Stack(offset)) => put_u32(&mut self.stack, offset, n),
-            None => return Some(Stop::End(Ending::BadAccess { address: at })),
+            None => return Some(Trap::Access { address: at }),
         }
         self.pc = self.next_pc();
         None
     }
 
     #[inline(always)]
-    fn write_u64(&mut self, at: u64, n: u64) -> Option<Stop>
+    fn write_u64(&mut self, at: u64, n: u64) -> Option<Trap>
         ensures { next_of result self.new ≡ put_saved self.old at (written_at w64 self.old at n) }
     {
         if at < self.data_start {
-            return Some(Stop::End(Ending::BadAccess { address: at }));
+            return Some(Trap::Access { address: at });
         }
         match self.access(at, 8) {
             Some(Location::Image(offset)) => put_u64(&mut self.image, offset, n),
             Some(Location::Store(offset)) => put_u64(&mut self.store, offset, n),
             Some(Location::Stack(offset)) => put_u64(&mut self.stack, offset, n),
-            None => return Some(Stop::End(Ending::BadAccess { address: at })),
+            None => return Some(Trap::Access { address: at }),
         }
         self.pc = self.next_pc();
         None
@@ -335,7 +336,7 @@ impl Hart {
 
     #[inline(always)]
     #[tactic(auto, unfolding(crate::specs::Steps::executed))]
-    fn execute(&mut self, code: Code, rd: Reg, rs1: Reg, rs2: Reg, imm: i32) -> Option<Stop>
+    fn execute(&mut self, code: Code, rd: Reg, rs1: Reg, rs2: Reg, imm: i32) -> Option<Trap>
         ensures { next_of result self.new ≡ fetched (Some (instr_by code rd rs1 rs2 imm)) self.old }
     {
         let a = self.register(rs1);
@@ -435,24 +436,24 @@ impl Hart {
                 self.advance();
                 None
             }
-            Code::Ecall => Some(Stop::Call),
-            Code::Ebreak | Code::Unknown => Some(Stop::End(Ending::BadInstruction { pc: self.pc })),
+            Code::Ecall => Some(Trap::Call),
+            Code::Ebreak | Code::Unknown => Some(Trap::Instruction { pc: self.pc }),
         }
     }
 
     /// One step, up to a call of the environment.
     #[inline(always)]
-    #[tactic(auto, using(crate::proofs::Fetch::instr_at), unfolding(crate::specs::Steps::stepped, crate::specs::Rows::instr_of))]
-    pub fn step(&mut self) -> Option<Stop>
-        ensures { next_of result self.new ≡ stepped self.old }
+    #[tactic(auto, using(crate::proofs::Fetch::instr_at), unfolding(crate::specs::Steps::next, crate::specs::Rows::instr_of))]
+    pub fn step(&mut self) -> Option<Trap>
+        ensures { next_of result self.new ≡ next self.old }
     {
         let pc = self.pc;
         if pc < IMAGE_START {
-            return Some(Stop::End(Ending::BadJump { target: pc }));
+            return Some(Trap::Jump { target: pc });
         }
         let place = ((pc - IMAGE_START) / 4) as usize;
         if place >= self.rows.len() {
-            return Some(Stop::End(Ending::BadJump { target: pc }));
+            return Some(Trap::Jump { target: pc });
         }
         let row = &self.rows[place];
         let (code, rd, rs1, rs2, imm) = (row.code, row.rd, row.rs1, row.rs2, row.imm);

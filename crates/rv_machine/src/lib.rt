@@ -6,4 +6,5 @@ mod hart;
 mod memory;
 mod multiply;
 mod row;
+mod trap;
 mod values;

@@ -3,7 +3,7 @@
 //! the least number by -1 have the values that the chapter gives.
 
 ghost use Rattle.std.specs.Prelude.{◌≡◌, ◌<◌, ◌^◌, ◌%◌};
-ghost use Rattle.rv_isa.specs.declared.instr.Op.TheVariants as op;
+ghost use Rattle.rv_isa.specs.declared.op.Op.TheVariants as op;
 ghost use Rattle.rv_machine.specs.Values.{value_of};
 
 use crate::values::{extended, low};

@@ -2,7 +2,7 @@
 //! integer instructions (RISC-V unprivileged ISA, chapters RV32I and RV64I).
 
 ghost use Rattle.std.specs.Prelude.{◌≡◌, ◌<◌, ◌^◌, ◌%◌};
-ghost use Rattle.rv_isa.specs.declared.instr.Op.TheVariants as op;
+ghost use Rattle.rv_isa.specs.declared.op.Op.TheVariants as op;
 ghost use Rattle.rv_machine.specs.Values.{low, low_signed, extended, sum, bit, value_of};
 
 /// The low 32 bits.
