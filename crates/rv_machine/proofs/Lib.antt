@@ -1,2 +1,3 @@
 pub mod Fetch
+pub mod Pieces
 pub mod UpperHalf

@@ -2,3 +2,8 @@ pub mod Values
 pub mod State
 pub mod Steps
 pub mod Rows
+pub mod Limits
+pub mod Input
+pub mod Calls
+pub mod Start
+pub mod Emulation
