@@ -1,5 +1,5 @@
 -- What the objects outside the program tell, and how a call changes it.
-use Rattle.std.specs.Prelude.{◌≡◌, ℕ, ◌<◌, ◌-◌, ◌^◌, List, [], ◌++◌, take, Option, Some, None, ◌⊎◌}
+use Rattle.std.specs.Prelude.{◌≡◌, ℕ, ◌<◌, ◌≤◌, ◌-◌, ◌^◌, List, [], ◌++◌, take, length, Option, Some, None, ◌⊎◌}
 use Rattle.std.specs.Prelude.{bytes_eq, if◌then◌else◌, min, ◌+◌, option_map}
 
 -- a count of 64 bits after one more; it stands still at its type's end
@@ -28,6 +28,7 @@ IsAtEnd (Some left) = left ≡ []
 -- the first n of these bytes were appended, and no others
 pub record GrewWithin (old new : Option (List ℕ)) (bytes : List ℕ) : Type 0 where
   pub count : ℕ
+  pub within : count ≤ length bytes
   pub grew : new ≡ appended old (take count bytes)
 
 -- the content of each file by its name

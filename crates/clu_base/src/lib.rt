@@ -14,6 +14,9 @@ mod rules;
 mod sequences;
 mod tokens;
 
+#[cfg(test)]
+mod tests;
+
 pub use crate::byte_string::Bytes;
 pub use crate::constants::{Const, ObjConst};
 pub use crate::errors::{Failed, FormatError, Memory};
