@@ -1,3 +1,4 @@
 pub mod Fetch
+pub mod Forms
 pub mod Pieces
 pub mod UpperHalf

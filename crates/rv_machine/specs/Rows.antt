@@ -1,7 +1,8 @@
 -- The instruction that a decoded row of the code stands for.
-use Rattle.std.specs.Prelude.{ℕ, ℤ, Option, Some, None}
+use Rattle.std.specs.Prelude.{◌≡◌, ℕ, ℤ, Option, Some, None}
 use Rattle.rv_isa.specs.declared.instr.Instr.{Instr}
 use Rattle.rv_isa.specs.declared.instr.Instr.TheVariants as instr
+use Rattle.rv_isa.specs.declared.op.Op.{Op}
 use Rattle.rv_isa.specs.declared.op.Op.TheVariants as op
 use Rattle.rv_machine.specs.declared.row.Code.{Code}
 use Rattle.rv_machine.specs.declared.row.Code.TheVariants as code
@@ -77,3 +78,49 @@ instr_by code.Unknown rd rs1 rs2 imm = None
 
 unfoldable pub instr_of : Row → Option Instr
 instr_of r = instr_by r.code r.rd r.rs1 r.rs2 r.imm
+
+-- the instruction of a mnemonic, with those of these operands that its form has
+abbrev pub instr_with : Op → ℕ → ℕ → ℕ → ℤ → Instr
+instr_with op.Lui rd rs1 rs2 imm = instr.Upper op.Lui rd imm
+instr_with op.Auipc rd rs1 rs2 imm = instr.Upper op.Auipc rd imm
+instr_with op.Beq rd rs1 rs2 imm = instr.Branch op.Beq rs1 rs2 imm
+instr_with op.Bne rd rs1 rs2 imm = instr.Branch op.Bne rs1 rs2 imm
+instr_with op.Blt rd rs1 rs2 imm = instr.Branch op.Blt rs1 rs2 imm
+instr_with op.Bge rd rs1 rs2 imm = instr.Branch op.Bge rs1 rs2 imm
+instr_with op.Bltu rd rs1 rs2 imm = instr.Branch op.Bltu rs1 rs2 imm
+instr_with op.Bgeu rd rs1 rs2 imm = instr.Branch op.Bgeu rs1 rs2 imm
+instr_with op.Lb rd rs1 rs2 imm = instr.Load op.Lb rd rs1 imm
+instr_with op.Lh rd rs1 rs2 imm = instr.Load op.Lh rd rs1 imm
+instr_with op.Lw rd rs1 rs2 imm = instr.Load op.Lw rd rs1 imm
+instr_with op.Ld rd rs1 rs2 imm = instr.Load op.Ld rd rs1 imm
+instr_with op.Lbu rd rs1 rs2 imm = instr.Load op.Lbu rd rs1 imm
+instr_with op.Lhu rd rs1 rs2 imm = instr.Load op.Lhu rd rs1 imm
+instr_with op.Lwu rd rs1 rs2 imm = instr.Load op.Lwu rd rs1 imm
+instr_with op.Sb rd rs1 rs2 imm = instr.Save op.Sb rs1 rs2 imm
+instr_with op.Sh rd rs1 rs2 imm = instr.Save op.Sh rs1 rs2 imm
+instr_with op.Sw rd rs1 rs2 imm = instr.Save op.Sw rs1 rs2 imm
+instr_with op.Sd rd rs1 rs2 imm = instr.Save op.Sd rs1 rs2 imm
+instr_with op.Addi rd rs1 rs2 imm = instr.Imm op.Addi rd rs1 imm
+instr_with op.Slti rd rs1 rs2 imm = instr.Imm op.Slti rd rs1 imm
+instr_with op.Sltiu rd rs1 rs2 imm = instr.Imm op.Sltiu rd rs1 imm
+instr_with op.Xori rd rs1 rs2 imm = instr.Imm op.Xori rd rs1 imm
+instr_with op.Ori rd rs1 rs2 imm = instr.Imm op.Ori rd rs1 imm
+instr_with op.Andi rd rs1 rs2 imm = instr.Imm op.Andi rd rs1 imm
+instr_with op.Slli rd rs1 rs2 imm = instr.Imm op.Slli rd rs1 imm
+instr_with op.Srli rd rs1 rs2 imm = instr.Imm op.Srli rd rs1 imm
+instr_with op.Srai rd rs1 rs2 imm = instr.Imm op.Srai rd rs1 imm
+instr_with op.Addiw rd rs1 rs2 imm = instr.Imm op.Addiw rd rs1 imm
+instr_with op.Slliw rd rs1 rs2 imm = instr.Imm op.Slliw rd rs1 imm
+instr_with op.Srliw rd rs1 rs2 imm = instr.Imm op.Srliw rd rs1 imm
+instr_with op.Sraiw rd rs1 rs2 imm = instr.Imm op.Sraiw rd rs1 imm
+instr_with other rd rs1 rs2 imm = instr.Three other rd rs1 rs2
+
+-- the instruction has the form of its mnemonic; the operands named here are those that it lacks
+abbrev pub HasForm : Instr → Type 0
+HasForm (instr.Upper op rd imm) = (_ rs1 rs2 : ℕ) (_ : ℤ) → instr_with op rd rs1 rs2 imm ≡ instr.Upper op rd imm
+HasForm (instr.Branch op rs1 rs2 imm) = (rd _ _ : ℕ) (_ : ℤ) → instr_with op rd rs1 rs2 imm ≡ instr.Branch op rs1 rs2 imm
+HasForm (instr.Load op rd rs1 imm) = (_ _ rs2 : ℕ) (_ : ℤ) → instr_with op rd rs1 rs2 imm ≡ instr.Load op rd rs1 imm
+HasForm (instr.Save op rs1 rs2 imm) = (rd _ _ : ℕ) (_ : ℤ) → instr_with op rd rs1 rs2 imm ≡ instr.Save op rs1 rs2 imm
+HasForm (instr.Imm op rd rs1 imm) = (_ _ rs2 : ℕ) (_ : ℤ) → instr_with op rd rs1 rs2 imm ≡ instr.Imm op rd rs1 imm
+HasForm (instr.Three op rd rs1 rs2) = (_ _ _ : ℕ) (imm : ℤ) → instr_with op rd rs1 rs2 imm ≡ instr.Three op rd rs1 rs2
+HasForm other = Unit {0}
