@@ -1,11 +1,11 @@
 -- Input in pieces: what the machine keeps and what the source has left are the same bytes, whenever
 -- they are read.
-use Rattle.std.proofs.Common.{◌≡◌, ◌∙◌, ℕ, zero, suc, ◌+◌, ◌-◌, ◌<◌, Bool, true, false, List, [], ◌∷◌, ◌++◌, take, drop, Option, Some, None, refl, sym, ap, cond, arith, nat_eq}
+use Rattle.std.proofs.Common.{◌≡◌, ℕ, zero, suc, ◌+◌, ◌-◌, ◌<◌, false, List, [], ◌++◌, take, drop, Option, Some, None, refl, arith, nat_eq}
 use Rattle.std.specs.Prelude.{unwrap_or}
 use Rattle.std.proofs.lemmas.List.{drop-drop, drop-take}
 use Rattle.std.proofs.lemmas.Bool.Decides.{nat_tests}
 use Rattle.clu_base.specs.Outside.{preceded, IsAtEnd}
-use Rattle.rv_machine.specs.Input.{Kept, input_left, SameInput}
+use Rattle.rv_machine.specs.Input.{Kept, SameInput}
 
 pub same : (kept : Kept) (left : Option (List ℕ)) → SameInput kept left kept left
 same kept left = λ more. (more, refl)

@@ -1,19 +1,25 @@
 //! A hardware thread with its memory: registers, pc, decoded code and the three regions. Its step is
 //! the instruction table; the calls of the environment are left to the machine round it.
 
-ghost use Rattle.std.specs.Prelude.{◌≡◌, Some, ◌+◌, ◌≤◌, ◌<◌, ◌^◌, ◌%◌, length, IfSome, IfNone};
+ghost use Rattle.std.specs.Prelude.{◌≡◌, Some, ◌+◌, ◌≤◌, ◌<◌, ◌^◌, ◌%◌, length, IfOk, IsSome, IfSome};
 ghost use Rattle.std.specs.Int.{w8, w16, w32, w64};
 ghost use Rattle.rv_isa.specs.declared.op.Op.TheVariants as op;
+ghost use Rattle.std.specs.Option.{option_copied};
+ghost use Rattle.rv_machine.specs.Calls.{bytes_at};
 ghost use Rattle.rv_machine.specs.Rows.{instr_by};
 ghost use Rattle.rv_machine.specs.State.{State, register, location_of, accessed, region, offset_of, read_at, with_register, written_at};
 ghost use Rattle.rv_machine.specs.Steps.{advanced, next_pc, next_of, put, jump, branch, loaded, put_loaded, saved, put_saved, executed, fetched, next, word_of};
 
 
+use crate::limits::Limits;
 use crate::memory::{Location, put_u8, put_u16, put_u32, put_u64, u8_at, u16_at, u32_at, u64_at};
 use crate::row::{Code, Row};
+use crate::start::{code_bytes, first_registers, rows_of};
 use crate::trap::Trap;
 use crate::{multiply, values};
-use rv_isa::Reg;
+use clu_base::Memory;
+use rv_isa::{Image, Reg};
+use std::alloc::Global;
 use std::marker::Model;
 
 /// Where the image region begins, with the code.
@@ -47,6 +53,29 @@ impl Model for Hart {
 }
 
 impl Hart {
+    ghost use Rattle.rv_machine.specs.Start.{started};
+
+    /// The hart as a run starts it, with all its memory. The only error is want of memory.
+    pub fn new(alloc: Global, image: &Image, limits: Limits) -> Result<Hart, Memory>
+        ensures { IfOk result (λ h. h ≡ started image.now limits) }
+    {
+        let rows = rows_of(alloc, &image.code)?;
+        let room = 4 * image.code.len() + 4 + image.fixed.len() + image.area.len();
+        let mut memory = code_bytes(alloc, &image.code, room)?;
+        memory.extend_from_slice(&image.fixed)?;
+        let data_start = IMAGE_START + memory.len() as u64;
+        memory.extend_from_slice(&image.area)?;
+        Ok(Hart {
+            pc: IMAGE_START + 4 * image.entry as u64,
+            registers: first_registers(limits),
+            rows,
+            data_start,
+            image: memory,
+            store: vec![in alloc; 0u8; limits.store() as usize]?,
+            stack: vec![in alloc; 0u8; limits.stack() as usize]?,
+        })
+    }
+
     /// The pc.
     #[inline(always)]
     pub fn pc(&self) -> u64
@@ -63,6 +92,44 @@ impl Hart {
         self.registers[r.number() as usize]
     }
 
+    /// The number in the register xN, as a call of the environment names it.
+    pub fn x(&self, n: usize) -> u64
+        requires { n < 32 }
+        ensures { result ≡ register self.now n }
+    {
+        self.registers[n]
+    }
+
+    /// Goes on behind a call of the environment, with its answer in x10.
+    pub fn answer(&mut self, n: u64)
+        ensures { self.new ≡ advanced (with_register self.old 10 n) }
+    {
+        self.registers[10] = n;
+        self.pc = self.next_pc();
+    }
+
+    /// The bytes of a range, if they lie in one region; no bytes lie anywhere.
+    pub fn range(&self, at: u64, count: u64) -> Option<&[u8]>
+        ensures { option_copied result ≡ bytes_at self.now at count }
+    {
+        if count == 0 {
+            return Some(&[]);
+        }
+        match self.locate(at, count)? {
+            Location::Image(offset) => Some(&self.image[offset..offset + count as usize]),
+            Location::Store(offset) => Some(&self.store[offset..offset + count as usize]),
+            Location::Stack(offset) => Some(&self.stack[offset..offset + count as usize]),
+        }
+    }
+
+    /// The eight bytes at an address, which is aligned and inside one region, as a number.
+    pub fn word(&self, at: u64) -> u64
+        requires { IsSome (read_at w64 self.now at) }
+        ensures { Some result ≡ read_at w64 self.now at }
+    {
+        self.read_u64(at).unwrap()
+    }
+
     #[inline(always)]
     fn next_pc(&self) -> u64
         ensures { result ≡ next_pc self.now }
@@ -70,8 +137,9 @@ impl Hart {
         self.pc.wrapping_add(4)
     }
 
+    /// Goes on to the next instruction.
     #[inline(always)]
-    fn advance(&mut self)
+    pub fn advance(&mut self)
         ensures { self.new ≡ advanced self.old }
     {
         self.pc = self.next_pc();

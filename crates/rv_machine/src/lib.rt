@@ -10,6 +10,7 @@ mod limits;
 mod memory;
 mod multiply;
 mod row;
+mod start;
 mod trap;
 mod values;
 

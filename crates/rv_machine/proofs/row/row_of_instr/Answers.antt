@@ -1,4 +1,4 @@
-use Rattle.std.proofs.Common.{◌≡◌, ◌∙◌, Some, ap, sym, w32, FitsSigned, rules}
+use Rattle.std.proofs.Common.{◌∙◌, Some, ap, sym, w32, FitsSigned, rules}
 use Rattle.std.proofs.lemmas.Int.{to_z-of_z}
 use Rattle.rv_isa.specs.declared.instr.Instr.TheVariants as instr
 use Rattle.rv_machine.specs.Rows.{HasForm}
