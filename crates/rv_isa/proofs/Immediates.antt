@@ -1,6 +1,6 @@
 -- An immediate is the number that its bits in a word make, and has those bits.
 
-use Rattle.std.proofs.Common.{◌≡◌, ℕ, ℤ, pos, negsuc, ◌+◌, ◌-◌, ◌*◌, ◌/◌, ◌%◌, ◌^◌, ◌<◌, ◌≤◌, arith}
+use Rattle.std.proofs.Common.{◌≡◌, ℕ, ℤ, pos, negsuc, ◌+◌, ◌*◌, ◌%◌, ◌^◌, ◌<◌, arith}
 use Rattle.std.proofs.lemmas.Int.{ints}
 use Rattle.std.specs.Int.{w32, cast_unsigned, cast_signed}
 use Rattle.rv_isa.specs.Fields.{bits_of, sign_extended, i_imm, s_imm, b_imm, u_imm, j_imm}

@@ -1,21 +1,18 @@
 -- The word of an instruction is that instruction.
 
-use Rattle.std.proofs.Common.{◌≡◌, ℕ, ℤ, pos, negsuc, ◌+◌, ◌*◌, ◌/◌, ◌%◌, ◌^◌, ◌<◌, ◌==◌, ◌&&◌, Bool, true, false, cond, Option, Some, None, IfSome, refl, arith, sym, ◌∙◌, ap}
-use Rattle.std.proofs.lemmas.Bool.Decides.{nat_tests}
+use Rattle.std.proofs.Common.{◌≡◌, ℕ, ℤ, pos, negsuc, ◌+◌, ◌*◌, ◌%◌, ◌^◌, ◌<◌, Option, Some, None, IfNone, refl, arith, ◌∙◌}
 use Rattle.std.proofs.lemmas.Int.{ints}
-use Rattle.std.specs.Int.{w32, cast_unsigned, cast_signed}
-use Rattle.std.specs.Option.{option_map_or}
+use Rattle.std.specs.Int.{w32, cast_unsigned}
 use Rattle.rv_isa.specs.declared.op.Form.{Form}
 use Rattle.rv_isa.specs.declared.op.Form.TheVariants as form
-use Rattle.rv_isa.specs.declared.op.Row.{Row}
 use Rattle.rv_isa.specs.declared.op.Op.{Op}
 use Rattle.rv_isa.specs.declared.instr.Instr.{Instr}
 use Rattle.rv_isa.specs.declared.instr.Instr.TheVariants.{Upper, Jal, Jalr, Branch, Load, Save, Imm, Three, Fence, Ecall, Ebreak}
-use Rattle.rv_isa.specs.Table.{row_of, has_row, is_named}
-use Rattle.rv_isa.specs.Fields.{bits_of, opcode_of, rd_of, funct3_of, rs1_of, rs2_of, funct6_of, funct7_of, sign_extended, i_imm, s_imm, b_imm, u_imm, j_imm}
+use Rattle.rv_isa.specs.Table.{row_of}
+use Rattle.rv_isa.specs.Fields.{bits_of, opcode_of, rd_of, funct3_of, rs1_of, rs2_of, funct6_of, funct7_of, i_imm, s_imm, b_imm, u_imm, j_imm}
 use Rattle.rv_isa.specs.Valid.{IsInstr, IsWithin, IsDistance, IsUpper, FitsForm}
-use Rattle.rv_isa.specs.Decoded.{named, named_by, instr_of, unnamed, decoded}
-use Rattle.rv_isa.specs.Encoded.{encoded, imm_word}
+use Rattle.rv_isa.specs.Decoded.{named, named_by, instr_of, decoded}
+use Rattle.rv_isa.specs.Encoded.{encoded, imm_word, IsWordOf}
 use Rattle.rv_isa.proofs.Immediates.{shortened_12, shortened_13, shortened_21, upper_bits}
 use Rattle.rv_isa.proofs.RowLemmas.{fields_of, named_by-own, funct3_in, funct6_in, funct7_in}
 
@@ -29,7 +26,7 @@ record IsNamed (op : Op) (w : ℕ) : Type 0 where
 decoded-named : (op : Op) (w : ℕ) → IsNamed op w → decoded w ≡ Some (instr_of (row_of op).form op w)
 decoded-named op w h =
     let e : named w ≡ Some op =
-        rw (h.opcode, h.funct3, h.funct6, h.funct7) (named_by-own op (funct3_of w) (funct6_of w) (funct7_of w)) in
+    rw (h.opcode, h.funct3, h.funct6, h.funct7) (named_by-own op (funct3_of w) (funct6_of w) (funct7_of w)) in
     rw e refl
 
 -- each form of word, read again
@@ -168,3 +165,14 @@ decoded-encoded (Three op rd rs1 rs2) h = three_back op rd rs1 rs2 _ h.valid h.r
 decoded-encoded (Fence rd rs1 imm) h = fence_back rd rs1 imm _ h.valid h.registers.0 h.registers.1 refl
 decoded-encoded Ecall h = refl
 decoded-encoded Ebreak h = refl
+
+-- a word that is no instruction is the word of none
+
+none_of : (w : ℕ) (found : Option Instr) → decoded w ≡ found → IfNone found ((i : Instr) → ¬ IsWordOf w i)
+none_of w None e = λ i h. let back : decoded (encoded i) ≡ Some i = decoded-encoded i h.instr in
+    let here : decoded w ≡ Some i = rw h.word at back in
+    cc
+none_of w (Some i) e = tt
+
+pub decoded-none : (w : ℕ) → IfNone (decoded w) ((i : Instr) → ¬ IsWordOf w i)
+decoded-none w = none_of w (decoded w) refl

@@ -1,14 +1,13 @@
 -- A row of the table is found by its own fields, and only by them.
 
-use Rattle.std.proofs.Common.{◌≡◌, ℕ, ◌+◌, ◌*◌, ◌%◌, ◌^◌, ◌<◌, ◌==◌, ◌&&◌, Bool, true, false, cond, List, [], ◌∷◌, Option, Some, None, ◌⊎◌, inl, inr, refl, lit<, arith}
+use Rattle.std.proofs.Common.{◌≡◌, ℕ, Bool, true, false, cond, List, [], ◌∷◌, Option, Some, ◌⊎◌, inl, inr, refl, lit<}
 use Rattle.std.specs.List.{find}
 use Rattle.rv_isa.specs.declared.op.Form.{Form}
-use Rattle.rv_isa.specs.declared.op.Form.TheVariants.{Upper, Branch, Load, Save, Imm, Shift, ShiftWord, Three}
-use Rattle.rv_isa.specs.declared.op.Row.{Row}
+use Rattle.rv_isa.specs.declared.op.Form.TheVariants.{Upper, Shift, ShiftWord, Three}
 use Rattle.rv_isa.specs.declared.op.Op.{Op}
 use Rattle.rv_isa.specs.declared.op.Op.TheVariants.{Lui}
 use Rattle.rv_isa.specs.declared.op.TheConstants.{OPS}
-use Rattle.rv_isa.specs.Table.{row_of, has_row, is_named, HasFields}
+use Rattle.rv_isa.specs.Table.{row_of, has_row, HasFields}
 use Rattle.rv_isa.specs.Decoded.{named_by}
 
 pub fields_of : (op : Op) → HasFields (row_of op)
@@ -47,7 +46,8 @@ find-passes p [] y e = cc
 find-passes p (x ∷ xs) y e =
     elim (first_or_rest (p x) x y (find p xs) e) [
       | inl here ↦ let seen : p x ≡ true = here.0 in rw (← here.1) seen
-      | inr there ↦ find-passes p xs y there ]
+      | inr there ↦ find-passes p xs y there
+    ]
 
 pub has_row-named : (opcode funct3 funct6 funct7 : ℕ) (op : Op) → named_by opcode funct3 funct6 funct7 ≡ Some op → has_row (row_of op) opcode funct3 funct6 funct7 ≡ true
 unfolding named_by

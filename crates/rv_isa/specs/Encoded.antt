@@ -1,4 +1,4 @@
-use Rattle.std.specs.Prelude.{ℕ, ◌+◌, ◌*◌, ◌^◌}
+use Rattle.std.specs.Prelude.{◌≡◌, ℕ, ◌+◌, ◌*◌, ◌^◌}
 use Rattle.std.specs.Int.{w32, cast_unsigned}
 use Rattle.rv_isa.specs.declared.op.Form.{Form}
 use Rattle.rv_isa.specs.declared.op.Form.TheVariants as form
@@ -7,6 +7,7 @@ use Rattle.rv_isa.specs.declared.instr.Instr.{Instr}
 use Rattle.rv_isa.specs.declared.instr.Instr.TheVariants.{Upper, Jal, Jalr, Branch, Load, Save, Imm, Three, Fence, Ecall, Ebreak}
 use Rattle.rv_isa.specs.Table.{row_of}
 use Rattle.rv_isa.specs.Fields.{bits_of}
+use Rattle.rv_isa.specs.Valid.{IsInstr}
 
 -- The types of words. Each is the sum of its fields, which do not overlap; n is the immediate's bits.
 
@@ -54,3 +55,8 @@ encoded (Three op rd rs1 rs2) = r_word (row_of op) rd rs1 rs2
 encoded (Fence rd rs1 imm) = i_word 0x0f 0 rd rs1 (cast_unsigned w32 imm)
 encoded Ecall = 0x73
 encoded Ebreak = 0x100073
+
+-- the instruction is one, and w is its word
+pub record IsWordOf (w : ℕ) (i : Instr) : Type 0 where
+  pub instr : IsInstr i
+  pub word : encoded i ≡ w

@@ -1,6 +1,8 @@
 //! From words to instructions.
 
-ghost use Rattle.std.specs.Prelude.{◌≡◌};
+ghost use Rattle.std.specs.Prelude.{◌≡◌, IfSome, IfNone};
+ghost use Rattle.rv_isa.specs.declared.instr.Instr.{Instr};
+ghost use Rattle.rv_isa.specs.Encoded.{IsWordOf};
 ghost use Rattle.rv_isa.specs.Table.{has_row};
 ghost use Rattle.rv_isa.specs.Decoded.{named as name_of, unnamed as other_of, instr_of, decoded};
 ghost use Rattle.rv_isa.specs.Fields.{opcode_of, funct3_of, funct6_of, funct7_of};
@@ -11,6 +13,14 @@ use crate::op::{Form, OPS, Op, Row};
 
 /// The instruction that a word is. `None` exactly where the word is in no row of the table.
 pub fn decode(w: u32) -> Option<Instr>
+    ensures value { result ≡ decoded w }
+    ensures row { IfSome result (IsWordOf w) }
+    ensures none { IfNone result ((i : Instr) → ¬ IsWordOf w i) }
+{
+    read(w)
+}
+
+fn read(w: u32) -> Option<Instr>
     ensures { result ≡ decoded w }
 {
     match named(w) {

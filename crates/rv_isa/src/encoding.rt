@@ -3,8 +3,9 @@
 ghost use Rattle.std.specs.Prelude.{◌≡◌, ◌≤◌, ◌<◌, ◌+◌, ◌*◌, ◌^◌};
 ghost use Rattle.std.specs.Int.{w32, cast_unsigned};
 ghost use Rattle.rv_isa.specs.Table.{HasFields};
-ghost use Rattle.rv_isa.specs.Valid.{IsValid};
+ghost use Rattle.rv_isa.specs.Valid.{IsValid, HasRegisters};
 ghost use Rattle.rv_isa.specs.Encoded as words;
+ghost use Rattle.rv_isa.specs.Decoded.{decoded};
 
 use crate::fields::bits_of;
 use crate::instr::Instr;
@@ -14,7 +15,16 @@ use crate::reg::Reg;
 /// The word of an instruction.
 pub fn encode(i: Instr) -> u32
     requires { IsValid i }
-    ensures { result ≡ words.encoded i }
+    ensures value { result ≡ words.encoded i }
+    ensures inverse { decoded result ≡ Some i }
+{
+    write(i)
+}
+
+fn write(i: Instr) -> u32
+    requires { IsValid i }
+    ensures value { result ≡ words.encoded i }
+    ensures registers { HasRegisters i }
 {
     match i {
         Instr::Upper { op, rd, imm } => u_word(op.row(), rd, imm),
@@ -44,7 +54,8 @@ fn name(opcode: u32, funct3: u32) -> u32
 fn r_word(row: Row, rd: Reg, rs1: Reg, rs2: u32) -> u32
     requires fields { HasFields row }
     requires rs2 { rs2 < 32 }
-    ensures { result ≡ words.r_word row rd rs1 rs2 }
+    ensures value { result ≡ words.r_word row rd rs1 rs2 }
+    ensures registers { (rd < 32) × (rs1 < 32) }
 {
     name(row.opcode, row.funct3)
         + (rd.bits() << 7)
@@ -57,7 +68,8 @@ fn r_word(row: Row, rd: Reg, rs1: Reg, rs2: u32) -> u32
 fn i_word(opcode: u32, funct3: u32, rd: Reg, rs1: Reg, imm: i32) -> u32
     requires opcode { opcode < 2 ^ 7 }
     requires funct3 { funct3 < 2 ^ 3 }
-    ensures { result ≡ words.i_word opcode funct3 rd rs1 (cast_unsigned w32 imm) }
+    ensures value { result ≡ words.i_word opcode funct3 rd rs1 (cast_unsigned w32 imm) }
+    ensures registers { (rd < 32) × (rs1 < 32) }
 {
     let n = imm.cast_unsigned();
     name(opcode, funct3) + (rd.bits() << 7) + (rs1.bits() << 15) + (bits_of(n, 0, 12) << 20)
@@ -66,7 +78,8 @@ fn i_word(opcode: u32, funct3: u32, rd: Reg, rs1: Reg, imm: i32) -> u32
 /// A word of an operation on a register and a number.
 fn imm_word(row: Row, rd: Reg, rs1: Reg, imm: i32) -> u32
     requires { HasFields row }
-    ensures { result ≡ words.imm_word row.form row rd rs1 (cast_unsigned w32 imm) }
+    ensures value { result ≡ words.imm_word row.form row rd rs1 (cast_unsigned w32 imm) }
+    ensures registers { (rd < 32) × (rs1 < 32) }
 {
     match row.form {
         Form::Shift => {
@@ -85,7 +98,8 @@ fn imm_word(row: Row, rd: Reg, rs1: Reg, imm: i32) -> u32
 /// A word of the S-type.
 fn s_word(row: Row, rs1: Reg, rs2: Reg, imm: i32) -> u32
     requires { HasFields row }
-    ensures { result ≡ words.s_word row rs1 rs2 (cast_unsigned w32 imm) }
+    ensures value { result ≡ words.s_word row rs1 rs2 (cast_unsigned w32 imm) }
+    ensures registers { (rs1 < 32) × (rs2 < 32) }
 {
     let n = imm.cast_unsigned();
     let distance = (bits_of(n, 0, 5) << 7) + (bits_of(n, 5, 7) << 25);
@@ -95,7 +109,8 @@ fn s_word(row: Row, rs1: Reg, rs2: Reg, imm: i32) -> u32
 /// A word of the B-type.
 fn b_word(row: Row, rs1: Reg, rs2: Reg, imm: i32) -> u32
     requires { HasFields row }
-    ensures { result ≡ words.b_word row rs1 rs2 (cast_unsigned w32 imm) }
+    ensures value { result ≡ words.b_word row rs1 rs2 (cast_unsigned w32 imm) }
+    ensures registers { (rs1 < 32) × (rs2 < 32) }
 {
     let n = imm.cast_unsigned();
     let lower = (bits_of(n, 11, 1) << 7) + (bits_of(n, 1, 4) << 8);
@@ -106,7 +121,8 @@ fn b_word(row: Row, rs1: Reg, rs2: Reg, imm: i32) -> u32
 /// A word of the U-type.
 fn u_word(row: Row, rd: Reg, imm: i32) -> u32
     requires { HasFields row }
-    ensures { result ≡ words.u_word row rd (cast_unsigned w32 imm) }
+    ensures value { result ≡ words.u_word row rd (cast_unsigned w32 imm) }
+    ensures registers { rd < 32 }
 {
     row.opcode + (rd.bits() << 7) + (bits_of(imm.cast_unsigned(), 12, 20) << 12)
 }
@@ -114,7 +130,8 @@ fn u_word(row: Row, rd: Reg, imm: i32) -> u32
 /// A word of the J-type.
 fn j_word(opcode: u32, rd: Reg, imm: i32) -> u32
     requires { opcode < 2 ^ 7 }
-    ensures { result ≡ words.j_word opcode rd (cast_unsigned w32 imm) }
+    ensures value { result ≡ words.j_word opcode rd (cast_unsigned w32 imm) }
+    ensures registers { rd < 32 }
 {
     let n = imm.cast_unsigned();
     let lower = (bits_of(n, 12, 8) << 12) + (bits_of(n, 11, 1) << 20);
