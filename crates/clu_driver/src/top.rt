@@ -1,12 +1,16 @@
-//! The top call: the words of a command line become a command, and the command's outcome becomes
-//! a status and a line.
+//! The top call: the words of a command line become a command, and what the command came to
+//! becomes a status and a line.
 
 use std::alloc::Global;
 
 use clu_base::{Sink, Source, Store};
+use clu_words::{Command, WordsError, read_command};
 
+use crate::go::go;
 use crate::outcome::{Outcome, report};
 
+/// Does what the words say, and gives the exit status. The words leave out the program's own
+/// name. A status other than 0 has its line on the errors; docs/commands.md has them all.
 pub fn clu<S: Source, K: Sink, E: Sink, F: Store>(
     alloc: Global,
     words: &[String],
@@ -15,6 +19,12 @@ pub fn clu<S: Source, K: Sink, E: Sink, F: Store>(
     errors: &mut E,
     files: &mut F,
 ) -> u8 {
-    let _ = files.get(alloc, "x");
-    report(errors, &Outcome::NotYet)
+    match read_command(alloc, words) {
+        Ok(Command::Go { file, image, limits, peep, trace }) if !peep && !trace => {
+            go(alloc, file, image, limits, input, output, errors, files)
+        }
+        Ok(_) => report(errors, &Outcome::NotYet),
+        Err(WordsError::Usage) => report(errors, &Outcome::Usage),
+        Err(WordsError::Memory) => report(errors, &Outcome::Memory),
+    }
 }
