@@ -1,0 +1,5 @@
+//! Image files: the bytes in which the image of a program is kept.
+#![tactic(auto)]
+
+mod header;
+mod loading;
