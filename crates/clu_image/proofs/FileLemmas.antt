@@ -10,7 +10,7 @@ use Rattle.clu_image.specs.ImageFile.{number_bytes, Field, first_fault, head_fie
 
 -- good fields before others hide no fault of those
 
-first_fault-head : (b : Bool) (at : ℕ) (rest : Option ℕ) → cond b rest (Some at) ≡ None → (b ≡ true) × (rest ≡ None)
+pub first_fault-head : (b : Bool) (at : ℕ) (rest : Option ℕ) → cond b rest (Some at) ≡ None → (b ≡ true) × (rest ≡ None)
 first_fault-head true at rest e = (refl, e)
 first_fault-head false at rest e = absurd cc
 

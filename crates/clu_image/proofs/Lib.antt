@@ -1,1 +1,3 @@
 pub mod FileLemmas
+pub mod FileOfContents
+pub mod ContentsOfFile
