@@ -56,7 +56,7 @@ second_version i h =
     let head = good_head b 2 i.entry (length i.code) (length i.fixed) (length i.area) refl (inr refl) version entry words fixed area (bounds_of i h) in
     let start : code_at b ≡ 24 = rw second refl in
     let size : length b ≡ 24 + 4 * length i.code + length i.fixed + length i.area =
-        omega (arith, length-words i.code, length-append (flat_map n i.code ++ i.fixed) i.area, length-append (flat_map n i.code) i.fixed) in
+    omega (arith, length-words i.code, length-append (flat_map n i.code ++ i.fixed) i.area, length-append (flat_map n i.code) i.fixed) in
     record {
       good = no_fault b (length i.code) (length i.fixed) (length i.area) head words fixed area (rw start size);
       entry = entry;
@@ -64,7 +64,8 @@ second_version i h =
       fixed = fixed;
       area = area;
       rest = rw start refl;
-      image = h }
+      image = h;
+    }
 
 first_version : (i : Contents) → IsImage i → i.fixed ≡ [] → HasContents (first_version_bytes i) i
 first_version i h none =
@@ -81,7 +82,7 @@ first_version i h none =
     let start : code_at b ≡ 20 = rw first refl in
     let no_bytes : length i.fixed ≡ 0 = rw none refl in
     let size : length b ≡ 20 + 4 * length i.code + length i.fixed + length i.area =
-        omega (arith, length-words i.code, length-append (flat_map n i.code) i.area) in
+    omega (arith, length-words i.code, length-append (flat_map n i.code) i.area) in
     record {
       good = no_fault b (length i.code) (length i.fixed) (length i.area) head words fixed area (rw start size);
       entry = entry;
@@ -89,21 +90,24 @@ first_version i h none =
       fixed = fixed;
       area = area;
       rest = rw (start, none, append-nil (flat_map n i.code)) refl;
-      image = h }
+      image = h;
+    }
 
 pub contents_of_file : (b : List ℕ) (i : Contents) → IsFileOf b i → HasContents b i
 contents_of_file b i h =
     let P : List ℕ → Type 0 = λ (bytes : List ℕ). HasContents bytes i in
     elim h.is [
       | inl second ↦ subst P (sym second) (second_version i h.image)
-      | inr first ↦ subst P (sym first.1) (first_version i h.image first.0) ]
+      | inr first ↦ subst P (sym first.1) (first_version i h.image first.0)
+    ]
 
 -- no other contents
 
 same_parts : (a b c d : List ℕ) → length a ≡ length c → a ++ b ≡ c ++ d → (a ≡ c) × (b ≡ d)
-same_parts a b c d l e =
-    (sym (take_at a b (length c) l) ∙ ap (take (length c)) e ∙ take_at c d (length c) refl,
-      sym (drop_at a b (length c) l) ∙ ap (drop (length c)) e ∙ drop_at c d (length c) refl)
+same_parts a b c d l e = (
+  sym (take_at a b (length c) l) ∙ ap (take (length c)) e ∙ take_at c d (length c) refl,
+  sym (drop_at a b (length c) l) ∙ ap (drop (length c)) e ∙ drop_at c d (length c) refl,
+)
 
 same_number : (m n : ℕ) → m < 2 ^ 32 → n < 2 ^ 32 → number_bytes m ≡ number_bytes n → m ≡ n
 same_number m n h k e =
@@ -130,7 +134,7 @@ same_contents b i j h k =
     let rests : flat_map n i.code ++ i.fixed ++ i.area ≡ flat_map n j.code ++ j.fixed ++ j.area = sym h.rest ∙ k.rest in
     let code_size : length (flat_map n i.code) ≡ length (flat_map n j.code) = omega (arith, length-words i.code, length-words j.code) in
     let front_size : length (flat_map n i.code ++ i.fixed) ≡ length (flat_map n j.code ++ j.fixed) =
-        omega (arith, length-append (flat_map n i.code) i.fixed, length-append (flat_map n j.code) j.fixed) in
+    omega (arith, length-append (flat_map n i.code) i.fixed, length-append (flat_map n j.code) j.fixed) in
     let area = same_parts (flat_map n i.code ++ i.fixed) i.area (flat_map n j.code ++ j.fixed) j.area front_size rests in
     let front = same_parts (flat_map n i.code) i.fixed (flat_map n j.code) j.fixed code_size area.0 in
     let code = same_words i.code j.code h.image.code_words k.image.code_words words front.0 in
@@ -138,5 +142,6 @@ same_contents b i j h k =
   where
     some_same : {x y : ℕ} → Some x ≡ Some y → x ≡ y
     some_same e = cc
+
     same_image : i.entry ≡ j.entry → i.code ≡ j.code → i.fixed ≡ j.fixed → i.area ≡ j.area → i ≡ j
     same_image e c f a = rw (e, c, f, a) refl

@@ -83,7 +83,8 @@ of_first b i h c s v =
     let rest_is : drop 20 b ≡ flat_map number_bytes i.code ++ [] ++ i.area = rw none at rest in
     record {
       image = c.image;
-      is = inr (none, join_first b (codes "CLUI") (number_bytes 1) (number_bytes i.entry) (number_bytes (length i.code)) (number_bytes (length i.area)) (flat_map number_bytes i.code) i.area _ _ _ _ _ (signature-bytes b s) (field-bytes b 4 1 h v) (field-bytes b 8 i.entry h c.entry) (field-bytes b 12 (length i.code) h c.words) (field-bytes b 16 (length i.area) h area) rest_is) }
+      is = inr (none, join_first b (codes "CLUI") (number_bytes 1) (number_bytes i.entry) (number_bytes (length i.code)) (number_bytes (length i.area)) (flat_map number_bytes i.code) i.area _ _ _ _ _ (signature-bytes b s) (field-bytes b 4 1 h v) (field-bytes b 8 i.entry h c.entry) (field-bytes b 12 (length i.code) h c.words) (field-bytes b 16 (length i.area) h area) rest_is);
+    }
 
 of_second : (b : List ℕ) (i : Contents) → AreBytes b → HasContents b i → starts_with nat_eq b (codes "CLUI") ≡ true → field_at 4 b 4 ≡ Some 2 → IsFileOf b i
 of_second b i h c s v =
@@ -93,7 +94,8 @@ of_second b i h c s v =
     let rest : drop 24 b ≡ flat_map number_bytes i.code ++ i.fixed ++ i.area = rw second at c.rest in
     record {
       image = c.image;
-      is = inl (join_second b (codes "CLUI") (number_bytes 2) (number_bytes i.entry) (number_bytes (length i.code)) (number_bytes (length i.fixed)) (number_bytes (length i.area)) (flat_map number_bytes i.code) i.fixed i.area _ _ _ _ _ _ (signature-bytes b s) (field-bytes b 4 2 h v) (field-bytes b 8 i.entry h c.entry) (field-bytes b 12 (length i.code) h c.words) (field-bytes b 16 (length i.fixed) h fixed) (field-bytes b 20 (length i.area) h area) rest) }
+      is = inl (join_second b (codes "CLUI") (number_bytes 2) (number_bytes i.entry) (number_bytes (length i.code)) (number_bytes (length i.fixed)) (number_bytes (length i.area)) (flat_map number_bytes i.code) i.fixed i.area _ _ _ _ _ _ (signature-bytes b s) (field-bytes b 4 2 h v) (field-bytes b 8 i.entry h c.entry) (field-bytes b 12 (length i.code) h c.words) (field-bytes b 16 (length i.fixed) h fixed) (field-bytes b 20 (length i.area) h area) rest);
+    }
 
 pub file_of_contents : (b : List ℕ) (i : Contents) → AreBytes b → HasContents b i → IsFileOf b i
 file_of_contents b i h c =

@@ -14,12 +14,17 @@ use Rattle.rv_isa.specs.Image.{Contents, IsImage}
 abbrev pub number_bytes : ℕ → List ℕ
 number_bytes n = little_bytes 4 n
 
+-- the head of the file of an image, version 2
+abbrev pub head_bytes : Contents → List ℕ
+head_bytes i =
+    codes "CLUI" ++ number_bytes 2 ++ number_bytes i.entry
+    ++ number_bytes (length i.code)
+    ++ number_bytes (length i.fixed)
+    ++ number_bytes (length i.area)
+
 -- the file of an image, version 2
 abbrev pub image_bytes : Contents → List ℕ
-image_bytes i =
-    codes "CLUI" ++ number_bytes 2 ++ number_bytes i.entry
-    ++ number_bytes (length i.code) ++ number_bytes (length i.fixed) ++ number_bytes (length i.area)
-    ++ flat_map number_bytes i.code ++ i.fixed ++ i.area
+image_bytes i = head_bytes i ++ flat_map number_bytes i.code ++ i.fixed ++ i.area
 
 -- the file of an image without a fixed part, version 1
 abbrev pub first_version_bytes : Contents → List ℕ

@@ -3,3 +3,7 @@
 
 mod header;
 mod loading;
+mod storing;
+
+pub use crate::loading::load;
+pub use crate::storing::store;

@@ -1,16 +1,27 @@
 //! From bytes to images.
 
-ghost use Rattle.std.specs.Prelude.{◌≡◌, ◌+◌, ◌*◌, ◌%◌, length, vec_len, IfOk, IfErr};
+ghost use Rattle.std.specs.Prelude.{◌≡◌, ◌+◌, ◌*◌, ◌%◌, length, vec_len, IfOk, IfErr, MatchResult};
 ghost use Rattle.std.specs.List.{flat_map};
-ghost use Rattle.rv_isa.specs.Image.{contents, IsImage};
+ghost use Rattle.rv_isa.specs.Image.{Contents, contents, IsImage};
 ghost use Rattle.clu_image.specs.Header.{AreBounded};
 ghost use Rattle.clu_image.specs.Parts.{HasContents};
-ghost use Rattle.clu_image.specs.ImageFile.{number_bytes, fault_of, IsFault};
+ghost use Rattle.clu_image.specs.ImageFile.{number_bytes, fault_of, IsFault, IsFileOf};
 
 use crate::header::Header;
 use clu_base::{Bytes, FormatError, Memory, u32_at};
 use rv_isa::Image;
 use std::alloc::Global;
+
+/// The image of a file of version 1 or 2. Refuses other bytes with the place of the first field that
+/// is missing, cut or out of its range, or of the first byte after the end; `FormatError::Memory` is
+/// want of memory alone.
+pub fn load(alloc: Global, b: &[u8]) -> Result<Image, FormatError>
+    ensures file { IfOk result (IsFileOf b.now) }
+    ensures fault { IfErr result (IsFault (fault_of b.now)) }
+    ensures every_file { (i : Contents) → IsFileOf b.now i → MatchResult result (λ j. j ≡ i) (λ e. e ≡ FormatError.Memory) }
+{
+    read(alloc, b)
+}
 
 /// The parts of a file.
 #[derive(Drop)]
