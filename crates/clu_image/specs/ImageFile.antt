@@ -113,7 +113,12 @@ first_fault (f ∷ fs) = if f.is_good then first_fault fs else Some f.at
 abbrev pub fault_of : List ℕ → Option ℕ
 fault_of bytes = first_fault (head_fields bytes ++ part_fields bytes)
 
--- an answer of a reader other than want of memory tells the place of the first fault
+-- the refusal of bytes with a fault
 abbrev pub IsFault : Option ℕ → FormatError → Type 0
-IsFault fault (Bad at) = fault ≡ Some at
-IsFault fault Memory = Unit {0}
+IsFault None e = ⊥
+IsFault (Some at) e = e ≡ Bad at
+
+-- a reader refuses bytes at their first fault, and bytes without one for want of memory alone
+abbrev pub IsRefusal : Option ℕ → FormatError → Type 0
+IsRefusal None e = e ≡ Memory
+IsRefusal (Some at) e = e ≡ Bad at

@@ -1,11 +1,11 @@
 //! From bytes to images.
 
-ghost use Rattle.std.specs.Prelude.{◌≡◌, ◌+◌, ◌*◌, ◌%◌, length, vec_len, IfOk, IfErr, MatchResult};
+ghost use Rattle.std.specs.Prelude.{◌≡◌, ◌+◌, ◌*◌, ◌%◌, length, vec_len, None, IfOk, IfErr, OnOk, MatchResult};
 ghost use Rattle.std.specs.List.{flat_map};
 ghost use Rattle.rv_isa.specs.Image.{Contents, contents, IsImage};
 ghost use Rattle.clu_image.specs.Header.{AreBounded};
 ghost use Rattle.clu_image.specs.Parts.{HasContents};
-ghost use Rattle.clu_image.specs.ImageFile.{number_bytes, fault_of, IsFault, IsFileOf};
+ghost use Rattle.clu_image.specs.ImageFile.{number_bytes, fault_of, IsFault, IsRefusal, IsFileOf};
 
 use crate::header::Header;
 use clu_base::{Bytes, FormatError, Memory, u32_at};
@@ -17,7 +17,8 @@ use std::alloc::Global;
 /// want of memory alone.
 pub fn load(alloc: Global, b: &[u8]) -> Result<Image, FormatError>
     ensures file { IfOk result (IsFileOf b.now) }
-    ensures fault { IfErr result (IsFault (fault_of b.now)) }
+    ensures good { OnOk result (fault_of b.now ≡ None) }
+    ensures refused { IfErr result (IsRefusal (fault_of b.now)) }
     ensures every_file { (i : Contents) → IsFileOf b.now i → MatchResult result (λ j. j ≡ i) (λ e. e ≡ FormatError.Memory) }
 {
     read(alloc, b)
@@ -91,7 +92,7 @@ fn image(entry: u32, code: Vec<u32>, fixed: Vec<u8>, area: Vec<u8>) -> Image
 /// The image of a file, or the place of the first fault.
 fn read(alloc: Global, b: &[u8]) -> Result<Image, FormatError>
     ensures good { IfOk result (HasContents b.now) }
-    ensures fault { IfErr result (IsFault (fault_of b.now)) }
+    ensures refused { IfErr result (IsRefusal (fault_of b.now)) }
 {
     let parts = Parts::find(b)?;
     let code = numbers(alloc, parts.code)?;

@@ -6,4 +6,4 @@ returns-clause-file c =
     file_read c.args.b.now c.read.result (are_bytes c.args.b.now c.type_inv.b) c.read.ensures.good
 
 pub returns-clause-every_file : goal.returns-clause-every_file
-returns-clause-every_file c = every_file_read c.args.b.now c.read.result c.read.ensures.good c.read.ensures.fault
+returns-clause-every_file c = every_file_read c.args.b.now c.read.result c.read.ensures.good c.read.ensures.refused
