@@ -1,0 +1,3 @@
+pub mod ImageFile
+pub mod Header
+pub mod Parts
