@@ -2,12 +2,17 @@
 //! files, and the status with which it ends.
 #![tactic(auto)]
 
+mod compiling;
+mod executing;
+mod file;
 mod literal;
 mod literal_code;
 mod outcome;
+mod running;
 mod top;
 
-pub use crate::literal::literal_output;
-pub use crate::literal_code::literal_image;
+#[cfg(test)]
+mod tests;
+
 pub use crate::outcome::{Outcome, USAGE, report};
 pub use crate::top::clu;

@@ -6,7 +6,8 @@ use std::alloc::Global;
 use clu_base::{Sink, Source, Store};
 use clu_words::{Command, WordsError, read_command};
 
-use crate::go::go;
+use crate::executing::exec;
+use crate::compiling::go;
 use crate::outcome::{Outcome, report};
 
 /// Does what the words say, and gives the exit status. The words leave out the program's own
@@ -20,8 +21,15 @@ pub fn clu<S: Source, K: Sink, E: Sink, F: Store>(
     files: &mut F,
 ) -> u8 {
     match read_command(alloc, words) {
-        Ok(Command::Go { file, image, limits, peep, trace }) if !peep && !trace => {
-            go(alloc, file, image, limits, input, output, errors, files)
+        Ok(Command::Go {
+            file,
+            image,
+            limits,
+            peep: _,
+            trace: _,
+        }) => go(alloc, file, image, limits, input, output, errors, files),
+        Ok(Command::Exec { image, limits }) => {
+            exec(alloc, image, limits, input, output, errors, files)
         }
         Ok(_) => report(errors, &Outcome::NotYet),
         Err(WordsError::Usage) => report(errors, &Outcome::Usage),
