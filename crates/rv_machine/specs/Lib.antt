@@ -7,3 +7,4 @@ pub mod Input
 pub mod Calls
 pub mod Start
 pub mod Emulation
+pub mod Snapshot

@@ -7,6 +7,7 @@ mod ending;
 mod hart;
 mod intake;
 mod limits;
+mod machine;
 mod memory;
 mod multiply;
 mod row;
@@ -16,3 +17,4 @@ mod values;
 
 pub use ending::Ending;
 pub use limits::Limits;
+pub use machine::Machine;

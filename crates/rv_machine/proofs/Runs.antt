@@ -1,0 +1,120 @@
+-- What calls of the machine did, put together.
+use Rattle.std.proofs.Common.{◌≡◌, ◌∙◌, ℕ, ◌+◌, ◌-◌, ◌^◌, Bool, true, false, List, [], ◌∷◌, ◌++◌, take, drop, Option, Some, None, refl, sym, ap, append_assoc}
+use Rattle.std.specs.Prelude.{MatchBool, slice_get}
+use Rattle.std.proofs.lemmas.Bool.{false≢true}
+use Rattle.std.proofs.lemmas.List.{append-nil, take-append-drop}
+use Rattle.clu_base.specs.Outside.{appended, GrewWithin}
+use Rattle.clu_base.proofs.Written.{appended-nil, appended-append}
+use Rattle.rv_machine.specs.declared.ending.Ending.TheVariants as ending
+use Rattle.rv_machine.specs.Calls.{Configuration, bytes_at, range_of, wrote, took, peeked, with_answer}
+use Rattle.rv_machine.specs.State.{State, register, with_register}
+use Rattle.rv_machine.specs.Steps.{advanced}
+use Rattle.rv_machine.specs.Input.{Kept, input_left, SameInput}
+use Rattle.rv_machine.specs.Snapshot.{Snapshot, configuration, is_fault, IsPrefix, IsAfter, Does, Reads, Writes}
+
+-- equal configurations are as meant, however the run ended
+pub is_after : (meant now : Configuration) → now ≡ meant → IsAfter meant now
+is_after meant now e = elim (is_fault now.ended) as (λ b. MatchBool b (IsPrefix now.output meant.output) (now ≡ meant)) [ true ↦ record { rest = []; parts = ap (λ (c : Configuration). c.output) (sym e) ∙ sym (append-nil now.output) } | false ↦ e ]
+
+-- a call that neither reads nor writes
+pub quiet : (meant : List ℕ → List ℕ → Configuration) (old new : Snapshot) (left written : Option (List ℕ)) → ((i o : List ℕ) → configuration new i o ≡ meant i o) → new.kept ≡ old.kept → Does meant old left written new left written
+quiet meant old new left written e k = record {
+  added = [];
+  wrote = sym (appended-nil written);
+  does = λ more output. (more, rw (append-nil output, k) (is_after (meant (input_left old.kept left more) output) (configuration new (input_left old.kept left more) output) (e (input_left old.kept left more) output)))
+}
+
+pub by_reading : (meant : List ℕ → List ℕ → Configuration) (old new : Snapshot) (left left' written : Option (List ℕ)) → Reads meant old left new left' → Does meant old left written new left' written
+by_reading meant old new left left' written r = record {
+  added = [];
+  wrote = sym (appended-nil written);
+  does = λ more output. ((r more output).0, rw (append-nil output) ((r more output).1))
+}
+
+pub by_writing : (meant : List ℕ → List ℕ → Configuration) (old new : Snapshot) (left written written' : Option (List ℕ)) → Writes meant written new written' → new.kept ≡ old.kept → Does meant old left written new left written'
+by_writing meant old new left written written' w k = record {
+  added = w.added;
+  wrote = w.wrote;
+  does = λ more output. (more, rw k (w.does (input_left old.kept left more) output))
+}
+
+-- ---- input
+
+-- a kept byte is the first of the input
+pub input_left-first : (kept new : Kept) (left : Option (List ℕ)) (more : List ℕ) (b : ℕ) → slice_get kept.bytes 0 ≡ Some b → new ≡ record kept { bytes = drop 1 kept.bytes } → input_left kept left more ≡ b ∷ input_left new left more
+input_left-first kept new left more b first e = rw e (first_of kept.bytes kept.at_end first)
+  where
+    first_of : (bytes : List ℕ) (at_end : Bool) → slice_get bytes 0 ≡ Some b → input_left (record { bytes = bytes; at_end = at_end }) left more ≡ b ∷ input_left (record { bytes = drop 1 bytes; at_end = at_end }) left more
+    first_of [] at_end h = cc
+    first_of (x ∷ xs) true h = cc
+    first_of (x ∷ xs) false h = cc
+
+-- no byte is kept behind the end
+pub input_left-none : (kept : Kept) (left : Option (List ℕ)) (more : List ℕ) → slice_get kept.bytes 0 ≡ None → (kept.bytes ≡ [] → kept.at_end ≡ true) → input_left kept left more ≡ []
+input_left-none kept left more none ended = none_of kept.bytes kept.at_end none ended
+  where
+    none_of : (bytes : List ℕ) (at_end : Bool) → slice_get bytes 0 ≡ None → (bytes ≡ [] → at_end ≡ true) → input_left (record { bytes = bytes; at_end = at_end }) left more ≡ []
+    none_of [] true h e = refl
+    none_of [] false h e = absurd (false≢true (e refl))
+    none_of (x ∷ xs) at_end h e = cc
+
+-- ---- output
+
+pub range_is : (t s : State) (at count : ℕ) (r : Option (List ℕ)) → t ≡ s → at ≡ register t 10 → count ≡ register t 11 → r ≡ bytes_at t at count → range_of s ≡ r
+range_is t s at count r v e f h = rw (← v, ← e, ← f) (sym h)
+
+-- the range is in no region
+pub writes_nothing : (old new : Snapshot) (written : Option (List ℕ)) (at : ℕ) → range_of old.state ≡ None → at ≡ register old.state 10 → new ≡ record old { ended = Some (ending.BadAccess at) } → Writes (λ i o. wrote (range_of old.state) (configuration old i o)) written new written
+writes_nothing old new written at none e n = record {
+  added = [];
+  wrote = sym (appended-nil written);
+  does = λ i o. rw (append-nil o, none, n, ← e) (is_after (configuration (record old { ended = Some (ending.BadAccess at) }) i o) (configuration (record old { ended = Some (ending.BadAccess at) }) i o) refl)
+}
+
+-- the sink failed
+pub writes_part : (old new : Snapshot) (written written' : Option (List ℕ)) (bytes : List ℕ) → range_of old.state ≡ Some bytes → GrewWithin written written' bytes → new ≡ record old { ended = Some ending.WriteFault } → Writes (λ i o. wrote (range_of old.state) (configuration old i o)) written new written'
+writes_part old new written written' bytes some grew n = record {
+  added = take grew.count bytes;
+  wrote = grew.grew;
+  does = λ i o. rw (some, n) (record { rest = drop grew.count bytes; parts = ap (λ xs. o ++ xs) (sym (take-append-drop grew.count bytes)) ∙ sym (append_assoc o (take grew.count bytes) (drop grew.count bytes)) })
+}
+
+-- ---- input
+
+output-took : (input : List ℕ) (c : Configuration) → (took input c).output ≡ c.output
+output-took [] c = refl
+output-took (b ∷ rest) c = refl
+
+output-peeked : (input : List ℕ) (c : Configuration) → (peeked input c).output ≡ c.output
+output-peeked [] c = refl
+output-peeked (b ∷ rest) c = refl
+
+-- the machine went on with an answer in x10
+pub answered : (old new : Snapshot) (t : State) (n : ℕ) (i o : List ℕ) → t ≡ old.state → new.state ≡ advanced (with_register t 10 n) → new.ended ≡ old.ended → configuration new i o ≡ with_answer n (record (configuration old i o) { input = i })
+answered old new t n i o v s e = rw (s, v, e) refl
+
+module _ (old new : Snapshot) (filled : Kept) (left left' : Option (List ℕ)) (t : State) (v : t ≡ old.state) (ended : new.ended ≡ old.ended) (same : SameInput old.kept left filled left') where
+  pub takes_byte : (b : ℕ) → slice_get filled.bytes 0 ≡ Some b → new.state ≡ advanced (with_register t 10 b) → new.kept ≡ record filled { bytes = drop 1 filled.bytes } → Reads (λ i o. took i (configuration old i o)) old left new left'
+  takes_byte b first s k = λ more output.
+    ((same more).0, rw ((same more).1, input_left-first filled new.kept left' more b first k) (is_after _ _ (answered old new t b (input_left new.kept left' more) output v s ended)))
+
+  pub takes_end : slice_get filled.bytes 0 ≡ None → (filled.bytes ≡ [] → filled.at_end ≡ true) → new.state ≡ advanced (with_register t 10 (2 ^ 64 - 1)) → new.kept ≡ filled → Reads (λ i o. took i (configuration old i o)) old left new left'
+  takes_end none at_end s k = λ more output.
+    let nothing : input_left filled left' more ≡ [] = input_left-none filled left' more none at_end in
+    ((same more).0, rw ((same more).1, k, nothing) (is_after _ _ (answered old new t (2 ^ 64 - 1) [] output v s ended)))
+
+  pub peeks_byte : (b : ℕ) → slice_get filled.bytes 0 ≡ Some b → new.state ≡ advanced (with_register t 10 b) → new.kept ≡ filled → Reads (λ i o. peeked i (configuration old i o)) old left new left'
+  peeks_byte b first s k = λ more output.
+    let rest = record filled { bytes = drop 1 filled.bytes } in
+    let front : input_left filled left' more ≡ b ∷ input_left rest left' more = input_left-first filled rest left' more b first refl in
+    ((same more).0, rw ((same more).1, k, front) (is_after _ _ (answered old new t b (b ∷ input_left rest left' more) output v s ended)))
+
+  pub peeks_end : slice_get filled.bytes 0 ≡ None → (filled.bytes ≡ [] → filled.at_end ≡ true) → new.state ≡ advanced (with_register t 10 (2 ^ 64 - 1)) → new.kept ≡ filled → Reads (λ i o. peeked i (configuration old i o)) old left new left'
+  peeks_end none at_end s k = λ more output.
+    let nothing : input_left filled left' more ≡ [] = input_left-none filled left' more none at_end in
+    ((same more).0, rw ((same more).1, k, nothing) (is_after _ _ (answered old new t (2 ^ 64 - 1) [] output v s ended)))
+
+-- the source failed
+pub faulted : (meant : List ℕ → List ℕ → Configuration) (old new : Snapshot) (left left' : Option (List ℕ)) → ((i o : List ℕ) → (meant i o).output ≡ o) → left' ≡ left → new ≡ record old { ended = Some ending.ReadFault } → Reads meant old left new left'
+faulted meant old new left left' same e n = λ more output.
+    (more, rw n (record { rest = []; parts = same (input_left old.kept left more) output ∙ sym (append-nil output) }))
