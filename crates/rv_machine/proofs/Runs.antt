@@ -5,10 +5,14 @@ use Rattle.std.proofs.lemmas.Bool.{false≢true}
 use Rattle.std.proofs.lemmas.List.{append-nil, take-append-drop}
 use Rattle.clu_base.specs.Outside.{appended, GrewWithin}
 use Rattle.clu_base.proofs.Written.{appended-nil, appended-append}
+use Rattle.rv_machine.specs.declared.call.Call.{Call}
+use Rattle.rv_machine.specs.declared.trap.Trap.{Trap}
+use Rattle.rv_machine.specs.declared.ending.Ending.{Ending}
 use Rattle.rv_machine.specs.declared.ending.Ending.TheVariants as ending
-use Rattle.rv_machine.specs.Calls.{Configuration, bytes_at, range_of, wrote, took, peeked, with_answer}
+use Rattle.rv_machine.specs.Calls.{Configuration, call_of, ended_by, bytes_at, range_of, wrote, took, peeked, with_answer}
 use Rattle.rv_machine.specs.State.{State, register, with_register}
-use Rattle.rv_machine.specs.Steps.{advanced}
+use Rattle.rv_machine.specs.Emulation.{stepped, trapped}
+use Rattle.rv_machine.specs.Steps.{advanced, Goes, Stops, next}
 use Rattle.rv_machine.specs.Input.{Kept, input_left, SameInput}
 use Rattle.rv_machine.specs.Snapshot.{Snapshot, configuration, is_fault, IsPrefix, IsAfter, Does, Reads, Writes}
 
@@ -118,3 +122,26 @@ module _ (old new : Snapshot) (filled : Kept) (left left' : Option (List ℕ)) (
 pub faulted : (meant : List ℕ → List ℕ → Configuration) (old new : Snapshot) (left left' : Option (List ℕ)) → ((i o : List ℕ) → (meant i o).output ≡ o) → left' ≡ left → new ≡ record old { ended = Some ending.ReadFault } → Reads meant old left new left'
 faulted meant old new left left' same e n = λ more output.
     (more, rw n (record { rest = []; parts = same (input_left old.kept left more) output ∙ sym (append-nil output) }))
+
+-- ---- a step
+
+-- the run ended, and nothing else changed
+pub ends : (old new : Snapshot) (left written : Option (List ℕ)) (e : Ending) → new ≡ record old { ended = Some e } → Does (λ i o. ended_by e (configuration old i o)) old left written new left written
+ends old new left written e n = quiet (λ i o. ended_by e (configuration old i o)) old new left written (λ i o. ap (λ (m : Snapshot). configuration m i o) n) (ap (λ (m : Snapshot). m.kept) n)
+
+pub call_is : (t s : State) (n : ℕ) (k kind : Call) → t ≡ s → n ≡ register t 17 → k ≡ call_of n → k ≡ kind → call_of (register s 17) ≡ kind
+call_is t s n k kind v e f g = rw (← v, ← e, ← f) g
+
+-- the hart went on
+pub goes : (old new : Snapshot) (left written : Option (List ℕ)) (t : State) → t ≡ old.state → old.ended ≡ None → Goes new.state ≡ next t → new.kept ≡ old.kept → new.ended ≡ old.ended → Does (λ i o. stepped (configuration old i o)) old left written new left written
+goes old new left written t v live h k e = quiet (λ i o. stepped (configuration old i o)) old new left written (λ i o. rw (live, ← v, ← h, e, live) refl) k
+
+-- the hart was stopped, and the trap came to what it does
+pub stops : (old mid new : Snapshot) (left written left' written' : Option (List ℕ)) (t : State) (t' : Trap) → t ≡ old.state → old.ended ≡ None → Stops t' mid.state ≡ next t → mid.kept ≡ old.kept → mid.ended ≡ old.ended → Does (λ i o. trapped t' (configuration mid i o)) mid left written new left' written' → Does (λ i o. stepped (configuration old i o)) old left written new left' written'
+stops old mid new left written left' written' t t' v live h k e d = record {
+  added = d.added;
+  wrote = d.wrote;
+  does = λ more output.
+    let same : (i o : List ℕ) → stepped (configuration old i o) ≡ trapped t' (configuration mid i o) = λ i o. rw (live, ← v, ← h, e, live) refl in
+    ((d.does more output).0, rw (← k, same (input_left mid.kept left (d.does more output).0) output) ((d.does more output).1))
+}

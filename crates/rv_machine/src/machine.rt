@@ -100,6 +100,8 @@ impl Machine {
         ensures did { (input output : List ℕ) → configuration self.new input output ≡ failed (range_of self.old.state) (configuration self.old input output) }
         ensures kept { self.new.kept ≡ self.old.kept }
         ensures answer { result ≡ self.new.ended }
+        ensures read_fault { result ≢ Some Ending.ReadFault }
+        ensures write_fault { result ≢ Some Ending.WriteFault }
     {
         let at = self.hart.x(10);
         let count = self.hart.x(11);
