@@ -10,7 +10,6 @@ use Rattle.rv_isa.specs.Fields.{opcode_of, funct3_of}
 use Rattle.rv_isa.specs.Table.{row_of}
 use Rattle.rv_machine.specs.Rows.{HasForm}
 
-
 of_mnemonic : (op : Op) (w : ℕ) → HasForm (instr_of (row_of op).form op w)
 of_mnemonic op.Lui w = λ rd rs1 rs2 imm. refl
 of_mnemonic other w = λ rd rs1 rs2 imm. refl

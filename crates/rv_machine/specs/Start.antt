@@ -26,5 +26,5 @@ started i sizes = record {
   data_start = image_start + length (code_bytes i.code) + length i.fixed;
   image = image_bytes i;
   store = replicate sizes.store 0;
-  stack = replicate sizes.stack 0
+  stack = replicate sizes.stack 0;
 }

@@ -10,7 +10,6 @@ ghost use Rattle.rv_machine.specs.Rows.{instr_by};
 ghost use Rattle.rv_machine.specs.State.{State, register, location_of, accessed, region, offset_of, read_at, with_register, written_at};
 ghost use Rattle.rv_machine.specs.Steps.{advanced, next_pc, next_of, put, jump, branch, loaded, put_loaded, saved, put_saved, executed, fetched, next, word_of};
 
-
 use crate::limits::Limits;
 use crate::memory::{Location, put_u8, put_u16, put_u32, put_u64, u8_at, u16_at, u32_at, u64_at};
 use crate::row::{Code, Row};

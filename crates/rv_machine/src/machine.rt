@@ -6,17 +6,16 @@ ghost use Rattle.std.specs.Int.{w64};
 ghost use Rattle.clu_base.specs.Outside.{Rose};
 ghost use Rattle.rv_machine.specs.State.{State, read_at, register};
 
-use clu_base::{Memory, Sink, Source, write_all};
-use rv_isa::{Image, Reg};
-use std::alloc::Global;
-use std::marker::Model;
-
 use crate::call::Call;
 use crate::ending::Ending;
 use crate::hart::Hart;
 use crate::intake::Intake;
 use crate::limits::Limits;
 use crate::trap::Trap;
+use clu_base::{Memory, Sink, Source, write_all};
+use rv_isa::{Image, Reg};
+use std::alloc::Global;
+use std::marker::Model;
 
 /// A run of an image.
 #[derive(Drop)]
@@ -87,6 +86,65 @@ impl Machine {
         self.hart.range(at, count).unwrap()
     }
 
+    /// One step. The answer is how the run ended, if it did, now or before. After it ended a call
+    /// answers the ending again and does nothing.
+    ///
+    /// `ReadFault` and `WriteFault` come only where the count of faults of the input or the output
+    /// rose in this call, or where the run had ended so before.
+    #[inline(always)]
+    pub fn step<S: Source, K: Sink>(&mut self, input: &mut S, output: &mut K) -> Option<Ending>
+        ensures did { Does (λ i o. stepped (configuration self.old i o)) self.old (S.left input.old) (K.written output.old) self.new (S.left input.new) (K.written output.new) }
+        ensures answer { result ≡ self.new.ended }
+        ensures not_spent { result ≢ Some Ending.StepsSpent }
+
+        // After the end nothing happens.
+        ensures stays { IsSome self.old.ended → self.new ≡ self.old }
+        ensures input_stays { IsSome self.old.ended → input.new ≡ input.old }
+        ensures output_stays { IsSome self.old.ended → output.new ≡ output.old }
+
+        // A fault comes only where the count rose.
+        ensures reads { S.faults input.old ≤ S.faults input.new }
+        ensures writes { K.faults output.old ≤ K.faults output.new }
+        ensures read_fault { self.old.ended ≡ None → result ≡ Some Ending.ReadFault → Rose (S.faults input.old) (S.faults input.new) }
+        ensures write_fault { self.old.ended ≡ None → result ≡ Some Ending.WriteFault → Rose (K.faults output.old) (K.faults output.new) }
+    {
+        if let Some(ending) = self.ended {
+            return Some(ending);
+        }
+        self.go(input, output)
+    }
+
+    /// At most this many steps. The answer is how the run ended, now or before, and `StepsSpent`
+    /// exactly where so many steps were executed and none ended it. After it ended a call answers the
+    /// ending again and does nothing.
+    #[inline(never)]
+    pub fn run<S: Source, K: Sink>(&mut self, steps: u64, input: &mut S, output: &mut K) -> Ending
+        ensures did { Does (λ i o. emulated steps (configuration self.old i o)) self.old (S.left input.old) (K.written output.old) self.new (S.left input.new) (K.written output.new) }
+        ensures answer { result ≡ unwrap_or self.new.ended Ending.StepsSpent }
+        ensures spent { result ≡ Ending.StepsSpent → self.new.ended ≡ None }
+
+        // After the end nothing happens.
+        ensures stays { IsSome self.old.ended → self.new ≡ self.old }
+        ensures input_stays { IsSome self.old.ended → input.new ≡ input.old }
+        ensures output_stays { IsSome self.old.ended → output.new ≡ output.old }
+
+        // A fault comes only where the count rose.
+        ensures reads { S.faults input.old ≤ S.faults input.new }
+        ensures writes { K.faults output.old ≤ K.faults output.new }
+        ensures read_fault { self.old.ended ≡ None → result ≡ Ending.ReadFault → Rose (S.faults input.old) (S.faults input.new) }
+        ensures write_fault { self.old.ended ≡ None → result ≡ Ending.WriteFault → Rose (K.faults output.old) (K.faults output.new) }
+    {
+        if let Some(ending) = self.ended {
+            return ending;
+        }
+        for done in 0..steps {
+            if let Some(ending) = self.go(input, output) {
+                return ending;
+            }
+        }
+        Ending::StepsSpent
+    }
+
     fn end(&mut self, ending: Ending) -> Option<Ending>
         requires { ending ≢ Ending.StepsSpent }
         ensures ended { self.new ≡ record self.old { ended = Some ending } }
@@ -100,6 +158,7 @@ impl Machine {
         ensures did { (input output : List ℕ) → configuration self.new input output ≡ failed (range_of self.old.state) (configuration self.old input output) }
         ensures kept { self.new.kept ≡ self.old.kept }
         ensures answer { result ≡ self.new.ended }
+        ensures not_spent { result ≢ Some Ending.StepsSpent }
         ensures read_fault { result ≢ Some Ending.ReadFault }
         ensures write_fault { result ≢ Some Ending.WriteFault }
     {
@@ -116,6 +175,7 @@ impl Machine {
         ensures did { Writes (λ i o. wrote (range_of self.old.state) (configuration self.old i o)) (K.written output.old) self.new (K.written output.new) }
         ensures kept { self.new.kept ≡ self.old.kept }
         ensures answer { result ≡ self.new.ended }
+        ensures not_spent { result ≢ Some Ending.StepsSpent }
         ensures writes { K.faults output.old ≤ K.faults output.new }
         ensures read_fault { result ≢ Some Ending.ReadFault }
         ensures write_fault { result ≡ Some Ending.WriteFault → Rose (K.faults output.old) (K.faults output.new) }
@@ -138,6 +198,7 @@ impl Machine {
         requires { self.old.ended ≡ None }
         ensures did { Reads (λ i o. took i (configuration self.old i o)) self.old (S.left input.old) self.new (S.left input.new) }
         ensures answer { result ≡ self.new.ended }
+        ensures not_spent { result ≢ Some Ending.StepsSpent }
         ensures reads { S.faults input.old ≤ S.faults input.new }
         ensures read_fault { result ≡ Some Ending.ReadFault → Rose (S.faults input.old) (S.faults input.new) }
         ensures write_fault { result ≢ Some Ending.WriteFault }
@@ -162,6 +223,7 @@ impl Machine {
         requires { self.old.ended ≡ None }
         ensures did { Reads (λ i o. peeked i (configuration self.old i o)) self.old (S.left input.old) self.new (S.left input.new) }
         ensures answer { result ≡ self.new.ended }
+        ensures not_spent { result ≢ Some Ending.StepsSpent }
         ensures reads { S.faults input.old ≤ S.faults input.new }
         ensures read_fault { result ≡ Some Ending.ReadFault → Rose (S.faults input.old) (S.faults input.new) }
         ensures write_fault { result ≢ Some Ending.WriteFault }
@@ -185,6 +247,7 @@ impl Machine {
         requires { self.old.ended ≡ None }
         ensures did { Does (λ i o. served (call_of (register self.old.state 17)) (configuration self.old i o)) self.old (S.left input.old) (K.written output.old) self.new (S.left input.new) (K.written output.new) }
         ensures answer { result ≡ self.new.ended }
+        ensures not_spent { result ≢ Some Ending.StepsSpent }
         ensures reads { S.faults input.old ≤ S.faults input.new }
         ensures writes { K.faults output.old ≤ K.faults output.new }
         ensures read_fault { result ≡ Some Ending.ReadFault → Rose (S.faults input.old) (S.faults input.new) }
@@ -212,6 +275,7 @@ impl Machine {
         requires { self.old.ended ≡ None }
         ensures did { Does (λ i o. trapped trap (configuration self.old i o)) self.old (S.left input.old) (K.written output.old) self.new (S.left input.new) (K.written output.new) }
         ensures answer { result ≡ self.new.ended }
+        ensures not_spent { result ≢ Some Ending.StepsSpent }
         ensures reads { S.faults input.old ≤ S.faults input.new }
         ensures writes { K.faults output.old ≤ K.faults output.new }
         ensures read_fault { result ≡ Some Ending.ReadFault → Rose (S.faults input.old) (S.faults input.new) }
@@ -230,6 +294,7 @@ impl Machine {
         requires { self.old.ended ≡ None }
         ensures did { Does (λ i o. stepped (configuration self.old i o)) self.old (S.left input.old) (K.written output.old) self.new (S.left input.new) (K.written output.new) }
         ensures answer { result ≡ self.new.ended }
+        ensures not_spent { result ≢ Some Ending.StepsSpent }
         ensures reads { S.faults input.old ≤ S.faults input.new }
         ensures writes { K.faults output.old ≤ K.faults output.new }
         ensures read_fault { result ≡ Some Ending.ReadFault → Rose (S.faults input.old) (S.faults input.new) }

@@ -5,12 +5,11 @@ ghost use Rattle.rv_isa.specs.Decoded.{decoded};
 ghost use Rattle.rv_machine.specs.Rows.{instr_of};
 ghost use Rattle.rv_machine.specs.Start.{code_bytes as bytes_of, first_registers as registers_of};
 
-use clu_base::Memory;
-use std::alloc::Global;
-
 use crate::hart::{STACK_START, STORE_START};
 use crate::limits::Limits;
 use crate::row::{Row, row_of_word};
+use clu_base::Memory;
+use std::alloc::Global;
 
 /// The code's words, each decoded. The only error is want of memory.
 pub fn rows_of(alloc: Global, words: &[u32]) -> Result<Vec<Row>, Memory>

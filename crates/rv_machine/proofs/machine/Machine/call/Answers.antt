@@ -1,4 +1,4 @@
-use Rattle.std.proofs.Common.{◌≡◌, ap}
+use Rattle.std.proofs.Common.{ap}
 use Rattle.rv_machine.specs.declared.call.Call.TheVariants as call
 use Rattle.rv_machine.specs.declared.ending.Ending.TheVariants as ending
 use Rattle.rv_machine.specs.Snapshot.{Snapshot}

@@ -1,4 +1,4 @@
-use Rattle.std.proofs.Common.{◌≡◌, ap, refl}
+use Rattle.std.proofs.Common.{◌≡◌, ap}
 use Rattle.rv_machine.specs.Snapshot.{Snapshot}
 use Rattle.rv_machine.proofs.machine.Machine.go.Goals as goal
 use Rattle.rv_machine.proofs.Runs.{goes, stops}

@@ -1,4 +1,3 @@
-use Rattle.std.proofs.Common.{◌≡◌}
 use Rattle.rv_machine.specs.declared.ending.Ending.TheVariants as ending
 use Rattle.rv_machine.proofs.machine.Machine.trapped.Goals as goal
 use Rattle.rv_machine.proofs.Runs.{ends}
