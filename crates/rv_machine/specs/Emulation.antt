@@ -21,7 +21,7 @@ trapped trap.Call c = served (call_of (register c.state 17)) c
 
 abbrev pub after : Next → Configuration → Configuration
 after (Goes s) c = record c { state = s }
-after (Stops t s) c = trapped t c
+after (Stops t s) c = trapped t (record c { state = s })
 
 abbrev pub stepped_unless : Option Ending → Configuration → Configuration
 stepped_unless None c = after (next c.state) c

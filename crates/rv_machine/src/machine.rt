@@ -86,6 +86,65 @@ impl Machine {
         self.hart.range(at, count).unwrap()
     }
 
+    /// One step. The answer is how the run ended, if it did, now or before. After it ended a call
+    /// answers the ending again and does nothing.
+    ///
+    /// `ReadFault` and `WriteFault` come only where the count of faults of the input or the output
+    /// rose in this call, or where the run had ended so before.
+    #[inline(always)]
+    pub fn step<S: Source, K: Sink>(&mut self, input: &mut S, output: &mut K) -> Option<Ending>
+        ensures did { Does (λ i o. stepped (configuration self.old i o)) self.old (S.left input.old) (K.written output.old) self.new (S.left input.new) (K.written output.new) }
+        ensures answer { result ≡ self.new.ended }
+        ensures not_spent { result ≢ Some Ending.StepsSpent }
+
+        // After the end nothing happens.
+        ensures stays { IsSome self.old.ended → self.new ≡ self.old }
+        ensures input_stays { IsSome self.old.ended → input.new ≡ input.old }
+        ensures output_stays { IsSome self.old.ended → output.new ≡ output.old }
+
+        // A fault comes only where the count rose.
+        ensures reads { S.faults input.old ≤ S.faults input.new }
+        ensures writes { K.faults output.old ≤ K.faults output.new }
+        ensures read_fault { self.old.ended ≡ None → result ≡ Some Ending.ReadFault → Rose (S.faults input.old) (S.faults input.new) }
+        ensures write_fault { self.old.ended ≡ None → result ≡ Some Ending.WriteFault → Rose (K.faults output.old) (K.faults output.new) }
+    {
+        if let Some(ending) = self.ended {
+            return Some(ending);
+        }
+        self.go(input, output)
+    }
+
+    /// At most this many steps. The answer is how the run ended, now or before, and `StepsSpent`
+    /// exactly where so many steps were executed and none ended it. After it ended a call answers the
+    /// ending again and does nothing.
+    #[inline(never)]
+    pub fn run<S: Source, K: Sink>(&mut self, steps: u64, input: &mut S, output: &mut K) -> Ending
+        ensures did { Does (λ i o. emulated steps (configuration self.old i o)) self.old (S.left input.old) (K.written output.old) self.new (S.left input.new) (K.written output.new) }
+        ensures answer { result ≡ unwrap_or self.new.ended Ending.StepsSpent }
+        ensures spent { result ≡ Ending.StepsSpent → self.new.ended ≡ None }
+
+        // After the end nothing happens.
+        ensures stays { IsSome self.old.ended → self.new ≡ self.old }
+        ensures input_stays { IsSome self.old.ended → input.new ≡ input.old }
+        ensures output_stays { IsSome self.old.ended → output.new ≡ output.old }
+
+        // A fault comes only where the count rose.
+        ensures reads { S.faults input.old ≤ S.faults input.new }
+        ensures writes { K.faults output.old ≤ K.faults output.new }
+        ensures read_fault { self.old.ended ≡ None → result ≡ Ending.ReadFault → Rose (S.faults input.old) (S.faults input.new) }
+        ensures write_fault { self.old.ended ≡ None → result ≡ Ending.WriteFault → Rose (K.faults output.old) (K.faults output.new) }
+    {
+        if let Some(ending) = self.ended {
+            return ending;
+        }
+        for done in 0..steps {
+            if let Some(ending) = self.go(input, output) {
+                return ending;
+            }
+        }
+        Ending::StepsSpent
+    }
+
     fn end(&mut self, ending: Ending) -> Option<Ending>
         requires { ending ≢ Ending.StepsSpent }
         ensures ended { self.new ≡ record self.old { ended = Some ending } }
@@ -95,41 +154,13 @@ impl Machine {
         Some(ending)
     }
 
-    /// One step. The answer is how the run ended, if it did, now or before.
-    #[inline(always)]
-    pub fn step<S: Source, K: Sink>(&mut self, input: &mut S, output: &mut K) -> Option<Ending>
-        ensures answer { result ≡ self.new.ended }
-        ensures reads { S.faults input.old ≤ S.faults input.new }
-        ensures writes { K.faults output.old ≤ K.faults output.new }
-    {
-        if self.ended.is_some() {
-            return self.ended;
-        }
-        self.go(input, output)
-    }
-
-    /// At most this many steps. The answer is how the run ended, now or before, or `StepsSpent`.
-    #[inline(never)]
-    pub fn run<S: Source, K: Sink>(&mut self, steps: u64, input: &mut S, output: &mut K) -> Ending
-        ensures answer { result ≡ unwrap_or self.new.ended Ending.StepsSpent }
-        ensures reads { S.faults input.old ≤ S.faults input.new }
-        ensures writes { K.faults output.old ≤ K.faults output.new }
-    {
-        if let Some(ending) = self.ended {
-            return ending;
-        }
-        for _ in 0..steps {
-            if let Some(ending) = self.go(input, output) {
-                return ending;
-            }
-        }
-        Ending::StepsSpent
-    }
-
     fn fail(&mut self) -> Option<Ending>
         ensures did { (input output : List ℕ) → configuration self.new input output ≡ failed (range_of self.old.state) (configuration self.old input output) }
         ensures kept { self.new.kept ≡ self.old.kept }
         ensures answer { result ≡ self.new.ended }
+        ensures not_spent { result ≢ Some Ending.StepsSpent }
+        ensures read_fault { result ≢ Some Ending.ReadFault }
+        ensures write_fault { result ≢ Some Ending.WriteFault }
     {
         let at = self.hart.x(10);
         let count = self.hart.x(11);
@@ -141,9 +172,13 @@ impl Machine {
 
     fn write<K: Sink>(&mut self, output: &mut K) -> Option<Ending>
         requires { self.old.ended ≡ None }
+        ensures did { Writes (λ i o. wrote (range_of self.old.state) (configuration self.old i o)) (K.written output.old) self.new (K.written output.new) }
         ensures kept { self.new.kept ≡ self.old.kept }
         ensures answer { result ≡ self.new.ended }
+        ensures not_spent { result ≢ Some Ending.StepsSpent }
         ensures writes { K.faults output.old ≤ K.faults output.new }
+        ensures read_fault { result ≢ Some Ending.ReadFault }
+        ensures write_fault { result ≡ Some Ending.WriteFault → Rose (K.faults output.old) (K.faults output.new) }
     {
         let at = self.hart.x(10);
         let count = self.hart.x(11);
@@ -161,42 +196,62 @@ impl Machine {
 
     fn take<S: Source>(&mut self, input: &mut S) -> Option<Ending>
         requires { self.old.ended ≡ None }
+        ensures did { Reads (λ i o. took i (configuration self.old i o)) self.old (S.left input.old) self.new (S.left input.new) }
         ensures answer { result ≡ self.new.ended }
+        ensures not_spent { result ≢ Some Ending.StepsSpent }
         ensures reads { S.faults input.old ≤ S.faults input.new }
+        ensures read_fault { result ≡ Some Ending.ReadFault → Rose (S.faults input.old) (S.faults input.new) }
+        ensures write_fault { result ≢ Some Ending.WriteFault }
     {
-        if self.intake.fill(input).is_err() {
-            return self.end(Ending::ReadFault);
+        match self.intake.fill(input) {
+            Ok(()) => match self.intake.first() {
+                Some(byte) => {
+                    self.intake.drop_first();
+                    self.hart.answer(byte as u64);
+                    None
+                }
+                None => {
+                    self.hart.answer(u64::MAX);
+                    None
+                }
+            },
+            Err(_) => self.end(Ending::ReadFault),
         }
-        match self.intake.first() {
-            Some(byte) => {
-                self.intake.drop_first();
-                self.hart.answer(byte as u64);
-            }
-            None => self.hart.answer(u64::MAX),
-        }
-        None
     }
 
     fn peek<S: Source>(&mut self, input: &mut S) -> Option<Ending>
         requires { self.old.ended ≡ None }
+        ensures did { Reads (λ i o. peeked i (configuration self.old i o)) self.old (S.left input.old) self.new (S.left input.new) }
         ensures answer { result ≡ self.new.ended }
+        ensures not_spent { result ≢ Some Ending.StepsSpent }
         ensures reads { S.faults input.old ≤ S.faults input.new }
+        ensures read_fault { result ≡ Some Ending.ReadFault → Rose (S.faults input.old) (S.faults input.new) }
+        ensures write_fault { result ≢ Some Ending.WriteFault }
     {
-        if self.intake.fill(input).is_err() {
-            return self.end(Ending::ReadFault);
+        match self.intake.fill(input) {
+            Ok(()) => match self.intake.first() {
+                Some(byte) => {
+                    self.hart.answer(byte as u64);
+                    None
+                }
+                None => {
+                    self.hart.answer(u64::MAX);
+                    None
+                }
+            },
+            Err(_) => self.end(Ending::ReadFault),
         }
-        match self.intake.first() {
-            Some(byte) => self.hart.answer(byte as u64),
-            None => self.hart.answer(u64::MAX),
-        }
-        None
     }
 
     fn call<S: Source, K: Sink>(&mut self, input: &mut S, output: &mut K) -> Option<Ending>
         requires { self.old.ended ≡ None }
+        ensures did { Does (λ i o. served (call_of (register self.old.state 17)) (configuration self.old i o)) self.old (S.left input.old) (K.written output.old) self.new (S.left input.new) (K.written output.new) }
         ensures answer { result ≡ self.new.ended }
+        ensures not_spent { result ≢ Some Ending.StepsSpent }
         ensures reads { S.faults input.old ≤ S.faults input.new }
         ensures writes { K.faults output.old ≤ K.faults output.new }
+        ensures read_fault { result ≡ Some Ending.ReadFault → Rose (S.faults input.old) (S.faults input.new) }
+        ensures write_fault { result ≡ Some Ending.WriteFault → Rose (K.faults output.old) (K.faults output.new) }
     {
         match Call::of(self.hart.x(17)) {
             Call::Return => self.end(Ending::Returned),
@@ -218,9 +273,13 @@ impl Machine {
         output: &mut K,
     ) -> Option<Ending>
         requires { self.old.ended ≡ None }
+        ensures did { Does (λ i o. trapped trap (configuration self.old i o)) self.old (S.left input.old) (K.written output.old) self.new (S.left input.new) (K.written output.new) }
         ensures answer { result ≡ self.new.ended }
+        ensures not_spent { result ≢ Some Ending.StepsSpent }
         ensures reads { S.faults input.old ≤ S.faults input.new }
         ensures writes { K.faults output.old ≤ K.faults output.new }
+        ensures read_fault { result ≡ Some Ending.ReadFault → Rose (S.faults input.old) (S.faults input.new) }
+        ensures write_fault { result ≡ Some Ending.WriteFault → Rose (K.faults output.old) (K.faults output.new) }
     {
         match trap {
             Trap::Instruction { pc } => self.end(Ending::BadInstruction { pc }),
@@ -233,9 +292,13 @@ impl Machine {
     #[inline(always)]
     fn go<S: Source, K: Sink>(&mut self, input: &mut S, output: &mut K) -> Option<Ending>
         requires { self.old.ended ≡ None }
+        ensures did { Does (λ i o. stepped (configuration self.old i o)) self.old (S.left input.old) (K.written output.old) self.new (S.left input.new) (K.written output.new) }
         ensures answer { result ≡ self.new.ended }
+        ensures not_spent { result ≢ Some Ending.StepsSpent }
         ensures reads { S.faults input.old ≤ S.faults input.new }
         ensures writes { K.faults output.old ≤ K.faults output.new }
+        ensures read_fault { result ≡ Some Ending.ReadFault → Rose (S.faults input.old) (S.faults input.new) }
+        ensures write_fault { result ≡ Some Ending.WriteFault → Rose (K.faults output.old) (K.faults output.new) }
     {
         match self.hart.step() {
             None => None,
