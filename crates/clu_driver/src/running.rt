@@ -1,7 +1,10 @@
 //! Running an image on the machine, and what its ending comes to.
 
-ghost use Rattle.std.specs.Prelude.{◌≡◌, ◌≤◌, ◌%◌, IsSome};
+ghost use Rattle.std.specs.Prelude.{◌≡◌, ◌≤◌, ◌%◌, IsSome, None};
 ghost use Rattle.rv_machine.specs.Calls.{bytes_at};
+ghost use Rattle.clu_words.specs.Command.{seen_limits};
+ghost use Rattle.clu_driver.specs.Shows.{HasText, OutcomeOf, Reported, RunShows};
+ghost use Rattle.clu_driver.specs.World.{world};
 
 use std::alloc::Global;
 
@@ -21,7 +24,12 @@ pub fn run<S: Source, K: Sink, E: Sink>(
     input: &mut S,
     output: &mut K,
     errors: &mut E,
-) -> u8 {
+) -> u8
+    ensures told { Reported (λ how. RunShows how image.now (seen_limits limits)
+        (world None 0 (S.left input.old) (S.faults input.old) (K.written output.old) (K.faults output.old))
+        (world None 0 (S.left input.new) (S.faults input.new) (K.written output.new) (K.faults output.new)))
+        result (E.written errors.old) (E.written errors.new) (E.faults errors.old) (E.faults errors.new) }
+{
     match Machine::new(alloc, image, sizes(limits)) {
         Ok(mut machine) => {
             let ending = machine.run(limits.steps, input, output);
@@ -42,7 +50,10 @@ fn sizes(limits: RunLimits) -> Limits
 }
 
 // What the ending of a run comes to.
-fn outcome(machine: &Machine, ending: Ending) -> Outcome<'_> {
+fn outcome(machine: &Machine, ending: Ending) -> Outcome<'_>
+    requires { HasText ending machine.now.state }
+    ensures { OutcomeOf ending machine.now.state result }
+{
     match ending {
         Ending::Returned => Outcome::Done,
         Ending::Failure { at, count } => Outcome::Failure(machine.text(at, count)),

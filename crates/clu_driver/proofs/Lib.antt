@@ -1,0 +1,2 @@
+pub mod FailureText
+pub mod Runs
