@@ -12,7 +12,7 @@ use Rattle.rv_machine.specs.declared.ending.Ending.{Ending}
 use Rattle.rv_machine.specs.declared.ending.Ending.TheVariants as ending
 use Rattle.clu_driver.specs.Shows.{EndsAs, HasFaultOf, HasText, OutcomeOf, Ran, RunShows, sizes_of}
 use Rattle.clu_driver.proofs.FailureText.{ended_with_text}
-use Rattle.clu_driver.specs.World.{World}
+use Rattle.clu_driver.specs.World.{Streams}
 use Rattle.clu_driver.specs.declared.outcome.Outcome.{Outcome}
 use Rattle.clu_driver.specs.declared.outcome.Outcome.TheVariants as outcome
 
@@ -50,7 +50,7 @@ given None more = tt
 given (Some l) more = refl
 
 -- a fault of the outside rose
-faulted : (e : Ending) (s : State) (how : Outcome) (before after : World) → OutcomeOf e s how
+faulted : (e : Ending) (s : State) (how : Outcome) (before after : Streams) → OutcomeOf e s how
     → (e ≡ ending.ReadFault → Rose before.read_faults after.read_faults) → (e ≡ ending.WriteFault → Rose before.write_faults after.write_faults) → HasFaultOf how before after
 faulted ending.ReadFault s how before after is reads writes = let P : Outcome → Type 0 = λ o. HasFaultOf o before after in subst P (sym is) (reads refl)
 faulted ending.WriteFault s how before after is reads writes = let P : Outcome → Type 0 = λ o. HasFaultOf o before after in subst P (sym is) (writes refl)
@@ -73,7 +73,7 @@ from_fresh : (limits : Limits) (old is : Snapshot) (left written : Option (List 
 from_fresh limits old is left written m left' written' same did = let P : Snapshot → Type 0 = λ o. DidRun limits o left written m left' written' in subst P same did
 
 -- what the machine did from its start is what the outcome shows
-pub run_shows : (image : Contents) (limits : Limits) (old m : Snapshot) (before after : World) (e : Ending) (how : Outcome)
+pub run_shows : (image : Contents) (limits : Limits) (old m : Snapshot) (before after : Streams) (e : Ending) (how : Outcome)
     → old ≡ fresh image (sizes_of limits) → DidRun limits old before.left before.written m after.left after.written
     → e ≡ unwrap_or m.ended ending.StepsSpent → (e ≡ ending.StepsSpent → m.ended ≡ None)
     → (e ≡ ending.ReadFault → Rose before.read_faults after.read_faults) → (e ≡ ending.WriteFault → Rose before.write_faults after.write_faults)
@@ -116,6 +116,6 @@ has_text image limits old m left written left' written' e start did' answer =
     text_by m.ended m.state _ did.added _ e answer there.1 (λ now same x ended. ended_with_text limits.steps _ now x refl same ended)
 
 -- a run never comes to want of memory
-pub shown : (how : Outcome) (image : Contents) (limits : Limits) (before after : World) → Ran how image limits before after → RunShows how image limits before after
+pub shown : (how : Outcome) (image : Contents) (limits : Limits) (before after : Streams) → Ran how image limits before after → RunShows how image limits before after
 shown outcome.Memory image limits before after ran = elim ran.ends [ ]
 shown _ image limits before after ran = ran

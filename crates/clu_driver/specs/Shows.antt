@@ -12,7 +12,7 @@ use Rattle.rv_machine.specs.State.{State}
 use Rattle.rv_machine.specs.declared.ending.Ending.{Ending}
 use Rattle.rv_machine.specs.declared.ending.Ending.TheVariants as ending
 use Rattle.clu_driver.specs.Outcome.{IsTold}
-use Rattle.clu_driver.specs.World.{IsUntouched, World}
+use Rattle.clu_driver.specs.World.{Streams}
 use Rattle.clu_driver.specs.declared.outcome.Outcome.{Outcome}
 use Rattle.clu_driver.specs.declared.outcome.Outcome.TheVariants as outcome
 
@@ -42,14 +42,14 @@ EndsAs outcome.WriteFault added c = IsPrefix added c.output
 EndsAs _ added c = ⊥
 
 -- a fault comes only where its count rose
-abbrev pub HasFaultOf : Outcome → World → World → Type 0
+abbrev pub HasFaultOf : Outcome → Streams → Streams → Type 0
 HasFaultOf outcome.ReadFault before after = Rose before.read_faults after.read_faults
 HasFaultOf outcome.WriteFault before after = Rose before.write_faults after.write_faults
 HasFaultOf _ before after = Unit {0}
 
 -- the image was run: the program was given the input that is left, where that is told, and what it
 -- wrote was added to the output
-pub record Ran (how : Outcome) (image : Contents) (limits : Limits) (before after : World) : Type 0 where
+pub record Ran (how : Outcome) (image : Contents) (limits : Limits) (before after : Streams) : Type 0 where
   pub input : List ℕ
   pub is_left : IfSome before.left (λ left. input ≡ left)
   pub added : List ℕ
@@ -58,7 +58,7 @@ pub record Ran (how : Outcome) (image : Contents) (limits : Limits) (before afte
   pub fault : HasFaultOf how before after
 
 -- an image was run, or memory for the run was refused before its first step
-abbrev pub RunShows : Outcome → Contents → Limits → World → World → Type 0
+abbrev pub RunShows : Outcome → Contents → Limits → Streams → Streams → Type 0
 RunShows outcome.Memory image limits before after = after.written ≡ before.written
 RunShows how image limits before after = Ran how image limits before after
 

@@ -1,10 +1,10 @@
 //! Running an image on the machine, and what its ending comes to.
 
-ghost use Rattle.std.specs.Prelude.{◌≡◌, ◌≤◌, ◌%◌, IsSome, None};
+ghost use Rattle.std.specs.Prelude.{◌≡◌, ◌≤◌, ◌%◌, IsSome};
 ghost use Rattle.rv_machine.specs.Calls.{bytes_at};
 ghost use Rattle.clu_words.specs.Command.{seen_limits};
 ghost use Rattle.clu_driver.specs.Shows.{HasText, OutcomeOf, Reported, RunShows};
-ghost use Rattle.clu_driver.specs.World.{world};
+ghost use Rattle.clu_driver.specs.World.{streams_of};
 
 use std::alloc::Global;
 
@@ -26,8 +26,8 @@ pub fn run<S: Source, K: Sink, E: Sink>(
     errors: &mut E,
 ) -> u8
     ensures told { Reported (λ how. RunShows how image.now (seen_limits limits)
-        (world None 0 (S.left input.old) (S.faults input.old) (K.written output.old) (K.faults output.old))
-        (world None 0 (S.left input.new) (S.faults input.new) (K.written output.new) (K.faults output.new)))
+        (streams_of (S.left input.old) (S.faults input.old) (K.written output.old) (K.faults output.old))
+        (streams_of (S.left input.new) (S.faults input.new) (K.written output.new) (K.faults output.new)))
         result (E.written errors.old) (E.written errors.new) (E.faults errors.old) (E.faults errors.new) }
 {
     match Machine::new(alloc, image, sizes(limits)) {
