@@ -1,10 +1,11 @@
 -- What each command shows of its outcome.
 use Rattle.std.specs.Prelude.{◌≡◌, ◌≤◌, ◌⊎◌, ℕ, List, Option, Some, None, IfSome, option_map}
-use Rattle.clu_base.specs.Outside.{Files, IsTorn, Rose, with_file}
+use Rattle.clu_base.specs.Outside.{Files, GrewWithin, IsTorn, Rose, appended, with_file}
 use Rattle.clu_image.specs.ImageFile.{IsFileOf, fault_of, image_bytes}
 use Rattle.clu_words.specs.Command.{Limits, Meant}
 use Rattle.clu_words.specs.Command as command
 use Rattle.rv_isa.specs.Image.{Contents}
+use Rattle.clu_driver.specs.Generated.{generated_text}
 use Rattle.clu_driver.specs.Shows.{RunShows}
 use Rattle.clu_driver.specs.World.{IsUnrun, IsUntouched, World, world_of}
 use Rattle.clu_driver.specs.declared.outcome.Outcome.{Outcome}
@@ -59,3 +60,9 @@ abbrev pub GoShows : Outcome → List ℕ → List ℕ → Limits → World → 
 GoShows how file name limits before after =
     (NotCompiled how file before.files before.store_faults after.store_faults × IsUntouched before after)
     ⊎ ((image : Contents) × (faults : ℕ) × (before.store_faults ≤ faults) × PutShows how name image limits (world_of before.files faults before.streams) after)
+
+-- gen: the source was written, or some first bytes of it
+abbrev pub GenShows : Outcome → ℕ → Option (List ℕ) → Option (List ℕ) → ℕ → ℕ → Type 0
+GenShows outcome.Done n written written' faults faults' = written' ≡ appended written (generated_text n)
+GenShows outcome.WriteFault n written written' faults faults' = Rose faults faults' × GrewWithin written written' (generated_text n)
+GenShows _ n written written' faults faults' = ⊥

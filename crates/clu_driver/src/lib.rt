@@ -5,6 +5,7 @@
 mod compiling;
 mod executing;
 mod file;
+mod generating;
 mod literal;
 mod literal_code;
 mod outcome;
