@@ -66,3 +66,17 @@ abbrev pub GenShows : Outcome → ℕ → Option (List ℕ) → Option (List ℕ
 GenShows outcome.Done n written written' faults faults' = written' ≡ appended written (generated_text n)
 GenShows outcome.WriteFault n written written' faults faults' = Rose faults faults' × GrewWithin written written' (generated_text n)
 GenShows _ n written written' faults faults' = ⊥
+
+-- what the command that the words are shows of the outcome
+abbrev pub CommandShows : Option Meant → Outcome → World → World → Type 0
+CommandShows None how before after = (how ≡ outcome.Usage) × IsUntouched before after
+CommandShows (Some (command.go file image limits peep trace)) how before after = GoShows how file image limits before after
+CommandShows (Some (command.exec image limits)) how before after = ExecShows how image limits before after
+CommandShows (Some (command.gen procedures)) how before after =
+    (after.files ≡ before.files) × (after.streams.left ≡ before.streams.left)
+    × GenShows how procedures before.streams.written after.streams.written before.streams.write_faults after.streams.write_faults
+CommandShows (Some _) how before after = (how ≡ outcome.NotYet) × IsUntouched before after
+
+-- the same, or memory for reading the words was refused
+abbrev pub CluShows : Option Meant → Outcome → World → World → Type 0
+CluShows meant how before after = ((how ≡ outcome.Memory) × IsUntouched before after) ⊎ CommandShows meant how before after
