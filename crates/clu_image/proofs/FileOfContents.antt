@@ -1,14 +1,15 @@
 -- Bytes without a fault are a file of their contents.
 
-use Rattle.std.proofs.Common.{◌≡◌, ℕ, ◌+◌, ◌-◌, ◌*◌, ◌/◌, ◌%◌, ◌^◌, ◌<◌, ◌≤◌, ◌==◌, ◌||◌, nat_le, Bool, true, false, cond, List, [], ◌∷◌, ◌++◌, length, take, drop, Option, Some, None, refl, ap, sym, ◌∙◌, append_assoc, arith, length-drop, ◌⊎◌, inl, inr, All, nat_eq, codes}
+use Rattle.std.proofs.Common.{◌≡◌, ℕ, ◌+◌, ◌*◌, ◌/◌, ◌%◌, ◌^◌, ◌<◌, ◌≤◌, ◌==◌, ◌||◌, nat_le, Bool, true, false, cond, List, [], ◌∷◌, ◌++◌, length, take, drop, Option, Some, None, refl, ap, sym, ◌∙◌, append_assoc, arith, length-drop, ◌⊎◌, inl, inr, nat_eq, codes}
 use Rattle.std.proofs.lemmas.Bool.Decides.{nat_tests}
 use Rattle.std.proofs.lemmas.List.{take-append-drop, drop-drop, get_or-drop, append-nil, nil_from_length}
 use Rattle.std.specs.Cmp.Lexicographic.{bytes_decides}
 use Rattle.std.specs.List.{flat_map, starts_with}
 use Rattle.byteorder.specs.Endian.{little_number}
 use Rattle.clu_base.specs.Fields.{field_at}
-use Rattle.rv_isa.specs.Image.{Contents, IsImage, AreBytes}
-use Rattle.clu_image.specs.ImageFile.{number_bytes, image_bytes, first_version_bytes, IsFileOf, Field, first_fault, head_fields, part_fields, fault_of, entry_of, words_of, fixed_size_of, area_size_of, code_at, is_version_1, passes}
+use Rattle.rv_isa.specs.Image.{Contents, AreBytes}
+use Rattle.clu_image.specs.ImageFile.{number_bytes, IsFileOf}
+use Rattle.clu_image.specs.Faults.{is_version_1, passes}
 use Rattle.clu_image.specs.Parts.{HasContents}
 use Rattle.clu_image.proofs.FileLemmas.{first_fault-head}
 

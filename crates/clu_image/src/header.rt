@@ -1,7 +1,7 @@
 //! The head of an image file: the numbers before its code.
 
 ghost use Rattle.std.specs.Prelude.{◌≡◌, Some, None, IfOk, IfErr};
-ghost use Rattle.clu_image.specs.ImageFile.{first_fault, head_fields, fixed_size_of, area_size_at, IsFault};
+ghost use Rattle.clu_image.specs.Faults.{first_fault, head_fields, fixed_size_of, area_size_at, IsFault};
 ghost use Rattle.clu_base.specs.Fields.{field_at};
 
 use clu_base::{FormatError, u32_at};
@@ -38,16 +38,16 @@ impl Header {
         if entry >= words {
             return Err(FormatError::Bad(8));
         }
-        if words > 16_793_600 {
+        if words as usize > Image::MAX_WORDS {
             return Err(FormatError::Bad(12));
         }
         let fixed = fixed_size(b, version)?;
-        if fixed % 8 != 0 || fixed > 67_174_400 {
+        if fixed % 8 != 0 || fixed as usize > Image::MAX_BYTES {
             return Err(FormatError::Bad(16));
         }
         let size_at = area_size_at(b, version);
         let area = number(b, size_at)?;
-        if area % 8 != 0 || area > 67_174_400 - fixed {
+        if area % 8 != 0 || area as usize > Image::MAX_BYTES - fixed as usize {
             return Err(FormatError::Bad(size_at as u64));
         }
         Ok(Header {
