@@ -9,6 +9,14 @@ use Rattle.clu_base.specs.declared.errors.FormatError.{FormatError}
 use Rattle.clu_base.specs.declared.errors.FormatError.TheVariants.{Bad, Memory}
 use Rattle.rv_isa.specs.Image.{max_words, max_bytes}
 
+-- a version that can be read
+abbrev pub is_version : ℕ → Bool
+is_version n = n == 1 || n == 2
+
+-- a size of the fixed part or the data, behind parts of so many bytes
+abbrev pub is_size : ℕ → ℕ → Bool
+is_size before n = n % 8 == 0 && nat_le (before + n) max_bytes
+
 -- the number at a place, where it is there, passes the test
 abbrev pub passes : (ℕ → Bool) → Option ℕ → Bool
 passes test number = option_map_or test number false
@@ -58,11 +66,11 @@ field at is_good = record { at = at; is_good = is_good }
 abbrev pub head_fields : List ℕ → List Field
 head_fields bytes =
     field 0 (starts_with nat_eq bytes (codes "CLUI"))
-    ∷ field 4 (passes (λ version. version == 1 || version == 2) (field_at 4 bytes 4))
+    ∷ field 4 (passes is_version (field_at 4 bytes 4))
     ∷ field 8 (passes (λ entry. option_map_or (λ words. nat_lt entry words) (words_of bytes) true) (entry_of bytes))
     ∷ field 12 (passes (λ words. nat_le words max_words) (words_of bytes))
-    ∷ field 16 (passes (λ fixed. fixed % 8 == 0 && nat_le fixed max_bytes) (fixed_size_of bytes))
-    ∷ field (area_size_at bytes) (passes (λ area. area % 8 == 0 && nat_le (unwrap_or (fixed_size_of bytes) 0 + area) max_bytes) (area_size_of bytes))
+    ∷ field 16 (passes (is_size 0) (fixed_size_of bytes))
+    ∷ field (area_size_at bytes) (passes (is_size (unwrap_or (fixed_size_of bytes) 0)) (area_size_of bytes))
     ∷ []
 
 -- the code, the fixed part and the data; the last stands for bytes after the end
