@@ -1,0 +1,3 @@
+pub mod FailureText
+pub mod Found
+pub mod Runs

@@ -1,0 +1,529 @@
+//! A hardware thread with its memory: registers, pc, decoded code and the three regions. Its step is
+//! the instruction table; the calls of the environment are left to the machine round it.
+
+ghost use Rattle.std.specs.Prelude.{◌≡◌, Some, ◌+◌, ◌≤◌, ◌<◌, ◌^◌, ◌%◌, length, IfOk, IsSome, IfSome};
+ghost use Rattle.std.specs.Int.{w8, w16, w32, w64};
+ghost use Rattle.rv_isa.specs.declared.op.Op.TheVariants as op;
+ghost use Rattle.std.specs.Option.{option_copied};
+ghost use Rattle.rv_machine.specs.Calls.{bytes_at};
+ghost use Rattle.rv_machine.specs.Rows.{instr_by};
+ghost use Rattle.rv_machine.specs.State.{State, register, location_of, accessed, region, offset_of, read_at, with_register, written_at};
+ghost use Rattle.rv_machine.specs.Steps.{advanced, next_pc, next_of, put, jump, branch, loaded, put_loaded, saved, put_saved, executed, fetched, next, word_of};
+
+use crate::limits::Limits;
+use crate::memory::{Location, put_u8, put_u16, put_u32, put_u64, u8_at, u16_at, u32_at, u64_at};
+use crate::row::{Code, Row};
+use crate::start::{code_bytes, first_registers, rows_of};
+use crate::trap::Trap;
+use crate::{multiply, values};
+use clu_base::Memory;
+use rv_isa::{Image, Reg};
+use std::alloc::Global;
+use std::marker::Model;
+
+/// Where the image region begins, with the code.
+pub const IMAGE_START: u64 = 0x10000;
+/// Where the store region begins.
+pub const STORE_START: u64 = 0x1000_0000;
+/// Where the stack region begins.
+pub const STACK_START: u64 = 0x2000_0000;
+
+#[derive(Drop)]
+pub struct Hart {
+    pc: u64,
+    registers: [u64; 32],
+    rows: Vec<Row>,
+    data_start: u64,
+    image: Vec<u8>,
+    store: Vec<u8>,
+    stack: Vec<u8>,
+}
+
+impl Model for Hart {
+    ghost use Rattle.std.specs.Prelude.{map};
+    ghost use Rattle.rv_machine.specs.State.{State, IsSound};
+    ghost use Rattle.rv_machine.specs.Rows.{instr_of};
+
+    ghost Value = { State };
+
+    ghost view = { λ h. record { pc = h.pc; registers = h.registers; code = map instr_of h.rows.items; data_start = h.data_start; image = h.image.items; store = h.store.items; stack = h.stack.items } };
+
+    ghost invariant = { λ h. IsSound (record { pc = h.pc; registers = h.registers; code = map instr_of h.rows.items; data_start = h.data_start; image = h.image.items; store = h.store.items; stack = h.stack.items }) };
+}
+
+impl Hart {
+    ghost use Rattle.rv_machine.specs.Start.{started};
+
+    /// The hart as a run starts it, with all its memory. The only error is want of memory.
+    pub fn new(alloc: Global, image: &Image, limits: Limits) -> Result<Hart, Memory>
+        ensures { IfOk result (λ h. h ≡ started image.now limits) }
+    {
+        let rows = rows_of(alloc, &image.code)?;
+        let room = 4 * image.code.len() + 4 + image.fixed.len() + image.area.len();
+        let mut memory = code_bytes(alloc, &image.code, room)?;
+        memory.extend_from_slice(&image.fixed)?;
+        let data_start = IMAGE_START + memory.len() as u64;
+        memory.extend_from_slice(&image.area)?;
+        Ok(Hart {
+            pc: IMAGE_START + 4 * image.entry as u64,
+            registers: first_registers(limits),
+            rows,
+            data_start,
+            image: memory,
+            store: vec![in alloc; 0u8; limits.store() as usize]?,
+            stack: vec![in alloc; 0u8; limits.stack() as usize]?,
+        })
+    }
+
+    /// The pc.
+    #[inline(always)]
+    pub fn pc(&self) -> u64
+        ensures { result ≡ self.now.pc }
+    {
+        self.pc
+    }
+
+    /// The number in a register.
+    #[inline(always)]
+    pub fn register(&self, r: Reg) -> u64
+        ensures { result ≡ register self.now r }
+    {
+        self.registers[r.number() as usize]
+    }
+
+    /// The number in the register xN, as a call of the environment names it.
+    pub fn x(&self, n: usize) -> u64
+        requires { n < 32 }
+        ensures { result ≡ register self.now n }
+    {
+        self.registers[n]
+    }
+
+    /// Goes on behind a call of the environment, with its answer in x10.
+    pub fn answer(&mut self, n: u64)
+        ensures { self.new ≡ advanced (with_register self.old 10 n) }
+    {
+        self.registers[10] = n;
+        self.pc = self.next_pc();
+    }
+
+    /// The bytes of a range, if they lie in one region; no bytes lie anywhere.
+    pub fn range(&self, at: u64, count: u64) -> Option<&[u8]>
+        ensures { option_copied result ≡ bytes_at self.now at count }
+    {
+        if count == 0 {
+            return Some(&[]);
+        }
+        match self.locate(at, count)? {
+            Location::Image(offset) => Some(&self.image[offset..offset + count as usize]),
+            Location::Store(offset) => Some(&self.store[offset..offset + count as usize]),
+            Location::Stack(offset) => Some(&self.stack[offset..offset + count as usize]),
+        }
+    }
+
+    /// The eight bytes at an address, which is aligned and inside one region, as a number.
+    pub fn word(&self, at: u64) -> u64
+        requires { IsSome (read_at w64 self.now at) }
+        ensures { Some result ≡ read_at w64 self.now at }
+    {
+        self.read_u64(at).unwrap()
+    }
+
+    #[inline(always)]
+    fn next_pc(&self) -> u64
+        ensures { result ≡ next_pc self.now }
+    {
+        self.pc.wrapping_add(4)
+    }
+
+    /// Goes on to the next instruction.
+    #[inline(always)]
+    pub fn advance(&mut self)
+        ensures { self.new ≡ advanced self.old }
+    {
+        self.pc = self.next_pc();
+    }
+
+    #[inline(always)]
+    fn set_register(&mut self, r: Reg, n: u64)
+        ensures { self.new ≡ with_register self.old r n }
+    {
+        if r.number() != 0 {
+            self.registers[r.number() as usize] = n;
+        }
+    }
+
+    #[inline(always)]
+    fn put(&mut self, rd: Reg, n: u64) -> Option<Trap>
+        ensures { next_of result self.new ≡ put self.old rd n }
+    {
+        self.set_register(rd, n);
+        self.pc = self.next_pc();
+        None
+    }
+
+    #[inline(always)]
+    fn jump(&mut self, rd: Reg, target: u64) -> Option<Trap>
+        ensures { next_of result self.new ≡ jump self.old rd target }
+    {
+        if target % 4 != 0 {
+            return Some(Trap::Jump { target });
+        }
+        self.set_register(rd, self.next_pc());
+        self.pc = target;
+        None
+    }
+
+    #[inline(always)]
+    fn branch(&mut self, taken: bool, target: u64) -> Option<Trap>
+        ensures { next_of result self.new ≡ branch self.old taken target }
+    {
+        if taken {
+            if target % 4 != 0 {
+                return Some(Trap::Jump { target });
+            }
+            self.pc = target;
+        } else {
+            self.pc = self.next_pc();
+        }
+        None
+    }
+
+    /// Where the `count` bytes at an address lie, if they lie in one region.
+    #[inline(always)]
+    pub fn locate(&self, at: u64, count: u64) -> Option<Location>
+        requires { 0 < count }
+        ensures value { result ≡ location_of self.now at count }
+        ensures inside { IfSome result (λ l. offset_of l + count ≤ length (region self.now l)) }
+    {
+        if at >= STACK_START {
+            let offset = (at - STACK_START) as usize;
+            let end = self.stack.len();
+            if offset <= end && count <= (end - offset) as u64 {
+                return Some(Location::Stack(offset));
+            }
+        } else if at >= STORE_START {
+            let offset = (at - STORE_START) as usize;
+            let end = self.store.len();
+            if offset <= end && count <= (end - offset) as u64 {
+                return Some(Location::Store(offset));
+            }
+        } else if at >= IMAGE_START {
+            let offset = (at - IMAGE_START) as usize;
+            let end = self.image.len();
+            if offset <= end && count <= (end - offset) as u64 {
+                return Some(Location::Image(offset));
+            }
+        }
+        None
+    }
+
+    #[inline(always)]
+    fn access(&self, at: u64, size: u64) -> Option<Location>
+        requires { 0 < size }
+        ensures value { result ≡ accessed self.now at size }
+        ensures inside { IfSome result (λ l. offset_of l + size ≤ length (region self.now l)) }
+    {
+        if at % size == 0 {
+            self.locate(at, size)
+        } else {
+            None
+        }
+    }
+
+    #[inline(always)]
+    fn read_u8(&self, at: u64) -> Option<u8>
+        ensures { result ≡ read_at w8 self.now at }
+    {
+        match self.access(at, 1)? {
+            Location::Image(offset) => Some(u8_at(&self.image, offset)),
+            Location::Store(offset) => Some(u8_at(&self.store, offset)),
+            Location::Stack(offset) => Some(u8_at(&self.stack, offset)),
+        }
+    }
+
+    #[inline(always)]
+    fn read_u16(&self, at: u64) -> Option<u16>
+        ensures { result ≡ read_at w16 self.now at }
+    {
+        match self.access(at, 2)? {
+            Location::Image(offset) => Some(u16_at(&self.image, offset)),
+            Location::Store(offset) => Some(u16_at(&self.store, offset)),
+            Location::Stack(offset) => Some(u16_at(&self.stack, offset)),
+        }
+    }
+
+    #[inline(always)]
+    fn read_u32(&self, at: u64) -> Option<u32>
+        ensures { result ≡ read_at w32 self.now at }
+    {
+        match self.access(at, 4)? {
+            Location::Image(offset) => Some(u32_at(&self.image, offset)),
+            Location::Store(offset) => Some(u32_at(&self.store, offset)),
+            Location::Stack(offset) => Some(u32_at(&self.stack, offset)),
+        }
+    }
+
+    #[inline(always)]
+    fn read_u64(&self, at: u64) -> Option<u64>
+        ensures { result ≡ read_at w64 self.now at }
+    {
+        match self.access(at, 8)? {
+            Location::Image(offset) => Some(u64_at(&self.image, offset)),
+            Location::Store(offset) => Some(u64_at(&self.store, offset)),
+            Location::Stack(offset) => Some(u64_at(&self.stack, offset)),
+        }
+    }
+
+    #[inline(always)]
+    fn put_loaded(&mut self, rd: Reg, at: u64, value: Option<u64>) -> Option<Trap>
+        ensures { next_of result self.new ≡ put_loaded self.old rd at value }
+    {
+        match value {
+            Some(n) => self.put(rd, n),
+            None => Some(Trap::Access { address: at }),
+        }
+    }
+
+    #[inline(always)]
+    fn lb(&self, at: u64) -> Option<u64>
+        ensures { result ≡ loaded op.Lb self.now at }
+    {
+        let n = self.read_u8(at)?;
+        Some((n.cast_signed() as i64).cast_unsigned())
+    }
+
+    #[inline(always)]
+    fn lh(&self, at: u64) -> Option<u64>
+        ensures { result ≡ loaded op.Lh self.now at }
+    {
+        let n = self.read_u16(at)?;
+        Some((n.cast_signed() as i64).cast_unsigned())
+    }
+
+    #[inline(always)]
+    fn lw(&self, at: u64) -> Option<u64>
+        ensures { result ≡ loaded op.Lw self.now at }
+    {
+        let n = self.read_u32(at)?;
+        Some((n.cast_signed() as i64).cast_unsigned())
+    }
+
+    #[inline(always)]
+    fn lbu(&self, at: u64) -> Option<u64>
+        ensures { result ≡ loaded op.Lbu self.now at }
+    {
+        let n = self.read_u8(at)?;
+        Some(n as u64)
+    }
+
+    #[inline(always)]
+    fn lhu(&self, at: u64) -> Option<u64>
+        ensures { result ≡ loaded op.Lhu self.now at }
+    {
+        let n = self.read_u16(at)?;
+        Some(n as u64)
+    }
+
+    #[inline(always)]
+    fn lwu(&self, at: u64) -> Option<u64>
+        ensures { result ≡ loaded op.Lwu self.now at }
+    {
+        let n = self.read_u32(at)?;
+        Some(n as u64)
+    }
+
+    #[inline(always)]
+    fn write_u8(&mut self, at: u64, n: u8) -> Option<Trap>
+        ensures { next_of result self.new ≡ put_saved self.old at (written_at w8 self.old at n) }
+    {
+        if at < self.data_start {
+            return Some(Trap::Access { address: at });
+        }
+        match self.access(at, 1) {
+            Some(Location::Image(offset)) => put_u8(&mut self.image, offset, n),
+            Some(Location::Store(offset)) => put_u8(&mut self.store, offset, n),
+            Some(Location::Stack(offset)) => put_u8(&mut self.stack, offset, n),
+            None => return Some(Trap::Access { address: at }),
+        }
+        self.pc = self.next_pc();
+        None
+    }
+
+    #[inline(always)]
+    fn write_u16(&mut self, at: u64, n: u16) -> Option<Trap>
+        ensures { next_of result self.new ≡ put_saved self.old at (written_at w16 self.old at n) }
+    {
+        if at < self.data_start {
+            return Some(Trap::Access { address: at });
+        }
+        match self.access(at, 2) {
+            Some(Location::Image(offset)) => put_u16(&mut self.image, offset, n),
+            Some(Location::Store(offset)) => put_u16(&mut self.store, offset, n),
+            Some(Location::Stack(offset)) => put_u16(&mut self.stack, offset, n),
+            None => return Some(Trap::Access { address: at }),
+        }
+        self.pc = self.next_pc();
+        None
+    }
+
+    #[inline(always)]
+    fn write_u32(&mut self, at: u64, n: u32) -> Option<Trap>
+        ensures { next_of result self.new ≡ put_saved self.old at (written_at w32 self.old at n) }
+    {
+        if at < self.data_start {
+            return Some(Trap::Access { address: at });
+        }
+        match self.access(at, 4) {
+            Some(Location::Image(offset)) => put_u32(&mut self.image, offset, n),
+            Some(Location::Store(offset)) => put_u32(&mut self.store, offset, n),
+            Some(Location::Stack(offset)) => put_u32(&mut self.stack, offset, n),
+            None => return Some(Trap::Access { address: at }),
+        }
+        self.pc = self.next_pc();
+        None
+    }
+
+    #[inline(always)]
+    fn write_u64(&mut self, at: u64, n: u64) -> Option<Trap>
+        ensures { next_of result self.new ≡ put_saved self.old at (written_at w64 self.old at n) }
+    {
+        if at < self.data_start {
+            return Some(Trap::Access { address: at });
+        }
+        match self.access(at, 8) {
+            Some(Location::Image(offset)) => put_u64(&mut self.image, offset, n),
+            Some(Location::Store(offset)) => put_u64(&mut self.store, offset, n),
+            Some(Location::Stack(offset)) => put_u64(&mut self.stack, offset, n),
+            None => return Some(Trap::Access { address: at }),
+        }
+        self.pc = self.next_pc();
+        None
+    }
+
+    #[inline(always)]
+    #[tactic(auto, unfolding(crate::specs::Steps::executed))]
+    fn execute(&mut self, code: Code, rd: Reg, rs1: Reg, rs2: Reg, imm: i32) -> Option<Trap>
+        ensures { next_of result self.new ≡ fetched (Some (instr_by code rd rs1 rs2 imm)) self.old }
+    {
+        let a = self.register(rs1);
+        let b = self.register(rs2);
+        let imm = (imm as i64).cast_unsigned();
+        match code {
+            Code::Lui => self.put(rd, imm),
+            Code::Auipc => self.put(rd, values::add(self.pc, imm)),
+            Code::Beq => self.branch(a == b, self.pc.wrapping_add(imm)),
+            Code::Bne => self.branch(a != b, self.pc.wrapping_add(imm)),
+            Code::Blt => self.branch(a.cast_signed() < b.cast_signed(), self.pc.wrapping_add(imm)),
+            Code::Bge => self.branch(
+                a.cast_signed() >= b.cast_signed(),
+                self.pc.wrapping_add(imm),
+            ),
+            Code::Bltu => self.branch(a < b, self.pc.wrapping_add(imm)),
+            Code::Bgeu => self.branch(a >= b, self.pc.wrapping_add(imm)),
+            Code::Lb => {
+                let at = a.wrapping_add(imm);
+                self.put_loaded(rd, at, self.lb(at))
+            }
+            Code::Lh => {
+                let at = a.wrapping_add(imm);
+                self.put_loaded(rd, at, self.lh(at))
+            }
+            Code::Lw => {
+                let at = a.wrapping_add(imm);
+                self.put_loaded(rd, at, self.lw(at))
+            }
+            Code::Ld => {
+                let at = a.wrapping_add(imm);
+                self.put_loaded(rd, at, self.read_u64(at))
+            }
+            Code::Lbu => {
+                let at = a.wrapping_add(imm);
+                self.put_loaded(rd, at, self.lbu(at))
+            }
+            Code::Lhu => {
+                let at = a.wrapping_add(imm);
+                self.put_loaded(rd, at, self.lhu(at))
+            }
+            Code::Lwu => {
+                let at = a.wrapping_add(imm);
+                self.put_loaded(rd, at, self.lwu(at))
+            }
+            Code::Sb => self.write_u8(a.wrapping_add(imm), (b % (1 << 8)) as u8),
+            Code::Sh => self.write_u16(a.wrapping_add(imm), (b % (1 << 16)) as u16),
+            Code::Sw => self.write_u32(a.wrapping_add(imm), values::low(b)),
+            Code::Sd => self.write_u64(a.wrapping_add(imm), b),
+            Code::Addi => self.put(rd, values::add(a, imm)),
+            Code::Slti => self.put(rd, values::slt(a, imm)),
+            Code::Sltiu => self.put(rd, values::sltu(a, imm)),
+            Code::Xori => self.put(rd, a ^ imm),
+            Code::Ori => self.put(rd, a | imm),
+            Code::Andi => self.put(rd, a & imm),
+            Code::Slli => self.put(rd, values::sll(a, imm)),
+            Code::Srli => self.put(rd, values::srl(a, imm)),
+            Code::Srai => self.put(rd, values::sra(a, imm)),
+            Code::Add => self.put(rd, values::add(a, b)),
+            Code::Sub => self.put(rd, values::sub(a, b)),
+            Code::Sll => self.put(rd, values::sll(a, b)),
+            Code::Slt => self.put(rd, values::slt(a, b)),
+            Code::Sltu => self.put(rd, values::sltu(a, b)),
+            Code::Xor => self.put(rd, a ^ b),
+            Code::Srl => self.put(rd, values::srl(a, b)),
+            Code::Sra => self.put(rd, values::sra(a, b)),
+            Code::Or => self.put(rd, a | b),
+            Code::And => self.put(rd, a & b),
+            Code::Mul => self.put(rd, multiply::mul(a, b)),
+            Code::Mulh => self.put(rd, multiply::mulh(a, b)),
+            Code::Mulhsu => self.put(rd, multiply::mulhsu(a, b)),
+            Code::Mulhu => self.put(rd, multiply::mulhu(a, b)),
+            Code::Div => self.put(rd, multiply::div(a, b)),
+            Code::Divu => self.put(rd, multiply::divu(a, b)),
+            Code::Rem => self.put(rd, multiply::rem(a, b)),
+            Code::Remu => self.put(rd, multiply::remu(a, b)),
+            Code::Addiw => self.put(rd, values::addw(a, imm)),
+            Code::Slliw => self.put(rd, values::sllw(a, imm)),
+            Code::Srliw => self.put(rd, values::srlw(a, imm)),
+            Code::Sraiw => self.put(rd, values::sraw(a, imm)),
+            Code::Addw => self.put(rd, values::addw(a, b)),
+            Code::Subw => self.put(rd, values::subw(a, b)),
+            Code::Sllw => self.put(rd, values::sllw(a, b)),
+            Code::Srlw => self.put(rd, values::srlw(a, b)),
+            Code::Sraw => self.put(rd, values::sraw(a, b)),
+            Code::Mulw => self.put(rd, multiply::mulw(a, b)),
+            Code::Divw => self.put(rd, multiply::divw(a, b)),
+            Code::Divuw => self.put(rd, multiply::divuw(a, b)),
+            Code::Remw => self.put(rd, multiply::remw(a, b)),
+            Code::Remuw => self.put(rd, multiply::remuw(a, b)),
+            Code::Jal => self.jump(rd, self.pc.wrapping_add(imm)),
+            Code::Jalr => {
+                let target = a.wrapping_add(imm);
+                self.jump(rd, target - target % 2)
+            }
+            Code::Fence => {
+                self.advance();
+                None
+            }
+            Code::Ecall => Some(Trap::Call),
+            Code::Ebreak | Code::Unknown => Some(Trap::Instruction { pc: self.pc }),
+        }
+    }
+
+    /// One step, up to a call of the environment.
+    #[inline(always)]
+    #[tactic(auto, using(crate::proofs::Fetch::instr_at), unfolding(crate::specs::Steps::next, crate::specs::Rows::instr_of))]
+    pub fn step(&mut self) -> Option<Trap>
+        ensures { next_of result self.new ≡ next self.old }
+    {
+        let pc = self.pc;
+        if pc < IMAGE_START {
+            return Some(Trap::Jump { target: pc });
+        }
+        let place = ((pc - IMAGE_START) / 4) as usize;
+        if place >= self.rows.len() {
+            return Some(Trap::Jump { target: pc });
+        }
+        let row = &self.rows[place];
+        let (code, rd, rs1, rs2, imm) = (row.code, row.rd, row.rs1, row.rs2, row.imm);
+        self.execute(code, rd, rs1, rs2, imm)
+    }
+}
