@@ -1,14 +1,15 @@
 -- A file of an image has its contents and no fault, and is the file of no other image.
 
-use Rattle.std.proofs.Common.{◌≡◌, ℕ, ◌+◌, ◌-◌, ◌*◌, ◌/◌, ◌%◌, ◌^◌, ◌<◌, ◌≤◌, ◌==◌, ◌||◌, nat_le, nat_lt, Bool, true, false, cond, List, [], ◌∷◌, ◌++◌, length, take, drop, Option, Some, None, refl, ap, sym, ◌∙◌, append_assoc, arith, length-drop, length-append, ◌⊎◌, inl, inr, nat_eq, subst, suc, codes}
+use Rattle.std.proofs.Common.{◌≡◌, ℕ, ◌+◌, ◌-◌, ◌*◌, ◌^◌, ◌<◌, nat_le, nat_lt, true, false, List, [], ◌∷◌, ◌++◌, length, take, drop, Some, None, refl, ap, sym, ◌∙◌, arith, length-drop, length-append, ◌⊎◌, inl, inr, nat_eq, subst, suc, codes}
 use Rattle.std.proofs.lemmas.Bool.Decides.{nat_tests}
 use Rattle.std.proofs.lemmas.List.{append-nil, take_at, drop_at}
 use Rattle.std.specs.List.{flat_map, starts_with}
 use Rattle.byteorder.specs.Endian.{little_number}
 use Rattle.byteorder.specs.Numbers.{little_number-reads_back}
 use Rattle.clu_base.specs.Fields.{field_at}
-use Rattle.rv_isa.specs.Image.{Contents, IsImage, AreWords}
-use Rattle.clu_image.specs.ImageFile.{number_bytes, image_bytes, first_version_bytes, IsFileOf, Field, first_fault, head_fields, part_fields, fault_of, entry_of, words_of, fixed_size_of, area_size_of, area_size_at, code_at, is_version_1, passes}
+use Rattle.rv_isa.specs.Image.{Contents, IsImage, AreWords, max_words, max_bytes}
+use Rattle.clu_image.specs.ImageFile.{number_bytes, image_bytes, first_version_bytes, IsFileOf}
+use Rattle.clu_image.specs.Faults.{first_fault, head_fields, entry_of, words_of, fixed_size_of, area_size_of, code_at, is_version_1, is_version}
 use Rattle.clu_image.specs.Header.{AreBounded}
 use Rattle.clu_image.specs.Parts.{HasContents}
 use Rattle.clu_image.proofs.FileLemmas.{no_fault}
@@ -26,11 +27,11 @@ good_head : (b : List ℕ) (v e w k d : ℕ) → starts_with nat_eq b (codes "CL
     → entry_of b ≡ Some e → words_of b ≡ Some w → fixed_size_of b ≡ Some k → area_size_of b ≡ Some d → AreBounded e w k d
     → first_fault (head_fields b) ≡ None
 good_head b v e w k d signature version hv he hw hk hd bounds =
-    let good_version : (v == 1 || v == 2) ≡ true = elim version [ inl one ↦ rw one refl | inr two ↦ rw two refl ] in
+    let good_version : is_version v ≡ true = elim version [ inl one ↦ rw one refl | inr two ↦ rw two refl ] in
     let enters : nat_lt e w ≡ true = grind (arith, nat_tests, bounds) in
-    let few : nat_le w 16793600 ≡ true = grind (arith, nat_tests, bounds) in
-    let fixed_fits : nat_le k 67174400 ≡ true = grind (arith, nat_tests, bounds) in
-    let area_fits : nat_le (k + d) 67174400 ≡ true = grind (arith, nat_tests, bounds) in
+    let few : nat_le w max_words ≡ true = grind (arith, nat_tests, bounds) in
+    let fixed_fits : nat_le (0 + k) max_bytes ≡ true = grind (arith, nat_tests, bounds) in
+    let area_fits : nat_le (k + d) max_bytes ≡ true = grind (arith, nat_tests, bounds) in
     rw (signature, hk, hd, he, hw, hv, good_version, enters, few, bounds.whole_fixed, fixed_fits, bounds.whole_area, area_fits) refl
 
 -- an image's bounds are those of the head of its file

@@ -1,12 +1,13 @@
 -- The fields of a file by its bytes.
 
-use Rattle.std.proofs.Common.{◌≡◌, ℕ, ◌+◌, ◌-◌, ◌*◌, ◌<◌, ◌≤◌, Bool, true, false, cond, List, [], ◌∷◌, ◌++◌, length, take, drop, Option, Some, None, refl, ap, sym, ◌∙◌, append_assoc, arith, length-take, length-drop}
+use Rattle.std.proofs.Common.{◌≡◌, ℕ, ◌+◌, ◌-◌, ◌*◌, ◌≤◌, Bool, true, false, cond, List, [], ◌∷◌, ◌++◌, length, take, drop, Option, Some, None, refl, ap, sym, ◌∙◌, append_assoc, arith, length-take, length-drop}
 use Rattle.std.proofs.lemmas.Bool.Decides.{nat_tests}
 use Rattle.std.proofs.lemmas.List.{take-append-drop, drop-drop, take_rest}
 use Rattle.std.proofs.Math.Seq.{take-add}
 use Rattle.std.proofs.lemmas.Grind.{flat_map-append}
 use Rattle.std.specs.List.{flat_map}
-use Rattle.clu_image.specs.ImageFile.{number_bytes, Field, first_fault, head_fields, part_fields, fault_of, words_of, fixed_size_of, area_size_of, code_at}
+use Rattle.clu_image.specs.ImageFile.{number_bytes}
+use Rattle.clu_image.specs.Faults.{Field, first_fault, head_fields, part_fields, fault_of, words_of, fixed_size_of, area_size_of, code_at}
 
 -- good fields before others hide no fault of those
 

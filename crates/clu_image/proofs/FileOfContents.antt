@@ -1,14 +1,15 @@
 -- Bytes without a fault are a file of their contents.
 
-use Rattle.std.proofs.Common.{◌≡◌, ℕ, ◌+◌, ◌-◌, ◌*◌, ◌/◌, ◌%◌, ◌^◌, ◌<◌, ◌≤◌, ◌==◌, ◌||◌, nat_le, Bool, true, false, cond, List, [], ◌∷◌, ◌++◌, length, take, drop, Option, Some, None, refl, ap, sym, ◌∙◌, append_assoc, arith, length-drop, ◌⊎◌, inl, inr, All, nat_eq, codes}
+use Rattle.std.proofs.Common.{◌≡◌, ℕ, ◌+◌, ◌*◌, ◌/◌, ◌%◌, ◌^◌, ◌<◌, ◌≤◌, ◌==◌, ◌||◌, nat_le, Bool, true, false, cond, List, [], ◌∷◌, ◌++◌, length, take, drop, Option, Some, None, refl, ap, sym, ◌∙◌, append_assoc, arith, length-drop, ◌⊎◌, inl, inr, nat_eq, codes}
 use Rattle.std.proofs.lemmas.Bool.Decides.{nat_tests}
 use Rattle.std.proofs.lemmas.List.{take-append-drop, drop-drop, get_or-drop, append-nil, nil_from_length}
 use Rattle.std.specs.Cmp.Lexicographic.{bytes_decides}
 use Rattle.std.specs.List.{flat_map, starts_with}
 use Rattle.byteorder.specs.Endian.{little_number}
 use Rattle.clu_base.specs.Fields.{field_at}
-use Rattle.rv_isa.specs.Image.{Contents, IsImage, AreBytes}
-use Rattle.clu_image.specs.ImageFile.{number_bytes, image_bytes, first_version_bytes, IsFileOf, Field, first_fault, head_fields, part_fields, fault_of, entry_of, words_of, fixed_size_of, area_size_of, code_at, is_version_1, passes}
+use Rattle.rv_isa.specs.Image.{Contents, AreBytes}
+use Rattle.clu_image.specs.ImageFile.{number_bytes, IsFileOf}
+use Rattle.clu_image.specs.Faults.{is_version_1, is_version, passes}
 use Rattle.clu_image.specs.Parts.{HasContents}
 use Rattle.clu_image.proofs.FileLemmas.{first_fault-head}
 
@@ -64,7 +65,7 @@ join_second b s v e w k a code fixed area d1 d2 d3 d4 d5 d6 h1 h2 h3 h4 h5 h6 h7
 
 -- the versions that a file may have
 
-version_is : (number : Option ℕ) → passes (λ v. v == 1 || v == 2) number ≡ true → (number ≡ Some 1) ⊎ (number ≡ Some 2)
+version_is : (number : Option ℕ) → passes is_version number ≡ true → (number ≡ Some 1) ⊎ (number ≡ Some 2)
 version_is None h = absurd cc
 version_is (Some v) h = elim (one_of v h) [ inl e ↦ inl (ap Some e) | inr e ↦ inr (ap Some e) ]
   where
@@ -100,5 +101,5 @@ of_second b i h c s v =
 pub file_of_contents : (b : List ℕ) (i : Contents) → AreBytes b → HasContents b i → IsFileOf b i
 file_of_contents b i h c =
     let signature = first_fault-head (starts_with nat_eq b (codes "CLUI")) 0 _ c.good in
-    let version = first_fault-head (passes (λ v. v == 1 || v == 2) (field_at 4 b 4)) 4 _ signature.1 in
+    let version = first_fault-head (passes is_version (field_at 4 b 4)) 4 _ signature.1 in
     elim (version_is (field_at 4 b 4) version.0) [ inl one ↦ of_first b i h c signature.0 one | inr two ↦ of_second b i h c signature.0 two ]

@@ -1,12 +1,13 @@
 -- What a reader that finds contents or a fault says of files.
 
-use Rattle.std.proofs.Common.{◌≡◌, List, ℕ, Result, Ok, Err, Some, IfOk, IfErr, refl, Fits, w8, get_or}
+use Rattle.std.proofs.Common.{◌≡◌, List, ℕ, Result, Ok, Err, IfOk, IfErr, Fits, w8, get_or}
 use Rattle.std.proofs.lemmas.List.{get_or_default}
 use Rattle.std.specs.Result.{MatchResult}
 use Rattle.clu_base.specs.declared.errors.FormatError.{FormatError}
-use Rattle.clu_base.specs.declared.errors.FormatError.TheVariants.{Bad, Memory}
+use Rattle.clu_base.specs.declared.errors.FormatError.TheVariants.{Memory}
 use Rattle.rv_isa.specs.Image.{Contents, AreBytes}
-use Rattle.clu_image.specs.ImageFile.{IsFileOf, IsRefusal, fault_of}
+use Rattle.clu_image.specs.ImageFile.{IsFileOf}
+use Rattle.clu_image.specs.Faults.{IsRefusal, fault_of}
 use Rattle.clu_image.specs.Parts.{HasContents}
 use Rattle.clu_image.proofs.FileOfContents.{file_of_contents}
 use Rattle.clu_image.proofs.ContentsOfFile.{contents_of_file, same_contents}

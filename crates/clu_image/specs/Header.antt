@@ -1,14 +1,15 @@
 use Rattle.std.specs.Prelude.{◌≡◌, ℕ, ◌+◌, ◌%◌, ◌<◌, ◌≤◌, List, Some, None}
+use Rattle.rv_isa.specs.Image.{max_words, max_bytes}
 use Rattle.clu_image.specs.declared.header.Header.{Header}
-use Rattle.clu_image.specs.ImageFile.{first_fault, head_fields, entry_of, words_of, fixed_size_of, area_size_of, code_at}
+use Rattle.clu_image.specs.Faults.{first_fault, head_fields, entry_of, words_of, fixed_size_of, area_size_of, code_at}
 
 -- the numbers at the head of a file are those of an image
 pub record AreBounded (entry words fixed area : ℕ) : Type 0 where
   pub enters : entry < words
-  pub few_words : words ≤ 16793600
+  pub few_words : words ≤ max_words
   pub whole_fixed : fixed % 8 ≡ 0
   pub whole_area : area % 8 ≡ 0
-  pub room : fixed + area ≤ 67174400
+  pub room : fixed + area ≤ max_bytes
 
 -- h has the numbers at the head of the bytes, which are good
 pub record HasHeader (bytes : List ℕ) (h : Header) : Type 0 where

@@ -2,7 +2,8 @@ use Rattle.std.specs.Prelude.{◌≡◌, ℕ, ◌*◌, List, ◌++◌, length, d
 use Rattle.std.specs.List.{flat_map}
 use Rattle.rv_isa.specs.Image.{Contents, IsImage}
 use Rattle.clu_image.specs.declared.loading.Parts.{Parts}
-use Rattle.clu_image.specs.ImageFile.{number_bytes, fault_of, entry_of, words_of, fixed_size_of, area_size_of, code_at}
+use Rattle.clu_image.specs.ImageFile.{number_bytes}
+use Rattle.clu_image.specs.Faults.{fault_of, entry_of, words_of, fixed_size_of, area_size_of, code_at}
 use Rattle.clu_image.specs.Header.{AreBounded}
 
 -- p has the parts of the bytes, which are good

@@ -1,7 +1,7 @@
 //! The head of an image file: the numbers before its code.
 
 ghost use Rattle.std.specs.Prelude.{◌≡◌, Some, None, IfOk, IfErr};
-ghost use Rattle.clu_image.specs.ImageFile.{first_fault, head_fields, fixed_size_of, area_size_at, IsFault};
+ghost use Rattle.clu_image.specs.Faults.{first_fault, head_fields, fixed_size_of, area_size_at, is_version, is_size, IsFault};
 ghost use Rattle.clu_base.specs.Fields.{field_at};
 
 use clu_base::{FormatError, u32_at};
@@ -30,7 +30,7 @@ impl Header {
             return Err(FormatError::Bad(0));
         }
         let version = number(b, 4)?;
-        if version != 1 && version != 2 {
+        if !is_version(version) {
             return Err(FormatError::Bad(4));
         }
         let entry = number(b, 8)?;
@@ -38,16 +38,16 @@ impl Header {
         if entry >= words {
             return Err(FormatError::Bad(8));
         }
-        if words > 16_793_600 {
+        if words as usize > Image::MAX_WORDS {
             return Err(FormatError::Bad(12));
         }
         let fixed = fixed_size(b, version)?;
-        if fixed % 8 != 0 || fixed > 67_174_400 {
+        if !is_size(0, fixed) {
             return Err(FormatError::Bad(16));
         }
         let size_at = area_size_at(b, version);
         let area = number(b, size_at)?;
-        if area % 8 != 0 || area > 67_174_400 - fixed {
+        if !is_size(fixed, area) {
             return Err(FormatError::Bad(size_at as u64));
         }
         Ok(Header {
@@ -82,4 +82,18 @@ fn area_size_at(b: &[u8], version: u32) -> usize
     ensures { result ≡ area_size_at b.now }
 {
     if version == 1 { 16 } else { 20 }
+}
+
+/// Whether this is a version that can be read.
+fn is_version(n: u32) -> bool
+    ensures { result ≡ is_version n }
+{
+    n == 1 || n == 2
+}
+
+/// Whether the fixed part or the data may have this size, behind parts of so many bytes.
+fn is_size(before: u32, n: u32) -> bool
+    ensures { result ≡ is_size before n }
+{
+    n % 8 == 0 && before as usize + n as usize <= Image::MAX_BYTES
 }

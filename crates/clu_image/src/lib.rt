@@ -4,6 +4,8 @@
 mod header;
 mod loading;
 mod storing;
+#[cfg(test)]
+mod tests;
 
 pub use crate::loading::load;
 pub use crate::storing::store;

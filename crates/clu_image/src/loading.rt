@@ -5,7 +5,8 @@ ghost use Rattle.std.specs.List.{flat_map};
 ghost use Rattle.rv_isa.specs.Image.{Contents, contents, IsImage};
 ghost use Rattle.clu_image.specs.Header.{AreBounded};
 ghost use Rattle.clu_image.specs.Parts.{HasContents};
-ghost use Rattle.clu_image.specs.ImageFile.{number_bytes, fault_of, IsFault, IsRefusal, IsFileOf};
+ghost use Rattle.clu_image.specs.ImageFile.{number_bytes, IsFileOf};
+ghost use Rattle.clu_image.specs.Faults.{fault_of, IsFault, IsRefusal};
 
 use crate::header::Header;
 use clu_base::{Bytes, FormatError, Memory, u32_at};

@@ -1,4 +1,4 @@
-use Rattle.std.proofs.Common.{arith, rules, ◌≡◌, ◌*◌, take, drop, Some, IfSome}
+use Rattle.std.proofs.Common.{rules, ◌≡◌, ◌*◌, take, drop}
 use Rattle.clu_image.specs.ImageFile.{number_bytes}
 use Rattle.clu_image.proofs.FileLemmas.{numbers_more}
 use Rattle.clu_image.proofs.loading.numbers.Goals as goal
