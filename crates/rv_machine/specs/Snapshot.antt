@@ -1,10 +1,10 @@
 -- The machine between two calls, and what a call of it does, whatever pieces the input comes in.
-use Rattle.std.specs.Prelude.{◌≡◌, ℕ, Bool, true, false, MatchBool, List, [], ◌++◌, Option, Some, None, Result, Ok, Err}
+use Rattle.std.specs.Prelude.{◌≡◌, ℕ, Bool, true, false, MatchBool, IsSome, List, [], ◌++◌, Option, Some, None, Result, Ok, Err}
 use Rattle.clu_base.specs.Outside.{appended}
 use Rattle.rv_isa.specs.Image.{Contents}
 use Rattle.rv_machine.specs.declared.ending.Ending.{Ending}
 use Rattle.rv_machine.specs.declared.ending.Ending.TheVariants as ending
-use Rattle.rv_machine.specs.Calls.{Configuration}
+use Rattle.rv_machine.specs.Calls.{Configuration, bytes_at}
 use Rattle.rv_machine.specs.Input.{Kept, input_left}
 use Rattle.rv_machine.specs.Limits.{Sizes}
 use Rattle.rv_machine.specs.Start.{started}
@@ -65,3 +65,8 @@ from_pc pc m = record m { state = at_pc pc m.state }
 abbrev pub gone : Result ℕ Ending → Snapshot → Snapshot
 gone (Ok pc) m = from_pc pc m
 gone (Err e) m = m
+
+-- the text of a failure lies in memory
+abbrev pub HasText : Option Ending → State → Type 0
+HasText (Some (ending.Failure at count)) s = IsSome (bytes_at s at count)
+HasText other s = Unit {0}

@@ -41,7 +41,7 @@ impl Machine {
     ghost use Rattle.rv_machine.specs.Calls.{failed, wrote, took, peeked, served, call_of, range_of, bytes_at};
     ghost use Rattle.rv_machine.specs.Emulation.{trapped, stepped, emulated};
     ghost use Rattle.rv_machine.specs.Input.{input_left};
-    ghost use Rattle.rv_machine.specs.Snapshot.{Snapshot, fresh, configuration, from_pc, gone, Does, Reads, Writes};
+    ghost use Rattle.rv_machine.specs.Snapshot.{Snapshot, fresh, configuration, from_pc, gone, HasText, Does, Reads, Writes};
 
     /// The machine as a run of the image with these limits starts. It takes all the memory of the
     /// run, and the only error is want of memory.
@@ -96,6 +96,7 @@ impl Machine {
         ensures did { Does (λ i o. stepped (configuration self.old i o)) self.old (S.left input.old) (K.written output.old) self.new (S.left input.new) (K.written output.new) }
         ensures answer { result ≡ self.new.ended }
         ensures not_spent { result ≢ Some Ending.StepsSpent }
+        ensures text { self.old.ended ≡ None → HasText result self.new.state }
 
         // After the end nothing happens.
         ensures stays { IsSome self.old.ended → self.new ≡ self.old }
@@ -129,6 +130,7 @@ impl Machine {
         ensures did { Does (λ i o. emulated steps (configuration self.old i o)) self.old (S.left input.old) (K.written output.old) self.new (S.left input.new) (K.written output.new) }
         ensures answer { result ≡ unwrap_or self.new.ended Ending.StepsSpent }
         ensures spent { result ≡ Ending.StepsSpent → self.new.ended ≡ None }
+        ensures text { self.old.ended ≡ None → HasText (Some result) self.new.state }
 
         // After the end nothing happens.
         ensures stays { IsSome self.old.ended → self.new ≡ self.old }
@@ -169,6 +171,7 @@ impl Machine {
         ensures kept { self.new.kept ≡ self.old.kept }
         ensures answer { result ≡ self.new.ended }
         ensures not_spent { result ≢ Some Ending.StepsSpent }
+        ensures text { HasText result self.new.state }
         ensures read_fault { result ≢ Some Ending.ReadFault }
         ensures write_fault { result ≢ Some Ending.WriteFault }
     {
@@ -186,6 +189,7 @@ impl Machine {
         ensures kept { self.new.kept ≡ self.old.kept }
         ensures answer { result ≡ self.new.ended }
         ensures not_spent { result ≢ Some Ending.StepsSpent }
+        ensures text { HasText result self.new.state }
         ensures writes { K.faults output.old ≤ K.faults output.new }
         ensures read_fault { result ≢ Some Ending.ReadFault }
         ensures write_fault { result ≡ Some Ending.WriteFault → Rose (K.faults output.old) (K.faults output.new) }
@@ -209,6 +213,7 @@ impl Machine {
         ensures did { Reads (λ i o. took i (configuration self.old i o)) self.old (S.left input.old) self.new (S.left input.new) }
         ensures answer { result ≡ self.new.ended }
         ensures not_spent { result ≢ Some Ending.StepsSpent }
+        ensures text { HasText result self.new.state }
         ensures reads { S.faults input.old ≤ S.faults input.new }
         ensures read_fault { result ≡ Some Ending.ReadFault → Rose (S.faults input.old) (S.faults input.new) }
         ensures write_fault { result ≢ Some Ending.WriteFault }
@@ -234,6 +239,7 @@ impl Machine {
         ensures did { Reads (λ i o. peeked i (configuration self.old i o)) self.old (S.left input.old) self.new (S.left input.new) }
         ensures answer { result ≡ self.new.ended }
         ensures not_spent { result ≢ Some Ending.StepsSpent }
+        ensures text { HasText result self.new.state }
         ensures reads { S.faults input.old ≤ S.faults input.new }
         ensures read_fault { result ≡ Some Ending.ReadFault → Rose (S.faults input.old) (S.faults input.new) }
         ensures write_fault { result ≢ Some Ending.WriteFault }
@@ -258,6 +264,7 @@ impl Machine {
         ensures did { Does (λ i o. served (call_of (register self.old.state 17)) (configuration self.old i o)) self.old (S.left input.old) (K.written output.old) self.new (S.left input.new) (K.written output.new) }
         ensures answer { result ≡ self.new.ended }
         ensures not_spent { result ≢ Some Ending.StepsSpent }
+        ensures text { HasText result self.new.state }
         ensures reads { S.faults input.old ≤ S.faults input.new }
         ensures writes { K.faults output.old ≤ K.faults output.new }
         ensures read_fault { result ≡ Some Ending.ReadFault → Rose (S.faults input.old) (S.faults input.new) }
@@ -286,6 +293,7 @@ impl Machine {
         ensures did { Does (λ i o. trapped trap (configuration self.old i o)) self.old (S.left input.old) (K.written output.old) self.new (S.left input.new) (K.written output.new) }
         ensures answer { result ≡ self.new.ended }
         ensures not_spent { result ≢ Some Ending.StepsSpent }
+        ensures text { HasText result self.new.state }
         ensures reads { S.faults input.old ≤ S.faults input.new }
         ensures writes { K.faults output.old ≤ K.faults output.new }
         ensures read_fault { result ≡ Some Ending.ReadFault → Rose (S.faults input.old) (S.faults input.new) }
@@ -307,6 +315,7 @@ impl Machine {
         ensures goes_on { IfOk result (λ _. self.new.ended ≡ None) }
         ensures ended { IfErr result (λ ending. self.new.ended ≡ Some ending) }
         ensures not_spent { IfErr result (λ ending. ending ≢ Ending.StepsSpent) }
+        ensures text { IfErr result (λ ending. HasText (Some ending) self.new.state) }
         ensures reads { S.faults input.old ≤ S.faults input.new }
         ensures writes { K.faults output.old ≤ K.faults output.new }
         ensures read_fault { result ≡ Err Ending.ReadFault → Rose (S.faults input.old) (S.faults input.new) }
