@@ -1,5 +1,5 @@
 -- What calls of the machine did, put together.
-use Rattle.std.proofs.Common.{◌≡◌, ◌∙◌, ℕ, zero, suc, ◌+◌, add-zero, add-suc, ◌≤◌, arith, ◌-◌, ◌^◌, Bool, true, false, List, [], ◌∷◌, ◌++◌, take, drop, Option, Some, None, refl, sym, ap, subst, append_assoc}
+use Rattle.std.proofs.Common.{◌≡◌, ◌∙◌, ℕ, zero, suc, ◌+◌, add-zero, add-suc, ◌≤◌, arith, ◌-◌, ◌^◌, Bool, true, false, List, [], ◌∷◌, ◌++◌, take, drop, Option, Some, None, Result, Ok, Err, refl, sym, ap, subst, append_assoc}
 use Rattle.std.specs.Prelude.{MatchBool, slice_get}
 use Rattle.std.proofs.lemmas.Bool.{false≢true}
 use Rattle.std.proofs.lemmas.List.{append-nil, take-append-drop}
@@ -15,9 +15,9 @@ use Rattle.rv_machine.specs.Calls.{Configuration, call_of, served, ended_by, byt
 use Rattle.rv_machine.specs.State.{State, register, with_register}
 use Rattle.std.proofs.Math.Numerals.{add-one}
 use Rattle.rv_machine.specs.Emulation.{after, emulated, stepped, stepped_unless, trapped}
-use Rattle.rv_machine.specs.Steps.{advanced, Next, Goes, Stops, next}
+use Rattle.rv_machine.specs.Steps.{advanced, at_pc, Next, Goes, Stops, next}
 use Rattle.rv_machine.specs.Input.{Kept, input_left, SameInput}
-use Rattle.rv_machine.specs.Snapshot.{Snapshot, configuration, is_fault, IsPrefix, IsAfter, Does, Reads, Writes}
+use Rattle.rv_machine.specs.Snapshot.{Snapshot, configuration, from_pc, gone, is_fault, IsPrefix, IsAfter, Does, Reads, Writes}
 
 -- equal configurations are as meant, however the run ended
 pub is_after : (meant now : Configuration) → now ≡ meant → IsAfter meant now
@@ -136,18 +136,24 @@ pub call_is : (t s : State) (n : ℕ) (k kind : Call) → t ≡ s → n ≡ regi
 call_is t s n k kind v e f g = rw (← v, ← e, ← f) g
 
 -- the hart went on
-pub goes : (old new : Snapshot) (left written : Option (List ℕ)) (t : State) → t ≡ old.state → old.ended ≡ None → Goes new.state ≡ next t → new.kept ≡ old.kept → new.ended ≡ old.ended → Does (λ i o. stepped (configuration old i o)) old left written new left written
-goes old new left written t v live h k e = quiet (λ i o. stepped (configuration old i o)) old new left written (λ i o. rw (live, ← v, ← h, e, live) refl) k
+pub goes : (old new : Snapshot) (left written : Option (List ℕ)) → old.ended ≡ None → Goes new.state ≡ next old.state → new.kept ≡ old.kept → new.ended ≡ old.ended → Does (λ i o. stepped (configuration old i o)) old left written new left written
+goes old new left written live h k e = quiet (λ i o. stepped (configuration old i o)) old new left written (λ i o. rw (live, ← h, e, live) refl) k
 
 -- the hart was stopped, and the trap came to what it does
-pub stops : (old mid new : Snapshot) (left written left' written' : Option (List ℕ)) (t : State) (t' : Trap) → t ≡ old.state → old.ended ≡ None → Stops t' mid.state ≡ next t → mid.kept ≡ old.kept → mid.ended ≡ old.ended → Does (λ i o. trapped t' (configuration mid i o)) mid left written new left' written' → Does (λ i o. stepped (configuration old i o)) old left written new left' written'
-stops old mid new left written left' written' t t' v live h k e d = record {
+pub stops : (old mid new : Snapshot) (left written left' written' : Option (List ℕ)) (t : Trap) → old.ended ≡ None → Stops t mid.state ≡ next old.state → mid.kept ≡ old.kept → mid.ended ≡ old.ended → Does (λ i o. trapped t (configuration mid i o)) mid left written new left' written' → Does (λ i o. stepped (configuration old i o)) old left written new left' written'
+stops old mid new left written left' written' t live h k e d = record {
   added = d.added;
   wrote = d.wrote;
   does = λ more output.
-      let same : (i o : List ℕ) → stepped (configuration old i o) ≡ trapped t' (configuration mid i o) = λ i o. rw (live, ← v, ← h, e, live) refl in
-      ((d.does more output).0, rw (← k, same (input_left mid.kept left (d.does more output).0) output) ((d.does more output).1));
+    let same : (i o : List ℕ) → stepped (configuration old i o) ≡ trapped t (configuration mid i o) = λ i o. rw (live, ← h, e, live) refl in
+    ((d.does more output).0, rw (← k, same (input_left mid.kept left (d.does more output).0) output) ((d.does more output).1))
 }
+
+pub gone-pc : (m : Snapshot) (r : Result ℕ Ending) (pc : ℕ) → r ≡ Ok pc → pc ≡ m.state.pc → gone r m ≡ m
+gone-pc m r pc e f = rw (e, f) refl
+
+pub gone-ended : (m : Snapshot) (r : Result ℕ Ending) (e : Ending) → r ≡ Err e → gone r m ≡ m
+gone-ended m r e h = rw h refl
 
 -- ---- whole runs
 
@@ -243,3 +249,20 @@ enough n steps a b left left' written written' e h ended d = record {
       let split : emulated steps before ≡ emulated (steps - n) (emulated n before) = ap (λ m. emulated m before) (sym k) ∙ emulated-add n (steps - n) before in
       ((d.does more output).0, rw split (after_later (is_fault b.ended) (configuration b (input_left b.kept left' more) (output ++ d.added)) (emulated n before) (emulated (steps - n) (emulated n before)) e ended (emulated_grows (steps - n) (emulated n before)) (λ q. emulated-ended (steps - n) (emulated n before) e q) ((d.does more output).1)));
 }
+
+-- ---- a pc beside the machine
+
+snapshot_is : (m : Snapshot) (s : State) (k : Kept) (e : Option Ending) → m.state ≡ s → m.kept ≡ k → m.ended ≡ e → m ≡ record { state = s; kept = k; ended = e }
+snapshot_is m s k e p q r = rw (← p, ← q, ← r) refl
+
+pub begun_at : (a : Snapshot) (pc : ℕ) (left written : Option (List ℕ)) → pc ≡ a.state.pc → Does (λ i o. emulated 0 (configuration a i o)) a left written (from_pc pc a) left written
+begun_at a pc left written e = rw e (begun a left written)
+
+-- the machine's own pc
+pub from_own : (old new : Snapshot) (pc : ℕ) (left left' written written' : Option (List ℕ)) → pc ≡ old.state.pc → Does (λ i o. stepped (configuration (from_pc pc old) i o)) (from_pc pc old) left written new left' written' → Does (λ i o. stepped (configuration old i o)) old left written new left' written'
+from_own old new pc left left' written written' e d = rw e at d
+
+-- the pc is put back into the machine
+pub put_back : (meant : List ℕ → List ℕ → Configuration) (old b new : Snapshot) (pc : ℕ) (left left' written written' : Option (List ℕ)) → new.state ≡ at_pc pc b.state → new.kept ≡ b.kept → new.ended ≡ b.ended → Does meant old left written (from_pc pc b) left' written' → Does meant old left written new left' written'
+put_back meant old b new pc left left' written written' s k e d =
+    subst (λ (m : Snapshot). Does meant old left written m left' written') (sym (snapshot_is new (at_pc pc b.state) b.kept b.ended s k e)) d

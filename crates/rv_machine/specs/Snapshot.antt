@@ -1,14 +1,15 @@
 -- The machine between two calls, and what a call of it does, whatever pieces the input comes in.
-use Rattle.std.specs.Prelude.{◌≡◌, ℕ, Bool, true, false, MatchBool, List, [], ◌++◌, Option, Some, None}
+use Rattle.std.specs.Prelude.{◌≡◌, ℕ, Bool, true, false, MatchBool, IsSome, List, [], ◌++◌, Option, Some, None, Result, Ok, Err}
 use Rattle.clu_base.specs.Outside.{appended}
 use Rattle.rv_isa.specs.Image.{Contents}
 use Rattle.rv_machine.specs.declared.ending.Ending.{Ending}
 use Rattle.rv_machine.specs.declared.ending.Ending.TheVariants as ending
-use Rattle.rv_machine.specs.Calls.{Configuration}
+use Rattle.rv_machine.specs.Calls.{Configuration, bytes_at}
 use Rattle.rv_machine.specs.Input.{Kept, input_left}
 use Rattle.rv_machine.specs.Limits.{Sizes}
 use Rattle.rv_machine.specs.Start.{started}
 use Rattle.rv_machine.specs.State.{State}
+use Rattle.rv_machine.specs.Steps.{at_pc}
 
 -- the state of the hart, the input that is kept, and how the run ended, if it did
 pub record Snapshot : Type 0 where
@@ -55,3 +56,17 @@ pub record Writes (meant : List ℕ → List ℕ → Configuration) (written : O
   pub added : List ℕ
   pub wrote : written' ≡ appended written added
   pub does : (input output : List ℕ) → IsAfter (meant input output) (configuration new input (output ++ added))
+
+-- the machine, with this pc in place of the hart's own
+abbrev pub from_pc : ℕ → Snapshot → Snapshot
+from_pc pc m = record m { state = at_pc pc m.state }
+
+-- the machine after a step that answered the next pc, or how the run ended
+abbrev pub gone : Result ℕ Ending → Snapshot → Snapshot
+gone (Ok pc) m = from_pc pc m
+gone (Err e) m = m
+
+-- the text of a failure lies in memory
+abbrev pub HasText : Option Ending → State → Type 0
+HasText (Some (ending.Failure at count)) s = IsSome (bytes_at s at count)
+HasText other s = Unit {0}

@@ -30,6 +30,7 @@ stack_start = 0x20000000
 
 -- the regions don't meet
 pub record IsSound (s : State) : Type 0 where
+  pub code : length s.code ≤ 16793600
   pub image : length s.image ≤ 0xff00000
   pub store : length s.store ≤ 0x10000000
   pub stack : length s.stack ≤ 0x4000000

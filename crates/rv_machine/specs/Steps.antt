@@ -1,6 +1,6 @@
 -- One step of the hart, up to a call of the environment: one definition for each form of instruction.
 -- A step that is stopped changes nothing. RISC-V unprivileged ISA, chapters "RV32I", "RV64I" and "M".
-use Rattle.std.specs.Prelude.{ℕ, ◌-◌, ◌/◌, ◌%◌, ◌^◌, ℤ, Bool, true, false, ◌==◌, nat_lt, if◌then◌else◌, slice_get, Option, Some, None}
+use Rattle.std.specs.Prelude.{ℕ, ◌-◌, ◌/◌, ◌%◌, ◌^◌, ℤ, Bool, true, false, ◌==◌, nat_lt, if◌then◌else◌, slice_get, Option, Some, None, Result, Ok, Err}
 use Rattle.std.specs.Option.{option_map}
 use Rattle.std.specs.Int.{cast_signed, w8, w16, w32, w64}
 use Rattle.rv_isa.specs.declared.instr.Instr.{Instr}
@@ -17,10 +17,13 @@ pub data Next : Type 0 where
   Goes : State → Next
   Stops : Trap → State → Next
 
--- what a method of the machine did, by its answer and the state that it left
-abbrev pub next_of : Option Trap → State → Next
-next_of None s = Goes s
-next_of (Some t) s = Stops t s
+abbrev pub at_pc : ℕ → State → State
+at_pc pc s = record s { pc = pc }
+
+-- what a step from this pc did, by its answer and the state that it left, whose own pc doesn't count
+abbrev pub next_at : ℕ → Result ℕ Trap → State → Next
+next_at pc (Ok pc') s = Goes (at_pc pc' s)
+next_at pc (Err t) s = Stops t (at_pc pc s)
 
 -- the address of the next instruction; sums wrap
 abbrev pub next_pc : State → ℕ

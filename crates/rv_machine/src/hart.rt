@@ -8,7 +8,8 @@ ghost use Rattle.std.specs.Option.{option_copied};
 ghost use Rattle.rv_machine.specs.Calls.{bytes_at};
 ghost use Rattle.rv_machine.specs.Rows.{instr_by};
 ghost use Rattle.rv_machine.specs.State.{State, register, location_of, accessed, region, offset_of, read_at, with_register, written_at};
-ghost use Rattle.rv_machine.specs.Steps.{advanced, next_pc, next_of, put, jump, branch, loaded, put_loaded, saved, put_saved, executed, fetched, next, word_of};
+ghost use Rattle.rv_machine.specs.Values.{sum};
+ghost use Rattle.rv_machine.specs.Steps.{advanced, at_pc, next_at, put, jump, branch, loaded, put_loaded, saved, put_saved, executed, fetched, next, word_of};
 
 use crate::limits::Limits;
 use crate::memory::{Location, put_u8, put_u16, put_u32, put_u64, u8_at, u16_at, u32_at, u64_at};
@@ -83,6 +84,13 @@ impl Hart {
         self.pc
     }
 
+    #[inline(always)]
+    pub fn set_pc(&mut self, pc: u64)
+        ensures { self.new ≡ at_pc pc self.old }
+    {
+        self.pc = pc;
+    }
+
     /// The number in a register.
     #[inline(always)]
     pub fn register(&self, r: Reg) -> u64
@@ -104,7 +112,7 @@ impl Hart {
         ensures { self.new ≡ advanced (with_register self.old 10 n) }
     {
         self.registers[10] = n;
-        self.pc = self.next_pc();
+        self.pc = next_pc(self.pc);
     }
 
     /// The bytes of a range, if they lie in one region; no bytes lie anywhere.
@@ -129,19 +137,11 @@ impl Hart {
         self.read_u64(at).unwrap()
     }
 
-    #[inline(always)]
-    fn next_pc(&self) -> u64
-        ensures { result ≡ next_pc self.now }
-    {
-        self.pc.wrapping_add(4)
-    }
-
     /// Goes on to the next instruction.
-    #[inline(always)]
     pub fn advance(&mut self)
         ensures { self.new ≡ advanced self.old }
     {
-        self.pc = self.next_pc();
+        self.pc = next_pc(self.pc);
     }
 
     #[inline(always)]
@@ -154,39 +154,35 @@ impl Hart {
     }
 
     #[inline(always)]
-    fn put(&mut self, rd: Reg, n: u64) -> Option<Trap>
-        ensures { next_of result self.new ≡ put self.old rd n }
+    fn put(&mut self, pc: u64, rd: Reg, n: u64) -> Result<u64, Trap>
+        ensures { next_at pc result self.new ≡ put (at_pc pc self.old) rd n }
     {
         self.set_register(rd, n);
-        self.pc = self.next_pc();
-        None
+        Ok(next_pc(pc))
     }
 
     #[inline(always)]
-    fn jump(&mut self, rd: Reg, target: u64) -> Option<Trap>
-        ensures { next_of result self.new ≡ jump self.old rd target }
+    fn jump(&mut self, pc: u64, rd: Reg, target: u64) -> Result<u64, Trap>
+        ensures { next_at pc result self.new ≡ jump (at_pc pc self.old) rd target }
     {
         if target % 4 != 0 {
-            return Some(Trap::Jump { target });
+            return Err(Trap::Jump { target });
         }
-        self.set_register(rd, self.next_pc());
-        self.pc = target;
-        None
+        self.set_register(rd, next_pc(pc));
+        Ok(target)
     }
 
     #[inline(always)]
-    fn branch(&mut self, taken: bool, target: u64) -> Option<Trap>
-        ensures { next_of result self.new ≡ branch self.old taken target }
+    fn branch(&self, pc: u64, taken: bool, target: u64) -> Result<u64, Trap>
+        ensures { next_at pc result self.now ≡ branch (at_pc pc self.now) taken target }
     {
-        if taken {
-            if target % 4 != 0 {
-                return Some(Trap::Jump { target });
-            }
-            self.pc = target;
-        } else {
-            self.pc = self.next_pc();
+        if !taken {
+            return Ok(next_pc(pc));
         }
-        None
+        if target % 4 != 0 {
+            return Err(Trap::Jump { target });
+        }
+        Ok(target)
     }
 
     /// Where the `count` bytes at an address lie, if they lie in one region.
@@ -276,12 +272,12 @@ impl Hart {
     }
 
     #[inline(always)]
-    fn put_loaded(&mut self, rd: Reg, at: u64, value: Option<u64>) -> Option<Trap>
-        ensures { next_of result self.new ≡ put_loaded self.old rd at value }
+    fn put_loaded(&mut self, pc: u64, rd: Reg, at: u64, value: Option<u64>) -> Result<u64, Trap>
+        ensures { next_at pc result self.new ≡ put_loaded (at_pc pc self.old) rd at value }
     {
         match value {
-            Some(n) => self.put(rd, n),
-            None => Some(Trap::Access { address: at }),
+            Some(n) => self.put(pc, rd, n),
+            None => Err(Trap::Access { address: at }),
         }
     }
 
@@ -334,196 +330,192 @@ impl Hart {
     }
 
     #[inline(always)]
-    fn write_u8(&mut self, at: u64, n: u8) -> Option<Trap>
-        ensures { next_of result self.new ≡ put_saved self.old at (written_at w8 self.old at n) }
+    fn write_u8(&mut self, pc: u64, at: u64, n: u8) -> Result<u64, Trap>
+        ensures { next_at pc result self.new ≡ put_saved (at_pc pc self.old) at (written_at w8 (at_pc pc self.old) at n) }
     {
         if at < self.data_start {
-            return Some(Trap::Access { address: at });
+            return Err(Trap::Access { address: at });
         }
         match self.access(at, 1) {
             Some(Location::Image(offset)) => put_u8(&mut self.image, offset, n),
             Some(Location::Store(offset)) => put_u8(&mut self.store, offset, n),
             Some(Location::Stack(offset)) => put_u8(&mut self.stack, offset, n),
-            None => return Some(Trap::Access { address: at }),
+            None => return Err(Trap::Access { address: at }),
         }
-        self.pc = self.next_pc();
-        None
+        Ok(next_pc(pc))
     }
 
     #[inline(always)]
-    fn write_u16(&mut self, at: u64, n: u16) -> Option<Trap>
-        ensures { next_of result self.new ≡ put_saved self.old at (written_at w16 self.old at n) }
+    fn write_u16(&mut self, pc: u64, at: u64, n: u16) -> Result<u64, Trap>
+        ensures { next_at pc result self.new ≡ put_saved (at_pc pc self.old) at (written_at w16 (at_pc pc self.old) at n) }
     {
         if at < self.data_start {
-            return Some(Trap::Access { address: at });
+            return Err(Trap::Access { address: at });
         }
         match self.access(at, 2) {
             Some(Location::Image(offset)) => put_u16(&mut self.image, offset, n),
             Some(Location::Store(offset)) => put_u16(&mut self.store, offset, n),
             Some(Location::Stack(offset)) => put_u16(&mut self.stack, offset, n),
-            None => return Some(Trap::Access { address: at }),
+            None => return Err(Trap::Access { address: at }),
         }
-        self.pc = self.next_pc();
-        None
+        Ok(next_pc(pc))
     }
 
     #[inline(always)]
-    fn write_u32(&mut self, at: u64, n: u32) -> Option<Trap>
-        ensures { next_of result self.new ≡ put_saved self.old at (written_at w32 self.old at n) }
+    fn write_u32(&mut self, pc: u64, at: u64, n: u32) -> Result<u64, Trap>
+        ensures { next_at pc result self.new ≡ put_saved (at_pc pc self.old) at (written_at w32 (at_pc pc self.old) at n) }
     {
         if at < self.data_start {
-            return Some(Trap::Access { address: at });
+            return Err(Trap::Access { address: at });
         }
         match self.access(at, 4) {
             Some(Location::Image(offset)) => put_u32(&mut self.image, offset, n),
             Some(Location::Store(offset)) => put_u32(&mut self.store, offset, n),
             Some(Location::Stack(offset)) => put_u32(&mut self.stack, offset, n),
-            None => return Some(Trap::Access { address: at }),
+            None => return Err(Trap::Access { address: at }),
         }
-        self.pc = self.next_pc();
-        None
+        Ok(next_pc(pc))
     }
 
     #[inline(always)]
-    fn write_u64(&mut self, at: u64, n: u64) -> Option<Trap>
-        ensures { next_of result self.new ≡ put_saved self.old at (written_at w64 self.old at n) }
+    fn write_u64(&mut self, pc: u64, at: u64, n: u64) -> Result<u64, Trap>
+        ensures { next_at pc result self.new ≡ put_saved (at_pc pc self.old) at (written_at w64 (at_pc pc self.old) at n) }
     {
         if at < self.data_start {
-            return Some(Trap::Access { address: at });
+            return Err(Trap::Access { address: at });
         }
         match self.access(at, 8) {
             Some(Location::Image(offset)) => put_u64(&mut self.image, offset, n),
             Some(Location::Store(offset)) => put_u64(&mut self.store, offset, n),
             Some(Location::Stack(offset)) => put_u64(&mut self.stack, offset, n),
-            None => return Some(Trap::Access { address: at }),
+            None => return Err(Trap::Access { address: at }),
         }
-        self.pc = self.next_pc();
-        None
+        Ok(next_pc(pc))
     }
 
     #[inline(always)]
     #[tactic(auto, unfolding(crate::specs::Steps::executed))]
-    fn execute(&mut self, code: Code, rd: Reg, rs1: Reg, rs2: Reg, imm: i32) -> Option<Trap>
-        ensures { next_of result self.new ≡ fetched (Some (instr_by code rd rs1 rs2 imm)) self.old }
+    fn execute(&mut self, pc: u64, code: Code, rd: Reg, rs1: Reg, rs2: Reg, imm: i32) -> Result<u64, Trap>
+        ensures { next_at pc result self.new ≡ fetched (Some (instr_by code rd rs1 rs2 imm)) (at_pc pc self.old) }
     {
         let a = self.register(rs1);
         let b = self.register(rs2);
         let imm = (imm as i64).cast_unsigned();
         match code {
-            Code::Lui => self.put(rd, imm),
-            Code::Auipc => self.put(rd, values::add(self.pc, imm)),
-            Code::Beq => self.branch(a == b, self.pc.wrapping_add(imm)),
-            Code::Bne => self.branch(a != b, self.pc.wrapping_add(imm)),
-            Code::Blt => self.branch(a.cast_signed() < b.cast_signed(), self.pc.wrapping_add(imm)),
-            Code::Bge => self.branch(
+            Code::Lui => self.put(pc, rd, imm),
+            Code::Auipc => self.put(pc, rd, values::add(pc, imm)),
+            Code::Beq => self.branch(pc, a == b, pc.wrapping_add(imm)),
+            Code::Bne => self.branch(pc, a != b, pc.wrapping_add(imm)),
+            Code::Blt => self.branch(pc, a.cast_signed() < b.cast_signed(), pc.wrapping_add(imm)),
+            Code::Bge => self.branch(pc, 
                 a.cast_signed() >= b.cast_signed(),
-                self.pc.wrapping_add(imm),
+                pc.wrapping_add(imm),
             ),
-            Code::Bltu => self.branch(a < b, self.pc.wrapping_add(imm)),
-            Code::Bgeu => self.branch(a >= b, self.pc.wrapping_add(imm)),
+            Code::Bltu => self.branch(pc, a < b, pc.wrapping_add(imm)),
+            Code::Bgeu => self.branch(pc, a >= b, pc.wrapping_add(imm)),
             Code::Lb => {
                 let at = a.wrapping_add(imm);
-                self.put_loaded(rd, at, self.lb(at))
+                self.put_loaded(pc, rd, at, self.lb(at))
             }
             Code::Lh => {
                 let at = a.wrapping_add(imm);
-                self.put_loaded(rd, at, self.lh(at))
+                self.put_loaded(pc, rd, at, self.lh(at))
             }
             Code::Lw => {
                 let at = a.wrapping_add(imm);
-                self.put_loaded(rd, at, self.lw(at))
+                self.put_loaded(pc, rd, at, self.lw(at))
             }
             Code::Ld => {
                 let at = a.wrapping_add(imm);
-                self.put_loaded(rd, at, self.read_u64(at))
+                self.put_loaded(pc, rd, at, self.read_u64(at))
             }
             Code::Lbu => {
                 let at = a.wrapping_add(imm);
-                self.put_loaded(rd, at, self.lbu(at))
+                self.put_loaded(pc, rd, at, self.lbu(at))
             }
             Code::Lhu => {
                 let at = a.wrapping_add(imm);
-                self.put_loaded(rd, at, self.lhu(at))
+                self.put_loaded(pc, rd, at, self.lhu(at))
             }
             Code::Lwu => {
                 let at = a.wrapping_add(imm);
-                self.put_loaded(rd, at, self.lwu(at))
+                self.put_loaded(pc, rd, at, self.lwu(at))
             }
-            Code::Sb => self.write_u8(a.wrapping_add(imm), (b % (1 << 8)) as u8),
-            Code::Sh => self.write_u16(a.wrapping_add(imm), (b % (1 << 16)) as u16),
-            Code::Sw => self.write_u32(a.wrapping_add(imm), values::low(b)),
-            Code::Sd => self.write_u64(a.wrapping_add(imm), b),
-            Code::Addi => self.put(rd, values::add(a, imm)),
-            Code::Slti => self.put(rd, values::slt(a, imm)),
-            Code::Sltiu => self.put(rd, values::sltu(a, imm)),
-            Code::Xori => self.put(rd, a ^ imm),
-            Code::Ori => self.put(rd, a | imm),
-            Code::Andi => self.put(rd, a & imm),
-            Code::Slli => self.put(rd, values::sll(a, imm)),
-            Code::Srli => self.put(rd, values::srl(a, imm)),
-            Code::Srai => self.put(rd, values::sra(a, imm)),
-            Code::Add => self.put(rd, values::add(a, b)),
-            Code::Sub => self.put(rd, values::sub(a, b)),
-            Code::Sll => self.put(rd, values::sll(a, b)),
-            Code::Slt => self.put(rd, values::slt(a, b)),
-            Code::Sltu => self.put(rd, values::sltu(a, b)),
-            Code::Xor => self.put(rd, a ^ b),
-            Code::Srl => self.put(rd, values::srl(a, b)),
-            Code::Sra => self.put(rd, values::sra(a, b)),
-            Code::Or => self.put(rd, a | b),
-            Code::And => self.put(rd, a & b),
-            Code::Mul => self.put(rd, multiply::mul(a, b)),
-            Code::Mulh => self.put(rd, multiply::mulh(a, b)),
-            Code::Mulhsu => self.put(rd, multiply::mulhsu(a, b)),
-            Code::Mulhu => self.put(rd, multiply::mulhu(a, b)),
-            Code::Div => self.put(rd, multiply::div(a, b)),
-            Code::Divu => self.put(rd, multiply::divu(a, b)),
-            Code::Rem => self.put(rd, multiply::rem(a, b)),
-            Code::Remu => self.put(rd, multiply::remu(a, b)),
-            Code::Addiw => self.put(rd, values::addw(a, imm)),
-            Code::Slliw => self.put(rd, values::sllw(a, imm)),
-            Code::Srliw => self.put(rd, values::srlw(a, imm)),
-            Code::Sraiw => self.put(rd, values::sraw(a, imm)),
-            Code::Addw => self.put(rd, values::addw(a, b)),
-            Code::Subw => self.put(rd, values::subw(a, b)),
-            Code::Sllw => self.put(rd, values::sllw(a, b)),
-            Code::Srlw => self.put(rd, values::srlw(a, b)),
-            Code::Sraw => self.put(rd, values::sraw(a, b)),
-            Code::Mulw => self.put(rd, multiply::mulw(a, b)),
-            Code::Divw => self.put(rd, multiply::divw(a, b)),
-            Code::Divuw => self.put(rd, multiply::divuw(a, b)),
-            Code::Remw => self.put(rd, multiply::remw(a, b)),
-            Code::Remuw => self.put(rd, multiply::remuw(a, b)),
-            Code::Jal => self.jump(rd, self.pc.wrapping_add(imm)),
+            Code::Sb => self.write_u8(pc, a.wrapping_add(imm), (b % (1 << 8)) as u8),
+            Code::Sh => self.write_u16(pc, a.wrapping_add(imm), (b % (1 << 16)) as u16),
+            Code::Sw => self.write_u32(pc, a.wrapping_add(imm), values::low(b)),
+            Code::Sd => self.write_u64(pc, a.wrapping_add(imm), b),
+            Code::Addi => self.put(pc, rd, values::add(a, imm)),
+            Code::Slti => self.put(pc, rd, values::slt(a, imm)),
+            Code::Sltiu => self.put(pc, rd, values::sltu(a, imm)),
+            Code::Xori => self.put(pc, rd, a ^ imm),
+            Code::Ori => self.put(pc, rd, a | imm),
+            Code::Andi => self.put(pc, rd, a & imm),
+            Code::Slli => self.put(pc, rd, values::sll(a, imm)),
+            Code::Srli => self.put(pc, rd, values::srl(a, imm)),
+            Code::Srai => self.put(pc, rd, values::sra(a, imm)),
+            Code::Add => self.put(pc, rd, values::add(a, b)),
+            Code::Sub => self.put(pc, rd, values::sub(a, b)),
+            Code::Sll => self.put(pc, rd, values::sll(a, b)),
+            Code::Slt => self.put(pc, rd, values::slt(a, b)),
+            Code::Sltu => self.put(pc, rd, values::sltu(a, b)),
+            Code::Xor => self.put(pc, rd, a ^ b),
+            Code::Srl => self.put(pc, rd, values::srl(a, b)),
+            Code::Sra => self.put(pc, rd, values::sra(a, b)),
+            Code::Or => self.put(pc, rd, a | b),
+            Code::And => self.put(pc, rd, a & b),
+            Code::Mul => self.put(pc, rd, multiply::mul(a, b)),
+            Code::Mulh => self.put(pc, rd, multiply::mulh(a, b)),
+            Code::Mulhsu => self.put(pc, rd, multiply::mulhsu(a, b)),
+            Code::Mulhu => self.put(pc, rd, multiply::mulhu(a, b)),
+            Code::Div => self.put(pc, rd, multiply::div(a, b)),
+            Code::Divu => self.put(pc, rd, multiply::divu(a, b)),
+            Code::Rem => self.put(pc, rd, multiply::rem(a, b)),
+            Code::Remu => self.put(pc, rd, multiply::remu(a, b)),
+            Code::Addiw => self.put(pc, rd, values::addw(a, imm)),
+            Code::Slliw => self.put(pc, rd, values::sllw(a, imm)),
+            Code::Srliw => self.put(pc, rd, values::srlw(a, imm)),
+            Code::Sraiw => self.put(pc, rd, values::sraw(a, imm)),
+            Code::Addw => self.put(pc, rd, values::addw(a, b)),
+            Code::Subw => self.put(pc, rd, values::subw(a, b)),
+            Code::Sllw => self.put(pc, rd, values::sllw(a, b)),
+            Code::Srlw => self.put(pc, rd, values::srlw(a, b)),
+            Code::Sraw => self.put(pc, rd, values::sraw(a, b)),
+            Code::Mulw => self.put(pc, rd, multiply::mulw(a, b)),
+            Code::Divw => self.put(pc, rd, multiply::divw(a, b)),
+            Code::Divuw => self.put(pc, rd, multiply::divuw(a, b)),
+            Code::Remw => self.put(pc, rd, multiply::remw(a, b)),
+            Code::Remuw => self.put(pc, rd, multiply::remuw(a, b)),
+            Code::Jal => self.jump(pc, rd, pc.wrapping_add(imm)),
             Code::Jalr => {
                 let target = a.wrapping_add(imm);
-                self.jump(rd, target - target % 2)
+                self.jump(pc, rd, target - target % 2)
             }
-            Code::Fence => {
-                self.advance();
-                None
-            }
-            Code::Ecall => Some(Trap::Call),
-            Code::Ebreak | Code::Unknown => Some(Trap::Instruction { pc: self.pc }),
+            Code::Fence => Ok(next_pc(pc)),
+            Code::Ecall => Err(Trap::Call),
+            Code::Ebreak | Code::Unknown => Err(Trap::Instruction { pc }),
         }
     }
 
-    /// One step, up to a call of the environment.
+    /// One step from this pc in place of the hart's own, up to a call of the environment.
     #[inline(always)]
-    #[tactic(auto, using(crate::proofs::Fetch::instr_at), unfolding(crate::specs::Steps::next, crate::specs::Rows::instr_of))]
-    pub fn step(&mut self) -> Option<Trap>
-        ensures { next_of result self.new ≡ next self.old }
+    #[tactic(auto, unfolding(crate::specs::Steps::next))]
+    pub fn step_at(&mut self, pc: u64) -> Result<u64, Trap>
+        ensures { next_at pc result self.new ≡ next (at_pc pc self.old) }
     {
-        let pc = self.pc;
-        if pc < IMAGE_START {
-            return Some(Trap::Jump { target: pc });
-        }
-        let place = ((pc - IMAGE_START) / 4) as usize;
+        let place = (pc.wrapping_sub(IMAGE_START) / 4) as usize;
         if place >= self.rows.len() {
-            return Some(Trap::Jump { target: pc });
+            return Err(Trap::Jump { target: pc });
         }
         let row = &self.rows[place];
         let (code, rd, rs1, rs2, imm) = (row.code, row.rd, row.rs1, row.rs2, row.imm);
-        self.execute(code, rd, rs1, rs2, imm)
+        self.execute(pc, code, rd, rs1, rs2, imm)
     }
+}
+
+#[inline(always)]
+fn next_pc(pc: u64) -> u64
+    ensures { result ≡ sum pc 4 }
+{
+    pc.wrapping_add(4)
 }

@@ -1,7 +1,7 @@
 //! The machine: a hart, the calls of its environment over a source of input and a sink of output, and
 //! how the run ended.
 
-ghost use Rattle.std.specs.Prelude.{◌≡◌, ◌≢◌, ◌≤◌, ℕ, List, None, Some, IfOk, IsSome, unwrap_or};
+ghost use Rattle.std.specs.Prelude.{◌≡◌, ◌≢◌, ◌≤◌, ℕ, List, None, Some, Err, IfOk, IfErr, IsSome, unwrap_or};
 ghost use Rattle.std.specs.Int.{w64};
 ghost use Rattle.clu_base.specs.Outside.{Rose};
 ghost use Rattle.rv_machine.specs.State.{State, read_at, register};
@@ -12,6 +12,9 @@ use crate::hart::Hart;
 use crate::intake::Intake;
 use crate::limits::Limits;
 use crate::trap::Trap;
+#[cfg(test)]
+mod tests;
+
 use clu_base::{Memory, Sink, Source, write_all};
 use rv_isa::{Image, Reg};
 use std::alloc::Global;
@@ -41,7 +44,7 @@ impl Machine {
     ghost use Rattle.rv_machine.specs.Calls.{failed, wrote, took, peeked, served, call_of, range_of, bytes_at};
     ghost use Rattle.rv_machine.specs.Emulation.{trapped, stepped, emulated};
     ghost use Rattle.rv_machine.specs.Input.{input_left};
-    ghost use Rattle.rv_machine.specs.Snapshot.{Snapshot, fresh, configuration, Does, Reads, Writes};
+    ghost use Rattle.rv_machine.specs.Snapshot.{Snapshot, fresh, configuration, from_pc, gone, HasText, Does, Reads, Writes};
 
     /// The machine as a run of the image with these limits starts. It takes all the memory of the
     /// run, and the only error is want of memory.
@@ -96,6 +99,7 @@ impl Machine {
         ensures did { Does (λ i o. stepped (configuration self.old i o)) self.old (S.left input.old) (K.written output.old) self.new (S.left input.new) (K.written output.new) }
         ensures answer { result ≡ self.new.ended }
         ensures not_spent { result ≢ Some Ending.StepsSpent }
+        ensures text { self.old.ended ≡ None → HasText result self.new.state }
 
         // After the end nothing happens.
         ensures stays { IsSome self.old.ended → self.new ≡ self.old }
@@ -111,7 +115,14 @@ impl Machine {
         if let Some(ending) = self.ended {
             return Some(ending);
         }
-        self.go(input, output)
+        let pc = self.hart.pc();
+        match self.go(pc, input, output) {
+            Ok(next) => {
+                self.hart.set_pc(next);
+                None
+            }
+            Err(ending) => Some(ending),
+        }
     }
 
     /// At most this many steps. The answer is how the run ended, now or before, and `StepsSpent`
@@ -122,6 +133,7 @@ impl Machine {
         ensures did { Does (λ i o. emulated steps (configuration self.old i o)) self.old (S.left input.old) (K.written output.old) self.new (S.left input.new) (K.written output.new) }
         ensures answer { result ≡ unwrap_or self.new.ended Ending.StepsSpent }
         ensures spent { result ≡ Ending.StepsSpent → self.new.ended ≡ None }
+        ensures text { self.old.ended ≡ None → HasText (Some result) self.new.state }
 
         // After the end nothing happens.
         ensures stays { IsSome self.old.ended → self.new ≡ self.old }
@@ -137,11 +149,14 @@ impl Machine {
         if let Some(ending) = self.ended {
             return ending;
         }
+        let mut pc = self.hart.pc();
         for done in 0..steps {
-            if let Some(ending) = self.go(input, output) {
-                return ending;
+            match self.go(pc, input, output) {
+                Ok(next) => pc = next,
+                Err(ending) => return ending,
             }
         }
+        self.hart.set_pc(pc);
         Ending::StepsSpent
     }
 
@@ -159,6 +174,7 @@ impl Machine {
         ensures kept { self.new.kept ≡ self.old.kept }
         ensures answer { result ≡ self.new.ended }
         ensures not_spent { result ≢ Some Ending.StepsSpent }
+        ensures text { HasText result self.new.state }
         ensures read_fault { result ≢ Some Ending.ReadFault }
         ensures write_fault { result ≢ Some Ending.WriteFault }
     {
@@ -176,6 +192,7 @@ impl Machine {
         ensures kept { self.new.kept ≡ self.old.kept }
         ensures answer { result ≡ self.new.ended }
         ensures not_spent { result ≢ Some Ending.StepsSpent }
+        ensures text { HasText result self.new.state }
         ensures writes { K.faults output.old ≤ K.faults output.new }
         ensures read_fault { result ≢ Some Ending.ReadFault }
         ensures write_fault { result ≡ Some Ending.WriteFault → Rose (K.faults output.old) (K.faults output.new) }
@@ -199,6 +216,7 @@ impl Machine {
         ensures did { Reads (λ i o. took i (configuration self.old i o)) self.old (S.left input.old) self.new (S.left input.new) }
         ensures answer { result ≡ self.new.ended }
         ensures not_spent { result ≢ Some Ending.StepsSpent }
+        ensures text { HasText result self.new.state }
         ensures reads { S.faults input.old ≤ S.faults input.new }
         ensures read_fault { result ≡ Some Ending.ReadFault → Rose (S.faults input.old) (S.faults input.new) }
         ensures write_fault { result ≢ Some Ending.WriteFault }
@@ -224,6 +242,7 @@ impl Machine {
         ensures did { Reads (λ i o. peeked i (configuration self.old i o)) self.old (S.left input.old) self.new (S.left input.new) }
         ensures answer { result ≡ self.new.ended }
         ensures not_spent { result ≢ Some Ending.StepsSpent }
+        ensures text { HasText result self.new.state }
         ensures reads { S.faults input.old ≤ S.faults input.new }
         ensures read_fault { result ≡ Some Ending.ReadFault → Rose (S.faults input.old) (S.faults input.new) }
         ensures write_fault { result ≢ Some Ending.WriteFault }
@@ -248,6 +267,7 @@ impl Machine {
         ensures did { Does (λ i o. served (call_of (register self.old.state 17)) (configuration self.old i o)) self.old (S.left input.old) (K.written output.old) self.new (S.left input.new) (K.written output.new) }
         ensures answer { result ≡ self.new.ended }
         ensures not_spent { result ≢ Some Ending.StepsSpent }
+        ensures text { HasText result self.new.state }
         ensures reads { S.faults input.old ≤ S.faults input.new }
         ensures writes { K.faults output.old ≤ K.faults output.new }
         ensures read_fault { result ≡ Some Ending.ReadFault → Rose (S.faults input.old) (S.faults input.new) }
@@ -276,6 +296,7 @@ impl Machine {
         ensures did { Does (λ i o. trapped trap (configuration self.old i o)) self.old (S.left input.old) (K.written output.old) self.new (S.left input.new) (K.written output.new) }
         ensures answer { result ≡ self.new.ended }
         ensures not_spent { result ≢ Some Ending.StepsSpent }
+        ensures text { HasText result self.new.state }
         ensures reads { S.faults input.old ≤ S.faults input.new }
         ensures writes { K.faults output.old ≤ K.faults output.new }
         ensures read_fault { result ≡ Some Ending.ReadFault → Rose (S.faults input.old) (S.faults input.new) }
@@ -289,20 +310,29 @@ impl Machine {
         }
     }
 
+    /// One step from this pc in place of the hart's own; the answer is the next pc, or how the run ended.
     #[inline(always)]
-    fn go<S: Source, K: Sink>(&mut self, input: &mut S, output: &mut K) -> Option<Ending>
+    fn go<S: Source, K: Sink>(&mut self, pc: u64, input: &mut S, output: &mut K) -> Result<u64, Ending>
         requires { self.old.ended ≡ None }
-        ensures did { Does (λ i o. stepped (configuration self.old i o)) self.old (S.left input.old) (K.written output.old) self.new (S.left input.new) (K.written output.new) }
-        ensures answer { result ≡ self.new.ended }
-        ensures not_spent { result ≢ Some Ending.StepsSpent }
+        ensures did { Does (λ i o. stepped (configuration (from_pc pc self.old) i o)) (from_pc pc self.old) (S.left input.old) (K.written output.old) (gone result self.new) (S.left input.new) (K.written output.new) }
+        ensures goes_on { IfOk result (λ _. self.new.ended ≡ None) }
+        ensures ended { IfErr result (λ ending. self.new.ended ≡ Some ending) }
+        ensures not_spent { IfErr result (λ ending. ending ≢ Ending.StepsSpent) }
+        ensures text { IfErr result (λ ending. HasText (Some ending) self.new.state) }
         ensures reads { S.faults input.old ≤ S.faults input.new }
         ensures writes { K.faults output.old ≤ K.faults output.new }
-        ensures read_fault { result ≡ Some Ending.ReadFault → Rose (S.faults input.old) (S.faults input.new) }
-        ensures write_fault { result ≡ Some Ending.WriteFault → Rose (K.faults output.old) (K.faults output.new) }
+        ensures read_fault { result ≡ Err Ending.ReadFault → Rose (S.faults input.old) (S.faults input.new) }
+        ensures write_fault { result ≡ Err Ending.WriteFault → Rose (K.faults output.old) (K.faults output.new) }
     {
-        match self.hart.step() {
-            None => None,
-            Some(trap) => self.trapped(trap, input, output),
+        match self.hart.step_at(pc) {
+            Ok(next) => Ok(next),
+            Err(trap) => {
+                self.hart.set_pc(pc);
+                match self.trapped(trap, input, output) {
+                    None => Ok(self.hart.pc()),
+                    Some(ending) => Err(ending),
+                }
+            }
         }
     }
 }
