@@ -1,7 +1,7 @@
 -- What holds of the content that was read holds of the file.
 use Rattle.std.proofs.Common.{◌≡◌, ◌≤◌, ◌∙◌, ap, inr, subst, List, ℕ, Option, Some, None}
 use Rattle.clu_base.specs.Outside.{Files}
-use Rattle.clu_image.specs.ImageFile.{IsRefusal, fault_of}
+use Rattle.clu_image.specs.Faults.{IsRefusal, fault_of}
 use Rattle.clu_base.specs.declared.errors.FormatError.TheVariants.{Bad, Memory}
 use Rattle.clu_base.specs.declared.errors.FormatError.{FormatError}
 use Rattle.clu_words.specs.Command.{Limits}

@@ -1,3 +1,4 @@
+pub mod ByStatus
 pub mod FailureText
 pub mod Found
 pub mod Repeated

@@ -1,7 +1,8 @@
 -- What each command shows of its outcome.
 use Rattle.std.specs.Prelude.{◌≡◌, ◌≤◌, ◌⊎◌, ℕ, List, Option, Some, None, IfSome, option_map}
 use Rattle.clu_base.specs.Outside.{Files, GrewWithin, IsTorn, Rose, appended, with_file}
-use Rattle.clu_image.specs.ImageFile.{IsFileOf, fault_of, image_bytes}
+use Rattle.clu_image.specs.Faults.{fault_of}
+use Rattle.clu_image.specs.ImageFile.{IsFileOf, image_bytes}
 use Rattle.clu_words.specs.Command.{Limits, Meant}
 use Rattle.clu_words.specs.Command as command
 use Rattle.rv_isa.specs.Image.{Contents}
@@ -80,3 +81,7 @@ CommandShows (Some _) how before after = (how ≡ outcome.NotYet) × IsUntouched
 -- the same, or memory for reading the words was refused
 abbrev pub CluShows : Option Meant → Outcome → World → World → Type 0
 CluShows meant how before after = ((how ≡ outcome.Memory) × IsUntouched before after) ⊎ CommandShows meant how before after
+
+-- a status with which a command is refused: its words, its files, its image or source, or memory
+abbrev pub IsRefusal : ℕ → Type 0
+IsRefusal status = (status ≡ 2) ⊎ ((status ≡ 10) ⊎ ((status ≡ 20) ⊎ ((status ≡ 24) ⊎ ((status ≡ 25) ⊎ (status ≡ 27)))))

@@ -1,7 +1,8 @@
 -- What each outcome of a command shows of the call.
 use Rattle.std.specs.Prelude.{◌≡◌, ◌⊎◌, ℕ, List, [], Option, Some, None, IfSome, IsSome, option_map}
 use Rattle.clu_base.specs.Outside.{IsTorn, Rose, appended, with_file}
-use Rattle.clu_image.specs.ImageFile.{IsFileOf, fault_of, image_bytes}
+use Rattle.clu_image.specs.Faults.{fault_of}
+use Rattle.clu_image.specs.ImageFile.{IsFileOf, image_bytes}
 use Rattle.clu_words.specs.Command.{Limits}
 use Rattle.rv_isa.specs.Image.{Contents}
 use Rattle.rv_machine.specs.Calls.{Configuration, bytes_at}

@@ -1,9 +1,9 @@
 //! The top call: the words of a command line become a command, and what the command came to
 //! becomes a status and a line.
 
-ghost use Rattle.std.specs.Prelude.{Some, map, string_bytes};
+ghost use Rattle.std.specs.Prelude.{◌≡◌, ◌⊎◌, None, Some, map, string_bytes};
 ghost use Rattle.clu_words.specs.Command.{command_of, meant};
-ghost use Rattle.clu_driver.specs.Commands.{CluShows, CommandShows};
+ghost use Rattle.clu_driver.specs.Commands.{CluShows, CommandShows, IsRefusal};
 ghost use Rattle.clu_driver.specs.Shows.{Reported};
 ghost use Rattle.clu_driver.specs.World.{streams_of, world_of};
 
@@ -20,6 +20,32 @@ use crate::outcome::{Outcome, report};
 /// Does what the words say, and gives the exit status. The words leave out the program's own
 /// name. A status other than 0 has its line on the errors; docs/commands.md has them all.
 pub fn clu<S: Source, K: Sink, E: Sink, F: Store>(
+    alloc: Global,
+    words: &[String],
+    input: &mut S,
+    output: &mut K,
+    errors: &mut E,
+    files: &mut F,
+) -> u8
+    ensures told { Reported (λ how. CluShows (command_of (map string_bytes words.now)) how
+        (world_of (F.files files.old) (F.faults files.old) (streams_of (S.left input.old) (S.faults input.old) (K.written output.old) (K.faults output.old)))
+        (world_of (F.files files.new) (F.faults files.new) (streams_of (S.left input.new) (S.faults input.new) (K.written output.new) (K.faults output.new))))
+        result (E.written errors.old) (E.written errors.new) (E.faults errors.old) (E.faults errors.new) }
+
+    // Status 2 comes exactly where the words are no command, but for a line that could not be
+    // written and for want of memory.
+    ensures usage_only { result ≡ 2 → command_of (map string_bytes words.now) ≡ None }
+    ensures usage_always { command_of (map string_bytes words.now) ≡ None → (result ≡ 2) ⊎ ((result ≡ 23) ⊎ (result ≡ 25)) }
+
+    // A command that was done tells nothing, and one that was refused writes no output.
+    ensures quiet { result ≡ 0 → E.written errors.new ≡ E.written errors.old }
+    ensures refused { IsRefusal result → K.written output.new ≡ K.written output.old }
+{
+    called(alloc, words, input, output, errors, files)
+}
+
+// The same, with the one clause from which the others follow.
+fn called<S: Source, K: Sink, E: Sink, F: Store>(
     alloc: Global,
     words: &[String],
     input: &mut S,

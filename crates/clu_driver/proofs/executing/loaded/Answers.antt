@@ -1,5 +1,5 @@
 use Rattle.std.proofs.Common.{◌≡◌, ◌∙◌, ap, sym}
-use Rattle.clu_image.specs.ImageFile.{fault_of}
+use Rattle.clu_image.specs.Faults.{fault_of}
 use Rattle.clu_driver.proofs.Found.{fault_found, refused_at}
 use Rattle.clu_driver.proofs.executing.loaded.Goals as goal
 
