@@ -1,10 +1,10 @@
 -- The tokens so far, one token more, and the end.
-use Rattle.std.proofs.Common.{◌≡◌, ℕ, ◌+◌, ◌-◌, ◌<◌, ◌≤◌, List, [], ◌∷◌, ◌++◌, length, take, drop, refl, sym, ap, ◌∙◌, subst, arith, false}
+use Rattle.std.proofs.Common.{◌≡◌, ℕ, ◌+◌, ◌-◌, ◌<◌, ◌≤◌, List, [], ◌∷◌, ◌++◌, length, take, drop, refl, sym, ap, ◌∙◌, subst, arith}
 use Rattle.std.proofs.lemmas.List.{length-take, length-drop}
 use Rattle.clu_base.specs.declared.tokens.Place.{Place}
 use Rattle.clu_base.specs.declared.tokens.Token.{Token}
 use Rattle.clu_lexer.specs.Places.{place_at, place_after}
-use Rattle.clu_lexer.specs.Tokens.{IsToken, Cut, kind_of}
+use Rattle.clu_lexer.specs.Tokens.{IsToken, Cut}
 use Rattle.clu_lexer.proofs.Next.{place_at-add, place_at-small}
 
 -- the tokens are those of the bytes up to `at`, whose place this is

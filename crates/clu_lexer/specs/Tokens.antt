@@ -1,5 +1,5 @@
 -- Which lists of tokens are those of a text.
-use Rattle.std.specs.Prelude.{◌≡◌, ℕ, ◌+◌, ◌-◌, ◌<◌, ◌≤◌, if◌then◌else◌, List, [], ◌∷◌, length, take, drop, Option, Some, None, is_some, Result, Ok, Err, false}
+use Rattle.std.specs.Prelude.{◌≡◌, ℕ, ◌+◌, ◌-◌, ◌<◌, if◌then◌else◌, List, [], ◌∷◌, length, drop, Option, Some, None, is_some, Result, Ok, Err, false}
 use Rattle.std.specs.Option.{option_map}
 use Rattle.clu_base.specs.declared.tokens.Kind.{Kind}
 use Rattle.clu_base.specs.declared.tokens.Kind.TheVariants as kind

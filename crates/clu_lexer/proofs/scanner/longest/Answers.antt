@@ -1,5 +1,5 @@
-use Rattle.std.proofs.Common.{◌≡◌, ◌+◌, take, get_or, refl, sym, ap, ◌∙◌}
-use Rattle.clu_lexer.specs.Scanner.{next, accepts}
+use Rattle.std.proofs.Common.{◌≡◌, ◌+◌, get_or, refl, sym, ap, ◌∙◌}
+use Rattle.clu_lexer.specs.Scanner.{next}
 use Rattle.clu_lexer.proofs.Walk.{best_none, best_kept, best_new, class_after, state_more, answer_stopped, state_after}
 use Rattle.clu_lexer.proofs.scanner.longest.Goals as goal
 use Rattle.clu_lexer.proofs.scanner.longest.Goals.{in-Some, in-None}

@@ -1,5 +1,3 @@
-use Rattle.std.proofs.Common.{◌≡◌, ◌++◌, ◌∷◌, []}
-use Rattle.clu_lexer.specs.Tokens.{IsToken, IsNext}
 use Rattle.clu_lexer.proofs.Cuts.{reaches_more, token_small}
 use Rattle.clu_lexer.proofs.tokens.lex.Goals as goal
 

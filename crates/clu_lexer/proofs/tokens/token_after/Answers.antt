@@ -1,7 +1,6 @@
-use Rattle.std.proofs.Common.{◌≡◌, ℕ, ◌+◌, ◌-◌, ◌<◌, ◌≤◌, length, take, drop, sym, ap, ◌∙◌, arith}
+use Rattle.std.proofs.Common.{◌+◌, ◌-◌, drop, ap, arith}
 use Rattle.std.proofs.lemmas.List.{length-take, length-drop}
 use Rattle.clu_base.specs.declared.tokens.Place.{Place}
-use Rattle.clu_lexer.specs.Places.{place_at}
 use Rattle.clu_lexer.proofs.Next.{place_at-small, place_is, is_bad, is_token}
 use Rattle.clu_lexer.proofs.tokens.token_after.Goals as goal
 
