@@ -1,0 +1,2 @@
+pub mod Lookahead
+pub mod Tests

@@ -2,6 +2,7 @@
 //! build the syntax tree (CLU Reference Manual, appendix on syntax).
 #![tactic(auto)]
 
+mod choice;
 mod declarations;
 mod expressions;
 mod items;
@@ -10,5 +11,6 @@ mod sets;
 mod statements;
 mod table;
 
+pub use crate::choice::{Choice, choose};
 pub use crate::items::{Action, Item, Nonterminal, Row};
 pub use crate::table::rows;
