@@ -1,2 +1,3 @@
+pub mod Deterministic
 pub mod Lookahead
 pub mod Tests

@@ -34,22 +34,15 @@ begins (item.Terminal s ∷ items) rest (Some x) = sameb the_type s x
 begins (item.Action a ∷ items) rest t = begins items rest t
 begins (item.Nonterminal n ∷ items) rest t = in_set (starts n) t || (nothing n && begins items rest t)
 
-abbrev pub may_be_nothing : List Item → Bool
-may_be_nothing [] = true
-may_be_nothing (item.Terminal s ∷ items) = false
-may_be_nothing (item.Action a ∷ items) = may_be_nothing items
-may_be_nothing (item.Nonterminal n ∷ items) = nothing n && may_be_nothing items
-
 -- `starts` and `nothing` are large enough for the production
+abbrev pub starts_hold_for : Nonterminal → Option Symbol → List Item → Bool
+starts_hold_for n t items =
+    implies (begins items (λ _. false) t) (in_set (starts n) t) && implies (begins items (λ _. true) t) (in_set (starts n) t || nothing n)
+
 abbrev pub starts_hold : Nonterminal → Option Symbol → Production → Bool
 starts_hold n t (take symbols items) = implies (is_among t symbols) (in_set (starts n) t)
-starts_hold n t (peek symbols items) = implies (begins items (λ _. false) t) (in_set (starts n) t)
-starts_hold n t (otherwise items) = implies (begins items (λ _. false) t) (in_set (starts n) t)
-
-abbrev pub nothing_holds : Nonterminal → Production → Bool
-nothing_holds n (take symbols items) = true
-nothing_holds n (peek symbols items) = implies (may_be_nothing items) (nothing n)
-nothing_holds n (otherwise items) = implies (may_be_nothing items) (nothing n)
+starts_hold n t (peek symbols items) = starts_hold_for n t items
+starts_hold n t (otherwise items) = starts_hold_for n t items
 
 -- `after` is large enough for each nonterminal of the items, of which `set` follows
 abbrev pub after_holds : ℕ → Option Symbol → List Item → Bool

@@ -10,7 +10,7 @@ mod symbols;
 mod tokens;
 
 pub use crate::symbols::{Symbol, symbol_of};
-pub use crate::tokens::{LexError, lex};
+pub use crate::tokens::{LexError, end_place, lex};
 pub use clu_base::{Kind, Token};
 
 #[cfg(test)]

@@ -97,3 +97,11 @@ pub fn lex(alloc: Global, bytes: &[u8]) -> Result<Vec<Token>, LexError>
         }
     }
 }
+
+/// The place behind the last byte, where a fault at the end of the source is.
+pub fn end_place(bytes: &[u8]) -> Place
+    requires { length bytes.now ≤ 1_048_576 }
+    ensures { result ≡ place_at bytes.now (length bytes.now) }
+{
+    advance(Place { line: 1, col: 1 }, bytes)
+}
