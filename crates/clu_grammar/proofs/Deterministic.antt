@@ -13,6 +13,7 @@ use Rattle.clu_grammar.specs.Choice.{Step, Take, Go, No, has, is_among, step}
 use Rattle.clu_grammar.specs.Grammar.{productions}
 use Rattle.clu_grammar.specs.Language.{IsAlternative, IsOneOf, Derives, done, symbol, action, choice}
 use Rattle.clu_grammar.specs.Rows.{Production, take, peek, otherwise}
+use Rattle.clu_grammar.proofs.Flags.{and_left, and_right, and_both, or_cases, or_left, or_right, implied, denied, true_or_false, true_is_false}
 use Rattle.clu_grammar.proofs.Lookahead.{starts, after, nothing}
 use Rattle.clu_grammar.proofs.Tests.{code, in_set, implies, begins, starts_hold_for, starts_hold, after_holds, items_of, may_begin, suits, choice_holds, sound_at, symbols, place_of, sound}
 use denote.Enum.Bare.{sameb, true_same, same_true}
@@ -25,50 +26,10 @@ pub data Reads (ys : List Symbol) : List Item → ℕ → ℕ → Type 0 where
   taken : (n : Nonterminal) (items row : List Item) (at to : ℕ) → step (productions n) (slice_get ys at) ≡ Take row → Reads ys (row ++ items) (at + 1) to → Reads ys (item.Nonterminal n ∷ items) at to
   gone : (n : Nonterminal) (items row : List Item) (at to : ℕ) → step (productions n) (slice_get ys at) ≡ Go row → Reads ys (row ++ items) at to → Reads ys (item.Nonterminal n ∷ items) at to
 
--- booleans
-and_left : (a b : Bool) → (a && b) ≡ true → a ≡ true
-and_left true b h = refl
-and_left false b h = absurd (cc)
-
-and_right : (a b : Bool) → (a && b) ≡ true → b ≡ true
-and_right true b h = h
-and_right false b h = absurd (cc)
-
-or_cases : (a b : Bool) → (a || b) ≡ true → (a ≡ true) ⊎ (b ≡ true)
-or_cases true b h = inl refl
-or_cases false b h = inr h
-
-or_left : (a b : Bool) → a ≡ true → (a || b) ≡ true
-or_left true b h = refl
-or_left false b h = absurd (cc)
-
-or_right : (a b : Bool) → b ≡ true → (a || b) ≡ true
-or_right true b h = refl
-or_right false b h = h
-
-and_both : (a b : Bool) → a ≡ true → b ≡ true → (a && b) ≡ true
-and_both true b h k = k
-and_both false b h k = absurd (cc)
-
-implied : (a b : Bool) → implies a b ≡ true → a ≡ true → b ≡ true
-implied true b h k = h
-implied false b h k = absurd (cc)
-
-denied : (a : Bool) → not a ≡ true → a ≡ true → ⊥
-denied true h k = cc
-denied false h k = cc
-
 all_at : {X : Type 0} (p : X → Bool) (xs : List X) (k : ℕ) (x : X) → list_all p xs ≡ true → slice_get xs k ≡ Some x → p x ≡ true
 all_at p [] k x h at = absurd (cc)
 all_at {X = X} p (y ∷ xs) zero x h at = let same : y ≡ x = cc in subst (λ (z : X). p z ≡ true) same (and_left (p y) (list_all p xs) h)
 all_at p (y ∷ xs) (suc k) x h at = all_at p xs k x (and_right (p y) (list_all p xs) h) at
-
-true_or_false : (b : Bool) → (b ≡ true) ⊎ (b ≡ false)
-true_or_false true = inl refl
-true_or_false false = inr refl
-
-true_is_false : (b : Bool) → b ≡ true → b ≡ false → ⊥
-true_is_false b h k = cc
 
 -- the tests hold at each symbol
 sound_for : (n : Nonterminal) (t : Option Symbol) → sound_at n t ≡ true
