@@ -4,3 +4,4 @@ pub mod Lookahead
 pub mod Productive
 pub mod Runs
 pub mod Tests
+pub mod Weights
