@@ -173,3 +173,7 @@ fails_rest xs at known more = fails xs at [] known (λ ys same r. rest_is_none x
 
 pub ends : (xs : List Symbol) (at : ℕ) → Runs xs at [] → length xs ≤ at → IsFile xs
 ends xs at known last = let all : at ≡ length xs = omega (arith, known.within) in known.makes xs (λ i below. refl) (subst (λ (k : ℕ). Derives xs [] at k) all (done at))
+
+-- a row that takes a symbol is chosen before the end
+pub take_below : (xs : List Symbol) (at : ℕ) (n : Nonterminal) (row : List Item) → step (productions n) (slice_get xs at) ≡ Take row → at < length xs
+take_below xs at n row is = let found = take_in (productions n) (slice_get xs at) row is in slice_get_within xs at found.0 found.1

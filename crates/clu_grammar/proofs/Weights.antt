@@ -1,7 +1,9 @@
 -- A measure that falls with every step of the parser.
-use Rattle.std.proofs.Common.{◌≡◌, ℕ, ◌+◌, ◌*◌, ◌-◌, ◌<◌, ◌≤◌, Bool, true, false, ◌&&◌, List, [], ◌∷◌, ◌++◌, length, Option, Some, refl, sym, ap, ◌∙◌, subst, inl, inr, ◌⊎◌, arith, nat_lt, ltb-true}
+use Rattle.std.proofs.Common.{◌≡◌, ℕ, ◌+◌, ◌*◌, ◌-◌, ◌<◌, ◌≤◌, Bool, true, false, ◌&&◌, List, [], ◌∷◌, ◌++◌, length, Option, Some, refl, sym, ap, ◌∙◌, subst, inl, inr, ◌⊎◌, arith, nat_lt, ltb-true, slice_get}
 use Rattle.std.specs.List.{list_all}
+use Rattle.std.proofs.lemmas.Option.{slice_get_within}
 use Rattle.clu_lexer.specs.declared.symbols.Symbol.{Symbol}
+use Rattle.clu_grammar.specs.declared.items.Action.{Action}
 use Rattle.clu_grammar.specs.declared.items.Item.{Item}
 use Rattle.clu_grammar.specs.declared.items.Item.TheVariants as item
 use Rattle.clu_grammar.specs.declared.items.Nonterminal.{Nonterminal}
@@ -54,3 +56,19 @@ light w (otherwise row ∷ ps) t test = ltb-true (weights row) w (and_left (nat_
 
 pub light_step : (n : Nonterminal) (t : Option Symbol) (s : Step) → step (productions n) t ≡ s → IsLight (weight n) s
 light_step n t s is = subst (IsLight (weight n)) is (light (weight n) (productions n) t (weight_sound n))
+
+-- what is left to do, in steps
+abbrev pub measure : List Symbol → ℕ → List Item → ℕ
+measure xs at items = 32 * (length xs - at) + weights items
+
+pub smaller_terminal : (xs : List Symbol) (at : ℕ) (s : Symbol) (items : List Item) → slice_get xs at ≡ Some s → measure xs (at + 1) items < measure xs at (item.Terminal s ∷ items)
+smaller_terminal xs at s items is = omega (arith, slice_get_within xs at s is)
+
+pub smaller_action : (xs : List Symbol) (at : ℕ) (a : Action) (items : List Item) → measure xs at items < measure xs at (item.Action a ∷ items)
+smaller_action xs at a items = omega arith
+
+pub smaller_take : (xs : List Symbol) (at : ℕ) (n : Nonterminal) (items row : List Item) → at < length xs → step (productions n) (slice_get xs at) ≡ Take row → measure xs (at + 1) (row ++ items) < measure xs at (item.Nonterminal n ∷ items)
+smaller_take xs at n items row below is = omega (arith, below, weights-append row items, light_step n (slice_get xs at) (Take row) is)
+
+pub smaller_go : (xs : List Symbol) (at : ℕ) (n : Nonterminal) (items row : List Item) → step (productions n) (slice_get xs at) ≡ Go row → measure xs at (row ++ items) < measure xs at (item.Nonterminal n ∷ items)
+smaller_go xs at n items row is = omega (arith, weights-append row items, light_step n (slice_get xs at) (Go row) is)

@@ -1,6 +1,6 @@
 //! The tree in the making: what each action of the grammar does to it.
 
-use crate::errors::ParseError;
+use crate::errors::BuildError;
 use crate::source::Source;
 use clu_base::Sequence;
 use clu_grammar::Action;
@@ -45,8 +45,9 @@ impl Builder {
         tree
     }
 
-    /// Does what the action says behind the token of number `taken`.
-    pub fn act(&mut self, alloc: Global, source: &Source, action: Action, taken: u32) -> Result<(), ParseError> {
+    /// Does what the action says, where so many tokens have been taken.
+    pub fn act(&mut self, alloc: Global, source: &Source, action: Action, at: usize) -> Result<(), BuildError> {
+        let taken = last_taken(at)?;
         match action {
             Action::Open => self.begin(alloc, taken),
             Action::Wrap => self.wrap(alloc, taken),
@@ -58,7 +59,7 @@ impl Builder {
     }
 
     /// A node begins at the token.
-    fn begin(&mut self, alloc: Global, taken: u32) -> Result<(), ParseError> {
+    fn begin(&mut self, alloc: Global, taken: u32) -> Result<(), BuildError> {
         self.open.push(Open {
             first: taken,
             mark: taken,
@@ -70,10 +71,10 @@ impl Builder {
     }
 
     /// A node begins that holds the last whole one.
-    fn wrap(&mut self, alloc: Global, taken: u32) -> Result<(), ParseError> {
-        let top = *self.tops.last().ok_or(ParseError::NotYet)?;
+    fn wrap(&mut self, alloc: Global, taken: u32) -> Result<(), BuildError> {
+        let top = *self.tops.last().ok_or(BuildError::NotYet)?;
         if top >= self.tree.len() {
-            return Err(ParseError::NotYet);
+            return Err(BuildError::NotYet);
         }
         self.open.push(Open {
             first: self.tree.node(top).first,
@@ -86,8 +87,8 @@ impl Builder {
     }
 
     /// The token is a name of the innermost node, or its value.
-    fn note(&mut self, source: &Source, taken: u32) -> Result<(), ParseError> {
-        let open = self.open.last_mut().ok_or(ParseError::NotYet)?;
+    fn note(&mut self, source: &Source, taken: u32) -> Result<(), BuildError> {
+        let open = self.open.last_mut().ok_or(BuildError::NotYet)?;
         match source.symbol(taken) {
             Some(Symbol::Idn) => open.names.push(taken)?,
             _ => open.value = Some(taken),
@@ -96,32 +97,32 @@ impl Builder {
     }
 
     /// What the innermost node has is that of the node around it.
-    fn give(&mut self) -> Result<(), ParseError> {
-        let Open { names, .. } = self.open.pop().ok_or(ParseError::NotYet)?;
-        let outer = self.open.last_mut().ok_or(ParseError::NotYet)?;
+    fn give(&mut self) -> Result<(), BuildError> {
+        let Open { names, .. } = self.open.pop().ok_or(BuildError::NotYet)?;
+        let outer = self.open.last_mut().ok_or(BuildError::NotYet)?;
         outer.names.extend_from_slice(names.as_slice())?;
         Ok(())
     }
 
     /// A name ends before the bracket, which a node holds that begins here; nothing, where the
     /// name is a type's.
-    fn base(&mut self, alloc: Global, source: &Source, taken: u32) -> Result<(), ParseError> {
+    fn base(&mut self, alloc: Global, source: &Source, taken: u32) -> Result<(), BuildError> {
         if source.closes_before_dollar(taken) {
             return Ok(());
         }
-        let last = taken.checked_sub(1).ok_or(ParseError::NotYet)?;
+        let last = taken.checked_sub(1).ok_or(BuildError::NotYet)?;
         self.close(alloc, source, NodeKind::Name, last)?;
         self.wrap(alloc, taken)
     }
 
     /// The innermost node is whole and ends with the token.
-    fn close(&mut self, alloc: Global, source: &Source, kind: NodeKind, last: u32) -> Result<(), ParseError> {
-        let open = self.open.pop().ok_or(ParseError::NotYet)?;
+    fn close(&mut self, alloc: Global, source: &Source, kind: NodeKind, last: u32) -> Result<(), BuildError> {
+        let open = self.open.pop().ok_or(BuildError::NotYet)?;
         let children = self
             .tops
             .as_slice()
             .get(open.height..)
-            .ok_or(ParseError::NotYet)?
+            .ok_or(BuildError::NotYet)?
             .to_vec(alloc)?;
         let last = match kind {
             NodeKind::Restrict => self.end_of(children.as_slice(), last),
@@ -163,4 +164,12 @@ fn is_placed_at_mark(kind: NodeKind) -> bool {
             | NodeKind::Resignal
             | NodeKind::Except
     )
+}
+
+/// The number of the last of so many tokens.
+fn last_taken(at: usize) -> Result<u32, BuildError> {
+    match u32::try_from(at) {
+        Ok(at) if at > 0 => Ok(at - 1),
+        _ => Err(BuildError::NotYet),
+    }
 }

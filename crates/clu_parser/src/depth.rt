@@ -1,6 +1,6 @@
 //! Depth: how far a node stands below its module's node, which is at depth 1.
 
-use crate::errors::ParseError;
+use crate::errors::BuildError;
 use crate::levels::DEEPEST;
 use clu_base::Place;
 use clu_tree::Tree;
@@ -12,7 +12,7 @@ fn is_before(a: Place, b: Place) -> bool {
 }
 
 /// The depth of each node, where the last is a File.
-fn depths(alloc: Global, tree: &Tree) -> Result<Vec<u32>, ParseError> {
+fn depths(alloc: Global, tree: &Tree) -> Result<Vec<u32>, BuildError> {
     let mut depths = vec![in alloc; 0u32; tree.len() as usize]?;
     for n in (0..tree.len()).rev() {
         let below = depths[n as usize].saturating_add(1);
@@ -24,7 +24,7 @@ fn depths(alloc: Global, tree: &Tree) -> Result<Vec<u32>, ParseError> {
 }
 
 /// The first place in the text of a node that is deeper than the deepest.
-pub fn first_too_deep(alloc: Global, tree: &Tree) -> Result<Option<Place>, ParseError> {
+pub fn first_too_deep(alloc: Global, tree: &Tree) -> Result<Option<Place>, BuildError> {
     let depths = depths(alloc, tree)?;
     let mut first: Option<Place> = None;
     for n in 0..tree.len() {

@@ -4,9 +4,9 @@ ghost use Rattle.std.specs.Prelude.{◌≤◌, length};
 
 use crate::builder::Builder;
 use crate::depth;
-use crate::errors::ParseError;
+use crate::errors::{ParseError, ReadError};
 use crate::levels;
-use crate::reader::{ReadError, read};
+use crate::reader::read;
 use crate::source::Source;
 use clu_base::{Place, Token};
 use clu_lexer::end_place;
@@ -32,10 +32,10 @@ pub fn parse(alloc: Global, bytes: &[u8], tokens: &[Token]) -> Result<Tree, Pars
         return Err(ParseError::TooDeep(source.place(at as u32)));
     }
     let mut builder = Builder::new(alloc);
-    match read(alloc, &source, &mut builder) {
+    match read(alloc, source.symbols(), &source, &mut builder) {
         Ok(()) => {}
         Err(ReadError::Syntax(at)) => return Err(ParseError::Syntax(place_of(bytes, tokens, at))),
-        Err(ReadError::Other(error)) => return Err(error),
+        Err(ReadError::Build(error)) => return Err(error.into()),
     }
     let tree = builder.into_tree();
     match depth::first_too_deep(alloc, &tree)? {

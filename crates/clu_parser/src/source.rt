@@ -1,7 +1,7 @@
 //! The source as the parser sees it: tokens with their bytes, and what each is to the grammar.
 
 use crate::brackets::close_before_dollar;
-use crate::errors::ParseError;
+use crate::errors::BuildError;
 use clu_base::{Bytes, Kind, Place, Sequence, Token};
 use clu_lexer::{Symbol, symbol_of};
 use std::alloc::Global;
@@ -24,7 +24,7 @@ fn text_of<'a>(bytes: &'a [u8], token: &Token) -> &'a [u8] {
 }
 
 /// The symbols of the tokens, in order.
-fn symbols_of(alloc: Global, bytes: &[u8], tokens: &[Token]) -> Result<Vec<Symbol>, ParseError> {
+fn symbols_of(alloc: Global, bytes: &[u8], tokens: &[Token]) -> Result<Vec<Symbol>, BuildError> {
     let mut symbols = Vec::new(alloc);
     for token in tokens {
         symbols.push(symbol_of(token.kind, text_of(bytes, token)))?;
@@ -33,7 +33,7 @@ fn symbols_of(alloc: Global, bytes: &[u8], tokens: &[Token]) -> Result<Vec<Symbo
 }
 
 impl<'a> Source<'a> {
-    pub fn new(alloc: Global, bytes: &'a [u8], tokens: &'a [Token]) -> Result<Source<'a>, ParseError> {
+    pub fn new(alloc: Global, bytes: &'a [u8], tokens: &'a [Token]) -> Result<Source<'a>, BuildError> {
         let symbols = symbols_of(alloc, bytes, tokens)?;
         let dollars = close_before_dollar(alloc, symbols.as_slice())?;
         Ok(Source {
@@ -67,7 +67,7 @@ impl<'a> Source<'a> {
     }
 
     /// The token's bytes, those of words, marks and identifiers in lower case.
-    fn spelling(&self, alloc: Global, n: u32) -> Result<Bytes, ParseError> {
+    fn spelling(&self, alloc: Global, n: u32) -> Result<Bytes, BuildError> {
         let Some(token) = self.tokens.get(n as usize) else {
             return Ok(Bytes::from_vec(Vec::new(alloc)));
         };
@@ -82,7 +82,7 @@ impl<'a> Source<'a> {
     }
 
     /// The identifiers of these tokens.
-    pub fn names(&self, alloc: Global, tokens: &[u32]) -> Result<Sequence<Bytes>, ParseError> {
+    pub fn names(&self, alloc: Global, tokens: &[u32]) -> Result<Sequence<Bytes>, BuildError> {
         let mut names = Vec::new(alloc);
         for n in tokens {
             names.push(self.spelling(alloc, *n)?)?;
@@ -91,7 +91,7 @@ impl<'a> Source<'a> {
     }
 
     /// The value that the token gives a node; empty where there is none.
-    pub fn value(&self, alloc: Global, token: Option<u32>) -> Result<Bytes, ParseError> {
+    pub fn value(&self, alloc: Global, token: Option<u32>) -> Result<Bytes, BuildError> {
         match token {
             Some(n) => self.spelling(alloc, n),
             None => Ok(Bytes::from_vec(Vec::new(alloc))),
