@@ -49,7 +49,7 @@ go_take : (xs ys : List Item) → Go xs ≡ Take ys → ⊥
 go_take xs ys h = cc
 
 -- the production that is chosen is one of them
-take_in : (ps : List Production) (t : Option Symbol) (row : List Item) → step ps t ≡ Take row → (s : Symbol) × (t ≡ Some s) × IsOneOf ps (item.Terminal s ∷ row)
+pub take_in : (ps : List Production) (t : Option Symbol) (row : List Item) → step ps t ≡ Take row → (s : Symbol) × (t ≡ Some s) × IsOneOf ps (item.Terminal s ∷ row)
 take_in [] t row is = absurd (cc)
 take_in (takes heads items ∷ ps) t row is = elim (true_or_false (is_among t heads)) [
   inl suits ↦ (let same : items ≡ row = (let h = rw suits at is in cc) in
@@ -62,7 +62,7 @@ take_in (peek heads items ∷ ps) t row is = elim (true_or_false (is_among t hea
 ]
 take_in (otherwise items ∷ ps) t row is = absurd (go_take items row is)
 
-go_in : (ps : List Production) (t : Option Symbol) (row : List Item) → step ps t ≡ Go row → IsOneOf ps row
+pub go_in : (ps : List Production) (t : Option Symbol) (row : List Item) → step ps t ≡ Go row → IsOneOf ps row
 go_in [] t row is = absurd (cc)
 go_in (takes heads items ∷ ps) t row is = elim (true_or_false (is_among t heads)) [
   inl suits ↦ absurd (go_take row items (sym (rw suits at is)))

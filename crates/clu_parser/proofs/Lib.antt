@@ -1,1 +1,4 @@
+pub mod OnWay
+pub mod Room
+pub mod Sound
 pub mod Stack

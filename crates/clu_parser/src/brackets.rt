@@ -1,27 +1,37 @@
 //! Which square brackets close before a `$`, so that a name before them is a type's.
 
-use crate::errors::BuildError;
-use clu_lexer::Symbol;
-use std::alloc::Global;
+ghost use Rattle.std.specs.Prelude.{◌≡◌};
+ghost use Rattle.clu_parser.specs.Spellings.{is_dollar, closes};
 
-/// For each `[` whether it closes before a `$`; false at all other symbols. Square brackets alone
-/// are counted.
-pub fn close_before_dollar(alloc: Global, symbols: &[Symbol]) -> Result<Vec<bool>, BuildError> {
-    let mut flags = Vec::new(alloc);
-    let mut open = Vec::new(alloc);
-    for (at, symbol) in symbols.iter().enumerate() {
-        flags.push(false)?;
-        match symbol {
-            Symbol::LeftBracket => open.push(at)?,
-            Symbol::RightBracket => {
-                if let Some(begin) = open.pop() {
-                    if begin < flags.len() {
-                        flags[begin] = symbols.get(at + 1).copied() == Some(Symbol::Dollar);
-                    }
-                }
-            }
-            _ => {}
-        }
+use clu_lexer::Symbol;
+
+/// Whether the symbols begin with `$`.
+fn is_dollar(symbols: &[Symbol]) -> bool
+    ensures { result ≡ is_dollar symbols.now }
+{
+    match symbols {
+        [] => false,
+        [symbol, ..] => *symbol == Symbol::Dollar,
     }
-    Ok(flags)
+}
+
+/// Whether the bracket that is open before the symbols closes before a `$`. Square brackets alone
+/// are counted. The level of a source bounds how often a symbol is looked at so.
+pub fn closes_before_dollar(symbols: &[Symbol]) -> bool
+    ensures { result ≡ closes 0 symbols.now }
+{
+    let mut depth = 0usize;
+    let mut left = symbols;
+    'brackets: while let [symbol, rest @ ..] = left {
+        if *symbol == Symbol::LeftBracket {
+            depth += 1;
+        } else if *symbol == Symbol::RightBracket {
+            if depth == 0 {
+                return is_dollar(rest);
+            }
+            depth -= 1;
+        }
+        left = rest;
+    }
+    false
 }

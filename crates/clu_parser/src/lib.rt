@@ -2,11 +2,13 @@
 //! ceases to be a file of the grammar or is too deep.
 #![tactic(auto)]
 
+mod begun;
 mod brackets;
 mod builder;
 mod depth;
 mod errors;
 mod levels;
+mod nodes;
 mod parsing;
 mod reader;
 mod source;

@@ -7,7 +7,7 @@ use crate::depth;
 use crate::errors::{ParseError, ReadError};
 use crate::levels;
 use crate::reader::read;
-use crate::source::Source;
+use crate::source::{Source, symbols_of};
 use clu_base::{Place, Token};
 use clu_lexer::end_place;
 use clu_tree::Tree;
@@ -27,12 +27,17 @@ fn place_of(bytes: &[u8], tokens: &[Token], n: usize) -> Place
 pub fn parse(alloc: Global, bytes: &[u8], tokens: &[Token]) -> Result<Tree, ParseError>
     requires { length bytes.now ≤ 1_048_576 }
 {
-    let source = Source::new(alloc, bytes, tokens)?;
-    if let Some(at) = levels::first_too_deep(source.symbols()) {
-        return Err(ParseError::TooDeep(source.place(at as u32)));
+    let symbols = symbols_of(alloc, bytes, tokens)?;
+    let source = Source {
+        bytes,
+        tokens,
+        symbols: symbols.as_slice(),
+    };
+    if let Some(at) = levels::first_too_deep(source.symbols) {
+        return Err(ParseError::TooDeep(place_of(bytes, tokens, at)));
     }
     let mut builder = Builder::new(alloc);
-    match read(alloc, source.symbols(), &source, &mut builder) {
+    match read(alloc, &source, &mut builder) {
         Ok(()) => {}
         Err(ReadError::Syntax(at)) => return Err(ParseError::Syntax(place_of(bytes, tokens, at))),
         Err(ReadError::Build(error)) => return Err(error.into()),

@@ -4,6 +4,7 @@
 ghost use Rattle.std.specs.Prelude.{◌≡◌, ◌++◌, ◌↔◌, IsTrue, Some, reverse, slice_get, OnOk, IfErr};
 ghost use Rattle.clu_grammar.specs.Language.{IsFile};
 ghost use Rattle.clu_parser.specs.Faults.{IsReadFault};
+ghost use Rattle.clu_parser.specs.Trees.{text, nothing_built, IsBuilt};
 
 use crate::builder::Builder;
 use crate::errors::{BuildError, ReadError};
@@ -42,10 +43,13 @@ fn push_row(stack: &mut Vec<Item>, items: &[Item]) -> Result<(), BuildError>
 }
 
 /// Reads the symbols as a file of the grammar, with a tree in the making.
-pub fn read(alloc: Global, symbols: &[Symbol], source: &Source, builder: &mut Builder) -> Result<(), ReadError>
-    ensures file { OnOk result (IsFile symbols.now) }
-    ensures fault { IfErr result (IsReadFault symbols.now) }
+pub fn read(alloc: Global, source: &Source, builder: &mut Builder) -> Result<(), ReadError>
+    requires { builder.old ≡ nothing_built }
+    ensures file { OnOk result (IsFile source.now.symbols.now) }
+    ensures tree { OnOk result (IsBuilt (text source.now) builder.new) }
+    ensures fault { IfErr result (IsReadFault source.now.symbols.now) }
 {
+    let symbols = source.symbols;
     let mut stack = Vec::new(alloc);
     push_row(&mut stack, &[Item::Nonterminal(Nonterminal::File)])?;
     let mut at = 0;
