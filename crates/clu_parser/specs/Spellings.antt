@@ -8,11 +8,16 @@ use Rattle.clu_base.specs.declared.tokens.Token.{Token}
 use Rattle.clu_lexer.specs.declared.symbols.Symbol.{Symbol}
 use Rattle.clu_lexer.specs.declared.symbols.Symbol.TheVariants as symbol
 use Rattle.clu_lexer.specs.contracts.symbols.Symbol.{the_type}
+use Rattle.clu_lexer.specs.Words.{symbol_of}
 use denote.Enum.Bare.{sameb}
 
 -- the bytes of a token
 abbrev pub bytes_of : List ℕ → Token → List ℕ
 bytes_of bytes t = take (t.end - t.start) (drop t.start bytes)
+
+-- what a token is to the grammar
+abbrev pub symbol_in : List ℕ → Token → Symbol
+symbol_in bytes t = symbol_of t.kind (bytes_of bytes t)
 
 -- literals stand as they are spelled, all else is in lower case
 abbrev pub spelled : Kind → List ℕ → List ℕ

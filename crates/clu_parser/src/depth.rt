@@ -1,5 +1,7 @@
 //! Depth: how far a node stands below its module's node, which is at depth 1.
 
+ghost use Rattle.std.specs.Prelude.{◌≡◌, length, IfOk};
+
 use crate::errors::BuildError;
 use crate::levels::DEEPEST;
 use clu_base::Place;
@@ -12,7 +14,9 @@ fn is_before(a: Place, b: Place) -> bool {
 }
 
 /// The depth of each node, where the last is a File.
-fn depths(alloc: Global, tree: &Tree) -> Result<Vec<u32>, BuildError> {
+fn depths(alloc: Global, tree: &Tree) -> Result<Vec<u32>, BuildError>
+    ensures { IfOk result (λ depths. length depths.items ≡ length tree.now) }
+{
     let mut depths = vec![in alloc; 0u32; tree.len() as usize]?;
     for n in (0..tree.len()).rev() {
         let below = depths[n as usize].saturating_add(1);

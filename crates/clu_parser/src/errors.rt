@@ -44,6 +44,11 @@ impl<T: Drop> From<AllocFailed<T>> for BuildError {
 }
 
 impl From<BuildError> for ParseError {
+    ghost use Rattle.clu_parser.specs.Refusals.{refusal};
+    ghost use Rattle.std.specs.Prelude.{◌≡◌};
+
+    ghost from_gives = { λ b e. e ≡ refusal b };
+
     fn from(error: BuildError) -> ParseError {
         match error {
             BuildError::Memory => ParseError::Memory,

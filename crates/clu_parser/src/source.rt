@@ -1,7 +1,7 @@
 //! The source as the parser sees it: its tokens with their bytes, and what each is to the grammar.
 
 ghost use Rattle.std.specs.Prelude.{◌≡◌, map, IfOk, slice_get, option_copied};
-ghost use Rattle.clu_parser.specs.Spellings.{bytes_of, spelled, spelling, place_in};
+ghost use Rattle.clu_parser.specs.Spellings.{bytes_of, symbol_in, spelled, spelling, place_in};
 
 use crate::errors::BuildError;
 use clu_base::{Bytes, Kind, Place, Token};
@@ -27,7 +27,9 @@ pub fn bytes_of<'a>(bytes: &'a [u8], token: &Token) -> &'a [u8]
 }
 
 /// The symbols of the tokens, in order.
-pub fn symbols_of(alloc: Global, bytes: &[u8], tokens: &[Token]) -> Result<Vec<Symbol>, BuildError> {
+pub fn symbols_of(alloc: Global, bytes: &[u8], tokens: &[Token]) -> Result<Vec<Symbol>, BuildError>
+    ensures { IfOk result (λ symbols. symbols.items ≡ map (symbol_in bytes.now) tokens.now) }
+{
     let mut symbols = Vec::new(alloc);
     for token in tokens {
         symbols.push(symbol_of(token.kind, bytes_of(bytes, token)))?;
