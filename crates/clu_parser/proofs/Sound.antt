@@ -39,23 +39,23 @@ fits_close nodes tops h n sound is room small =
 
 root_kept : (nodes : List Node) (tops : List ℕ) (h : ℕ) (n : Node) (c : ℕ) → h ≤ length tops → IsSound nodes tops → n.children ≡ drop h tops → Contains (take h tops) c → IsRoot (nodes ++ n ∷ []) c
 root_kept nodes tops h n c inside sound is here i m at has = elim (got_push nodes n m i at) [
-  inl old ↦ All-contains (IsRoot nodes) (take h tops) c (All-take (IsRoot nodes) h tops sound.roots) here i m old has
+  | inl old ↦ All-contains (IsRoot nodes) (take h tops) c (All-take (IsRoot nodes) h tops sound.roots) here i m old has
   | inr new ↦ apart h tops c inside sound.differ here (subst (λ (cs : List ℕ). Contains cs c) is (subst (λ (m : Node). Contains m.children c) (sym new.1) has))
 ]
 
 root_new : (nodes : List Node) (tops : List ℕ) (h : ℕ) (n : Node) → IsSound nodes tops → n.children ≡ drop h tops → IsRoot (nodes ++ n ∷ []) (length nodes)
 root_new nodes tops h n sound is i m at has = elim (got_push nodes n m i at) [
-  inl old ↦ (let less : length nodes < length nodes = All-contains (λ c. c < length nodes) m.children (length nodes) (sound.children i m old) has in absurd (omega arith))
+  | inl old ↦ (let less : length nodes < length nodes = All-contains (λ c. c < length nodes) m.children (length nodes) (sound.children i m old) has in absurd (omega arith))
   | inr new ↦ (let less : length nodes < length nodes =
-    All-contains (λ c. c < length nodes) (drop h tops) (length nodes) (All-drop (λ c. c < length nodes) h tops sound.below)
-    (subst (λ (cs : List ℕ). Contains cs (length nodes)) is (subst (λ (m : Node). Contains m.children (length nodes)) (sym new.1) has)) in absurd (omega arith))
+      All-contains (λ c. c < length nodes) (drop h tops) (length nodes) (All-drop (λ c. c < length nodes) h tops sound.below)
+      (subst (λ (cs : List ℕ). Contains cs (length nodes)) is (subst (λ (m : Node). Contains m.children (length nodes)) (sym new.1) has)) in absurd (omega arith))
 ]
 
 children_push : (nodes : List Node) (tops : List ℕ) (h : ℕ) (n : Node) → IsSound nodes tops → n.children ≡ drop h tops → (i : ℕ) (m : Node) → slice_get (nodes ++ n ∷ []) i ≡ Some m → All (λ c. c < length (nodes ++ n ∷ [])) m.children
 children_push nodes tops h n sound is i m at k d below = elim (got_push nodes n m i at) [
-  inl old ↦ omega (arith, sound.children i m old k d below, length_push nodes n)
+  | inl old ↦ omega (arith, sound.children i m old k d below, length_push nodes n)
   | inr new ↦ (let same : m.children ≡ drop h tops = ap (λ (m : Node). m.children) (sym new.1) ∙ is in
-    let less : get_or m.children k d < length nodes = subst (All (λ c. c < length nodes)) (sym same) (All-drop (λ c. c < length nodes) h tops sound.below) k d below in omega (arith, length_push nodes n))
+      let less : get_or m.children k d < length nodes = subst (All (λ c. c < length nodes)) (sym same) (All-drop (λ c. c < length nodes) h tops sound.below) k d below in omega (arith, length_push nodes n))
 ]
 
 pub sound_close : (nodes : List Node) (tops : List ℕ) (h : ℕ) (n : Node) → h ≤ length tops → IsSound nodes tops → n.children ≡ drop h tops → IsSound (nodes ++ n ∷ []) (take h tops ++ length nodes ∷ [])

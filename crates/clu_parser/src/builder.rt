@@ -52,13 +52,23 @@ impl Builder {
     pub fn into_tree(self) -> Tree
         ensures { result ≡ self.nodes }
     {
-        let Builder { tree, tops: _, begun: _ } = self;
+        let Builder {
+            tree,
+            tops: _,
+            begun: _,
+        } = self;
         tree
     }
 
     /// Does what the action says, where so many tokens have been taken. Nothing is known of the
     /// builder after an error.
-    pub fn act(&mut self, alloc: Global, source: &Source, action: Action, at: usize) -> Result<(), BuildError>
+    pub fn act(
+        &mut self,
+        alloc: Global,
+        source: &Source,
+        action: Action,
+        at: usize,
+    ) -> Result<(), BuildError>
         ensures { OnOk result (acted (text source.now) action (at - 1) self.old ≡ Some self.new) }
     {
         let taken = last_taken(at)?;
@@ -145,7 +155,13 @@ impl Builder {
     }
 
     /// The innermost node is whole and ends with the token.
-    fn close(&mut self, alloc: Global, source: &Source, kind: NodeKind, last: u32) -> Result<(), BuildError>
+    fn close(
+        &mut self,
+        alloc: Global,
+        source: &Source,
+        kind: NodeKind,
+        last: u32,
+    ) -> Result<(), BuildError>
         ensures { OnOk result (closed (text source.now) kind last self.old ≡ Some self.new) }
     {
         let Some(begun) = self.begun.pop() else {
@@ -157,7 +173,15 @@ impl Builder {
         }
         self.tops.reserve(1)?;
         let tops = self.tops.as_slice();
-        let node = make_node(alloc, source, kind, last, &self.tree, &tops[height..], &begun)?;
+        let node = make_node(
+            alloc,
+            source,
+            kind,
+            last,
+            &self.tree,
+            &tops[height..],
+            &begun,
+        )?;
         if !has_room(&self.tree, &node) {
             return Err(BuildError::NotYet);
         }
@@ -182,25 +206,55 @@ fn is_idn(symbols: &[Symbol], n: u32) -> bool
 fn noted(begun: Begun, is_name: bool, taken: u32) -> Result<Begun, BuildError>
     ensures { IfOk result (λ b. b ≡ noted is_name taken begun) }
 {
-    let Begun { first, mark, height, names, value } = begun;
+    let Begun {
+        first,
+        mark,
+        height,
+        names,
+        value,
+    } = begun;
     if is_name {
         let mut names = names.into_vec();
         names.push(taken)?;
         let names = Sequence::from_vec(names);
-        return Ok(Begun { first, mark, height, names, value });
+        return Ok(Begun {
+            first,
+            mark,
+            height,
+            names,
+            value,
+        });
     }
-    Ok(Begun { first, mark, height, names, value: Some(taken) })
+    Ok(Begun {
+        first,
+        mark,
+        height,
+        names,
+        value: Some(taken),
+    })
 }
 
 /// The outer node with the names of the inner one.
 fn given(inner: Begun, outer: Begun) -> Result<Begun, BuildError>
     ensures { IfOk result (λ b. b ≡ record outer { names = outer.names ++ inner.names }) }
 {
-    let Begun { first, mark, height, names, value } = outer;
+    let Begun {
+        first,
+        mark,
+        height,
+        names,
+        value,
+    } = outer;
     let mut names = names.into_vec();
     names.extend_from_slice(inner.names.as_slice())?;
     let names = Sequence::from_vec(names);
-    Ok(Begun { first, mark, height, names, value })
+    Ok(Begun {
+        first,
+        mark,
+        height,
+        names,
+        value,
+    })
 }
 
 /// The number of the last of so many tokens.

@@ -15,3 +15,6 @@ mod source;
 
 pub use crate::errors::ParseError;
 pub use crate::parsing::parse;
+
+#[cfg(test)]
+mod tests;

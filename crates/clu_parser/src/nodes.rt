@@ -89,10 +89,22 @@ fn last_of(kind: NodeKind, tree: &Tree, children: &[u32], last: u32) -> u32
 }
 
 /// The node that began so and ends with the token `last`.
-pub fn make_node(alloc: Global, source: &Source, kind: NodeKind, last: u32, tree: &Tree, children: &[u32], begun: &Begun) -> Result<Node, BuildError>
+pub fn make_node(
+    alloc: Global,
+    source: &Source,
+    kind: NodeKind,
+    last: u32,
+    tree: &Tree,
+    children: &[u32],
+    begun: &Begun,
+) -> Result<Node, BuildError>
     ensures { IfOk result (λ node. node ≡ node_of (text source.now) kind last tree.now children.now begun.now) }
 {
-    let mark = if is_marked(kind) { begun.mark } else { begun.first };
+    let mark = if is_marked(kind) {
+        begun.mark
+    } else {
+        begun.first
+    };
     let names = names(alloc, source, begun.names.as_slice())?;
     let value = value_of(alloc, source, begun.value)?;
     let copy = children.to_vec(alloc)?;

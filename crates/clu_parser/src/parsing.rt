@@ -7,11 +7,10 @@ ghost use Rattle.clu_parser.specs.Levels.{IsLow};
 ghost use Rattle.clu_parser.specs.Parsing.{symbols_of, place_in, place_of, IsTreeOf, IsFault};
 
 use crate::builder::Builder;
-use crate::depth;
 use crate::errors::{ParseError, ReadError};
-use crate::levels;
 use crate::reader::read;
 use crate::source::{Source, symbols_of};
+use crate::{depth, levels};
 use clu_base::{Place, Token};
 use clu_lexer::end_place;
 use clu_tree::Tree;

@@ -25,7 +25,7 @@ items-preserved-in-Terminal c =
     let top = popped c.items.stack.items c.pop.new.self.items c.in-Some.item c.in-Some.ensures.items ∙ ap (λ x. x ∷ reverse c.pop.new.self.items) c.in-Terminal.is in
     record {
       runs = runs_terminal c.args.source.now.symbols.now c.items.at c.in-Terminal.symbol (reverse c.pop.new.self.items) (subst (Runs c.args.source.now.symbols.now c.items.at) top c.items.invariant.runs)
-    (c.if-not-is_at.ensures.0 refl);
+          (c.if-not-is_at.ensures.0 refl);
       builds = way_terminal (text c.args.source.now) c.in-Terminal.symbol (reverse c.pop.new.self.items) c.items.at c.items.builder (subst (λ (x : List Item). IsOnWay (text c.args.source.now) x c.items.at c.items.builder) top c.items.invariant.builds) (c.if-not-is_at.ensures.0 refl);
     }
 
