@@ -1,5 +1,5 @@
 -- Reading by the choice of one symbol of lookahead, and that it reads whatever free choice derives.
-use Rattle.std.proofs.Common.{◌≡◌, ℕ, zero, suc, ◌+◌, ◌<◌, ◌≤◌, Bool, true, false, not, ◌&&◌, ◌||◌, cond, List, [], ◌∷◌, ◌++◌, length, Option, Some, None, slice_get, refl, sym, ap, ◌∙◌, subst, inl, inr, ◌⊎◌, arith, rules, append_assoc}
+use Rattle.std.proofs.Common.{◌≡◌, ℕ, zero, suc, ◌+◌, Bool, true, false, not, ◌&&◌, ◌||◌, List, [], ◌∷◌, ◌++◌, length, Option, Some, None, slice_get, refl, sym, ap, ◌∙◌, subst, inl, inr, ◌⊎◌, arith, rules}
 use Rattle.std.specs.List.{list_all}
 use Rattle.std.proofs.lemmas.Option.{slice_get_past}
 use Rattle.clu_lexer.specs.declared.symbols.Symbol.{Symbol}
@@ -8,15 +8,14 @@ use Rattle.clu_grammar.specs.declared.items.Action.{Action}
 use Rattle.clu_grammar.specs.declared.items.Item.{Item}
 use Rattle.clu_grammar.specs.declared.items.Item.TheVariants as item
 use Rattle.clu_grammar.specs.declared.items.Nonterminal.{Nonterminal}
-use Rattle.clu_grammar.specs.declared.items.Nonterminal.TheVariants as nonterminal
-use Rattle.clu_grammar.specs.Choice.{Step, Take, Go, No, has, is_among, step}
+use Rattle.clu_grammar.specs.Choice.{Take, Go, has, is_among, step}
 use Rattle.clu_grammar.specs.Grammar.{productions}
 use Rattle.clu_grammar.specs.Language.{IsAlternative, IsOneOf, Derives, done, symbol, action, choice}
 use Rattle.clu_grammar.specs.Rows.{Production, take, peek, otherwise}
 use Rattle.clu_grammar.proofs.Flags.{and_left, and_right, and_both, or_cases, or_left, or_right, implied, denied, true_or_false, true_is_false}
 use Rattle.clu_grammar.proofs.Lookahead.{starts, after, nothing}
-use Rattle.clu_grammar.proofs.Tests.{code, in_set, implies, begins, starts_hold_for, starts_hold, after_holds, items_of, may_begin, suits, choice_holds, sound_at, symbols, place_of, sound}
-use denote.Enum.Bare.{sameb, true_same, same_true}
+use Rattle.clu_grammar.proofs.Tests.{code, in_set, begins, starts_hold_for, starts_hold, after_holds, items_of, may_begin, suits, choice_holds, sound_at, symbols, place_of, sound}
+use denote.Enum.Bare.{true_same, same_true}
 
 -- as Derives, with the choice made by the next symbol
 pub data Reads (ys : List Symbol) : List Item → ℕ → ℕ → Type 0 where
@@ -52,9 +51,9 @@ through (item.Terminal s ∷ items) rest wider (Some x) f h = h
 through (item.Action a ∷ items) rest wider t f h = through items rest wider t f h
 through (item.Nonterminal n ∷ items) rest wider t f h =
     elim (or_cases (in_set (starts n) t) (nothing n && begins items rest t) h) [
-      inl in_it ↦ or_left (in_set (starts n) t) (nothing n && begins items wider t) in_it
+      | inl in_it ↦ or_left (in_set (starts n) t) (nothing n && begins items wider t) in_it
       | inr behind ↦ or_right (in_set (starts n) t) (nothing n && begins items wider t)
-        (and_both (nothing n) (begins items wider t) (and_left (nothing n) (begins items rest t) behind) (through items rest wider t f (and_right (nothing n) (begins items rest t) behind)))
+          (and_both (nothing n) (begins items wider t) (and_left (nothing n) (begins items rest t) behind) (through items rest wider t f (and_right (nothing n) (begins items rest t) behind)))
     ]
 
 begins-append : (xs items : List Item) (rest : Option Symbol → Bool) (t : Option Symbol) → begins (xs ++ items) rest t ≡ begins xs (begins items rest) t
@@ -72,8 +71,8 @@ at_end (Some s) = false
 -- what comes first in an alternative may come first for its nonterminal
 starts_for : (n : Nonterminal) (t : Option Symbol) (items : List Item) (rest : Option Symbol → Bool) → starts_hold_for n t items ≡ true → begins items rest t ≡ true → (in_set (starts n) t || (nothing n && rest t)) ≡ true
 starts_for n t items rest test h = elim (true_or_false (rest t)) [
-  inl holds ↦ elim (or_cases (in_set (starts n) t) (nothing n) (implied _ _ (and_right _ _ test) (through items rest (λ _. true) t (λ _. refl) h))) [
-    inl in_it ↦ or_left (in_set (starts n) t) (nothing n && rest t) in_it
+  | inl holds ↦ elim (or_cases (in_set (starts n) t) (nothing n) (implied _ _ (and_right _ _ test) (through items rest (λ _. true) t (λ _. refl) h))) [
+    | inl in_it ↦ or_left (in_set (starts n) t) (nothing n && rest t) in_it
     | inr may ↦ or_right (in_set (starts n) t) (nothing n && rest t) (and_both (nothing n) (rest t) may holds)
   ]
   | inr fails ↦ or_left (in_set (starts n) t) (nothing n && rest t) (implied _ _ (and_left _ _ test) (through items rest (λ _. false) t (λ holds. absurd (cc)) h))
@@ -115,9 +114,10 @@ row_followed : (row items : List Item) (set : ℕ) → ((t : Option Symbol) → 
 row_followed [] items set test behind known = known
 row_followed (item.Terminal s ∷ row) items set test behind known = row_followed row items set test behind known
 row_followed (item.Action a ∷ row) items set test behind known = row_followed row items set test behind known
-row_followed (item.Nonterminal n ∷ row) items set test behind known =
-    (λ t h. implied _ _ (and_left _ _ (test t)) (through row (begins items at_end) (in_set set) t (behind t) (sym (begins-append row items at_end t) ∙ h)),
-     row_followed row items set (λ t. and_right _ _ (test t)) behind known)
+row_followed (item.Nonterminal n ∷ row) items set test behind known = (
+  λ t h. implied _ _ (and_left _ _ (test t)) (through row (begins items at_end) (in_set set) t (behind t) (sym (begins-append row items at_end t) ∙ h)),
+  row_followed row items set (λ t. and_right _ _ (test t)) behind known,
+)
 
 alternative_followed : (set : ℕ) (ps : List Production) (alternative items : List Item) → ((t : Option Symbol) → list_all (λ p. after_holds set t (items_of p)) ps ≡ true) → IsOneOf ps alternative → ((t : Option Symbol) → begins items at_end t ≡ true → in_set set t ≡ true) → Followed items at_end → Followed (alternative ++ items) at_end
 alternative_followed set [] alternative items test one behind known = absurd one
@@ -147,22 +147,22 @@ IsChosen ps t alternative = ((row : List Item) × (s : Symbol) × (step ps t ≡
 chosen : (set : ℕ) (t : Option Symbol) (ps : List Production) (alternative : List Item) → choice_holds set t ps ≡ true → IsOneOf ps alternative → begins alternative (in_set set) t ≡ true → IsChosen ps t alternative
 chosen set t [] alternative test one h = absurd one
 chosen set t (take heads row ∷ ps) alternative test one h = elim (true_or_false (is_among t heads)) [
-  inl suits ↦ (let only = rw suits at test in elim one [
-    inl is ↦ inl (row, is.0, rw suits refl, is.2)
+  | inl suits ↦ (let only = rw suits at test in elim one [
+    | inl is ↦ inl (row, is.0, rw suits refl, is.2)
     | inr other ↦ absurd (none_may set t ps alternative only other h)
   ])
   | inr passes ↦ (let rest = rw passes at test in elim one [
-    inl is ↦ absurd (true_is_false (is_among t heads) (may_of set t (take heads row) alternative is h) passes)
+    | inl is ↦ absurd (true_is_false (is_among t heads) (may_of set t (take heads row) alternative is h) passes)
     | inr other ↦ rw passes (chosen set t ps alternative rest other h)
   ])
 ]
 chosen set t (peek heads row ∷ ps) alternative test one h = elim (true_or_false (is_among t heads)) [
-  inl suits ↦ (let only = rw suits at test in elim one [
-    inl is ↦ inr (rw (suits, is) refl)
+  | inl suits ↦ (let only = rw suits at test in elim one [
+    | inl is ↦ inr (rw (suits, is) refl)
     | inr other ↦ absurd (none_may set t ps alternative only other h)
   ])
   | inr passes ↦ (let rest = rw passes at test in elim one [
-    inl is ↦ absurd (denied (may_begin set t (peek heads row)) (and_left _ _ rest) (may_of set t (peek heads row) alternative is h))
+    | inl is ↦ absurd (denied (may_begin set t (peek heads row)) (and_left _ _ rest) (may_of set t (peek heads row) alternative is h))
     | inr other ↦ rw passes (chosen set t ps alternative (and_right _ _ rest) other h)
   ])
 ]
@@ -188,6 +188,6 @@ reads ys _ at to (choice n items alternative _ _ one d) last known =
     let r = reads ys (alternative ++ items) at to d last (alternative_followed (after n) (productions n) alternative items (after_sound n) one known.0 known.1) in
     let first = through alternative (begins items at_end) (in_set (after n)) (slice_get ys at) (known.0 (slice_get ys at)) (sym (begins-append alternative items at_end (slice_get ys at)) ∙ begun ys (alternative ++ items) at to d last) in
     elim (chosen (after n) (slice_get ys at) (productions n) alternative (choice_sound n (slice_get ys at)) one first) [
-      inl here ↦ taken n items here.0 at to here.2 (inv_terminal ys here.1 (here.0 ++ items) at to (subst (λ (x : List Item). Reads ys (x ++ items) at to) here.3 r)).1
+      | inl here ↦ taken n items here.0 at to here.2 (inv_terminal ys here.1 (here.0 ++ items) at to (subst (λ (x : List Item). Reads ys (x ++ items) at to) here.3 r)).1
       | inr here ↦ gone n items alternative at to here r
     ]

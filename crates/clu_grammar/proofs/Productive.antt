@@ -1,5 +1,5 @@
 -- Every list of items stands for some symbols.
-use Rattle.std.proofs.Common.{◌≡◌, ℕ, zero, suc, ◌+◌, ◌-◌, ◌<◌, ◌≤◌, Bool, true, false, not, ◌&&◌, ◌||◌, cond, List, [], ◌∷◌, ◌++◌, length, Option, Some, None, is_some, slice_get, refl, sym, ap, ◌∙◌, subst, inl, inr, ◌⊎◌, arith, append_assoc, append-nil, nat_lt, ltb-true, lt-ltb}
+use Rattle.std.proofs.Common.{◌≡◌, ℕ, zero, suc, ◌+◌, ◌<◌, ◌≤◌, Bool, true, ◌&&◌, cond, List, [], ◌∷◌, ◌++◌, length, Option, Some, None, is_some, slice_get, refl, sym, subst, inl, inr, arith, append_assoc, nat_lt, ltb-true, lt-ltb}
 use Rattle.std.proofs.lemmas.List.{length_push, length-append}
 use Rattle.clu_lexer.specs.declared.symbols.Symbol.{Symbol}
 use Rattle.clu_grammar.specs.declared.items.Item.{Item}
@@ -8,7 +8,7 @@ use Rattle.clu_grammar.specs.declared.items.Nonterminal.{Nonterminal}
 use Rattle.clu_grammar.specs.declared.items.Nonterminal.TheVariants as r
 use Rattle.clu_grammar.specs.Choice.{has}
 use Rattle.clu_grammar.specs.Grammar.{productions}
-use Rattle.clu_grammar.specs.Language.{IsAlternative, IsOneOf, Derives, done, symbol, action, choice}
+use Rattle.clu_grammar.specs.Language.{IsOneOf, Derives, done, symbol, action, choice}
 use Rattle.clu_grammar.specs.Rows.{Production, take, peek, otherwise}
 use Rattle.clu_grammar.proofs.Flags.{and_left, and_right, and_both, true_or_false}
 use Rattle.clu_grammar.proofs.Lookahead.{rank}
@@ -45,15 +45,15 @@ low_is : (k : ℕ) (ps : List Production) (alternative : List Item) → low k ps
 low_is k [] alternative is = absurd (cc)
 low_is k (take [] row ∷ ps) alternative is = let found = low_is k ps alternative is in (inr found.0, found.1)
 low_is k (take (s ∷ heads) row ∷ ps) alternative is = elim (true_or_false (ranks_below k row)) [
-  inl ok ↦ (let same : item.Terminal s ∷ row ≡ alternative = (let h = rw ok at is in cc) in (inl (s, has_first s heads, sym same), subst (λ (x : List Item). ranks_below k x ≡ true) same ok))
+  | inl ok ↦ (let same : item.Terminal s ∷ row ≡ alternative = (let h = rw ok at is in cc) in (inl (s, has_first s heads, sym same), subst (λ (x : List Item). ranks_below k x ≡ true) same ok))
   | inr bad ↦ (let found = low_is k ps alternative (rw bad at is) in (inr found.0, found.1))
 ]
 low_is k (peek heads row ∷ ps) alternative is = elim (true_or_false (ranks_below k row)) [
-  inl ok ↦ (let same : row ≡ alternative = (let h = rw ok at is in cc) in (inl (sym same), subst (λ (x : List Item). ranks_below k x ≡ true) same ok))
+  | inl ok ↦ (let same : row ≡ alternative = (let h = rw ok at is in cc) in (inl (sym same), subst (λ (x : List Item). ranks_below k x ≡ true) same ok))
   | inr bad ↦ (let found = low_is k ps alternative (rw bad at is) in (inr found.0, found.1))
 ]
 low_is k (otherwise row ∷ ps) alternative is = elim (true_or_false (ranks_below k row)) [
-  inl ok ↦ (let same : row ≡ alternative = (let h = rw ok at is in cc) in (inl (sym same), subst (λ (x : List Item). ranks_below k x ≡ true) same ok))
+  | inl ok ↦ (let same : row ≡ alternative = (let h = rw ok at is in cc) in (inl (sym same), subst (λ (x : List Item). ranks_below k x ≡ true) same ok))
   | inr bad ↦ (let found = low_is k ps alternative (rw bad at is) in (inr found.0, found.1))
 ]
 
@@ -99,7 +99,7 @@ stands_both xs items v w first second before behind =
     let last : length before + length v + length w ≡ length before + length (v ++ w) = omega (arith, length-append v w) in
     let two' = rw (list, place) at two in
     rw (← inner) (subst (λ (k : ℕ). Derives (before ++ (v ++ (w ++ behind))) (xs ++ items) (length before) k) last
-      (derives-append (before ++ (v ++ (w ++ behind))) xs items (length before) (length before + length v) (length before + length v + length w) one two'))
+    (derives-append (before ++ (v ++ (w ++ behind))) xs items (length before) (length before + length v) (length before + length v + length w) one two'))
 
 -- what items of low ranks stand for
 abbrev pub Below : ℕ → Type 0

@@ -1,5 +1,5 @@
 -- The tests of the table, which are computed.
-use Rattle.std.proofs.Common.{◌≡◌, ℕ, ◌+◌, ◌-◌, ◌/◌, ◌%◌, ◌^◌, suc, Bool, true, false, not, ◌&&◌, ◌||◌, ◌==◌, cond, List, [], ◌∷◌, ◌++◌, Option, Some, None, refl, slice_get}
+use Rattle.std.proofs.Common.{◌≡◌, ℕ, ◌/◌, ◌%◌, ◌^◌, suc, Bool, true, false, not, ◌&&◌, ◌||◌, ◌==◌, cond, List, [], ◌∷◌, Option, Some, None, refl, slice_get}
 use Rattle.std.specs.List.{list_all}
 use Rattle.clu_lexer.specs.declared.symbols.Symbol.{Symbol}
 use Rattle.clu_lexer.specs.declared.symbols.Symbol.TheVariants as s
@@ -8,10 +8,10 @@ use Rattle.clu_grammar.specs.declared.items.Item.{Item}
 use Rattle.clu_grammar.specs.declared.items.Item.TheVariants as item
 use Rattle.clu_grammar.specs.declared.items.Nonterminal.{Nonterminal}
 use Rattle.clu_grammar.specs.declared.items.Nonterminal.TheVariants as r
-use Rattle.clu_grammar.specs.Choice.{has, is_among}
+use Rattle.clu_grammar.specs.Choice.{is_among}
 use Rattle.clu_grammar.specs.Grammar.{productions}
 use Rattle.clu_grammar.specs.Rows.{Production, take, peek, otherwise}
-use Rattle.clu_grammar.proofs.Lookahead.{starts, after, nothing, rank, weight}
+use Rattle.clu_grammar.proofs.Lookahead.{starts, after, nothing}
 use denote.Enum.Bare.{sameb}
 use denote.Enum.Declared.{tag_of}
 

@@ -1,5 +1,5 @@
 -- A measure that falls with every step of the parser.
-use Rattle.std.proofs.Common.{◌≡◌, ℕ, ◌+◌, ◌*◌, ◌-◌, ◌<◌, ◌≤◌, Bool, true, false, ◌&&◌, List, [], ◌∷◌, ◌++◌, length, Option, Some, refl, sym, ap, ◌∙◌, subst, inl, inr, ◌⊎◌, arith, nat_lt, ltb-true, slice_get}
+use Rattle.std.proofs.Common.{◌≡◌, ℕ, ◌+◌, ◌*◌, ◌-◌, ◌<◌, Bool, true, List, [], ◌∷◌, ◌++◌, length, Option, Some, refl, subst, inl, inr, arith, nat_lt, ltb-true, slice_get}
 use Rattle.std.specs.List.{list_all}
 use Rattle.std.proofs.lemmas.Option.{slice_get_within}
 use Rattle.clu_lexer.specs.declared.symbols.Symbol.{Symbol}
@@ -45,11 +45,11 @@ IsLight w No = Unit {0}
 light : (w : ℕ) (ps : List Production) (t : Option Symbol) → list_all (weight_holds w) ps ≡ true → IsLight w (step ps t)
 light w [] t test = tt
 light w (take heads row ∷ ps) t test = elim (true_or_false (is_among t heads)) [
-  inl suits ↦ rw suits (ltb-true (weights row) 32 (and_left (nat_lt (weights row) 32) (list_all (weight_holds w) ps) test))
+  | inl suits ↦ rw suits (ltb-true (weights row) 32 (and_left (nat_lt (weights row) 32) (list_all (weight_holds w) ps) test))
   | inr passes ↦ rw passes (light w ps t (and_right (nat_lt (weights row) 32) (list_all (weight_holds w) ps) test))
 ]
 light w (peek heads row ∷ ps) t test = elim (true_or_false (is_among t heads)) [
-  inl suits ↦ rw suits (ltb-true (weights row) w (and_left (nat_lt (weights row) w) (list_all (weight_holds w) ps) test))
+  | inl suits ↦ rw suits (ltb-true (weights row) w (and_left (nat_lt (weights row) w) (list_all (weight_holds w) ps) test))
   | inr passes ↦ rw passes (light w ps t (and_right (nat_lt (weights row) w) (list_all (weight_holds w) ps) test))
 ]
 light w (otherwise row ∷ ps) t test = ltb-true (weights row) w (and_left (nat_lt (weights row) w) (list_all (weight_holds w) ps) test)

@@ -1,5 +1,5 @@
 -- The choice among productions by one symbol of lookahead: the first that is for it.
-use Rattle.std.specs.Prelude.{Bool, true, false, if◌then◌else◌, ◌||◌, List, [], ◌∷◌, Option, Some, None}
+use Rattle.std.specs.Prelude.{Bool, true, false, if◌then◌else◌, List, [], ◌∷◌, Option, Some, None}
 use Rattle.clu_lexer.specs.declared.symbols.Symbol.{Symbol}
 use Rattle.clu_lexer.specs.contracts.symbols.Symbol.{the_type}
 use Rattle.clu_grammar.specs.declared.items.Item.{Item}

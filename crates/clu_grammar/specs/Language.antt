@@ -1,5 +1,5 @@
 -- The language of the grammar: which lists of symbols are a file, with every production free to be chosen.
-use Rattle.std.specs.Prelude.{◌≡◌, ℕ, ◌+◌, ◌<◌, ◌≤◌, ◌⊎◌, List, [], ◌∷◌, ◌++◌, length, Contains, slice_get, Option, Some, None, true}
+use Rattle.std.specs.Prelude.{◌≡◌, ℕ, ◌+◌, ◌<◌, ◌≤◌, ◌⊎◌, List, [], ◌∷◌, ◌++◌, length, slice_get, Some, true}
 use Rattle.clu_lexer.specs.declared.symbols.Symbol.{Symbol}
 use Rattle.clu_grammar.specs.declared.items.Action.{Action}
 use Rattle.clu_grammar.specs.declared.items.Item.{Item}

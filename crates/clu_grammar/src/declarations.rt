@@ -4,57 +4,90 @@
 
 use crate::items::Action::{Close, Give, Note, Open};
 use crate::items::Item::{Action as A, Nonterminal as N, Terminal as T};
-use crate::items::Nonterminal as R;
 use crate::items::Row::{Otherwise, Peek, Take};
-use crate::items::Row;
+use crate::items::{Nonterminal as R, Row};
 use crate::sets::{FIELDS, LIST, SIMPLE, TYPE_WORDS};
 use clu_lexer::Symbol as S;
 use clu_tree::NodeKind as K;
 
 // Equate = (idn / rep) "=" (constant / TypeSet), and one ";"
 pub const EQUATE_REST: [Row; 2] = [
-    Take(&[S::LeftBrace], &[A(Open), N(R::TypeSetRest), A(Close(K::Equate)), N(R::Semicolon)]),
+    Take(
+        &[S::LeftBrace],
+        &[
+            A(Open),
+            N(R::TypeSetRest),
+            A(Close(K::Equate)),
+            N(R::Semicolon),
+        ],
+    ),
     Otherwise(&[N(R::Constant), A(Close(K::Equate)), N(R::Semicolon)]),
 ];
 
-pub const SEMICOLON: [Row; 2] = [
-    Take(&[S::Semicolon], &[]),
-    Otherwise(&[]),
-];
+pub const SEMICOLON: [Row; 2] = [Take(&[S::Semicolon], &[]), Otherwise(&[])];
 
 // Own = own (Decl# / idn ":" type ":=" expr / Decl# ":=" Call), and one ";"
 pub const OWN_REST: [Row; 2] = [
     Take(&[S::Colon], &[N(R::AnyType), N(R::OwnOne)]),
-    Take(&[S::Comma], &[T(S::Idn), A(Note), N(R::Names), T(S::Colon), N(R::AnyType), A(Close(K::Decl)), N(R::OwnMany)]),
+    Take(
+        &[S::Comma],
+        &[
+            T(S::Idn),
+            A(Note),
+            N(R::Names),
+            T(S::Colon),
+            N(R::AnyType),
+            A(Close(K::Decl)),
+            N(R::OwnMany),
+        ],
+    ),
 ];
 
 pub const OWN_ONE: [Row; 2] = [
-    Take(&[S::Assign], &[A(Give), N(R::Expr), A(Close(K::Own)), N(R::Semicolon)]),
+    Take(
+        &[S::Assign],
+        &[A(Give), N(R::Expr), A(Close(K::Own)), N(R::Semicolon)],
+    ),
     Otherwise(&[A(Close(K::Decl)), N(R::OwnEnd)]),
 ];
 
 pub const OWN_MANY: [Row; 2] = [
-    Take(&[S::Assign], &[N(R::Call), A(Close(K::Own)), N(R::Semicolon)]),
+    Take(
+        &[S::Assign],
+        &[N(R::Call), A(Close(K::Own)), N(R::Semicolon)],
+    ),
     Otherwise(&[N(R::OwnEnd)]),
 ];
 
 pub const OWN_END: [Row; 2] = [
-    Take(&[S::Comma], &[T(S::Idn), A(Open), A(Note), N(R::DeclRest), N(R::OwnMany)]),
+    Take(
+        &[S::Comma],
+        &[T(S::Idn), A(Open), A(Note), N(R::DeclRest), N(R::OwnMany)],
+    ),
     Otherwise(&[A(Close(K::Own)), N(R::Semicolon)]),
 ];
 
 // Decl = idn# ":" type
-pub const DECL_REST: [Row; 1] = [
-    Otherwise(&[N(R::Names), T(S::Colon), N(R::AnyType), A(Close(K::Decl))]),
-];
+pub const DECL_REST: [Row; 1] = [Otherwise(&[
+    N(R::Names),
+    T(S::Colon),
+    N(R::AnyType),
+    A(Close(K::Decl)),
+])];
 
 pub const DECLS_REST: [Row; 2] = [
-    Take(&[S::Comma], &[T(S::Idn), A(Open), A(Note), N(R::DeclRest), N(R::DeclsRest)]),
+    Take(
+        &[S::Comma],
+        &[T(S::Idn), A(Open), A(Note), N(R::DeclRest), N(R::DeclsRest)],
+    ),
     Otherwise(&[]),
 ];
 
 pub const DECLS: [Row; 2] = [
-    Take(&[S::Idn], &[A(Open), A(Note), N(R::DeclRest), N(R::DeclsRest)]),
+    Take(
+        &[S::Idn],
+        &[A(Open), A(Note), N(R::DeclRest), N(R::DeclsRest)],
+    ),
     Otherwise(&[]),
 ];
 
@@ -65,7 +98,10 @@ pub const CONSTANT: [Row; 2] = [
 ];
 
 pub const CONSTANT_REST: [Row; 2] = [
-    Peek(&[S::Dollar], &[N(R::Dollar), N(R::PostfixExpr), N(R::Operators)]),
+    Peek(
+        &[S::Dollar],
+        &[N(R::Dollar), N(R::PostfixExpr), N(R::Operators)],
+    ),
     Otherwise(&[]),
 ];
 
@@ -76,21 +112,75 @@ pub const CONSTANTS_REST: [Row; 2] = [
 
 // type = Simple / ListT / FieldsT / RoutineT / NameT; TypeW is all but NameT; FieldT = idn# ":" type
 pub const ANY_TYPE: [Row; 2] = [
-    Take(&[S::Idn], &[A(Open), A(Note), N(R::Actuals), A(Close(K::NameT))]),
+    Take(
+        &[S::Idn],
+        &[A(Open), A(Note), N(R::Actuals), A(Close(K::NameT))],
+    ),
     Otherwise(&[N(R::WordType)]),
 ];
 
 pub const ACTUALS: [Row; 2] = [
-    Take(&[S::LeftBracket], &[N(R::Constant), N(R::ConstantsRest), T(S::RightBracket)]),
+    Take(
+        &[S::LeftBracket],
+        &[N(R::Constant), N(R::ConstantsRest), T(S::RightBracket)],
+    ),
     Otherwise(&[]),
 ];
 
 pub const WORD_TYPE: [Row; 5] = [
     Take(&SIMPLE, &[A(Open), A(Note), A(Close(K::Simple))]),
-    Take(&LIST, &[A(Open), A(Note), T(S::LeftBracket), N(R::AnyType), T(S::RightBracket), A(Close(K::ListT))]),
-    Take(&FIELDS, &[A(Open), A(Note), T(S::LeftBracket), T(S::Idn), A(Open), A(Note), N(R::FieldTRest), N(R::FieldTsRest), T(S::RightBracket), A(Close(K::FieldsT))]),
-    Take(&[S::Proctype], &[A(Open), A(Note), T(S::LeftParen), N(R::Types), T(S::RightParen), N(R::Returns), N(R::Signals), A(Close(K::RoutineT))]),
-    Take(&[S::Itertype], &[A(Open), A(Note), T(S::LeftParen), N(R::Types), T(S::RightParen), N(R::Yields), N(R::Signals), A(Close(K::RoutineT))]),
+    Take(
+        &LIST,
+        &[
+            A(Open),
+            A(Note),
+            T(S::LeftBracket),
+            N(R::AnyType),
+            T(S::RightBracket),
+            A(Close(K::ListT)),
+        ],
+    ),
+    Take(
+        &FIELDS,
+        &[
+            A(Open),
+            A(Note),
+            T(S::LeftBracket),
+            T(S::Idn),
+            A(Open),
+            A(Note),
+            N(R::FieldTRest),
+            N(R::FieldTsRest),
+            T(S::RightBracket),
+            A(Close(K::FieldsT)),
+        ],
+    ),
+    Take(
+        &[S::Proctype],
+        &[
+            A(Open),
+            A(Note),
+            T(S::LeftParen),
+            N(R::Types),
+            T(S::RightParen),
+            N(R::Returns),
+            N(R::Signals),
+            A(Close(K::RoutineT)),
+        ],
+    ),
+    Take(
+        &[S::Itertype],
+        &[
+            A(Open),
+            A(Note),
+            T(S::LeftParen),
+            N(R::Types),
+            T(S::RightParen),
+            N(R::Yields),
+            N(R::Signals),
+            A(Close(K::RoutineT)),
+        ],
+    ),
 ];
 
 pub const TYPES: [Row; 2] = [
@@ -103,11 +193,23 @@ pub const TYPES_REST: [Row; 2] = [
     Otherwise(&[]),
 ];
 
-pub const FIELD_T_REST: [Row; 1] = [
-    Otherwise(&[N(R::Names), T(S::Colon), N(R::AnyType), A(Close(K::FieldT))]),
-];
+pub const FIELD_T_REST: [Row; 1] = [Otherwise(&[
+    N(R::Names),
+    T(S::Colon),
+    N(R::AnyType),
+    A(Close(K::FieldT)),
+])];
 
 pub const FIELD_TS_REST: [Row; 2] = [
-    Take(&[S::Comma], &[T(S::Idn), A(Open), A(Note), N(R::FieldTRest), N(R::FieldTsRest)]),
+    Take(
+        &[S::Comma],
+        &[
+            T(S::Idn),
+            A(Open),
+            A(Note),
+            N(R::FieldTRest),
+            N(R::FieldTsRest),
+        ],
+    ),
     Otherwise(&[]),
 ];

@@ -4,9 +4,8 @@
 
 use crate::items::Action::{Base, Close, Give, Note, Open, Wrap};
 use crate::items::Item::{Action as A, Nonterminal as N, Terminal as T};
-use crate::items::Nonterminal as R;
 use crate::items::Row::{Otherwise, Peek, Take};
-use crate::items::Row;
+use crate::items::{Nonterminal as R, Row};
 use crate::sets::{BODY_ENDS, POSTFIXES, TYPE_WORDS};
 use clu_lexer::Symbol as S;
 use clu_tree::NodeKind as K;
@@ -29,17 +28,116 @@ pub const STMTS: [Row; 2] = [
 ];
 
 pub const STMTS_BY_WORD: [Row; 13] = [
-    Take(&[S::While], &[A(Open), N(R::Expr), T(S::Do), N(R::Body), T(S::End), A(Close(K::While)), N(R::AfterStmt)]),
-    Take(&[S::For], &[A(Open), N(R::ForVars), T(S::In), N(R::Call), T(S::Do), N(R::Body), T(S::End), A(Close(K::For)), N(R::AfterStmt)]),
-    Take(&[S::If], &[A(Open), N(R::Expr), T(S::Then), N(R::Body), N(R::Elses), T(S::End), A(Close(K::If)), N(R::AfterStmt)]),
-    Take(&[S::Tagcase], &[A(Open), N(R::Expr), T(S::Tag), A(Open), T(S::Idn), A(Note), N(R::TagArmRest), N(R::TagArms), T(S::End), A(Close(K::Tagcase)), N(R::AfterStmt)]),
-    Take(&[S::Return], &[A(Open), N(R::ExprsInParens), A(Close(K::Return)), N(R::AfterStmt)]),
-    Take(&[S::Yield], &[A(Open), N(R::ExprsInParens), A(Close(K::Yield)), N(R::AfterStmt)]),
-    Take(&[S::Signal], &[A(Open), T(S::Idn), A(Note), N(R::ExprsInParens), A(Close(K::Signal)), N(R::AfterStmt)]),
-    Take(&[S::Exit], &[A(Open), T(S::Idn), A(Note), N(R::ExprsInParens), A(Close(K::Exit)), N(R::AfterStmt)]),
+    Take(
+        &[S::While],
+        &[
+            A(Open),
+            N(R::Expr),
+            T(S::Do),
+            N(R::Body),
+            T(S::End),
+            A(Close(K::While)),
+            N(R::AfterStmt),
+        ],
+    ),
+    Take(
+        &[S::For],
+        &[
+            A(Open),
+            N(R::ForVars),
+            T(S::In),
+            N(R::Call),
+            T(S::Do),
+            N(R::Body),
+            T(S::End),
+            A(Close(K::For)),
+            N(R::AfterStmt),
+        ],
+    ),
+    Take(
+        &[S::If],
+        &[
+            A(Open),
+            N(R::Expr),
+            T(S::Then),
+            N(R::Body),
+            N(R::Elses),
+            T(S::End),
+            A(Close(K::If)),
+            N(R::AfterStmt),
+        ],
+    ),
+    Take(
+        &[S::Tagcase],
+        &[
+            A(Open),
+            N(R::Expr),
+            T(S::Tag),
+            A(Open),
+            T(S::Idn),
+            A(Note),
+            N(R::TagArmRest),
+            N(R::TagArms),
+            T(S::End),
+            A(Close(K::Tagcase)),
+            N(R::AfterStmt),
+        ],
+    ),
+    Take(
+        &[S::Return],
+        &[
+            A(Open),
+            N(R::ExprsInParens),
+            A(Close(K::Return)),
+            N(R::AfterStmt),
+        ],
+    ),
+    Take(
+        &[S::Yield],
+        &[
+            A(Open),
+            N(R::ExprsInParens),
+            A(Close(K::Yield)),
+            N(R::AfterStmt),
+        ],
+    ),
+    Take(
+        &[S::Signal],
+        &[
+            A(Open),
+            T(S::Idn),
+            A(Note),
+            N(R::ExprsInParens),
+            A(Close(K::Signal)),
+            N(R::AfterStmt),
+        ],
+    ),
+    Take(
+        &[S::Exit],
+        &[
+            A(Open),
+            T(S::Idn),
+            A(Note),
+            N(R::ExprsInParens),
+            A(Close(K::Exit)),
+            N(R::AfterStmt),
+        ],
+    ),
     Take(&[S::Break], &[A(Open), A(Close(K::Break)), N(R::AfterStmt)]),
-    Take(&[S::Continue], &[A(Open), A(Close(K::Continue)), N(R::AfterStmt)]),
-    Take(&[S::Begin], &[A(Open), N(R::Body), T(S::End), A(Close(K::Begin)), N(R::AfterStmt)]),
+    Take(
+        &[S::Continue],
+        &[A(Open), A(Close(K::Continue)), N(R::AfterStmt)],
+    ),
+    Take(
+        &[S::Begin],
+        &[
+            A(Open),
+            N(R::Body),
+            T(S::End),
+            A(Close(K::Begin)),
+            N(R::AfterStmt),
+        ],
+    ),
     Peek(&BODY_ENDS, &[]),
     Otherwise(&[N(R::Primary), N(R::PostfixStmt)]),
 ];
@@ -51,39 +149,103 @@ pub const AFTER_STMT: [Row; 2] = [
 ];
 
 pub const AFTER_SEMICOLON: [Row; 3] = [
-    Take(&[S::Resignal], &[A(Wrap), T(S::Idn), A(Note), N(R::Names), A(Close(K::Resignal)), N(R::AfterStmt)]),
-    Take(&[S::Except], &[A(Wrap), N(R::Whens), T(S::End), A(Close(K::Except)), N(R::AfterStmt)]),
+    Take(
+        &[S::Resignal],
+        &[
+            A(Wrap),
+            T(S::Idn),
+            A(Note),
+            N(R::Names),
+            A(Close(K::Resignal)),
+            N(R::AfterStmt),
+        ],
+    ),
+    Take(
+        &[S::Except],
+        &[
+            A(Wrap),
+            N(R::Whens),
+            T(S::End),
+            A(Close(K::Except)),
+            N(R::AfterStmt),
+        ],
+    ),
     Otherwise(&[N(R::Stmts)]),
 ];
 
 // a stmt that begins with an idn, behind it
 pub const STMT_BY_IDN: [Row; 6] = [
     Take(&[S::Colon], &[N(R::AnyType), N(R::DeclOne)]),
-    Take(&[S::Comma], &[T(S::Idn), A(Note), N(R::Names), N(R::StmtByNames)]),
-    Take(&[S::Assign], &[N(R::Expr), N(R::ExprsRest), A(Close(K::Assign)), N(R::AfterStmt)]),
+    Take(
+        &[S::Comma],
+        &[T(S::Idn), A(Note), N(R::Names), N(R::StmtByNames)],
+    ),
+    Take(
+        &[S::Assign],
+        &[
+            N(R::Expr),
+            N(R::ExprsRest),
+            A(Close(K::Assign)),
+            N(R::AfterStmt),
+        ],
+    ),
     Take(&[S::LeftBracket], &[A(Base), N(R::BaseIndexStmt)]),
-    Peek(&[S::Dollar], &[A(Close(K::NameT)), N(R::Dollar), N(R::PostfixStmt)]),
+    Peek(
+        &[S::Dollar],
+        &[A(Close(K::NameT)), N(R::Dollar), N(R::PostfixStmt)],
+    ),
     Otherwise(&[A(Close(K::Name)), N(R::SelectorStmt)]),
 ];
 
 // Declare = Decl; Init = idn ":" type ":=" expr / Decl# ":=" Call; Assign = idn# ":=" expr#
 pub const STMT_BY_NAMES: [Row; 2] = [
-    Take(&[S::Colon], &[N(R::AnyType), A(Close(K::Decl)), N(R::DeclMany)]),
-    Take(&[S::Assign], &[N(R::Expr), N(R::ExprsRest), A(Close(K::Assign)), N(R::AfterStmt)]),
+    Take(
+        &[S::Colon],
+        &[N(R::AnyType), A(Close(K::Decl)), N(R::DeclMany)],
+    ),
+    Take(
+        &[S::Assign],
+        &[
+            N(R::Expr),
+            N(R::ExprsRest),
+            A(Close(K::Assign)),
+            N(R::AfterStmt),
+        ],
+    ),
 ];
 
 pub const DECL_ONE: [Row; 2] = [
-    Take(&[S::Assign], &[N(R::Expr), A(Close(K::Init)), N(R::AfterStmt)]),
+    Take(
+        &[S::Assign],
+        &[N(R::Expr), A(Close(K::Init)), N(R::AfterStmt)],
+    ),
     Otherwise(&[A(Close(K::Decl)), N(R::DeclEnd)]),
 ];
 
 pub const DECL_MANY: [Row; 2] = [
-    Take(&[S::Assign], &[A(Wrap), N(R::Call), A(Close(K::Init)), N(R::AfterStmt)]),
+    Take(
+        &[S::Assign],
+        &[A(Wrap), N(R::Call), A(Close(K::Init)), N(R::AfterStmt)],
+    ),
     Otherwise(&[N(R::DeclEnd)]),
 ];
 
 pub const DECL_END: [Row; 2] = [
-    Take(&[S::Comma], &[A(Wrap), T(S::Idn), A(Open), A(Note), N(R::DeclRest), N(R::DeclsRest), T(S::Assign), N(R::Call), A(Close(K::Init)), N(R::AfterStmt)]),
+    Take(
+        &[S::Comma],
+        &[
+            A(Wrap),
+            T(S::Idn),
+            A(Open),
+            A(Note),
+            N(R::DeclRest),
+            N(R::DeclsRest),
+            T(S::Assign),
+            N(R::Call),
+            A(Close(K::Init)),
+            N(R::AfterStmt),
+        ],
+    ),
     Otherwise(&[A(Wrap), A(Close(K::Declare)), N(R::AfterStmt)]),
 ];
 
@@ -95,11 +257,23 @@ pub const POSTFIX_STMT: [Row; 2] = [
 
 pub const SELECTOR_STMT: [Row; 2] = [
     Take(&[S::Point], &[A(Wrap), T(S::Idn), A(Note), N(R::GetStmt)]),
-    Take(&[S::LeftParen], &[A(Wrap), N(R::Arguments), T(S::RightParen), A(Close(K::Call)), N(R::AfterCallStmt)]),
+    Take(
+        &[S::LeftParen],
+        &[
+            A(Wrap),
+            N(R::Arguments),
+            T(S::RightParen),
+            A(Close(K::Call)),
+            N(R::AfterCallStmt),
+        ],
+    ),
 ];
 
 pub const GET_STMT: [Row; 2] = [
-    Take(&[S::Assign], &[N(R::Expr), A(Close(K::SetField)), N(R::AfterStmt)]),
+    Take(
+        &[S::Assign],
+        &[N(R::Expr), A(Close(K::SetField)), N(R::AfterStmt)],
+    ),
     Otherwise(&[A(Close(K::Get)), N(R::PostfixStmt)]),
 ];
 
@@ -115,17 +289,42 @@ pub const INDEX_STMT: [Row; 2] = [
 ];
 
 pub const INDEX_TYPE_STMT: [Row; 2] = [
-    Peek(&[S::Dollar], &[N(R::Dollar), N(R::PostfixExpr), N(R::Operators), N(R::IndexOneStmt)]),
-    Otherwise(&[N(R::ConstantsRest), T(S::RightBracket), A(Close(K::Index)), N(R::PostfixStmt)]),
+    Peek(
+        &[S::Dollar],
+        &[
+            N(R::Dollar),
+            N(R::PostfixExpr),
+            N(R::Operators),
+            N(R::IndexOneStmt),
+        ],
+    ),
+    Otherwise(&[
+        N(R::ConstantsRest),
+        T(S::RightBracket),
+        A(Close(K::Index)),
+        N(R::PostfixStmt),
+    ]),
 ];
 
 pub const INDEX_ONE_STMT: [Row; 2] = [
     Take(&[S::RightBracket], &[N(R::IndexEndStmt)]),
-    Take(&[S::Comma], &[N(R::Constant), N(R::ConstantsRest), T(S::RightBracket), A(Close(K::Index)), N(R::PostfixStmt)]),
+    Take(
+        &[S::Comma],
+        &[
+            N(R::Constant),
+            N(R::ConstantsRest),
+            T(S::RightBracket),
+            A(Close(K::Index)),
+            N(R::PostfixStmt),
+        ],
+    ),
 ];
 
 pub const INDEX_END_STMT: [Row; 2] = [
-    Take(&[S::Assign], &[N(R::Expr), A(Close(K::SetIndex)), N(R::AfterStmt)]),
+    Take(
+        &[S::Assign],
+        &[N(R::Expr), A(Close(K::SetIndex)), N(R::AfterStmt)],
+    ),
     Otherwise(&[A(Close(K::Index)), N(R::PostfixStmt)]),
 ];
 
@@ -136,22 +335,44 @@ pub const BASE_INDEX_STMT: [Row; 2] = [
 ];
 
 pub const BASE_INDEX_TYPE_STMT: [Row; 2] = [
-    Peek(&[S::Dollar], &[N(R::Dollar), N(R::PostfixExpr), N(R::Operators), N(R::BaseIndexOneStmt)]),
+    Peek(
+        &[S::Dollar],
+        &[
+            N(R::Dollar),
+            N(R::PostfixExpr),
+            N(R::Operators),
+            N(R::BaseIndexOneStmt),
+        ],
+    ),
     Otherwise(&[N(R::ConstantsRest), T(S::RightBracket), N(R::BaseStmt)]),
 ];
 
 pub const BASE_INDEX_ONE_STMT: [Row; 2] = [
     Take(&[S::RightBracket], &[N(R::BaseIndexEndStmt)]),
-    Take(&[S::Comma], &[N(R::Constant), N(R::ConstantsRest), T(S::RightBracket), N(R::BaseStmt)]),
+    Take(
+        &[S::Comma],
+        &[
+            N(R::Constant),
+            N(R::ConstantsRest),
+            T(S::RightBracket),
+            N(R::BaseStmt),
+        ],
+    ),
 ];
 
 pub const BASE_INDEX_END_STMT: [Row; 2] = [
-    Take(&[S::Assign], &[N(R::Expr), A(Close(K::SetIndex)), N(R::AfterStmt)]),
+    Take(
+        &[S::Assign],
+        &[N(R::Expr), A(Close(K::SetIndex)), N(R::AfterStmt)],
+    ),
     Otherwise(&[N(R::BaseStmt)]),
 ];
 
 pub const BASE_STMT: [Row; 2] = [
-    Peek(&[S::Dollar], &[A(Close(K::NameT)), N(R::Dollar), N(R::PostfixStmt)]),
+    Peek(
+        &[S::Dollar],
+        &[A(Close(K::NameT)), N(R::Dollar), N(R::PostfixStmt)],
+    ),
     Otherwise(&[A(Close(K::Index)), N(R::PostfixStmt)]),
 ];
 
@@ -162,43 +383,90 @@ pub const FOR_VARS: [Row; 2] = [
 ];
 
 pub const FOR_KIND: [Row; 2] = [
-    Take(&[S::Colon], &[N(R::AnyType), A(Close(K::Decl)), N(R::DeclsRest)]),
+    Take(
+        &[S::Colon],
+        &[N(R::AnyType), A(Close(K::Decl)), N(R::DeclsRest)],
+    ),
     Otherwise(&[A(Give)]),
 ];
 
 // If = if expr then body {elseif expr then body} [else body] end
 pub const ELSES: [Row; 3] = [
-    Take(&[S::Elseif], &[N(R::Expr), T(S::Then), N(R::Body), N(R::Elses)]),
+    Take(
+        &[S::Elseif],
+        &[N(R::Expr), T(S::Then), N(R::Body), N(R::Elses)],
+    ),
     Take(&[S::Else], &[A(Note), N(R::Body)]),
     Otherwise(&[]),
 ];
 
 // Tagcase = tagcase expr TagArm {TagArm} [others ":" body] end; TagArm = tag idn# ["(" idn ":" type ")"] ":" body
-pub const TAG_ARM_REST: [Row; 1] = [
-    Otherwise(&[N(R::Names), N(R::Variable), T(S::Colon), N(R::Body), A(Close(K::TagArm))]),
-];
+pub const TAG_ARM_REST: [Row; 1] = [Otherwise(&[
+    N(R::Names),
+    N(R::Variable),
+    T(S::Colon),
+    N(R::Body),
+    A(Close(K::TagArm)),
+])];
 
 pub const TAG_ARMS: [Row; 3] = [
-    Take(&[S::Tag], &[A(Open), T(S::Idn), A(Note), N(R::TagArmRest), N(R::TagArms)]),
+    Take(
+        &[S::Tag],
+        &[A(Open), T(S::Idn), A(Note), N(R::TagArmRest), N(R::TagArms)],
+    ),
     Take(&[S::Others], &[A(Note), T(S::Colon), N(R::Body)]),
     Otherwise(&[]),
 ];
 
 pub const VARIABLE: [Row; 2] = [
-    Take(&[S::LeftParen], &[T(S::Idn), A(Note), T(S::Colon), N(R::AnyType), T(S::RightParen)]),
+    Take(
+        &[S::LeftParen],
+        &[
+            T(S::Idn),
+            A(Note),
+            T(S::Colon),
+            N(R::AnyType),
+            T(S::RightParen),
+        ],
+    ),
     Otherwise(&[]),
 ];
 
 // Return, Yield, Signal, Exit: ["(" expr# ")"]
 pub const EXPRS_IN_PARENS: [Row; 2] = [
-    Take(&[S::LeftParen], &[N(R::Expr), N(R::ExprsRest), T(S::RightParen)]),
+    Take(
+        &[S::LeftParen],
+        &[N(R::Expr), N(R::ExprsRest), T(S::RightParen)],
+    ),
     Otherwise(&[]),
 ];
 
 // When = when idn# ["(" Decl# ")" / "(" "*" ")"] ":" body; Others = others ["(" idn ":" type ")"] ":" body
 pub const WHENS: [Row; 3] = [
-    Take(&[S::When], &[A(Open), T(S::Idn), A(Note), N(R::Names), N(R::WhenParens), T(S::Colon), N(R::Body), A(Close(K::When)), N(R::Whens)]),
-    Take(&[S::Others], &[A(Open), N(R::Variable), T(S::Colon), N(R::Body), A(Close(K::Others))]),
+    Take(
+        &[S::When],
+        &[
+            A(Open),
+            T(S::Idn),
+            A(Note),
+            N(R::Names),
+            N(R::WhenParens),
+            T(S::Colon),
+            N(R::Body),
+            A(Close(K::When)),
+            N(R::Whens),
+        ],
+    ),
+    Take(
+        &[S::Others],
+        &[
+            A(Open),
+            N(R::Variable),
+            T(S::Colon),
+            N(R::Body),
+            A(Close(K::Others)),
+        ],
+    ),
     Otherwise(&[]),
 ];
 
@@ -209,5 +477,8 @@ pub const WHEN_PARENS: [Row; 2] = [
 
 pub const WHEN_INSIDE: [Row; 2] = [
     Take(&[S::Star], &[A(Note)]),
-    Take(&[S::Idn], &[A(Open), A(Note), N(R::DeclRest), N(R::DeclsRest)]),
+    Take(
+        &[S::Idn],
+        &[A(Open), A(Note), N(R::DeclRest), N(R::DeclsRest)],
+    ),
 ];
