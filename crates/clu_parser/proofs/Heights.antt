@@ -1,9 +1,9 @@
 -- Levels, one symbol more.
-use Rattle.std.proofs.Common.{◌≡◌, ℕ, ◌+◌, ◌<◌, ◌≤◌, List, [], ◌∷◌, ◌++◌, length, take, get_or, Option, Some, None, slice_get, refl, sym, ap, ◌∙◌, arith, inl, inr, ◌⊎◌}
+use Rattle.std.proofs.Common.{◌≡◌, ℕ, ◌+◌, ◌<◌, ◌≤◌, List, [], ◌∷◌, ◌++◌, length, take, get_or, refl, sym, ap, ◌∙◌, arith, inl, inr}
 use Rattle.std.proofs.lemmas.List.{take_more}
 use Rattle.std.proofs.lemmas.Bool.{cases_lt}
 use Rattle.clu_lexer.specs.declared.symbols.Symbol.{Symbol}
-use Rattle.clu_parser.specs.Levels.{level_behind, level_from, level_at, IsLow, IsTooHigh}
+use Rattle.clu_parser.specs.Levels.{level_behind, level_from, level_at, IsLow}
 
 level_from-append : (level : ℕ) (xs ys : List Symbol) → level_from level (xs ++ ys) ≡ level_from (level_from level xs) ys
 level_from-append level [] ys = refl

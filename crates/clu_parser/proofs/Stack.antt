@@ -1,9 +1,7 @@
 -- The stack of the reader, whose first item is the last of the list.
-use Rattle.std.proofs.Common.{◌≡◌, ℕ, ◌+◌, ◌*◌, ◌-◌, ◌<◌, ◌≤◌, Bool, true, false, IsTrue, List, [], ◌∷◌, ◌++◌, length, Option, Some, None, slice_get, reverse, refl, sym, ap, ◌∙◌, subst, arith, append_assoc}
+use Rattle.std.proofs.Common.{◌≡◌, Bool, true, IsTrue, List, [], ◌∷◌, ◌++◌, Some, reverse, sym, ap, ◌∙◌, append_assoc}
 use Rattle.std.proofs.lemmas.List.{reverse-append}
-use Rattle.std.proofs.lemmas.Option.{slice_get_within}
 use Rattle.clu_lexer.specs.declared.symbols.Symbol.{Symbol}
-use Rattle.clu_grammar.specs.declared.items.Item.{Item}
 
 pub some_is : (a b : Symbol) → Some a ≡ Some b → a ≡ b
 some_is a b h = cc

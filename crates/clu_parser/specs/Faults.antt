@@ -1,5 +1,5 @@
 -- What a refusal of the parser means.
-use Rattle.std.specs.Prelude.{ℕ, List}
+use Rattle.std.specs.Prelude.{List}
 use Rattle.clu_lexer.specs.declared.symbols.Symbol.{Symbol}
 use Rattle.clu_grammar.specs.Language.{FailsAt}
 use Rattle.clu_parser.specs.declared.errors.ReadError.{ReadError}

@@ -1,5 +1,5 @@
 -- Levels: how many brackets and statements with an end are open.
-use Rattle.std.specs.Prelude.{◌≡◌, ℕ, ◌+◌, ◌-◌, ◌<◌, ◌≤◌, Bool, true, false, if◌then◌else◌, List, [], ◌∷◌, length, take, Option, MatchOption}
+use Rattle.std.specs.Prelude.{ℕ, ◌+◌, ◌-◌, ◌<◌, ◌≤◌, Bool, true, false, if◌then◌else◌, List, [], ◌∷◌, length, take, Option, MatchOption}
 use Rattle.clu_lexer.specs.declared.symbols.Symbol.{Symbol}
 use Rattle.clu_lexer.specs.declared.symbols.Symbol.TheVariants as symbol
 

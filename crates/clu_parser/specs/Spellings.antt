@@ -1,5 +1,5 @@
 -- How tokens are spelled in nodes, and which brackets close before a `$`.
-use Rattle.std.specs.Prelude.{ℕ, ◌+◌, ◌-◌, if◌then◌else◌, zero, suc, Bool, true, false, List, [], ◌∷◌, map, take, drop, Option, Some, None}
+use Rattle.std.specs.Prelude.{ℕ, ◌+◌, ◌-◌, if◌then◌else◌, zero, suc, Bool, false, List, [], ◌∷◌, map, take, drop, Option, Some, None}
 use Rattle.std.specs.Char.{to_ascii_lowercase}
 use Rattle.clu_base.specs.declared.tokens.Kind.{Kind}
 use Rattle.clu_base.specs.declared.tokens.Kind.TheVariants as token

@@ -1,8 +1,5 @@
 -- The tree that the actions of the grammar build, and when a tree is that of a source.
-use Rattle.std.specs.Prelude.{◌≡◌, ℕ, ◌+◌, ◌-◌, ◌<◌, zero, suc, Bool, true, false, if◌then◌else◌, List, [], ◌∷◌, ◌++◌, length, map, take, drop, slice_get, Option, Some, None, All, AllPairs, ◌≢◌}
-use Rattle.std.specs.Char.{to_ascii_lowercase}
-use Rattle.clu_base.specs.declared.tokens.Kind.{Kind}
-use Rattle.clu_base.specs.declared.tokens.Kind.TheVariants as token
+use Rattle.std.specs.Prelude.{◌≡◌, ℕ, ◌+◌, ◌-◌, ◌<◌, Bool, true, false, if◌then◌else◌, List, [], ◌∷◌, ◌++◌, length, map, take, drop, slice_get, Option, Some, None, All, AllPairs, ◌≢◌}
 use Rattle.clu_base.specs.declared.tokens.Place.{Place}
 use Rattle.clu_base.specs.declared.tokens.Token.{Token}
 use Rattle.clu_lexer.specs.declared.symbols.Symbol.{Symbol}
@@ -19,7 +16,7 @@ use Rattle.clu_grammar.specs.Grammar.{productions}
 use Rattle.clu_grammar.specs.Language.{IsOneOf, whole}
 use Rattle.clu_parser.specs.declared.begun.Begun.{Begun}
 use Rattle.clu_parser.specs.declared.source.Source.{Source}
-use Rattle.clu_parser.specs.Spellings.{bytes_of, spelled, spelling, place_in, is_idn, is_dollar, closes}
+use Rattle.clu_parser.specs.Spellings.{spelling, place_in, is_idn, closes}
 
 -- a source: its bytes, its tokens, and what these are to the grammar
 pub record Text : Type 0 where

@@ -1,5 +1,4 @@
-use Rattle.std.proofs.Common.{◌≡◌, ℕ, ◌+◌, ◌<◌, ◌≤◌, arith}
-use Rattle.clu_parser.specs.Levels.{level_at}
+use Rattle.std.proofs.Common.{◌<◌, arith}
 use Rattle.clu_parser.proofs.Heights.{level_more, low_more}
 use Rattle.clu_parser.proofs.levels.first_too_deep.Goals as goal
 

@@ -1,4 +1,4 @@
-use Rattle.std.proofs.Common.{◌≡◌, length, ap, arith}
+use Rattle.std.proofs.Common.{length, ap, arith}
 use Rattle.clu_parser.proofs.Room.{own_count-le}
 use Rattle.clu_parser.proofs.nodes.has_room.Goals as goal
 

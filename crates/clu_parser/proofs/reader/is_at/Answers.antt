@@ -1,5 +1,4 @@
-use Rattle.std.proofs.Common.{◌≡◌, Some, refl, sym, ◌∙◌, ap, subst, rules, true, IsTrue}
-use Rattle.clu_lexer.specs.declared.symbols.Symbol.{Symbol}
+use Rattle.std.proofs.Common.{Some, refl, sym, ◌∙◌, ap, subst, rules, IsTrue}
 use Rattle.clu_lexer.specs.contracts.symbols.Symbol.{the_type}
 use Rattle.clu_parser.proofs.Stack.{some_is, flag_is}
 use Rattle.clu_parser.proofs.reader.is_at.Goals as goal

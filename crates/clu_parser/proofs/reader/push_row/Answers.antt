@@ -1,4 +1,4 @@
-use Rattle.std.proofs.Common.{◌≡◌, ◌++◌, reverse, ap, ◌∙◌}
+use Rattle.std.proofs.Common.{◌++◌, reverse, ap, ◌∙◌}
 use Rattle.clu_parser.proofs.Stack.{pushed}
 use Rattle.clu_parser.proofs.reader.push_row.Goals as goal
 

@@ -1,11 +1,9 @@
-use Rattle.std.proofs.Common.{◌≡◌, ◌≤◌, ◌<◌, ◌∷◌, [], ◌++◌, List, Some, length, reverse, refl, sym, ap, ◌∙◌, subst, arith, rules}
-use Rattle.std.specs.Prelude.{slice_get}
+use Rattle.std.proofs.Common.{◌≡◌, ◌∷◌, [], List, reverse, refl, sym, ap, ◌∙◌, subst, rules}
 use Rattle.clu_grammar.specs.declared.items.Item.{Item}
-use Rattle.clu_grammar.specs.declared.items.Item.TheVariants as item
-use Rattle.clu_grammar.specs.Choice.{step, Take, Go, No}
+use Rattle.clu_grammar.specs.Choice.{step}
 use Rattle.clu_grammar.specs.Grammar.{productions}
 use Rattle.clu_grammar.proofs.Runs.{Runs, runs_none, runs_terminal, runs_action, runs_take, runs_go, fails_terminal, fails_no, fails_rest, ends, take_below}
-use Rattle.clu_grammar.proofs.Weights.{measure, smaller_terminal, smaller_take, smaller_go}
+use Rattle.clu_grammar.proofs.Weights.{smaller_terminal, smaller_take, smaller_go}
 use Rattle.clu_parser.specs.Trees.{text}
 use Rattle.clu_parser.proofs.OnWay.{IsOnWay, way_none, way_terminal, way_action, way_take, way_go, way_end}
 use Rattle.clu_parser.proofs.Stack.{popped}

@@ -1,8 +1,7 @@
-use Rattle.std.proofs.Common.{◌≡◌, ◌<◌, ◌≤◌, ◌++◌, ◌∷◌, [], ℕ, List, length, take, drop, get_or, All, refl, sym, ap, ◌∙◌, subst, arith, rules}
+use Rattle.std.proofs.Common.{◌≡◌, ◌<◌, ◌++◌, ◌∷◌, [], ℕ, List, length, take, drop, All, refl, sym, ap, ◌∙◌, subst, arith, rules}
 use Rattle.std.proofs.lemmas.List.{take_rest}
 use Rattle.std.proofs.lemmas.List.Elements.{All-drop}
 use Rattle.clu_tree.specs.declared.node.Node.{Node}
-use Rattle.clu_parser.specs.Trees.{IsSound}
 use Rattle.clu_parser.proofs.Sound.{fits_close, sound_close}
 use Rattle.clu_parser.proofs.builder.Builder.close.Goals as goal
 
