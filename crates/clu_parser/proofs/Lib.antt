@@ -1,0 +1,5 @@
+pub mod Heights
+pub mod OnWay
+pub mod Room
+pub mod Sound
+pub mod Stack

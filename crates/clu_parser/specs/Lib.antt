@@ -1,0 +1,6 @@
+pub mod Faults
+pub mod Levels
+pub mod Parsing
+pub mod Refusals
+pub mod Spellings
+pub mod Trees
