@@ -1,0 +1,2 @@
+-- The cost of objects in words of store.
+pub mod Cost

@@ -1,0 +1,8 @@
+-- Types as finite terms, and the terms of an arena.
+pub mod CluType
+pub mod Arena
+pub mod Included
+pub mod Substituted
+pub mod Actual
+pub mod Narrower
+pub mod Specs
