@@ -3,12 +3,11 @@
 ghost use Rattle.std.specs.Prelude.{◌≡◌, ◌≤◌, ℕ, Option, None};
 ghost use Rattle.clu_base.specs.Outside.{Rose};
 
-use std::alloc::Global;
-use std::io::{self, ErrorKind, Read, Write};
-use std::fs::File;
-use std::rt::Files;
-
 use clu_base::{Store, StoreError};
+use std::alloc::Global;
+use std::fs::File;
+use std::io::{self, ErrorKind, Read, Write};
+use std::rt::Files;
 
 /// The most bytes of a file that is read; a larger one is a fault.
 const FILE_LIMIT: u64 = 1 << 30;

@@ -4,21 +4,18 @@
 
 mod disk;
 mod streams;
-
 #[cfg(test)]
 mod tests;
 
+use crate::disk::Disk;
+use crate::streams::{InputStream, OutputStream};
+use clu_base::{Memory, Sink};
+use clu_driver::{Outcome, clu, report};
 use std::alloc::Global;
 use std::env;
 use std::io::ErrorKind;
 use std::process::ExitCode;
 use std::rt::Env;
-
-use clu_base::{Memory, Sink};
-use clu_driver::{Outcome, clu, report};
-
-use crate::disk::Disk;
-use crate::streams::{InputStream, OutputStream};
 
 fn main(rt: HostRuntime) -> ExitCode {
     let mut input = InputStream::new(rt.stdin());
@@ -26,7 +23,14 @@ fn main(rt: HostRuntime) -> ExitCode {
     let mut errors = OutputStream::new(rt.stderr());
     let mut files = Disk::new(&rt);
     let status = match words(&rt) {
-        Ok(words) => clu(rt.alloc(), &words, &mut input, &mut output, &mut errors, &mut files),
+        Ok(words) => clu(
+            rt.alloc(),
+            &words,
+            &mut input,
+            &mut output,
+            &mut errors,
+            &mut files,
+        ),
         Err(Memory) => report(&mut errors, &Outcome::Memory),
     };
     ExitCode::from(status)

@@ -3,9 +3,8 @@
 
 ghost use Rattle.std.specs.Prelude.{◌≡◌, ℕ, Option, None};
 
-use std::io;
-
 use clu_base::{Failed, Sink, Source};
+use std::io;
 
 /// A reader as the source of a program's input.
 #[derive(Drop)]

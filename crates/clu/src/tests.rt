@@ -1,10 +1,8 @@
-use std::fs;
-use std::test::Fail;
-
-use clu_base::{Sink, Source, Store, StoreError, write_all};
-
 use crate::disk::Disk;
 use crate::streams::{InputStream, OutputStream};
+use clu_base::{Sink, Source, Store, StoreError, write_all};
+use std::fs;
+use std::test::Fail;
 
 #[test]
 fn input_stream_reads_to_the_end(rt: HostRuntime) -> Result<(), Fail> {

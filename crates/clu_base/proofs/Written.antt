@@ -26,7 +26,7 @@ grew_first old new a b g =
     record {
       count = g.count;
       within = omega (arith, longer, in_first);
-      grew = g.grew ∙ ap (appended old) (sym (take-append-le g.count a b g.within))
+      grew = g.grew ∙ ap (appended old) (sym (take-append-le g.count a b g.within));
     }
 
 -- what grew within the second part after the first was written grew within the whole
@@ -37,7 +37,7 @@ grew_behind old middle new a b first g =
     record {
       count = length a + g.count;
       within = omega (arith, longer, in_second);
-      grew = g.grew ∙ ap (λ (m : Option (List ℕ)). appended m (take g.count b)) first ∙ appended-append old a (take g.count b) ∙ ap (appended old) (sym (take-append-add a b g.count))
+      grew = g.grew ∙ ap (λ (m : Option (List ℕ)). appended m (take g.count b)) first ∙ appended-append old a (take g.count b) ∙ ap (appended old) (sym (take-append-add a b g.count));
     }
 
 pub ruleset laws = (appended-nil, appended-append, appended-take, grew_first, grew_behind)

@@ -12,10 +12,9 @@ mod input;
 mod output;
 mod rules;
 mod sequences;
-mod tokens;
-
 #[cfg(test)]
 mod tests;
+mod tokens;
 
 pub use crate::byte_string::Bytes;
 pub use crate::constants::{Const, ObjConst};

@@ -1,9 +1,8 @@
-use std::test::Fail;
-
 use crate::{
     Bytes, Failed, FormatError, MemSink, MemSource, MemStore, Memory, Rule, Sequence, Sink, Source,
     Store, StoreError, u16_add, u16_at, u32_add, u32_at, u64_add, u64_at, write_all,
 };
+use std::test::Fail;
 
 #[test]
 fn fields_are_little_endian(rt: HostRuntime) -> Result<(), Fail> {
@@ -19,7 +18,10 @@ fn fields_are_little_endian(rt: HostRuntime) -> Result<(), Fail> {
     u16_add(&mut out, 0x0102)?;
     u32_add(&mut out, 0x0304_0506)?;
     u64_add(&mut out, 7)?;
-    assert_eq!(rt; out.as_slice(), [2, 1, 6, 5, 4, 3, 7, 0, 0, 0, 0, 0, 0, 0].as_slice());
+    assert_eq!(rt;
+        out.as_slice(),
+        [2, 1, 6, 5, 4, 3, 7, 0, 0, 0, 0, 0, 0, 0].as_slice()
+    );
     Ok(())
 }
 
@@ -41,10 +43,19 @@ fn lists_compare_by_items(rt: HostRuntime) -> Result<(), Fail> {
 
 #[test]
 fn names_and_messages(rt: HostRuntime) -> Result<(), Fail> {
-    assert_eq!(rt; (Rule::UnknownName.number(), Rule::UnknownName.name()), (5, "UnknownName"));
-    assert_eq!(rt; (Rule::OwnPlace.number(), Rule::OwnPlace.name()), (37, "OwnPlace"));
+    assert_eq!(rt;
+        (Rule::UnknownName.number(), Rule::UnknownName.name()),
+        (5, "UnknownName")
+    );
+    assert_eq!(rt;
+        (Rule::OwnPlace.number(), Rule::OwnPlace.name()),
+        (37, "OwnPlace")
+    );
     let alloc = rt.alloc();
-    assert_eq!(rt; format!(in alloc; "{}", FormatError::Bad(20))?.as_str(), "bad at 20");
+    assert_eq!(rt;
+        format!(in alloc; "{}", FormatError::Bad(20))?.as_str(),
+        "bad at 20"
+    );
     assert_eq!(rt; format!(in alloc; "{}", Memory)?.as_str(), "out of memory");
     assert_eq!(rt; FormatError::from(Memory), FormatError::Memory);
     Ok(())

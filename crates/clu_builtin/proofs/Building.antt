@@ -35,7 +35,7 @@ slots_grown old new g T t s h = record {
   int = kept old new g s.int _ h.int.0 h.int.1;
   char = kept old new g s.char _ h.char.0 h.char.1;
   string = kept old new g s.string _ h.string.0 h.string.1;
-  array = kept old new g s.array _ h.array.0 h.array.1
+  array = kept old new g s.array _ h.array.0 h.array.1;
 }
 
 module _ (types : List CluType) (n : ℕ) (T t : CluType) (s : Slots) (are : AreSlots types n T t s) where
@@ -114,7 +114,8 @@ built s0 s1 s2 g h T t s are parts below row heading needs i a r x asked is =
 pub heading_below : (s1 s2 : List Term) → Grows s1 s2 → (T t : CluType) (s : Slots) → AreSlots (types_of s1) (length s1) T t s → (row : Row) (heading : Heading)
     → heading.args ≡ taken_ids s row.1 → heading.results ≡ given_ids s row.2 → heading.signals ≡ exceptions s row.3 → HeadingBelow (length s2) heading
 heading_below s1 s2 h T t s are row heading a r x =
-    let grown = slots_grown s1 s2 h T t s are in
-    (rw a (taken_below (types_of s2) (length s2) T t s grown row.1),
-        rw r (given_below (types_of s2) (length s2) T t s grown row.2),
-        rw x (raised_below (types_of s2) (length s2) T t s grown row.3))
+    let grown = slots_grown s1 s2 h T t s are in (
+      rw a (taken_below (types_of s2) (length s2) T t s grown row.1),
+      rw r (given_below (types_of s2) (length s2) T t s grown row.2),
+      rw x (raised_below (types_of s2) (length s2) T t s grown row.3),
+    )

@@ -32,7 +32,7 @@ row_before_selector T t parts (row ∷ rows) selector op = by (bytes_eq (op_name
   where
     by : (b : Bool) → option_map (row_operation T t parts) (row_before rows selector op) ≡ named (with_selector selector (table_of T t parts rows)) op
         → option_map (row_operation T t parts) (if b then Some row else row_before rows selector op)
-            ≡ (if b then Some (row_operation T t parts row) else named (with_selector selector (table_of T t parts rows)) op)
+        ≡ (if b then Some (row_operation T t parts row) else named (with_selector selector (table_of T t parts rows)) op)
     by true behind = refl
     by false behind = behind
 
@@ -72,14 +72,14 @@ selected_below n rows (f ∷ fs) op b = chosen_in n (row_before rows f.name op) 
 -- the operations of a type with components: those of its selectors, and those of a table
 pub parts_lookup : (types : List CluType) (own : TypeId) (fs : List Field) (selectors rows : List Row) (op : List ℕ)
     → parts_operation types own (row_selected selectors fs op) (map (λ (f : Field). f.of) fs) rows op
-        ≡ or_else (of_selectors (λ t. table_of (type_at types own) t no_types selectors) (fields_at types fs) op)
-            (named (table_of (type_at types own) (type_at types own) (parts_of (fields_at types fs)) rows) op)
+    ≡ or_else (of_selectors (λ t. table_of (type_at types own) t no_types selectors) (fields_at types fs) op)
+    (named (table_of (type_at types own) (type_at types own) (parts_of (fields_at types fs)) rows) op)
 parts_lookup types own fs selectors rows op =
     by (row_selected selectors fs op)
     ∙ ap (λ (o : Option Operation). or_else o (table_operation types own own (map (λ (f : Field). f.of) fs) (row_named rows op))) (selected_row types (type_at types own) selectors fs op)
     ∙ ap (or_else (of_selectors (λ t. table_of (type_at types own) t no_types selectors) (fields_at types fs) op))
-        (ap (λ (parts : CluTypes). option_map (row_operation (type_at types own) (type_at types own) parts) (row_named rows op)) (parts_types types fs)
-        ∙ named_row (type_at types own) (type_at types own) (parts_of (fields_at types fs)) rows op)
+    (ap (λ (parts : CluTypes). option_map (row_operation (type_at types own) (type_at types own) parts) (row_named rows op)) (parts_types types fs)
+    ∙ named_row (type_at types own) (type_at types own) (parts_of (fields_at types fs)) rows op)
   where
     by : (found : Option (Row × TypeId)) → parts_operation types own found (map (λ (f : Field). f.of) fs) rows op
         ≡ or_else (chosen_operation types (type_at types own) found) (table_operation types own own (map (λ (f : Field). f.of) fs) (row_named rows op))
@@ -101,7 +101,7 @@ pub with_parts : (types : List CluType) (own : TypeId) (fs : List Field) (select
     → parts_operation types own (row_selected selectors fs op) (map (λ (f : Field). f.of) fs) rows op ≡ operation (type_at types own) op
 with_parts types own fs selectors rows op T e same =
     let Has : CluType → Type 0 = λ T.
-        or_else (of_selectors (λ t. table_of T t no_types selectors) (fields_at types fs) op) (named (table_of T T (parts_of (fields_at types fs)) rows) op) ≡ operation T op in
+    or_else (of_selectors (λ t. table_of T t no_types selectors) (fields_at types fs) op) (named (table_of T T (parts_of (fields_at types fs)) rows) op) ≡ operation T op in
     parts_lookup types own fs selectors rows op ∙ subst Has (sym e) same
 
 -- what is found, by an equal operation

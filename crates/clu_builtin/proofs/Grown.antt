@@ -78,5 +78,5 @@ asks_more op wanted old new newer ids made i d x lt below asks g of_is op_is wit
           needs_at-append (types_of newer) made (x ∷ [])
           ∙ (rw (needs_same new newer g made asks.within, asks.needs, of_type, op_is, wanted_type) refl
           ∙ (sym (asking-push op wanted (types_of old) (take i ids) (get_or ids i d))
-          ∙ ap (λ (xs : List TypeId). asking op wanted (types_at (types_of old) xs)) (sym (take_more ids i d lt))))
+          ∙ ap (λ (xs : List TypeId). asking op wanted (types_at (types_of old) xs)) (sym (take_more ids i d lt))));
     }

@@ -18,7 +18,7 @@ operation_at types b = record {
   args = types_at types b.heading.args;
   results = types_at types b.heading.results;
   signals = signals_at types b.heading.signals;
-  needs = needs_at types b.needs
+  needs = needs_at types b.needs;
 }
 
 abbrev pub found_at : List CluType → Option Builtin → Option Operation

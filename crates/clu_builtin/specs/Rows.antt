@@ -94,7 +94,7 @@ row_operation T t parts row = record {
   args = taken_types T t row.1;
   results = given_types T t row.2;
   signals = raised_signals row.3;
-  needs = needs_of row.4 parts
+  needs = needs_of row.4 parts;
 }
 
 abbrev pub row_entry : CluType → CluType → CluTypes → Row → List ℕ × Operation

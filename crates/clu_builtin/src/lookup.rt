@@ -12,7 +12,8 @@ use crate::row::Row;
 use crate::select::{find_row, selector_row};
 use crate::slots::Slots;
 use crate::tables::{
-    ARRAY, BOOL, CHAR, INT, NULL, ONEOF_SELECTORS, RECORD, RECORD_SELECTORS, SEQUENCE, STREAM, STRING, STRUCT, STRUCT_SELECTORS, VARIANT_SELECTORS,
+    ARRAY, BOOL, CHAR, INT, NULL, ONEOF_SELECTORS, RECORD, RECORD_SELECTORS, SEQUENCE, STREAM,
+    STRING, STRUCT, STRUCT_SELECTORS, VARIANT_SELECTORS,
 };
 use clu_base::{Bytes, Memory, Sequence};
 use clu_types::{Field, Heading, Term, TypeArena, TypeId};
@@ -28,7 +29,12 @@ pub struct Builtin {
 
 /// The built-in operation of this name that a type has (CLU Reference Manual, appendix II): None exactly where the
 /// table has none. The only error is want of memory; the arena may have grown then.
-pub fn heading(alloc: Global, types: &mut TypeArena, of: TypeId, op: &Bytes) -> Result<Option<Builtin>, Memory>
+pub fn heading(
+    alloc: Global,
+    types: &mut TypeArena,
+    of: TypeId,
+    op: &Bytes,
+) -> Result<Option<Builtin>, Memory>
     requires { of.0 < length types.old }
     ensures found { IfOk result (λ found. found_at (types_of types.new) found ≡ operation (type_at (types_of types.old) of) op.now) }
     ensures within { IfOk result (IsBelow (length types.new)) }
@@ -84,7 +90,12 @@ struct Components {
     parts: Sequence<TypeId>,
 }
 
-fn find_components(alloc: Global, fields: &Sequence<Field>, selectors: &[Row], op: &Bytes) -> Result<Components, Memory>
+fn find_components(
+    alloc: Global,
+    fields: &Sequence<Field>,
+    selectors: &[Row],
+    op: &Bytes,
+) -> Result<Components, Memory>
     ensures chosen { IfOk result (λ c. c.chosen ≡ row_selected selectors.now fields.now op.now) }
     ensures parts { IfOk result (λ c. c.parts ≡ map (λ f. f.of) fields.now) }
 {
@@ -148,7 +159,14 @@ fn in_table(
 }
 
 /// The operation of a row.
-fn build(alloc: Global, types: &mut TypeArena, own: TypeId, part: TypeId, parts: &[TypeId], row: &Row) -> Result<Builtin, Memory>
+fn build(
+    alloc: Global,
+    types: &mut TypeArena,
+    own: TypeId,
+    part: TypeId,
+    parts: &[TypeId],
+    row: &Row,
+) -> Result<Builtin, Memory>
     requires own_in { own.0 < length types.old }
     requires part_in { part.0 < length types.old }
     requires parts_in { AreBelow (length types.old) parts.now }

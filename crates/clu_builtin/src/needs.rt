@@ -21,7 +21,12 @@ pub struct Need {
 }
 
 /// The needs of each of the parts.
-pub fn needs_of_parts(alloc: Global, types: &mut TypeArena, parts: &[TypeId], asked: Needs) -> Result<Sequence<Need>, Memory>
+pub fn needs_of_parts(
+    alloc: Global,
+    types: &mut TypeArena,
+    parts: &[TypeId],
+    asked: Needs,
+) -> Result<Sequence<Need>, Memory>
     requires { AreBelow (length types.old) parts.now }
     ensures needs { IfOk result (λ needs. needs_at (types_of types.new) needs ≡ needs_of asked (types_at (types_of types.old) parts.now)) }
     ensures within { IfOk result (NeedsBelow (length types.new)) }
@@ -35,7 +40,12 @@ pub fn needs_of_parts(alloc: Global, types: &mut TypeArena, parts: &[TypeId], as
     }
 }
 
-fn each_needs(alloc: Global, types: &mut TypeArena, parts: &[TypeId], asked: Needs) -> Result<Sequence<Need>, Memory>
+fn each_needs(
+    alloc: Global,
+    types: &mut TypeArena,
+    parts: &[TypeId],
+    asked: Needs,
+) -> Result<Sequence<Need>, Memory>
     requires { AreBelow (length types.old) parts.now }
     ensures needs { IfOk result (λ needs. needs_at (types_of types.new) needs ≡ asking (need_name asked) (need_type asked) (types_at (types_of types.old) parts.now)) }
     ensures within { IfOk result (NeedsBelow (length types.new)) }
@@ -65,7 +75,12 @@ fn need_op(asked: Needs) -> &'static str
 }
 
 /// The type of the operation that a part must have.
-fn wanted(alloc: Global, types: &mut TypeArena, part: TypeId, asked: Needs) -> Result<TypeId, Memory>
+fn wanted(
+    alloc: Global,
+    types: &mut TypeArena,
+    part: TypeId,
+    asked: Needs,
+) -> Result<TypeId, Memory>
     requires { part.0 < length types.old }
     ensures of_type { IfOk result (λ id. type_at (types_of types.new) id ≡ need_type asked (type_at (types_of types.old) part)) }
     ensures within { IfOk result (λ id. id.0 < length types.new) }

@@ -45,7 +45,11 @@ fn row_before<'a>(rows: &'a [Row], selector: &Bytes, op: &Bytes) -> Option<&'a R
     match rows {
         [] => None,
         [first, rest @ ..] => {
-            if is_joined(first.0.name().as_bytes(), selector.as_slice(), op.as_slice()) {
+            if is_joined(
+                first.0.name().as_bytes(),
+                selector.as_slice(),
+                op.as_slice(),
+            ) {
                 Some(first)
             } else {
                 row_before(rest, selector, op)
@@ -60,7 +64,8 @@ fn is_joined(front: &[u8], rest: &[u8], name: &[u8]) -> bool
 {
     match (front, name) {
         ([], _) => rest == name,
-        ([first, front @ ..], [letter, name @ ..]) => first == letter && is_joined(front, rest, name),
+        ([first, front @ ..], [letter, name @ ..]) => first == letter
+            && is_joined(front, rest, name),
         (_, []) => false,
     }
 }

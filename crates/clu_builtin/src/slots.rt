@@ -81,7 +81,11 @@ impl Slots {
             Takes::Nothing => Ok(Sequence::from_vec(Vec::new(alloc))),
             Takes::One(a) => Ok(Sequence::from_vec([self.id(a)].to_vec(alloc)?)),
             Takes::Two(a, b) => Ok(Sequence::from_vec([self.id(a), self.id(b)].to_vec(alloc)?)),
-            Takes::Three(a, b, c) => Ok(Sequence::from_vec([self.id(a), self.id(b), self.id(c)].to_vec(alloc)?)),
+            Takes::Three(a, b, c) => Ok(Sequence::from_vec([
+                self.id(a),
+                self.id(b),
+                self.id(c),
+            ].to_vec(alloc)?)),
         }
     }
 
@@ -101,7 +105,10 @@ impl Slots {
         match raises {
             Raises::Nothing => Ok(Sequence::from_vec(Vec::new(alloc))),
             Raises::One(a) => Ok(Sequence::from_vec(vec![in alloc; self.exception(alloc, a)?]?)),
-            Raises::Two(a, b) => Ok(Sequence::from_vec(vec![in alloc; self.exception(alloc, a)?, self.exception(alloc, b)?]?)),
+            Raises::Two(a, b) => Ok(Sequence::from_vec(vec![in alloc;
+                self.exception(alloc, a)?,
+                self.exception(alloc, b)?,
+            ]?)),
         }
     }
 

@@ -88,7 +88,7 @@ run_shows image limits old m before after e how start did' answer spent reads wr
       added = did.added;
       wrote = did.wrote;
       ends = ends_as m.ended m.state _ did.added _ how (λ h. spent (answer ∙ h)) there.1 (subst OfEnding answer is);
-      fault = faulted e m.state how before after is reads writes
+      fault = faulted e m.state how before after is reads writes;
     }
 
 -- the text of the ending is where the machine looks for it

@@ -48,7 +48,7 @@ abbrev pub ExecShows : Outcome → List ℕ → Limits → World → World → T
 ExecShows how name limits before after =
     (NotLoaded how name before.files before.store_faults after.store_faults × IsUntouched before after)
     ⊎ ((after.files ≡ before.files)
-      × ((image : Contents) × IsFound before.files name (λ bytes. IsFileOf bytes image) × RunShows how image limits before.streams after.streams))
+    × ((image : Contents) × IsFound before.files name (λ bytes. IsFileOf bytes image) × RunShows how image limits before.streams after.streams))
 
 -- the image was not put, or it was put and run
 abbrev pub PutShows : Outcome → List ℕ → Contents → Limits → World → World → Type 0

@@ -7,18 +7,16 @@ ghost use Rattle.clu_driver.specs.Commands.{GoShows, IsPut, NotCompiled, NotPut,
 ghost use Rattle.clu_driver.specs.Shows.{Reported};
 ghost use Rattle.clu_driver.specs.World.{streams_of, world_of};
 
-use std::alloc::Global;
-
-use clu_base::{Sink, Source, Store};
-use clu_image::store;
-use clu_words::RunLimits;
-use rv_isa::Image;
-
 use crate::file::{content, put};
 use crate::literal::literal_output;
 use crate::literal_code::literal_image;
 use crate::outcome::{Outcome, report};
 use crate::running::run;
+use clu_base::{Sink, Source, Store};
+use clu_image::store;
+use clu_words::RunLimits;
+use rv_isa::Image;
+use std::alloc::Global;
 
 /// Compiles the source `file` into the image file `image` and runs that image.
 pub fn go<S: Source, K: Sink, E: Sink, F: Store>(
@@ -37,7 +35,9 @@ pub fn go<S: Source, K: Sink, E: Sink, F: Store>(
         result (E.written errors.old) (E.written errors.new) (E.faults errors.old) (E.faults errors.new) }
 {
     match compiled(alloc, file, files) {
-        Ok(compiled) => put_and_run(alloc, image, &compiled, limits, input, output, errors, files),
+        Ok(compiled) => put_and_run(
+            alloc, image, &compiled, limits, input, output, errors, files,
+        ),
         Err(how) => report(errors, &how),
     }
 }
@@ -75,7 +75,12 @@ fn compiled<'a, F: Store>(alloc: Global, file: &'a str, files: &mut F) -> Result
 }
 
 // Puts the image under its name.
-fn put_image<'a, F: Store>(alloc: Global, name: &'a str, image: &Image, files: &mut F) -> Result<(), Outcome<'a>>
+fn put_image<'a, F: Store>(
+    alloc: Global,
+    name: &'a str,
+    image: &Image,
+    files: &mut F,
+) -> Result<(), Outcome<'a>>
     ensures counts { F.faults files.old ≤ F.faults files.new }
     ensures done { OnOk result (IsPut name.now (image_bytes image.now) (F.files files.old) (F.files files.new)) }
     ensures refused { IfErr result (λ how. NotPut how name.now (image_bytes image.now) (F.files files.old) (F.files files.new) (F.faults files.old) (F.faults files.new)) }

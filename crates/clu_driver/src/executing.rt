@@ -7,16 +7,14 @@ ghost use Rattle.clu_driver.specs.Commands.{ExecShows, IsFound, NotLoaded};
 ghost use Rattle.clu_driver.specs.Shows.{Reported};
 ghost use Rattle.clu_driver.specs.World.{streams_of, world_of};
 
-use std::alloc::Global;
-
+use crate::file::content;
+use crate::outcome::{Outcome, report};
+use crate::running::run;
 use clu_base::{FormatError, Sink, Source, Store};
 use clu_image::load;
 use clu_words::RunLimits;
 use rv_isa::Image;
-
-use crate::file::content;
-use crate::outcome::{Outcome, report};
-use crate::running::run;
+use std::alloc::Global;
 
 /// Runs the image file `image`.
 pub fn exec<S: Source, K: Sink, E: Sink, F: Store>(

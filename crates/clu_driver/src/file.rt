@@ -3,14 +3,16 @@
 ghost use Rattle.std.specs.Prelude.{◌≡◌, ◌≤◌, IfErr, IfOk, OnOk};
 ghost use Rattle.clu_driver.specs.Commands.{IsFound, IsPut, NotPut, NotRead};
 
+use crate::outcome::Outcome;
+use clu_base::{Store, StoreError};
 use std::alloc::Global;
 
-use clu_base::{Store, StoreError};
-
-use crate::outcome::Outcome;
-
 /// The content of a file. The outcomes are `NoFile`, `FileFault` and `Memory`.
-pub fn content<'a, F: Store>(alloc: Global, name: &'a str, files: &mut F) -> Result<Vec<u8>, Outcome<'a>>
+pub fn content<'a, F: Store>(
+    alloc: Global,
+    name: &'a str,
+    files: &mut F,
+) -> Result<Vec<u8>, Outcome<'a>>
     ensures counts { F.faults files.old ≤ F.faults files.new }
     ensures kept { F.files files.new ≡ F.files files.old }
     ensures found { IfOk result (λ content. IsFound (F.files files.old) name.now (λ bytes. bytes ≡ content.items)) }
@@ -25,7 +27,12 @@ pub fn content<'a, F: Store>(alloc: Global, name: &'a str, files: &mut F) -> Res
 }
 
 /// Gives a file its content. The outcomes are `FileFault` and `Memory`.
-pub fn put<'a, F: Store>(alloc: Global, name: &'a str, bytes: &[u8], files: &mut F) -> Result<(), Outcome<'a>>
+pub fn put<'a, F: Store>(
+    alloc: Global,
+    name: &'a str,
+    bytes: &[u8],
+    files: &mut F,
+) -> Result<(), Outcome<'a>>
     ensures counts { F.faults files.old ≤ F.faults files.new }
     ensures done { OnOk result (IsPut name.now bytes.now (F.files files.old) (F.files files.new)) }
     ensures refused { IfErr result (λ how. NotPut how name.now bytes.now (F.files files.old) (F.files files.new) (F.faults files.old) (F.faults files.new)) }

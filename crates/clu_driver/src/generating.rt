@@ -6,10 +6,9 @@ ghost use Rattle.clu_driver.specs.Generated.{call_text, end_text, generated_text
 ghost use Rattle.clu_driver.specs.Commands.{GenShows};
 ghost use Rattle.clu_driver.specs.Shows.{Reported};
 
+use crate::outcome::{Outcome, report};
 use clu_base::{Failed, Sink, write_all};
 use itoa::Buffer;
-
-use crate::outcome::{Outcome, report};
 
 /// Writes the source with this many procedures and reports how that ended.
 pub fn generate<K: Sink, E: Sink>(procedures: u64, output: &mut K, errors: &mut E) -> u8

@@ -10,10 +10,9 @@ mod literal;
 mod literal_code;
 mod outcome;
 mod running;
-mod top;
-
 #[cfg(test)]
 mod tests;
+mod top;
 
 pub use crate::outcome::{Outcome, USAGE, report};
 pub use crate::top::clu;

@@ -3,9 +3,8 @@
 
 ghost use Rattle.std.specs.Prelude.{◌≤◌, ◌*◌, ◌+◌, length, vec_len, IfOk, IfSome, IsTrue, ◌≡◌, ◌<◌};
 
-use std::alloc::Global;
-
 use clu_base::Memory;
+use std::alloc::Global;
 
 /// The most bytes of a source file.
 pub const SOURCE_LIMIT: usize = 1_048_576;
@@ -99,7 +98,9 @@ impl<'a> Cursor<'a> {
         }
         let end = self.rest.iter().position(|b| *b == b'"')?;
         let (literal, rest) = self.rest.split_at(end);
-        let is_plain = literal.iter().all(|b| matches!(*b, b' '..=b'~') && *b != b'\\');
+        let is_plain = literal
+            .iter()
+            .all(|b| matches!(*b, b' '..=b'~') && *b != b'\\');
         if !is_plain || literal.len() > LITERAL_LIMIT {
             return None;
         }

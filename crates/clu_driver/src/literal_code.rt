@@ -4,12 +4,10 @@ ghost use Rattle.std.specs.Prelude.{◌≡◌, ◌≤◌, ◌<◌, ◌+◌, ◌^
 ghost use Rattle.rv_isa.specs.Image.{IsImage, contents};
 ghost use Rattle.clu_driver.specs.declared.literal.TheConstants.{OUTPUT_LIMIT};
 
-use std::alloc::Global;
-
+use crate::literal::OUTPUT_LIMIT;
 use clu_base::Memory;
 use rv_isa::{Image, Instr, Op, Reg, encode};
-
-use crate::literal::OUTPUT_LIMIT;
+use std::alloc::Global;
 
 /// Where the machine places an image.
 const IMAGE_START: u32 = 0x10000;

@@ -111,8 +111,7 @@ impl Outcome<'_> {
 }
 
 /// The line of status 2.
-pub const USAGE: &str =
-    "usage: clu go|spec|replace|compile|link|run|exec|gen|list|asm|print|xref";
+pub const USAGE: &str = "usage: clu go|spec|replace|compile|link|run|exec|gen|list|asm|print|xref";
 
 // Sixteen lower-case hexadecimal digits of a number, the highest first.
 fn write_hexadecimal<E: Sink>(errors: &mut E, n: u64) -> Result<(), Failed>

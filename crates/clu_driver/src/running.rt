@@ -6,14 +6,12 @@ ghost use Rattle.clu_words.specs.Command.{seen_limits};
 ghost use Rattle.clu_driver.specs.Shows.{HasText, OutcomeOf, Reported, RunShows};
 ghost use Rattle.clu_driver.specs.World.{streams_of};
 
-use std::alloc::Global;
-
+use crate::outcome::{Outcome, report};
 use clu_base::{Memory, Sink, Source};
 use clu_words::RunLimits;
 use rv_isa::Image;
 use rv_machine::{Ending, Limits, Machine};
-
-use crate::outcome::{Outcome, report};
+use std::alloc::Global;
 
 /// Runs an image within the limits and reports how it ended. From the first step on no memory is
 /// taken.

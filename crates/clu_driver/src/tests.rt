@@ -1,9 +1,7 @@
+use crate::clu;
+use clu_base::{Bytes, MemSink, MemSource, MemStore, Store};
 use std::alloc::Global;
 use std::test::Fail;
-
-use clu_base::{Bytes, MemSink, MemSource, MemStore, Store};
-
-use crate::clu;
 
 /// What a call gets and what must come of it.
 #[derive(Drop)]
@@ -28,7 +26,11 @@ struct Outside {
 }
 
 impl Outside {
-    fn new(alloc: Global, failing_writes: Vec<u64>, failing_files: Vec<u64>) -> Result<Outside, Fail> {
+    fn new(
+        alloc: Global,
+        failing_writes: Vec<u64>,
+        failing_files: Vec<u64>,
+    ) -> Result<Outside, Fail> {
         let none = Vec::new(alloc);
         Ok(Outside {
             input: MemSource::new(Bytes::from_slice(alloc, b"")?, 64, Vec::new(alloc)),
@@ -68,24 +70,132 @@ const HI_FIXED: &[u8] = b"CLUI\x02\0\0\0\0\0\0\0\x07\0\0\0\x08\0\0\0\0\0\0\0\
 fn rows(rt: HostRuntime) -> Result<(), Fail> {
     let alloc = rt.alloc();
     let rows = [
-        Row { words: "go a b", file: b"start_up = proc () end start_up", status: 0, output: b"", errors: b"" },
-        Row { words: "go a b", file: HI, status: 0, output: b"hi\n", errors: b"" },
-        Row { words: "go --steps 1 a b", file: HI, status: 5, output: b"", errors: b"steps spent\n" },
-        Row { words: "go a b", file: b"start_up = proc () x end start_up", status: 27, output: b"", errors: b"not yet\n" },
-        Row { words: "go c b", file: HI, status: 10, output: b"", errors: b"no file: c\n" },
-        Row { words: "exec a", file: b"CLUI\x01\0\0\0\0\0\0\0\x01\0\0\0\0\0\0\0\0\0\0\0", status: 6, output: b"", errors: b"bad instruction at 0000000000010000\n" },
-        Row { words: "exec a", file: b"CLU", status: 20, output: b"", errors: b"image bad at 0\n" },
-        Row { words: "exec a", file: b"CLUI\x01\0\0\0\0\0\0\0\x01\0\0\0\0\0\0\0\0\0\0", status: 20, output: b"", errors: b"image bad at 20\n" },
-        Row { words: "exec a", file: b"CLUI\x01\0\0\0\0\0\0\0\x01\0\0\0\0\0\0\0\0\0\0\0\0", status: 20, output: b"", errors: b"image bad at 24\n" },
-        Row { words: "exec a", file: HI_IMAGE, status: 0, output: b"hi\n", errors: b"" },
-        Row { words: "exec --steps 6 a", file: HI_IMAGE, status: 5, output: b"hi\n", errors: b"steps spent\n" },
-        Row { words: "exec a --steps=7", file: HI_IMAGE, status: 0, output: b"hi\n", errors: b"" },
-        Row { words: "exec a", file: HI_FIXED, status: 0, output: b"hi\n", errors: b"" },
-        Row { words: "exec a", file: b"CLUI\x01\0\0\0\0\0\0\0\x01\0\0\0\0\0\0\0\x83\x20\0\0", status: 7, output: b"", errors: b"bad access at 0000000000000000\n" },
-        Row { words: "exec a", file: b"CLUI\x01\0\0\0\0\0\0\0\x01\0\0\0\0\0\0\0\x6f\0\x20\0", status: 8, output: b"", errors: b"bad jump to 0000000000010002\n" },
-        Row { words: "exec a", file: b"CLUI\x01\0\0\0\0\0\0\0\x02\0\0\0\0\0\0\0\x93\x08\x30\x06\x73\0\0\0", status: 9, output: b"", errors: b"bad ecall 99\n" },
-        Row { words: "exec a", file: b"CLUI\x01\0\0\0\0\0\0\0\x02\0\0\0\0\0\0\0\xb3\x48\x00\x02\x73\0\0\0", status: 9, output: b"", errors: b"bad ecall 18446744073709551615\n" },
-        Row { words: "exec a", file: b"CLUI\x02\0\0\0\0\0\0\0\x02\0\0\0\0\0\0\0\0\0\0\0\x37\x05\x01\x00\x23\x20\x05\x00", status: 7, output: b"", errors: b"bad access at 0000000000010000\n" },
+        Row {
+            words: "go a b",
+            file: b"start_up = proc () end start_up",
+            status: 0,
+            output: b"",
+            errors: b"",
+        },
+        Row {
+            words: "go a b",
+            file: HI,
+            status: 0,
+            output: b"hi\n",
+            errors: b"",
+        },
+        Row {
+            words: "go --steps 1 a b",
+            file: HI,
+            status: 5,
+            output: b"",
+            errors: b"steps spent\n",
+        },
+        Row {
+            words: "go a b",
+            file: b"start_up = proc () x end start_up",
+            status: 27,
+            output: b"",
+            errors: b"not yet\n",
+        },
+        Row {
+            words: "go c b",
+            file: HI,
+            status: 10,
+            output: b"",
+            errors: b"no file: c\n",
+        },
+        Row {
+            words: "exec a",
+            file: b"CLUI\x01\0\0\0\0\0\0\0\x01\0\0\0\0\0\0\0\0\0\0\0",
+            status: 6,
+            output: b"",
+            errors: b"bad instruction at 0000000000010000\n",
+        },
+        Row {
+            words: "exec a",
+            file: b"CLU",
+            status: 20,
+            output: b"",
+            errors: b"image bad at 0\n",
+        },
+        Row {
+            words: "exec a",
+            file: b"CLUI\x01\0\0\0\0\0\0\0\x01\0\0\0\0\0\0\0\0\0\0",
+            status: 20,
+            output: b"",
+            errors: b"image bad at 20\n",
+        },
+        Row {
+            words: "exec a",
+            file: b"CLUI\x01\0\0\0\0\0\0\0\x01\0\0\0\0\0\0\0\0\0\0\0\0",
+            status: 20,
+            output: b"",
+            errors: b"image bad at 24\n",
+        },
+        Row {
+            words: "exec a",
+            file: HI_IMAGE,
+            status: 0,
+            output: b"hi\n",
+            errors: b"",
+        },
+        Row {
+            words: "exec --steps 6 a",
+            file: HI_IMAGE,
+            status: 5,
+            output: b"hi\n",
+            errors: b"steps spent\n",
+        },
+        Row {
+            words: "exec a --steps=7",
+            file: HI_IMAGE,
+            status: 0,
+            output: b"hi\n",
+            errors: b"",
+        },
+        Row {
+            words: "exec a",
+            file: HI_FIXED,
+            status: 0,
+            output: b"hi\n",
+            errors: b"",
+        },
+        Row {
+            words: "exec a",
+            file: b"CLUI\x01\0\0\0\0\0\0\0\x01\0\0\0\0\0\0\0\x83\x20\0\0",
+            status: 7,
+            output: b"",
+            errors: b"bad access at 0000000000000000\n",
+        },
+        Row {
+            words: "exec a",
+            file: b"CLUI\x01\0\0\0\0\0\0\0\x01\0\0\0\0\0\0\0\x6f\0\x20\0",
+            status: 8,
+            output: b"",
+            errors: b"bad jump to 0000000000010002\n",
+        },
+        Row {
+            words: "exec a",
+            file: b"CLUI\x01\0\0\0\0\0\0\0\x02\0\0\0\0\0\0\0\x93\x08\x30\x06\x73\0\0\0",
+            status: 9,
+            output: b"",
+            errors: b"bad ecall 99\n",
+        },
+        Row {
+            words: "exec a",
+            file: b"CLUI\x01\0\0\0\0\0\0\0\x02\0\0\0\0\0\0\0\xb3\x48\x00\x02\x73\0\0\0",
+            status: 9,
+            output: b"",
+            errors: b"bad ecall 18446744073709551615\n",
+        },
+        Row {
+            words: "exec a",
+            file: b"CLUI\x02\0\0\0\0\0\0\0\x02\0\0\0\0\0\0\0\0\0\0\0\x37\x05\x01\x00\x23\x20\x05\x00",
+            status: 7,
+            output: b"",
+            errors: b"bad access at 0000000000010000\n",
+        },
     ];
     for row in &rows {
         let mut outside = Outside::new(alloc, Vec::new(alloc), Vec::new(alloc))?;

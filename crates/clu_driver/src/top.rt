@@ -7,15 +7,13 @@ ghost use Rattle.clu_driver.specs.Commands.{CluShows, CommandShows, IsRefusal};
 ghost use Rattle.clu_driver.specs.Shows.{Reported};
 ghost use Rattle.clu_driver.specs.World.{streams_of, world_of};
 
-use std::alloc::Global;
-
-use clu_base::{Sink, Source, Store};
-use clu_words::{Command, WordsError, read_command};
-
 use crate::compiling::go;
 use crate::executing::exec;
 use crate::generating::generate;
 use crate::outcome::{Outcome, report};
+use clu_base::{Sink, Source, Store};
+use clu_words::{Command, WordsError, read_command};
+use std::alloc::Global;
 
 /// Does what the words say, and gives the exit status. The words leave out the program's own
 /// name. A status other than 0 has its line on the errors; docs/commands.md has them all.
@@ -91,8 +89,14 @@ fn run_command<S: Source, K: Sink, E: Sink, F: Store>(
             exec(alloc, image, limits, input, output, errors, files)
         }
         Command::Gen { procedures } => generate(procedures, output, errors),
-        Command::Spec { library: _, file: _ }
-        | Command::Replace { library: _, file: _ }
+        Command::Spec {
+            library: _,
+            file: _,
+        }
+        | Command::Replace {
+            library: _,
+            file: _,
+        }
         | Command::Compile {
             library: _,
             file: _,

@@ -395,7 +395,15 @@ impl Hart {
 
     #[inline(always)]
     #[tactic(auto, unfolding(crate::specs::Steps::executed))]
-    fn execute(&mut self, pc: u64, code: Code, rd: Reg, rs1: Reg, rs2: Reg, imm: i32) -> Result<u64, Trap>
+    fn execute(
+        &mut self,
+        pc: u64,
+        code: Code,
+        rd: Reg,
+        rs1: Reg,
+        rs2: Reg,
+        imm: i32,
+    ) -> Result<u64, Trap>
         ensures { next_at pc result self.new ≡ fetched (Some (instr_by code rd rs1 rs2 imm)) (at_pc pc self.old) }
     {
         let a = self.register(rs1);
@@ -407,10 +415,7 @@ impl Hart {
             Code::Beq => self.branch(pc, a == b, pc.wrapping_add(imm)),
             Code::Bne => self.branch(pc, a != b, pc.wrapping_add(imm)),
             Code::Blt => self.branch(pc, a.cast_signed() < b.cast_signed(), pc.wrapping_add(imm)),
-            Code::Bge => self.branch(pc, 
-                a.cast_signed() >= b.cast_signed(),
-                pc.wrapping_add(imm),
-            ),
+            Code::Bge => self.branch(pc, a.cast_signed() >= b.cast_signed(), pc.wrapping_add(imm)),
             Code::Bltu => self.branch(pc, a < b, pc.wrapping_add(imm)),
             Code::Bgeu => self.branch(pc, a >= b, pc.wrapping_add(imm)),
             Code::Lb => {

@@ -10,7 +10,10 @@ pub returns : goal.returns
 returns c = record {
   built = built _ _ _ c.in_ok-slots.ensures.kept c.in_ok-needs.ensures.kept _ _ c.in_ok-slots.slots c.in_ok-slots.ensures.slots c.args.parts.now c.requires.parts_in c.args.row.now
       c.in_ok-heading.heading c.in_ok-needs.needs c.is_iter.result c.in_ok-heading.ensures.args c.in_ok-heading.ensures.results c.in_ok-heading.ensures.signals c.in_ok-needs.ensures.needs c.is_iter.ensures;
-  within = (heading_below _ _ c.in_ok-needs.ensures.kept _ _ c.in_ok-slots.slots c.in_ok-slots.ensures.slots c.args.row.now
-      c.in_ok-heading.heading c.in_ok-heading.ensures.args c.in_ok-heading.ensures.results c.in_ok-heading.ensures.signals, c.in_ok-needs.ensures.within);
-  kept = grows_on _ _ _ c.in_ok-slots.ensures.kept c.in_ok-needs.ensures.kept
+  within = (
+    heading_below _ _ c.in_ok-needs.ensures.kept _ _ c.in_ok-slots.slots c.in_ok-slots.ensures.slots c.args.row.now
+        c.in_ok-heading.heading c.in_ok-heading.ensures.args c.in_ok-heading.ensures.results c.in_ok-heading.ensures.signals,
+    c.in_ok-needs.ensures.within,
+  );
+  kept = grows_on _ _ _ c.in_ok-slots.ensures.kept c.in_ok-needs.ensures.kept;
 }

@@ -50,7 +50,7 @@ returns-in_ok-char-in-Str-clause-found c =
     let type : type_at (types_of c.intern.new.self) c.args.of ≡ string_type = kept ∙ c.view.ensures.of_type ∙ ap (type_of (types_of c.args.types.now)) c.in-Str.is in
     let char : type_at (types_of c.intern.new.self) c.in_ok-char-in-Str.char ≡ char_type = c.in_ok-char-in-Str.ensures.of_type in
     let found = in_one_table (types_of c.intern.new.self) c.args.of c.in_ok-char-in-Str.char [] STRING c.args.op.now string_type type
-        (ap (λ t. named (table_of string_type t no_types STRING) c.args.op.now) char) in
+    (ap (λ t. named (table_of string_type t no_types STRING) c.args.op.now) char) in
     found_as _ _ _ _ (found ∙ ap (λ T. operation T c.args.op.now) kept) c.in_table-in-Str.ensures.found
 
 pub of_components-requires-clause-chosen_in : goal.of_components-requires-clause-chosen_in
@@ -70,7 +70,7 @@ returns-in_ok-found-in-Record-clause-found c =
     let T = record_of (fields_at (types_of c.args.types.now) c.in-Record.fields) in
     let type : type_at (types_of c.args.types.now) c.args.of ≡ T = c.view.ensures.of_type ∙ ap (type_of (types_of c.args.types.now)) c.in-Record.is in
     found_as _ _ _ _ (with_found (types_of c.args.types.now) c.args.of c.in-Record.fields RECORD_SELECTORS RECORD c.args.op.now T type
-        c.in_ok-found-in-Record.found.chosen c.in_ok-found-in-Record.found.parts c.in_ok-found-in-Record.ensures.chosen c.in_ok-found-in-Record.ensures.parts refl) c.of_components.ensures.found
+    c.in_ok-found-in-Record.found.chosen c.in_ok-found-in-Record.found.parts c.in_ok-found-in-Record.ensures.chosen c.in_ok-found-in-Record.ensures.parts refl) c.of_components.ensures.found
 
 pub of_components-requires-in-Struct-clause-chosen_in : goal.of_components-requires-in-Struct-clause-chosen_in
 of_components-requires-in-Struct-clause-chosen_in c =
@@ -89,7 +89,7 @@ returns-in_ok-found-in-Struct-clause-found c =
     let T = struct_of (fields_at (types_of c.args.types.now) c.in-Struct.fields) in
     let type : type_at (types_of c.args.types.now) c.args.of ≡ T = c.view.ensures.of_type ∙ ap (type_of (types_of c.args.types.now)) c.in-Struct.is in
     found_as _ _ _ _ (with_found (types_of c.args.types.now) c.args.of c.in-Struct.fields STRUCT_SELECTORS STRUCT c.args.op.now T type
-        c.in_ok-found-in-Struct.found.chosen c.in_ok-found-in-Struct.found.parts c.in_ok-found-in-Struct.ensures.chosen c.in_ok-found-in-Struct.ensures.parts refl) c.of_components-in-Struct.ensures.found
+    c.in_ok-found-in-Struct.found.chosen c.in_ok-found-in-Struct.found.parts c.in_ok-found-in-Struct.ensures.chosen c.in_ok-found-in-Struct.ensures.parts refl) c.of_components-in-Struct.ensures.found
 
 pub of_components-requires-in-Oneof-clause-chosen_in : goal.of_components-requires-in-Oneof-clause-chosen_in
 of_components-requires-in-Oneof-clause-chosen_in c =
@@ -108,7 +108,7 @@ returns-in_ok-found-in-Oneof-clause-found c =
     let T = oneof_of (fields_at (types_of c.args.types.now) c.in-Oneof.fields) in
     let type : type_at (types_of c.args.types.now) c.args.of ≡ T = c.view.ensures.of_type ∙ ap (type_of (types_of c.args.types.now)) c.in-Oneof.is in
     found_as _ _ _ _ (with_found (types_of c.args.types.now) c.args.of c.in-Oneof.fields ONEOF_SELECTORS STRUCT c.args.op.now T type
-        c.in_ok-found-in-Oneof.found.chosen c.in_ok-found-in-Oneof.found.parts c.in_ok-found-in-Oneof.ensures.chosen c.in_ok-found-in-Oneof.ensures.parts refl) c.of_components-in-Oneof.ensures.found
+    c.in_ok-found-in-Oneof.found.chosen c.in_ok-found-in-Oneof.found.parts c.in_ok-found-in-Oneof.ensures.chosen c.in_ok-found-in-Oneof.ensures.parts refl) c.of_components-in-Oneof.ensures.found
 
 pub of_components-requires-in-Variant-clause-chosen_in : goal.of_components-requires-in-Variant-clause-chosen_in
 of_components-requires-in-Variant-clause-chosen_in c =
@@ -127,5 +127,4 @@ returns-in_ok-found-in-Variant-clause-found c =
     let T = variant_of (fields_at (types_of c.args.types.now) c.in-Variant.fields) in
     let type : type_at (types_of c.args.types.now) c.args.of ≡ T = c.view.ensures.of_type ∙ ap (type_of (types_of c.args.types.now)) c.in-Variant.is in
     found_as _ _ _ _ (with_found (types_of c.args.types.now) c.args.of c.in-Variant.fields VARIANT_SELECTORS RECORD c.args.op.now T type
-        c.in_ok-found-in-Variant.found.chosen c.in_ok-found-in-Variant.found.parts c.in_ok-found-in-Variant.ensures.chosen c.in_ok-found-in-Variant.ensures.parts refl) c.of_components-in-Variant.ensures.found
-
+    c.in_ok-found-in-Variant.found.chosen c.in_ok-found-in-Variant.found.parts c.in_ok-found-in-Variant.ensures.chosen c.in_ok-found-in-Variant.ensures.parts refl) c.of_components-in-Variant.ensures.found

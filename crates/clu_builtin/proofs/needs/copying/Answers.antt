@@ -7,5 +7,5 @@ use Rattle.clu_builtin.proofs.needs.copying.Goals as goal
 pub returns-clause-of_type : goal.returns-clause-of_type
 returns-clause-of_type c =
     let heading = copies c.args.types.now c.args.part
-        c.in_ok-args.args c.in_ok-results.results c.from_vec-signals.result c.in_ok-args.ensures c.in_ok-results.ensures (c.from_vec-signals.ensures ∙ c.new.ensures.items) in
+    c.in_ok-args.args c.in_ok-results.results c.from_vec-signals.result c.in_ok-args.ensures c.in_ok-results.ensures (c.from_vec-signals.ensures ∙ c.new.ensures.items) in
     rw (← heading) c.intern.ensures.of_type

@@ -18,4 +18,4 @@ loop-part-preserved c =
     let x : Need = record { of = get_or c.args.parts.now c.loop-part.part-index d; op = c.in_ok-from_slice.field-0; wanted = c.in_ok-wanted.wanted } in
     rw c.in_ok-push.ensures.items
     (asks_more _ _ _ _ _ _ _ _ d x c.loop-part-test.true c.requires c.loop-part.invariant c.in_ok-wanted.ensures.kept refl
-        (c.in_ok-from_slice.ensures ∙ c.as_bytes.ensures.value ∙ c.need_op.ensures) c.in_ok-wanted.ensures.within c.in_ok-wanted.ensures.of_type)
+    (c.in_ok-from_slice.ensures ∙ c.as_bytes.ensures.value ∙ c.need_op.ensures) c.in_ok-wanted.ensures.within c.in_ok-wanted.ensures.of_type)

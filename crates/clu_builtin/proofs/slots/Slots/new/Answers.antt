@@ -20,5 +20,5 @@ returns-clause-slots c =
       int = kept _ _ after_char c.in_ok-int.int _ c.in_ok-int.ensures.within c.in_ok-int.ensures.of_type;
       char = kept _ _ after_string c.in_ok-char.char _ c.in_ok-char.ensures.within c.in_ok-char.ensures.of_type;
       string = kept _ _ after_array c.in_ok-string.string _ c.in_ok-string.ensures.within c.in_ok-string.ensures.of_type;
-      array = (c.in_ok-array.ensures.within, c.in_ok-array.ensures.of_type ∙ ap array_of (types_grown _ _ before_array c.args.part c.requires.part_in))
+      array = (c.in_ok-array.ensures.within, c.in_ok-array.ensures.of_type ∙ ap array_of (types_grown _ _ before_array c.args.part c.requires.part_in));
     }
