@@ -12,3 +12,6 @@ mod reading;
 pub use crate::commands::{Command, read_command};
 pub use crate::limits::RunLimits;
 pub use crate::reading::WordsError;
+
+#[cfg(test)]
+mod tests;
