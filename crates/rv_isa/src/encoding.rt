@@ -12,7 +12,8 @@ use crate::instr::Instr;
 use crate::op::{Form, Row};
 use crate::reg::Reg;
 
-/// The word of an instruction.
+/// The word of an instruction, which `decode` reads as that instruction. `Instr::valid` tests the
+/// condition.
 pub fn encode(i: Instr) -> u32
     requires { IsValid i }
     ensures value { result ≡ words.encoded i }
@@ -21,6 +22,7 @@ pub fn encode(i: Instr) -> u32
     write(i)
 }
 
+/// The word of an instruction, by the type of its word.
 fn write(i: Instr) -> u32
     requires { IsValid i }
     ensures value { result ≡ words.encoded i }
@@ -41,7 +43,7 @@ fn write(i: Instr) -> u32
     }
 }
 
-/// The opcode and funct3 at their places.
+/// The fields that most words are named by, at their places.
 fn name(opcode: u32, funct3: u32) -> u32
     requires opcode { opcode < 2 ^ 7 }
     requires funct3 { funct3 < 2 ^ 3 }

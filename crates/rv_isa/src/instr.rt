@@ -96,6 +96,7 @@ impl Instr {
     }
 }
 
+/// Whether the mnemonic is of a form.
 fn is_of(op: Op, form: Form) -> bool
     ensures { IsTrue result ↔ ((row_of op).form ≡ form) }
 {
@@ -110,6 +111,7 @@ fn low_bits(imm: i32, limit: u32) -> u32
     imm.cast_unsigned() % limit
 }
 
+/// Whether the number fits two's complement with a sign bit worth `half`.
 fn is_within(imm: i32, half: u32) -> bool
     requires { half ≤ 2 ^ 20 }
     ensures { IsTrue result ↔ IsWithin half imm }
@@ -118,6 +120,7 @@ fn is_within(imm: i32, half: u32) -> bool
     -half <= imm && imm < half
 }
 
+/// Whether the number is a distance of a jump that fits a sign bit worth `half`.
 fn is_distance(imm: i32, half: u32) -> bool
     requires { half ≤ 2 ^ 20 }
     ensures { IsTrue result ↔ IsDistance half imm }
@@ -125,12 +128,14 @@ fn is_distance(imm: i32, half: u32) -> bool
     is_within(imm, half) && low_bits(imm, 2) == 0
 }
 
+/// Whether the low 12 bits are zero.
 fn is_upper(imm: i32) -> bool
     ensures { IsTrue result ↔ IsUpper imm }
 {
     low_bits(imm, 1 << 12) == 0
 }
 
+/// Whether the number fits an operation of this form on a register and a number.
 fn fits_form(imm: i32, form: Form) -> bool
     ensures { IsTrue result ↔ FitsForm form imm }
 {

@@ -11,6 +11,8 @@ mod image;
 mod instr;
 mod op;
 mod reg;
+#[cfg(test)]
+mod tests;
 
 pub use decoding::decode;
 pub use encoding::encode;

@@ -1,0 +1,4 @@
+pub mod FailureText
+pub mod Found
+pub mod Repeated
+pub mod Runs
