@@ -145,8 +145,8 @@ stops old mid new left written left' written' t live h k e d = record {
   added = d.added;
   wrote = d.wrote;
   does = λ more output.
-    let same : (i o : List ℕ) → stepped (configuration old i o) ≡ trapped t (configuration mid i o) = λ i o. rw (live, ← h, e, live) refl in
-    ((d.does more output).0, rw (← k, same (input_left mid.kept left (d.does more output).0) output) ((d.does more output).1))
+      let same : (i o : List ℕ) → stepped (configuration old i o) ≡ trapped t (configuration mid i o) = λ i o. rw (live, ← h, e, live) refl in
+      ((d.does more output).0, rw (← k, same (input_left mid.kept left (d.does more output).0) output) ((d.does more output).1));
 }
 
 pub gone-pc : (m : Snapshot) (r : Result ℕ Ending) (pc : ℕ) → r ≡ Ok pc → pc ≡ m.state.pc → gone r m ≡ m

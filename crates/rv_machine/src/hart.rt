@@ -1,24 +1,23 @@
 //! A hardware thread with its memory: registers, pc, decoded code and the three regions. Its step is
 //! the instruction table; the calls of the environment are left to the machine round it.
 
-ghost use Rattle.std.specs.Prelude.{◌≡◌, Some, ◌+◌, ◌≤◌, ◌<◌, ◌^◌, ◌%◌, length, IfOk, IsSome, IfSome};
-ghost use Rattle.std.specs.Int.{w8, w16, w32, w64};
-ghost use Rattle.rv_isa.specs.declared.op.Op.TheVariants as op;
+ghost use Rattle.std.specs.Prelude.{◌≡◌, ◌<◌, Some, IfOk, IsSome};
+ghost use Rattle.std.specs.Int.{w64};
 ghost use Rattle.std.specs.Option.{option_copied};
 ghost use Rattle.rv_machine.specs.Calls.{bytes_at};
 ghost use Rattle.rv_machine.specs.Rows.{instr_by};
-ghost use Rattle.rv_machine.specs.State.{State, register, location_of, accessed, region, offset_of, read_at, stored, with_register, written_at};
+ghost use Rattle.rv_machine.specs.State.{read_at, register, with_register};
+ghost use Rattle.rv_machine.specs.Steps.{advanced, at_pc, branch, fetched, jalr_target, jump, next, next_at, put, put_loaded};
 ghost use Rattle.rv_machine.specs.Values.{sum};
-ghost use Rattle.rv_machine.specs.Steps.{advanced, jalr_target, at_pc, next_at, put, jump, branch, loaded, put_loaded, saved, put_saved, executed, fetched, next, word_of};
+
+mod access;
 
 use crate::limits::Limits;
-use crate::memory::{Location, put_u8, put_u16, put_u32, put_u64, u8_at, u16_at, u32_at, u64_at};
+use crate::memory::Location;
 use crate::row::{Code, Row};
 use crate::start::{code_bytes, first_registers, rows_of};
 use crate::trap::Trap;
 use crate::{multiply, values};
-mod access;
-
 use clu_base::Memory;
 use rv_isa::{Image, Reg};
 use std::alloc::Global;
@@ -207,7 +206,15 @@ impl Hart {
 
     #[inline(always)]
     #[tactic(auto, unfolding(crate::specs::Steps::executed))]
-    fn execute(&mut self, pc: u64, code: Code, rd: Reg, rs1: Reg, rs2: Reg, imm: i32) -> Result<u64, Trap>
+    fn execute(
+        &mut self,
+        pc: u64,
+        code: Code,
+        rd: Reg,
+        rs1: Reg,
+        rs2: Reg,
+        imm: i32,
+    ) -> Result<u64, Trap>
         ensures { next_at pc result self.new ≡ fetched (Some (instr_by code rd rs1 rs2 imm)) (at_pc pc self.old) }
     {
         let a = self.register(rs1);
@@ -219,10 +226,7 @@ impl Hart {
             Code::Beq => self.branch(pc, a == b, pc.wrapping_add(imm)),
             Code::Bne => self.branch(pc, a != b, pc.wrapping_add(imm)),
             Code::Blt => self.branch(pc, a.cast_signed() < b.cast_signed(), pc.wrapping_add(imm)),
-            Code::Bge => self.branch(pc, 
-                a.cast_signed() >= b.cast_signed(),
-                pc.wrapping_add(imm),
-            ),
+            Code::Bge => self.branch(pc, a.cast_signed() >= b.cast_signed(), pc.wrapping_add(imm)),
             Code::Bltu => self.branch(pc, a < b, pc.wrapping_add(imm)),
             Code::Bgeu => self.branch(pc, a >= b, pc.wrapping_add(imm)),
             Code::Lb => {

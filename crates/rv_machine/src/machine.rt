@@ -12,6 +12,7 @@ use crate::hart::Hart;
 use crate::intake::Intake;
 use crate::limits::Limits;
 use crate::trap::Trap;
+
 #[cfg(test)]
 mod tests;
 
@@ -312,7 +313,12 @@ impl Machine {
 
     /// One step from this pc in place of the hart's own; the answer is the next pc, or how the run ended.
     #[inline(always)]
-    fn go<S: Source, K: Sink>(&mut self, pc: u64, input: &mut S, output: &mut K) -> Result<u64, Ending>
+    fn go<S: Source, K: Sink>(
+        &mut self,
+        pc: u64,
+        input: &mut S,
+        output: &mut K,
+    ) -> Result<u64, Ending>
         requires { self.old.ended ≡ None }
         ensures did { Does (λ i o. stepped (configuration (from_pc pc self.old) i o)) (from_pc pc self.old) (S.left input.old) (K.written output.old) (gone result self.new) (S.left input.new) (K.written output.new) }
         ensures goes_on { IfOk result (λ _. self.new.ended ≡ None) }

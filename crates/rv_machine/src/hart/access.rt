@@ -7,7 +7,7 @@ ghost use Rattle.rv_machine.specs.State.{accessed, location_of, offset_of, read_
 ghost use Rattle.rv_machine.specs.Steps.{at_pc, loaded, next_at, put_saved};
 
 use super::{Hart, IMAGE_START, STACK_START, STORE_START, next_pc};
-use crate::memory::{Location, put_u16, put_u32, put_u64, put_u8, u16_at, u32_at, u64_at, u8_at};
+use crate::memory::{Location, put_u8, put_u16, put_u32, put_u64, u8_at, u16_at, u32_at, u64_at};
 use crate::trap::Trap;
 
 impl Hart {

@@ -12,7 +12,7 @@ loop-done-init g c = record {
   live = ap (λ (m : Snapshot). m.ended) (sym c.self.view_is) ∙ c.in_default.is;
   did = begun_at c.args.self.now c.pc-pc.result _ _ (c.pc-pc.ensures ∙ ap (λ (m : Snapshot). m.state.pc) c.self.view_is);
   reads = omega arith;
-  writes = omega arith
+  writes = omega arith;
 }
 
 pub loop-done-preserved : goal.loop-done-preserved
@@ -20,7 +20,7 @@ loop-done-preserved g c = record {
   live = c.in-Ok.ensures.goes_on;
   did = one_more c.loop-done.done c.args.self.now (from_pc c.loop-done.pc c.loop-done.self) (from_pc c.in-Ok.next c.go.new.self) _ _ _ _ _ _ c.loop-done.invariant.live c.loop-done.invariant.did c.in-Ok.ensures.did;
   reads = omega (arith, c.loop-done.invariant.reads, c.in-Ok.ensures.reads);
-  writes = omega (arith, c.loop-done.invariant.writes, c.in-Ok.ensures.writes)
+  writes = omega (arith, c.loop-done.invariant.writes, c.in-Ok.ensures.writes);
 }
 
 pub returns-in-Err-clause-did : goal.returns-in-Err-clause-did

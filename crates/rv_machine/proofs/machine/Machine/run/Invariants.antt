@@ -8,5 +8,5 @@ invariant-loop-done g l = record {
   live : l.self.ended ≡ None;
   did : Does (λ i o. emulated l.done (configuration l.fn.self i o)) l.fn.self (g.S.Source.left l.fn.input) (g.K.Sink.written l.fn.output) (from_pc l.pc l.self) (g.S.Source.left l.input) (g.K.Sink.written l.output);
   reads : g.S.Source.faults l.fn.input ≤ g.S.Source.faults l.input;
-  writes : g.K.Sink.faults l.fn.output ≤ g.K.Sink.faults l.output
+  writes : g.K.Sink.faults l.fn.output ≤ g.K.Sink.faults l.output;
 }
