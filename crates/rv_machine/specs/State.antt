@@ -82,6 +82,10 @@ with_written w s n (Image offset) = record s { image = with_number w s.image off
 with_written w s n (Store offset) = record s { store = with_number w s.store offset n }
 with_written w s n (Stack offset) = record s { stack = with_number w s.stack offset n }
 
+-- a store lies in the data, the store region or the stack region as well
+abbrev pub stored : State → ℕ → ℕ → Option Location
+stored s at size = if nat_le s.data_start at then accessed s at size else None
+
 -- the state with the number at an address, where it may be written
 abbrev pub written_at : Width → State → ℕ → ℕ → Option State
-written_at w s at n = if nat_le s.data_start at then option_map (with_written w s n) (accessed s at (byte_len w)) else None
+written_at w s at n = option_map (with_written w s n) (stored s at (byte_len w))

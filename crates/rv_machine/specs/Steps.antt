@@ -44,6 +44,10 @@ put s rd n = Goes (advanced (with_register s rd n))
 abbrev pub jump : State → ℕ → ℕ → Next
 jump s rd target = if target % 4 == 0 then Goes (record (with_register s rd (next_pc s)) { pc = target }) else Stops (trap.Jump target) s
 
+-- of JALR: the register's number and the immediate, with bit 0 cleared
+abbrev pub jalr_target : State → ℕ → ℕ → ℕ
+jalr_target s rs1 imm = let target = sum (register s rs1) imm in target - target % 2
+
 abbrev pub branch : State → Bool → ℕ → Next
 branch s true target = if target % 4 == 0 then Goes (record s { pc = target }) else Stops (trap.Jump target) s
 branch s false target = Goes (advanced s)
@@ -78,7 +82,7 @@ put_saved s at None = Stops (trap.Access at) s
 unfoldable pub executed : Instr → State → Next
 executed (instr.Upper op rd imm) s = put s rd (value_of op s.pc (word_of imm))
 executed (instr.Jal rd imm) s = jump s rd (sum s.pc (word_of imm))
-executed (instr.Jalr rd rs1 imm) s = let target = sum (register s rs1) (word_of imm) in jump s rd (target - target % 2)
+executed (instr.Jalr rd rs1 imm) s = jump s rd (jalr_target s rs1 (word_of imm))
 executed (instr.Branch op rs1 rs2 imm) s = branch s (is_taken op (register s rs1) (register s rs2)) (sum s.pc (word_of imm))
 executed (instr.Load op rd rs1 imm) s = let at = sum (register s rs1) (word_of imm) in put_loaded s rd at (loaded op s at)
 executed (instr.Save op rs1 rs2 imm) s = let at = sum (register s rs1) (word_of imm) in put_saved s at (saved op s at (register s rs2))

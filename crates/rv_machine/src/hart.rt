@@ -1,18 +1,19 @@
 //! A hardware thread with its memory: registers, pc, decoded code and the three regions. Its step is
 //! the instruction table; the calls of the environment are left to the machine round it.
 
-ghost use Rattle.std.specs.Prelude.{◌≡◌, Some, ◌+◌, ◌≤◌, ◌<◌, ◌^◌, ◌%◌, length, IfOk, IsSome, IfSome};
-ghost use Rattle.std.specs.Int.{w8, w16, w32, w64};
-ghost use Rattle.rv_isa.specs.declared.op.Op.TheVariants as op;
+ghost use Rattle.std.specs.Prelude.{◌≡◌, ◌<◌, Some, IfOk, IsSome};
+ghost use Rattle.std.specs.Int.{w64};
 ghost use Rattle.std.specs.Option.{option_copied};
 ghost use Rattle.rv_machine.specs.Calls.{bytes_at};
 ghost use Rattle.rv_machine.specs.Rows.{instr_by};
-ghost use Rattle.rv_machine.specs.State.{State, register, location_of, accessed, region, offset_of, read_at, with_register, written_at};
+ghost use Rattle.rv_machine.specs.State.{read_at, register, with_register};
+ghost use Rattle.rv_machine.specs.Steps.{advanced, at_pc, branch, fetched, jalr_target, jump, next, next_at, put, put_loaded};
 ghost use Rattle.rv_machine.specs.Values.{sum};
-ghost use Rattle.rv_machine.specs.Steps.{advanced, at_pc, next_at, put, jump, branch, loaded, put_loaded, saved, put_saved, executed, fetched, next, word_of};
+
+mod access;
 
 use crate::limits::Limits;
-use crate::memory::{Location, put_u8, put_u16, put_u32, put_u64, u8_at, u16_at, u32_at, u64_at};
+use crate::memory::Location;
 use crate::row::{Code, Row};
 use crate::start::{code_bytes, first_registers, rows_of};
 use crate::trap::Trap;
@@ -173,6 +174,14 @@ impl Hart {
     }
 
     #[inline(always)]
+    fn jump_to_register(&mut self, pc: u64, rd: Reg, rs1: Reg, imm: u64) -> Result<u64, Trap>
+        ensures { next_at pc result self.new ≡ jump (at_pc pc self.old) rd (jalr_target self.old rs1 imm) }
+    {
+        let target = self.register(rs1).wrapping_add(imm);
+        self.jump(pc, rd, target - target % 2)
+    }
+
+    #[inline(always)]
     fn branch(&self, pc: u64, taken: bool, target: u64) -> Result<u64, Trap>
         ensures { next_at pc result self.now ≡ branch (at_pc pc self.now) taken target }
     {
@@ -185,92 +194,6 @@ impl Hart {
         Ok(target)
     }
 
-    /// Where the `count` bytes at an address lie, if they lie in one region.
-    #[inline(always)]
-    pub fn locate(&self, at: u64, count: u64) -> Option<Location>
-        requires { 0 < count }
-        ensures value { result ≡ location_of self.now at count }
-        ensures inside { IfSome result (λ l. offset_of l + count ≤ length (region self.now l)) }
-    {
-        if at >= STACK_START {
-            let offset = (at - STACK_START) as usize;
-            let end = self.stack.len();
-            if offset <= end && count <= (end - offset) as u64 {
-                return Some(Location::Stack(offset));
-            }
-        } else if at >= STORE_START {
-            let offset = (at - STORE_START) as usize;
-            let end = self.store.len();
-            if offset <= end && count <= (end - offset) as u64 {
-                return Some(Location::Store(offset));
-            }
-        } else if at >= IMAGE_START {
-            let offset = (at - IMAGE_START) as usize;
-            let end = self.image.len();
-            if offset <= end && count <= (end - offset) as u64 {
-                return Some(Location::Image(offset));
-            }
-        }
-        None
-    }
-
-    #[inline(always)]
-    fn access(&self, at: u64, size: u64) -> Option<Location>
-        requires { 0 < size }
-        ensures value { result ≡ accessed self.now at size }
-        ensures inside { IfSome result (λ l. offset_of l + size ≤ length (region self.now l)) }
-    {
-        if at % size == 0 {
-            self.locate(at, size)
-        } else {
-            None
-        }
-    }
-
-    #[inline(always)]
-    fn read_u8(&self, at: u64) -> Option<u8>
-        ensures { result ≡ read_at w8 self.now at }
-    {
-        match self.access(at, 1)? {
-            Location::Image(offset) => Some(u8_at(&self.image, offset)),
-            Location::Store(offset) => Some(u8_at(&self.store, offset)),
-            Location::Stack(offset) => Some(u8_at(&self.stack, offset)),
-        }
-    }
-
-    #[inline(always)]
-    fn read_u16(&self, at: u64) -> Option<u16>
-        ensures { result ≡ read_at w16 self.now at }
-    {
-        match self.access(at, 2)? {
-            Location::Image(offset) => Some(u16_at(&self.image, offset)),
-            Location::Store(offset) => Some(u16_at(&self.store, offset)),
-            Location::Stack(offset) => Some(u16_at(&self.stack, offset)),
-        }
-    }
-
-    #[inline(always)]
-    fn read_u32(&self, at: u64) -> Option<u32>
-        ensures { result ≡ read_at w32 self.now at }
-    {
-        match self.access(at, 4)? {
-            Location::Image(offset) => Some(u32_at(&self.image, offset)),
-            Location::Store(offset) => Some(u32_at(&self.store, offset)),
-            Location::Stack(offset) => Some(u32_at(&self.stack, offset)),
-        }
-    }
-
-    #[inline(always)]
-    fn read_u64(&self, at: u64) -> Option<u64>
-        ensures { result ≡ read_at w64 self.now at }
-    {
-        match self.access(at, 8)? {
-            Location::Image(offset) => Some(u64_at(&self.image, offset)),
-            Location::Store(offset) => Some(u64_at(&self.store, offset)),
-            Location::Stack(offset) => Some(u64_at(&self.stack, offset)),
-        }
-    }
-
     #[inline(always)]
     fn put_loaded(&mut self, pc: u64, rd: Reg, at: u64, value: Option<u64>) -> Result<u64, Trap>
         ensures { next_at pc result self.new ≡ put_loaded (at_pc pc self.old) rd at value }
@@ -279,118 +202,6 @@ impl Hart {
             Some(n) => self.put(pc, rd, n),
             None => Err(Trap::Access { address: at }),
         }
-    }
-
-    #[inline(always)]
-    fn lb(&self, at: u64) -> Option<u64>
-        ensures { result ≡ loaded op.Lb self.now at }
-    {
-        let n = self.read_u8(at)?;
-        Some((n.cast_signed() as i64).cast_unsigned())
-    }
-
-    #[inline(always)]
-    fn lh(&self, at: u64) -> Option<u64>
-        ensures { result ≡ loaded op.Lh self.now at }
-    {
-        let n = self.read_u16(at)?;
-        Some((n.cast_signed() as i64).cast_unsigned())
-    }
-
-    #[inline(always)]
-    fn lw(&self, at: u64) -> Option<u64>
-        ensures { result ≡ loaded op.Lw self.now at }
-    {
-        let n = self.read_u32(at)?;
-        Some((n.cast_signed() as i64).cast_unsigned())
-    }
-
-    #[inline(always)]
-    fn lbu(&self, at: u64) -> Option<u64>
-        ensures { result ≡ loaded op.Lbu self.now at }
-    {
-        let n = self.read_u8(at)?;
-        Some(n as u64)
-    }
-
-    #[inline(always)]
-    fn lhu(&self, at: u64) -> Option<u64>
-        ensures { result ≡ loaded op.Lhu self.now at }
-    {
-        let n = self.read_u16(at)?;
-        Some(n as u64)
-    }
-
-    #[inline(always)]
-    fn lwu(&self, at: u64) -> Option<u64>
-        ensures { result ≡ loaded op.Lwu self.now at }
-    {
-        let n = self.read_u32(at)?;
-        Some(n as u64)
-    }
-
-    #[inline(always)]
-    fn write_u8(&mut self, pc: u64, at: u64, n: u8) -> Result<u64, Trap>
-        ensures { next_at pc result self.new ≡ put_saved (at_pc pc self.old) at (written_at w8 (at_pc pc self.old) at n) }
-    {
-        if at < self.data_start {
-            return Err(Trap::Access { address: at });
-        }
-        match self.access(at, 1) {
-            Some(Location::Image(offset)) => put_u8(&mut self.image, offset, n),
-            Some(Location::Store(offset)) => put_u8(&mut self.store, offset, n),
-            Some(Location::Stack(offset)) => put_u8(&mut self.stack, offset, n),
-            None => return Err(Trap::Access { address: at }),
-        }
-        Ok(next_pc(pc))
-    }
-
-    #[inline(always)]
-    fn write_u16(&mut self, pc: u64, at: u64, n: u16) -> Result<u64, Trap>
-        ensures { next_at pc result self.new ≡ put_saved (at_pc pc self.old) at (written_at w16 (at_pc pc self.old) at n) }
-    {
-        if at < self.data_start {
-            return Err(Trap::Access { address: at });
-        }
-        match self.access(at, 2) {
-            Some(Location::Image(offset)) => put_u16(&mut self.image, offset, n),
-            Some(Location::Store(offset)) => put_u16(&mut self.store, offset, n),
-            Some(Location::Stack(offset)) => put_u16(&mut self.stack, offset, n),
-            None => return Err(Trap::Access { address: at }),
-        }
-        Ok(next_pc(pc))
-    }
-
-    #[inline(always)]
-    fn write_u32(&mut self, pc: u64, at: u64, n: u32) -> Result<u64, Trap>
-        ensures { next_at pc result self.new ≡ put_saved (at_pc pc self.old) at (written_at w32 (at_pc pc self.old) at n) }
-    {
-        if at < self.data_start {
-            return Err(Trap::Access { address: at });
-        }
-        match self.access(at, 4) {
-            Some(Location::Image(offset)) => put_u32(&mut self.image, offset, n),
-            Some(Location::Store(offset)) => put_u32(&mut self.store, offset, n),
-            Some(Location::Stack(offset)) => put_u32(&mut self.stack, offset, n),
-            None => return Err(Trap::Access { address: at }),
-        }
-        Ok(next_pc(pc))
-    }
-
-    #[inline(always)]
-    fn write_u64(&mut self, pc: u64, at: u64, n: u64) -> Result<u64, Trap>
-        ensures { next_at pc result self.new ≡ put_saved (at_pc pc self.old) at (written_at w64 (at_pc pc self.old) at n) }
-    {
-        if at < self.data_start {
-            return Err(Trap::Access { address: at });
-        }
-        match self.access(at, 8) {
-            Some(Location::Image(offset)) => put_u64(&mut self.image, offset, n),
-            Some(Location::Store(offset)) => put_u64(&mut self.store, offset, n),
-            Some(Location::Stack(offset)) => put_u64(&mut self.stack, offset, n),
-            None => return Err(Trap::Access { address: at }),
-        }
-        Ok(next_pc(pc))
     }
 
     #[inline(always)]
@@ -492,10 +303,7 @@ impl Hart {
             Code::Remw => self.put(pc, rd, multiply::remw(a, b)),
             Code::Remuw => self.put(pc, rd, multiply::remuw(a, b)),
             Code::Jal => self.jump(pc, rd, pc.wrapping_add(imm)),
-            Code::Jalr => {
-                let target = a.wrapping_add(imm);
-                self.jump(pc, rd, target - target % 2)
-            }
+            Code::Jalr => self.jump_to_register(pc, rd, rs1, imm),
             Code::Fence => Ok(next_pc(pc)),
             Code::Ecall => Err(Trap::Call),
             Code::Ebreak | Code::Unknown => Err(Trap::Instruction { pc }),

@@ -9,66 +9,28 @@ use rv_isa::{Image, Reg};
 use std::alloc::Global;
 use std::test::Fail;
 
+const ONES: u64 = u64::MAX;
+
+const LEAST: u64 = 1 << 63;
+
 // The word, what x5 and x6 hold, and what x10, the pc and the eight bytes from which x6 was loaded
 // are after it. It stands at 0x1000c, and x7 holds 0x10000.
 const ROWS: [(u32, u64, u64, u64, u64, u64); 83] = [
-    (0x00628533, 0xffffffffffffffff, 2, 1, 0x10010, 2), // add wraps
-    (0x40628533, 1, 2, 0xffffffffffffffff, 0x10010, 2), // sub wraps
+    (0x00628533, ONES, 2, 1, 0x10010, 2), // add wraps
+    (0x40628533, 1, 2, ONES, 0x10010, 2), // sub wraps
     (0x00629533, 3, 0x41, 6, 0x10010, 0x41), // sll by 6 bits
-    (0x0062a533, 0xffffffffffffffff, 0, 1, 0x10010, 0), // slt is signed
-    (0x0062b533, 0xffffffffffffffff, 0, 0, 0x10010, 0), // sltu is not
+    (0x0062a533, ONES, 0, 1, 0x10010, 0), // slt is signed
+    (0x0062b533, ONES, 0, 0, 0x10010, 0), // sltu is not
     (0x0062c533, 0xff00, 0xff0, 0xf0f0, 0x10010, 0xff0), // xor
-    (0x0062d533, 0x8000000000000000, 0x3f, 1, 0x10010, 0x3f), // srl brings zeros
-    (
-        0x4062d533,
-        0x8000000000000000,
-        0x3f,
-        0xffffffffffffffff,
-        0x10010,
-        0x3f,
-    ), // sra brings the sign
+    (0x0062d533, LEAST, 0x3f, 1, 0x10010, 0x3f), // srl brings zeros
+    (0x4062d533, LEAST, 0x3f, ONES, 0x10010, 0x3f), // sra brings the sign
     (0x0062e533, 0xf0, 0xf, 0xff, 0x10010, 0xf), // or
     (0x0062f533, 0xff0, 0xff, 0xf0, 0x10010, 0xff), // and
-    (
-        0x02628533,
-        0x8000000000000000,
-        3,
-        0x8000000000000000,
-        0x10010,
-        3,
-    ), // mul wraps
-    (
-        0x02629533,
-        0xffffffffffffffff,
-        0xffffffffffffffff,
-        0,
-        0x10010,
-        0xffffffffffffffff,
-    ), // mulh of -1 and -1
-    (
-        0x02629533,
-        0x8000000000000000,
-        0x8000000000000000,
-        0x4000000000000000,
-        0x10010,
-        0x8000000000000000,
-    ), // mulh of the least twice
-    (
-        0x0262a533,
-        0xffffffffffffffff,
-        0xffffffffffffffff,
-        0xffffffffffffffff,
-        0x10010,
-        0xffffffffffffffff,
-    ), // mulhsu of -1 and the greatest
-    (
-        0x0262b533,
-        0xffffffffffffffff,
-        0xffffffffffffffff,
-        0xfffffffffffffffe,
-        0x10010,
-        0xffffffffffffffff,
-    ), // mulhu of the greatest twice
+    (0x02628533, LEAST, 3, LEAST, 0x10010, 3), // mul wraps
+    (0x02629533, ONES, ONES, 0, 0x10010, ONES), // mulh of -1 and -1
+    (0x02629533, LEAST, LEAST, 0x4000000000000000, 0x10010, LEAST), // mulh of the least twice
+    (0x0262a533, ONES, ONES, ONES, 0x10010, ONES), // mulhsu of -1 and the greatest
+    (0x0262b533, ONES, ONES, 0xfffffffffffffffe, 0x10010, ONES), // mulhu of the greatest twice
     (
         0x0262c533,
         0xfffffffffffffff9,
@@ -77,32 +39,11 @@ const ROWS: [(u32, u64, u64, u64, u64, u64); 83] = [
         0x10010,
         2,
     ), // div rounds toward zero
-    (0x0262c533, 5, 0, 0xffffffffffffffff, 0x10010, 0), // div by zero
-    (
-        0x0262c533,
-        0x8000000000000000,
-        0xffffffffffffffff,
-        0x8000000000000000,
-        0x10010,
-        0xffffffffffffffff,
-    ), // div overflow
-    (
-        0x0262d533,
-        0xffffffffffffffff,
-        2,
-        0x7fffffffffffffff,
-        0x10010,
-        2,
-    ), // divu
-    (0x0262d533, 5, 0, 0xffffffffffffffff, 0x10010, 0), // divu by zero
-    (
-        0x0262e533,
-        0xfffffffffffffff9,
-        2,
-        0xffffffffffffffff,
-        0x10010,
-        2,
-    ), // rem has the sign of the dividend
+    (0x0262c533, 5, 0, ONES, 0x10010, 0), // div by zero
+    (0x0262c533, LEAST, ONES, LEAST, 0x10010, ONES), // div overflow
+    (0x0262d533, ONES, 2, 0x7fffffffffffffff, 0x10010, 2), // divu
+    (0x0262d533, 5, 0, ONES, 0x10010, 0), // divu by zero
+    (0x0262e533, 0xfffffffffffffff9, 2, ONES, 0x10010, 2), // rem has the sign of the dividend
     (
         0x0262e533,
         0xfffffffffffffff9,
@@ -111,35 +52,14 @@ const ROWS: [(u32, u64, u64, u64, u64, u64); 83] = [
         0x10010,
         0,
     ), // rem by zero
-    (
-        0x0262e533,
-        0x8000000000000000,
-        0xffffffffffffffff,
-        0,
-        0x10010,
-        0xffffffffffffffff,
-    ), // rem overflow
-    (0x0262f533, 0xffffffffffffffff, 0xa, 5, 0x10010, 0xa), // remu
+    (0x0262e533, LEAST, ONES, 0, 0x10010, ONES), // rem overflow
+    (0x0262f533, ONES, 0xa, 5, 0x10010, 0xa), // remu
     (0x0262f533, 7, 0, 7, 0x10010, 0), // remu by zero
     (0x0062853b, 0x7fffffff, 1, 0xffffffff80000000, 0x10010, 1), // addw extends
-    (0x4062853b, 0, 1, 0xffffffffffffffff, 0x10010, 1), // subw extends
+    (0x4062853b, 0, 1, ONES, 0x10010, 1), // subw extends
     (0x0062953b, 1, 0x3f, 0xffffffff80000000, 0x10010, 0x3f), // sllw by 5 bits
-    (
-        0x0062d53b,
-        0xffffffff,
-        0x20,
-        0xffffffffffffffff,
-        0x10010,
-        0x20,
-    ), // srlw extends
-    (
-        0x4062d53b,
-        0x80000000,
-        0x1f,
-        0xffffffffffffffff,
-        0x10010,
-        0x1f,
-    ), // sraw
+    (0x0062d53b, 0xffffffff, 0x20, ONES, 0x10010, 0x20), // srlw extends
+    (0x4062d53b, 0x80000000, 0x1f, ONES, 0x10010, 0x1f), // sraw
     (
         0x0262853b,
         0x10000,
@@ -156,31 +76,10 @@ const ROWS: [(u32, u64, u64, u64, u64, u64); 83] = [
         0x10010,
         0xffffffff,
     ), // divw overflow
-    (
-        0x0262c53b,
-        5,
-        0x100000000,
-        0xffffffffffffffff,
-        0x10010,
-        0x100000000,
-    ), // divw by zero
-    (0x0262d53b, 0xffffffff, 1, 0xffffffffffffffff, 0x10010, 1), // divuw extends
-    (
-        0x0262d53b,
-        5,
-        0x100000000,
-        0xffffffffffffffff,
-        0x10010,
-        0x100000000,
-    ), // divuw by zero
-    (
-        0x0262e53b,
-        0xfffffffffffffff9,
-        2,
-        0xffffffffffffffff,
-        0x10010,
-        2,
-    ), // remw
+    (0x0262c53b, 5, 0x100000000, ONES, 0x10010, 0x100000000), // divw by zero
+    (0x0262d53b, 0xffffffff, 1, ONES, 0x10010, 1), // divuw extends
+    (0x0262d53b, 5, 0x100000000, ONES, 0x10010, 0x100000000), // divuw by zero
+    (0x0262e53b, 0xfffffffffffffff9, 2, ONES, 0x10010, 2), // remw
     (
         0x0262e53b,
         0x80000000,
@@ -192,33 +91,19 @@ const ROWS: [(u32, u64, u64, u64, u64, u64); 83] = [
     (0x0262e53b, 0x80000000, 0xffffffff, 0, 0x10010, 0xffffffff), // remw overflow
     (0x0262f53b, 0x80000000, 0, 0xffffffff80000000, 0x10010, 0), // remuw by zero extends
     (0x0262f53b, 0xffffffff, 0x10, 0xf, 0x10010, 0x10), // remuw
-    (0xfff28513, 0, 0, 0xffffffffffffffff, 0x10010, 0), // addi of -1
+    (0xfff28513, 0, 0, ONES, 0x10010, 0), // addi of -1
     (0xfff2a513, 0xfffffffffffffffe, 0, 1, 0x10010, 0), // slti is signed
     (0xfff2b513, 5, 0, 1, 0x10010, 0), // sltiu of the extended
     (0xfff2c513, 0xf0, 0, 0xffffffffffffff0f, 0x10010, 0), // xori of -1 is not
     (0x00f2e513, 0xf0, 0, 0xff, 0x10010, 0), // ori
-    (
-        0xff02f513,
-        0xffffffffffffffff,
-        0,
-        0xfffffffffffffff0,
-        0x10010,
-        0,
-    ), // andi of -16
-    (0x03f29513, 1, 0, 0x8000000000000000, 0x10010, 0), // slli
-    (0x03f2d513, 0x8000000000000000, 0, 1, 0x10010, 0), // srli
-    (
-        0x43f2d513,
-        0x8000000000000000,
-        0,
-        0xffffffffffffffff,
-        0x10010,
-        0,
-    ), // srai
+    (0xff02f513, ONES, 0, 0xfffffffffffffff0, 0x10010, 0), // andi of -16
+    (0x03f29513, 1, 0, LEAST, 0x10010, 0), // slli
+    (0x03f2d513, LEAST, 0, 1, 0x10010, 0), // srli
+    (0x43f2d513, LEAST, 0, ONES, 0x10010, 0), // srai
     (0x0012851b, 0x7fffffff, 0, 0xffffffff80000000, 0x10010, 0), // addiw
     (0x01f2951b, 1, 0, 0xffffffff80000000, 0x10010, 0), // slliw
-    (0x0012d51b, 0xffffffffffffffff, 0, 0x7fffffff, 0x10010, 0), // srliw
-    (0x41f2d51b, 0x80000000, 0, 0xffffffffffffffff, 0x10010, 0), // sraiw
+    (0x0012d51b, ONES, 0, 0x7fffffff, 0x10010, 0), // srliw
+    (0x41f2d51b, 0x80000000, 0, ONES, 0x10010, 0), // sraiw
     (0x80000537, 0, 0, 0xffffffff80000000, 0x10010, 0), // lui extends
     (0x00001517, 0, 0, 0x1100c, 0x10010, 0), // auipc
     (0x00500013, 9, 0, 0, 0x10010, 0), // x0 stays 0
@@ -260,7 +145,7 @@ const ROWS: [(u32, u64, u64, u64, u64, u64); 83] = [
     (
         0x00538ca3,
         0x1122334455667788,
-        0xffffffffffffffff,
+        ONES,
         0,
         0x10010,
         0xffffffffffff88ff,
@@ -268,7 +153,7 @@ const ROWS: [(u32, u64, u64, u64, u64, u64); 83] = [
     (
         0x00539d23,
         0x1122334455667788,
-        0xffffffffffffffff,
+        ONES,
         0,
         0x10010,
         0xffffffff7788ffff,
@@ -276,7 +161,7 @@ const ROWS: [(u32, u64, u64, u64, u64, u64); 83] = [
     (
         0x0053ae23,
         0x1122334455667788,
-        0xffffffffffffffff,
+        ONES,
         0,
         0x10010,
         0x55667788ffffffff,
@@ -284,7 +169,7 @@ const ROWS: [(u32, u64, u64, u64, u64, u64); 83] = [
     (
         0x0053bc23,
         0x1122334455667788,
-        0xffffffffffffffff,
+        ONES,
         0,
         0x10010,
         0x1122334455667788,
@@ -293,27 +178,13 @@ const ROWS: [(u32, u64, u64, u64, u64, u64); 83] = [
     (0xfe628ae3, 4, 5, 0, 0x10010, 5), // beq not taken
     (0xfe629ee3, 4, 5, 0, 0x10008, 5), // bne taken
     (0xfe629ee3, 4, 4, 0, 0x10010, 4), // bne not taken
-    (0xfe62cee3, 0xffffffffffffffff, 0, 0, 0x10008, 0), // blt taken
-    (
-        0xfe62cee3,
-        0,
-        0xffffffffffffffff,
-        0,
-        0x10010,
-        0xffffffffffffffff,
-    ), // blt not taken
+    (0xfe62cee3, ONES, 0, 0, 0x10008, 0), // blt taken
+    (0xfe62cee3, 0, ONES, 0, 0x10010, ONES), // blt not taken
     (0xfe62dee3, 0, 0, 0, 0x10008, 0), // bge taken
-    (0xfe62dee3, 0xffffffffffffffff, 0, 0, 0x10010, 0), // bge not taken
-    (
-        0xfe62eee3,
-        0,
-        0xffffffffffffffff,
-        0,
-        0x10008,
-        0xffffffffffffffff,
-    ), // bltu taken
-    (0xfe62eee3, 0xffffffffffffffff, 0, 0, 0x10010, 0), // bltu not taken
-    (0xfe62fee3, 0xffffffffffffffff, 0, 0, 0x10008, 0), // bgeu taken
+    (0xfe62dee3, ONES, 0, 0, 0x10010, 0), // bge not taken
+    (0xfe62eee3, 0, ONES, 0, 0x10008, ONES), // bltu taken
+    (0xfe62eee3, ONES, 0, 0, 0x10010, 0), // bltu not taken
+    (0xfe62fee3, ONES, 0, 0, 0x10008, 0), // bgeu taken
     (0xfe62fee3, 0, 1, 0, 0x10010, 1), // bgeu not taken
     (0xff5ff56f, 0, 0, 0x10010, 0x10000, 0), // jal
     (0x00128567, 0x10004, 0, 0x10010, 0x10004, 0), // jalr clears bit 0

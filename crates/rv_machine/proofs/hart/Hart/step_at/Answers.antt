@@ -1,4 +1,4 @@
-use Rattle.std.proofs.Common.{◌≡◌, ◌∙◌, length, ap, sym, arith, rules, w32, FitsSigned}
+use Rattle.std.proofs.Common.{◌≡◌, ◌∙◌, length, ap, sym, rules, w32, FitsSigned}
 use Rattle.std.proofs.lemmas.Int.{to_z-of_z}
 use Rattle.rv_machine.specs.State.{State}
 use Rattle.rv_machine.proofs.hart.Hart.step_at.Goals as goal

@@ -1,4 +1,4 @@
-use Rattle.std.proofs.Common.{◌≡◌, ◌∙◌, ap, refl}
+use Rattle.std.proofs.Common.{◌≡◌, ◌∙◌, ap}
 use Rattle.rv_machine.specs.Snapshot.{Snapshot, from_pc, gone}
 use Rattle.rv_machine.specs.State.{State}
 use Rattle.rv_machine.specs.Steps.{at_pc, Stops, next}

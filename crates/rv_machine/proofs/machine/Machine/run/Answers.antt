@@ -1,6 +1,5 @@
 use Rattle.std.proofs.Common.{◌≡◌, ◌∙◌, ◌+◌, ◌≤◌, ap, sym, arith}
 use Rattle.rv_machine.specs.Snapshot.{Snapshot, from_pc}
-use Rattle.rv_machine.specs.State.{State}
 use Rattle.rv_machine.specs.Steps.{at_pc}
 use Rattle.rv_machine.proofs.machine.Machine.run.Goals as goal
 use Rattle.rv_machine.proofs.Runs.{over, begun_at, one_more, enough, put_back}
