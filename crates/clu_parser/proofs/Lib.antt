@@ -1,3 +1,4 @@
+pub mod Deep
 pub mod Heights
 pub mod OnWay
 pub mod Room

@@ -1,3 +1,4 @@
+pub mod Depths
 pub mod Faults
 pub mod Levels
 pub mod Parsing

@@ -8,6 +8,7 @@ use Rattle.clu_tree.specs.declared.node.Node.{Node}
 use Rattle.clu_grammar.specs.Language.{IsFile, FailsAt}
 use Rattle.clu_parser.specs.declared.errors.ParseError.{ParseError}
 use Rattle.clu_parser.specs.declared.errors.ParseError.TheVariants as error
+use Rattle.clu_parser.specs.Depths.{IsFirstTooDeep}
 use Rattle.clu_parser.specs.Levels.{IsLow, IsTooHigh}
 use Rattle.clu_parser.specs.Spellings.{symbol_in}
 use Rattle.clu_parser.specs.Trees.{Text, Built, IsBuilt}
@@ -36,10 +37,15 @@ abbrev pub IsSyntaxFault : List ℕ → List Token → Place → Type 0
 IsSyntaxFault bytes tokens place =
     IsLow (symbols_of bytes tokens) (length tokens) × ((at : ℕ) × FailsAt (symbols_of bytes tokens) at × (place ≡ place_of bytes tokens at))
 
--- the refusal of what is too deep: a level passes 200 here, or the tokens are a file, whose tree is too deep
+-- the tokens are a file, and this is the first place of a node of its tree that is too deep
+abbrev pub IsDeepTree : List ℕ → List Token → Place → Type 0
+IsDeepTree bytes tokens place =
+    IsFile (symbols_of bytes tokens) × ((nodes : List Node) × IsTreeOf bytes tokens nodes × IsFirstTooDeep nodes (Some place))
+
+-- the refusal of what is too deep: a level passes 200 here, or the tree of the file is too deep
 abbrev pub IsDepthFault : List ℕ → List Token → Place → Type 0
 IsDepthFault bytes tokens place =
-    ((at : ℕ) × IsTooHigh (symbols_of bytes tokens) at × (place ≡ place_of bytes tokens at)) ⊎ IsFile (symbols_of bytes tokens)
+    ((at : ℕ) × IsTooHigh (symbols_of bytes tokens) at × (place ≡ place_of bytes tokens at)) ⊎ IsDeepTree bytes tokens place
 
 abbrev pub IsFault : List ℕ → List Token → ParseError → Type 0
 IsFault bytes tokens (error.Syntax place) = IsSyntaxFault bytes tokens place

@@ -1,8 +1,9 @@
 //! The whole of parsing: levels, the grammar, depth, in this order.
 
-ghost use Rattle.std.specs.Prelude.{◌≡◌, ◌≤◌, length, slice_get, OnOk, IfOk, IfErr};
+ghost use Rattle.std.specs.Prelude.{◌≡◌, ◌≤◌, length, slice_get, None, OnOk, IfOk, IfErr};
 ghost use Rattle.std.specs.Option.{option_copied};
 ghost use Rattle.clu_grammar.specs.Language.{IsFile};
+ghost use Rattle.clu_parser.specs.Depths.{IsFirstTooDeep};
 ghost use Rattle.clu_parser.specs.Levels.{IsLow};
 ghost use Rattle.clu_parser.specs.Parsing.{symbols_of, place_in, place_of, IsTreeOf, IsFault};
 
@@ -44,6 +45,7 @@ pub fn parse(alloc: Global, bytes: &[u8], tokens: &[Token]) -> Result<Tree, Pars
     ensures low { OnOk result (IsLow (symbols_of bytes.now tokens.now) (length tokens.now)) }
     ensures file { OnOk result (IsFile (symbols_of bytes.now tokens.now)) }
     ensures tree { IfOk result (IsTreeOf bytes.now tokens.now) }
+    ensures shallow { IfOk result (λ tree. IsFirstTooDeep tree None) }
     ensures fault { IfErr result (IsFault bytes.now tokens.now) }
 {
     let symbols = symbols_of(alloc, bytes, tokens)?;
