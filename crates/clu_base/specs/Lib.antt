@@ -1,2 +1,5 @@
 pub mod Fields
+pub mod InMemory
+pub mod Outside
 pub mod Rules
+pub mod StoredFiles

@@ -1,0 +1,84 @@
+-- What a status alone says, by the outcome that has it.
+use Rattle.std.proofs.Common.{◌≡◌, ◌≢◌, ◌⊎◌, ◌∙◌, ℕ, List, [], Option, Some, None, inl, inr, refl, sym, ap, subst, arith}
+use Rattle.clu_base.proofs.Written.{appended-nil}
+use Rattle.clu_base.specs.Outside.{appended}
+use Rattle.clu_words.specs.Command.{Meant}
+use Rattle.clu_words.specs.Command as command
+use Rattle.clu_driver.specs.Commands.{CluShows, CommandShows, NotPut, PutShows}
+use Rattle.clu_driver.specs.Outcome.{IsTold, line_of, status_of, text_of}
+use Rattle.clu_driver.specs.Shows.{Reported, RunShows}
+use Rattle.clu_driver.specs.World.{World}
+use Rattle.clu_driver.specs.declared.outcome.Outcome.{Outcome}
+use Rattle.clu_driver.specs.declared.outcome.Outcome.TheVariants as outcome
+
+-- Usage is the one outcome of its status
+usage_of : (how : Outcome) → status_of how ≡ 2 → how ≡ outcome.Usage
+usage_of outcome.Usage is = refl
+usage_of outcome.Done is = cc
+usage_of (outcome.Failure text) is = cc
+usage_of _ is = cc
+
+-- only words that are no command come to Usage
+usage_shown : (meant : Option Meant) (before after : World) → CommandShows meant outcome.Usage before after → meant ≡ None
+usage_shown None before after shown = refl
+usage_shown (Some (command.go file image limits peep trace)) before after (inl refused) = elim refused.0 [ ]
+usage_shown (Some (command.go file image limits peep trace)) before after (inr put) = elim put.3 [ inl notput ↦ elim notput.0 [ ] | inr ran ↦ elim ran.1.ends [ ] ]
+usage_shown (Some (command.exec image limits)) before after (inl refused) = elim refused.0 [ ]
+usage_shown (Some (command.exec image limits)) before after (inr ran) = elim ran.1.2.ends [ ]
+usage_shown (Some (command.gen procedures)) before after shown = elim shown.2 [ ]
+usage_shown (Some (command.spec a b)) before after shown = cc
+usage_shown (Some (command.replace a b)) before after shown = cc
+usage_shown (Some (command.compile a b p)) before after shown = cc
+usage_shown (Some (command.link a b d)) before after shown = cc
+usage_shown (Some (command.run a b l)) before after shown = cc
+usage_shown (Some (command.list a)) before after shown = cc
+usage_shown (Some (command.asm a b)) before after shown = cc
+usage_shown (Some (command.print a)) before after shown = cc
+usage_shown (Some (command.xref a)) before after shown = cc
+
+-- the status is the outcome's, or the line could not be written
+status_is : (how : Outcome) (status : ℕ) (old new : Option (List ℕ)) (faults faults' : ℕ) → IsTold how status old new faults faults' → (status ≡ status_of how) ⊎ (status ≡ 23)
+status_is how status old new faults faults' (inl told) = inl told.0
+status_is how status old new faults faults' (inr fault) = inr fault.0
+
+shown_usage : (meant : Option Meant) (before after : World) (how : Outcome) → how ≡ outcome.Usage → CluShows meant how before after → meant ≡ None
+shown_usage meant before after how usage (inl memory) = let no : outcome.Memory ≡ outcome.Usage = sym memory.0 ∙ usage in cc
+shown_usage meant before after how usage (inr shown) = let P : Outcome → Type 0 = λ o. CommandShows meant o before after in usage_shown meant before after (subst P usage shown)
+
+pub usage_only : (meant : Option Meant) (before after : World) (status : ℕ) (old new : Option (List ℕ)) (faults faults' : ℕ)
+    → Reported (λ how. CluShows meant how before after) status old new faults faults' → status ≡ 2 → meant ≡ None
+usage_only meant before after status old new faults faults' r two = elim (status_is r.how status old new faults faults' r.told) [
+  | inl is ↦ shown_usage meant before after r.how (usage_of r.how (sym is ∙ two)) r.shown
+  | inr is ↦ let no : 23 ≡ 2 = sym is ∙ two in absurd (omega (arith, no))
+]
+
+-- words that are no command come to Usage or to want of memory
+none_shown : (meant : Option Meant) (before after : World) (how : Outcome) → meant ≡ None → CluShows meant how before after → (how ≡ outcome.Usage) ⊎ (how ≡ outcome.Memory)
+none_shown meant before after how none (inl memory) = inr memory.0
+none_shown None before after how none (inr shown) = inl shown.0
+none_shown (Some m) before after how none (inr shown) = cc
+
+pub usage_always : (meant : Option Meant) (before after : World) (status : ℕ) (old new : Option (List ℕ)) (faults faults' : ℕ)
+    → Reported (λ how. CluShows meant how before after) status old new faults faults' → meant ≡ None → (status ≡ 2) ⊎ ((status ≡ 23) ⊎ (status ≡ 25))
+usage_always meant before after status old new faults faults' r none = elim (status_is r.how status old new faults faults' r.told) [
+  | inl is ↦ elim (none_shown meant before after r.how none r.shown) [
+    | inl usage ↦ inl (is ∙ ap status_of usage)
+    | inr memory ↦ inr (inr (is ∙ ap status_of memory))
+  ]
+  | inr is ↦ inr (inl is)
+]
+
+-- a command that was done has no line
+done_of : (how : Outcome) → status_of how ≡ 0 → how ≡ outcome.Done
+done_of outcome.Done is = refl
+done_of _ is = cc
+
+no_line : (old : Option (List ℕ)) → appended old (line_of outcome.Done) ≡ old
+unfolding text_of
+no_line old = appended-nil old
+
+pub quiet : (Shows : Outcome → Type 0) (status : ℕ) (old new : Option (List ℕ)) (faults faults' : ℕ) → Reported Shows status old new faults faults' → status ≡ 0 → new ≡ old
+quiet Shows status old new faults faults' r zero = elim r.told [
+  | inl told ↦ told.1 ∙ ap (λ (o : Outcome). appended old (line_of o)) (done_of r.how (sym told.0 ∙ zero)) ∙ no_line old
+  | inr fault ↦ let no : 23 ≡ 0 = sym fault.0 ∙ zero in absurd (omega (arith, no))
+]

@@ -1,0 +1,27 @@
+-- What holds of the content that was read holds of the file.
+use Rattle.std.proofs.Common.{◌≡◌, ◌≤◌, ◌∙◌, ap, inr, subst, List, ℕ, Option, Some, None}
+use Rattle.clu_base.specs.Outside.{Files}
+use Rattle.clu_image.specs.Faults.{IsRefusal, fault_of}
+use Rattle.clu_base.specs.declared.errors.FormatError.TheVariants.{Bad, Memory}
+use Rattle.clu_base.specs.declared.errors.FormatError.{FormatError}
+use Rattle.clu_words.specs.Command.{Limits}
+use Rattle.rv_isa.specs.Image.{Contents}
+use Rattle.clu_driver.specs.Commands.{GoShows, IsFound, PutShows}
+use Rattle.clu_driver.specs.World.{Streams, World, world_of}
+use Rattle.clu_driver.specs.declared.outcome.Outcome.{Outcome}
+
+pub fault_found : (files : Option Files) (name bytes : List ℕ) (at : ℕ) → IsFound files name (λ b. b ≡ bytes) → fault_of bytes ≡ Some at → IsFound files name (λ b. fault_of b ≡ Some at)
+fault_found None name bytes at found fault = tt
+fault_found (Some all) name bytes at found fault = (found.0, found.1, ap fault_of found.2 ∙ fault)
+
+-- a reader's refusal tells the fault
+pub refused_at : (fault : Option ℕ) (at : ℕ) (e : FormatError) → e ≡ Bad at → IsRefusal fault e → fault ≡ Some at
+refused_at None at e is refused = cc
+refused_at (Some place) at e is refused = cc
+
+-- reading the source left the files as they were
+pub go_shows : (how : Outcome) (file name : List ℕ) (limits : Limits) (image : Contents) (files files' : Option Files) (faults faults' : ℕ) (streams : Streams) (after : World)
+    → files' ≡ files → faults ≤ faults' → PutShows how name image limits (world_of files' faults' streams) after → GoShows how file name limits (world_of files faults streams) after
+go_shows how file name limits image files files' faults faults' streams after same counts put =
+    let P : Option Files → Type 0 = λ f. PutShows how name image limits (world_of f faults' streams) after in
+    inr (image, faults', counts, subst P same put)

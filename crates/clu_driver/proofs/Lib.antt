@@ -1,0 +1,5 @@
+pub mod ByStatus
+pub mod FailureText
+pub mod Found
+pub mod Repeated
+pub mod Runs

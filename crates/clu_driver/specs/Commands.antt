@@ -1,0 +1,87 @@
+-- What each command shows of its outcome.
+use Rattle.std.specs.Prelude.{◌≡◌, ◌≤◌, ◌⊎◌, ℕ, List, Option, Some, None, IfSome, option_map}
+use Rattle.clu_base.specs.Outside.{Files, GrewWithin, IsTorn, Rose, appended, with_file}
+use Rattle.clu_image.specs.Faults.{fault_of}
+use Rattle.clu_image.specs.ImageFile.{IsFileOf, image_bytes}
+use Rattle.clu_words.specs.Command.{Limits, Meant}
+use Rattle.clu_words.specs.Command as command
+use Rattle.rv_isa.specs.Image.{Contents}
+use Rattle.clu_driver.specs.Generated.{generated_text}
+use Rattle.clu_driver.specs.Shows.{RunShows}
+use Rattle.clu_driver.specs.World.{IsUnrun, IsUntouched, World, world_of}
+use Rattle.clu_driver.specs.declared.outcome.Outcome.{Outcome}
+use Rattle.clu_driver.specs.declared.outcome.Outcome.TheVariants as outcome
+
+-- where files are told, the file of this name has content of which this holds
+abbrev pub IsFound : Option Files → List ℕ → (List ℕ → Type 0) → Type 0
+IsFound files name P = IfSome files (λ all. (bytes : List ℕ) × (all name ≡ Some bytes) × P bytes)
+
+-- why a file was not read: there is none, the store failed, or memory was refused
+abbrev pub NotRead : Outcome → List ℕ → Option Files → ℕ → ℕ → Type 0
+NotRead (outcome.NoFile n) name files faults faults' = (n.now ≡ name) × IfSome files (λ all. all name ≡ None)
+NotRead (outcome.FileFault n) name files faults faults' = (n.now ≡ name) × Rose faults faults'
+NotRead outcome.Memory name files faults faults' = Unit {0}
+NotRead _ name files faults faults' = ⊥
+
+-- why an image file was not loaded: it was not read, or its bytes are no image
+abbrev pub NotLoaded : Outcome → List ℕ → Option Files → ℕ → ℕ → Type 0
+NotLoaded (outcome.ImageBad at) name files faults faults' = IsFound files name (λ bytes. fault_of bytes ≡ Some at)
+NotLoaded how name files faults faults' = NotRead how name files faults faults'
+
+-- why a source was not compiled: it was not read, or it is none that is compiled yet
+abbrev pub NotCompiled : Outcome → List ℕ → Option Files → ℕ → ℕ → Type 0
+NotCompiled outcome.NotYet name files faults faults' = Unit {0}
+NotCompiled how name files faults faults' = NotRead how name files faults faults'
+
+-- why a file was not put, and what stands under its name then
+abbrev pub NotPut : Outcome → List ℕ → List ℕ → Option Files → Option Files → ℕ → ℕ → Type 0
+NotPut (outcome.FileFault n) name bytes files files' faults faults' = (n.now ≡ name) × Rose faults faults' × IsTorn files files' name bytes
+NotPut outcome.Memory name bytes files files' faults faults' = files' ≡ files
+NotPut _ name bytes files files' faults faults' = ⊥
+
+-- a file was put
+abbrev pub IsPut : List ℕ → List ℕ → Option Files → Option Files → Type 0
+IsPut name bytes files files' = files' ≡ option_map (λ all. with_file all name bytes) files
+
+-- exec: the image was refused and nothing changed, or it was run and no file changed
+abbrev pub ExecShows : Outcome → List ℕ → Limits → World → World → Type 0
+ExecShows how name limits before after =
+    (NotLoaded how name before.files before.store_faults after.store_faults × IsUntouched before after)
+    ⊎ ((after.files ≡ before.files)
+    × ((image : Contents) × IsFound before.files name (λ bytes. IsFileOf bytes image) × RunShows how image limits before.streams after.streams))
+
+-- the image was not put, or it was put and run
+abbrev pub PutShows : Outcome → List ℕ → Contents → Limits → World → World → Type 0
+PutShows how name image limits before after =
+    (NotPut how name (image_bytes image) before.files after.files before.store_faults after.store_faults × IsUnrun before.streams after.streams)
+    ⊎ (IsPut name (image_bytes image) before.files after.files × RunShows how image limits before.streams after.streams)
+
+-- go: the source was refused and nothing changed, or its image was put and run
+abbrev pub GoShows : Outcome → List ℕ → List ℕ → Limits → World → World → Type 0
+GoShows how file name limits before after =
+    (NotCompiled how file before.files before.store_faults after.store_faults × IsUntouched before after)
+    ⊎ ((image : Contents) × (faults : ℕ) × (before.store_faults ≤ faults) × PutShows how name image limits (world_of before.files faults before.streams) after)
+
+-- gen: the source was written, or some first bytes of it
+abbrev pub GenShows : Outcome → ℕ → Option (List ℕ) → Option (List ℕ) → ℕ → ℕ → Type 0
+GenShows outcome.Done n written written' faults faults' = written' ≡ appended written (generated_text n)
+GenShows outcome.WriteFault n written written' faults faults' = Rose faults faults' × GrewWithin written written' (generated_text n)
+GenShows _ n written written' faults faults' = ⊥
+
+-- what the command that the words are shows of the outcome
+abbrev pub CommandShows : Option Meant → Outcome → World → World → Type 0
+CommandShows None how before after = (how ≡ outcome.Usage) × IsUntouched before after
+CommandShows (Some (command.go file image limits peep trace)) how before after = GoShows how file image limits before after
+CommandShows (Some (command.exec image limits)) how before after = ExecShows how image limits before after
+CommandShows (Some (command.gen procedures)) how before after =
+    (after.files ≡ before.files) × (after.streams.left ≡ before.streams.left)
+    × GenShows how procedures before.streams.written after.streams.written before.streams.write_faults after.streams.write_faults
+CommandShows (Some _) how before after = (how ≡ outcome.NotYet) × IsUntouched before after
+
+-- the same, or memory for reading the words was refused
+abbrev pub CluShows : Option Meant → Outcome → World → World → Type 0
+CluShows meant how before after = ((how ≡ outcome.Memory) × IsUntouched before after) ⊎ CommandShows meant how before after
+
+-- a status with which a command is refused: its words, its files, its image or source, or memory
+abbrev pub IsRefusal : ℕ → Type 0
+IsRefusal status = (status ≡ 2) ⊎ ((status ≡ 10) ⊎ ((status ≡ 20) ⊎ ((status ≡ 24) ⊎ ((status ≡ 25) ⊎ (status ≡ 27)))))

@@ -1,0 +1,5 @@
+pub mod Commands
+pub mod Generated
+pub mod Outcome
+pub mod Shows
+pub mod World

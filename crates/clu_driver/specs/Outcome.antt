@@ -1,0 +1,77 @@
+-- The status and the line of each outcome of a command.
+use Rattle.std.specs.Prelude.{◌≡◌, ℕ, ◌⊎◌, List, [], ◌∷◌, ◌++◌, Option, codes, decimal}
+use Rattle.std.specs.Int.{w64, to_be_bytes}
+use Rattle.hex.specs.Hex.{encode_lower}
+use Rattle.clu_base.specs.Outside.{appended, GrewWithin, Rose}
+use Rattle.clu_driver.specs.declared.outcome.Outcome.{Outcome}
+use Rattle.clu_driver.specs.declared.outcome.Outcome.TheVariants as outcome
+
+abbrev pub status_of : Outcome → ℕ
+status_of outcome.Done = 0
+status_of (outcome.Failure d) = 1
+status_of outcome.Usage = 2
+status_of outcome.StoreFull = 3
+status_of outcome.StackFull = 4
+status_of outcome.StepsSpent = 5
+status_of (outcome.BadInstruction d) = 6
+status_of (outcome.BadAccess d) = 7
+status_of (outcome.BadJump d) = 8
+status_of (outcome.BadEcall d) = 9
+status_of (outcome.NoFile d) = 10
+status_of (outcome.ImageBad d) = 20
+status_of outcome.ReadFault = 22
+status_of outcome.WriteFault = 23
+status_of (outcome.FileFault d) = 24
+status_of outcome.Memory = 25
+status_of outcome.NotYet = 27
+
+-- what the line says first
+unfoldable pub text_of : Outcome → List ℕ
+text_of outcome.Done = []
+text_of (outcome.Failure d) = codes "failure: "
+text_of outcome.Usage = codes "usage: clu go|spec|replace|compile|link|run|exec|gen|list|asm|print|xref"
+text_of outcome.StoreFull = codes "store full"
+text_of outcome.StackFull = codes "stack full"
+text_of outcome.StepsSpent = codes "steps spent"
+text_of (outcome.BadInstruction d) = codes "bad instruction at "
+text_of (outcome.BadAccess d) = codes "bad access at "
+text_of (outcome.BadJump d) = codes "bad jump to "
+text_of (outcome.BadEcall d) = codes "bad ecall "
+text_of (outcome.NoFile d) = codes "no file: "
+text_of (outcome.ImageBad d) = codes "image bad at "
+text_of outcome.ReadFault = codes "read fault"
+text_of outcome.WriteFault = codes "write fault"
+text_of (outcome.FileFault d) = codes "file fault: "
+text_of outcome.Memory = codes "out of memory"
+text_of outcome.NotYet = codes "not yet"
+
+-- the sixteen hexadecimal digits of an address
+abbrev pub hexadecimal_of : ℕ → List ℕ
+hexadecimal_of n = encode_lower (to_be_bytes w64 n)
+
+-- what the line tells behind it: a text or a name, an address, a number
+abbrev pub detail_of : Outcome → List ℕ
+detail_of (outcome.Failure d) = d.now
+detail_of (outcome.BadInstruction d) = hexadecimal_of d
+detail_of (outcome.BadAccess d) = hexadecimal_of d
+detail_of (outcome.BadJump d) = hexadecimal_of d
+detail_of (outcome.BadEcall d) = decimal d
+detail_of (outcome.NoFile d) = d.now
+detail_of (outcome.ImageBad d) = decimal d
+detail_of (outcome.FileFault d) = d.now
+detail_of _ = []
+
+-- a line ends by byte 10; an outcome without a line has none
+abbrev pub line_end_of : Outcome → List ℕ
+line_end_of outcome.Done = []
+line_end_of _ = 10 ∷ []
+
+abbrev pub line_of : Outcome → List ℕ
+line_of ending = text_of ending ++ (detail_of ending ++ line_end_of ending)
+
+-- the status is the outcome's and its line was written, or writing failed: then the status is 23
+-- and some first bytes of the line were written
+abbrev pub IsTold : Outcome → ℕ → Option (List ℕ) → Option (List ℕ) → ℕ → ℕ → Type 0
+IsTold ending status old new faults_before faults_after =
+    ((status ≡ status_of ending) × (new ≡ appended old (line_of ending)))
+    ⊎ ((status ≡ 23) × Rose faults_before faults_after × GrewWithin old new (line_of ending))

@@ -1,0 +1,45 @@
+//! Reading and putting the files that the words name.
+
+ghost use Rattle.std.specs.Prelude.{◌≡◌, ◌≤◌, IfErr, IfOk, OnOk};
+ghost use Rattle.clu_driver.specs.Commands.{IsFound, IsPut, NotPut, NotRead};
+
+use crate::outcome::Outcome;
+use clu_base::{Store, StoreError};
+use std::alloc::Global;
+
+/// The content of a file. The outcomes are `NoFile`, `FileFault` and `Memory`.
+pub fn content<'a, F: Store>(
+    alloc: Global,
+    name: &'a str,
+    files: &mut F,
+) -> Result<Vec<u8>, Outcome<'a>>
+    ensures counts { F.faults files.old ≤ F.faults files.new }
+    ensures kept { F.files files.new ≡ F.files files.old }
+    ensures found { IfOk result (λ content. IsFound (F.files files.old) name.now (λ bytes. bytes ≡ content.items)) }
+    ensures refused { IfErr result (λ how. NotRead how name.now (F.files files.old) (F.faults files.old) (F.faults files.new)) }
+{
+    match files.get(alloc, name) {
+        Ok(Some(bytes)) => Ok(bytes),
+        Ok(None) => Err(Outcome::NoFile(name)),
+        Err(StoreError::Failed) => Err(Outcome::FileFault(name)),
+        Err(StoreError::Memory) => Err(Outcome::Memory),
+    }
+}
+
+/// Gives a file its content. The outcomes are `FileFault` and `Memory`.
+pub fn put<'a, F: Store>(
+    alloc: Global,
+    name: &'a str,
+    bytes: &[u8],
+    files: &mut F,
+) -> Result<(), Outcome<'a>>
+    ensures counts { F.faults files.old ≤ F.faults files.new }
+    ensures done { OnOk result (IsPut name.now bytes.now (F.files files.old) (F.files files.new)) }
+    ensures refused { IfErr result (λ how. NotPut how name.now bytes.now (F.files files.old) (F.files files.new) (F.faults files.old) (F.faults files.new)) }
+{
+    match files.put(alloc, name, bytes) {
+        Ok(()) => Ok(()),
+        Err(StoreError::Failed) => Err(Outcome::FileFault(name)),
+        Err(StoreError::Memory) => Err(Outcome::Memory),
+    }
+}

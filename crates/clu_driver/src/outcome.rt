@@ -1,0 +1,189 @@
+//! How a command ends: one value for each status of the program, with what its line tells, and
+//! the one place that turns an outcome into its status and its line.
+
+ghost use Rattle.std.specs.Prelude.{◌≡◌, ◌≤◌, ◌⊎◌, ◌++◌, OnOk, OnErr, decimal};
+ghost use Rattle.clu_base.specs.Outside.{appended, GrewWithin, Rose};
+ghost use Rattle.clu_driver.specs.Outcome.{status_of, text_of, detail_of, line_end_of, line_of, hexadecimal_of, IsTold};
+
+use clu_base::{Failed, Sink, write_all};
+use itoa::Buffer;
+
+/// How a command ended. A name is that of a file as the words give it.
+#[derive(Clone, Copy, Debug)]
+pub enum Outcome<'a> {
+    /// The command was done, or the program returned.
+    Done,
+    /// The program ended by a failure with this text.
+    Failure(&'a [u8]),
+    /// The words are none that the program takes.
+    Usage,
+    /// The store is full.
+    StoreFull,
+    /// The stack is full.
+    StackFull,
+    /// The given number of steps was executed and none ended the run.
+    StepsSpent,
+    /// No instruction at this address.
+    BadInstruction(u64),
+    /// A load, a store or a text at an address where it may not be.
+    BadAccess(u64),
+    /// A jump to an address where no instruction can be.
+    BadJump(u64),
+    /// No service of this number.
+    BadEcall(u64),
+    /// The store has no such file.
+    NoFile(&'a str),
+    /// The file is no image; the number is the offset of the fault.
+    ImageBad(u64),
+    /// A read of the input failed.
+    ReadFault,
+    /// A write of the output or of the errors failed.
+    WriteFault,
+    /// A read or write of this file failed.
+    FileFault(&'a str),
+    /// Memory was refused.
+    Memory,
+    /// What this program cannot do yet.
+    NotYet,
+}
+
+impl Outcome<'_> {
+    /// The exit status.
+    pub fn status(&self) -> u8
+        ensures { result ≡ status_of self.now }
+    {
+        match self {
+            Outcome::Done => 0,
+            Outcome::Failure(_) => 1,
+            Outcome::Usage => 2,
+            Outcome::StoreFull => 3,
+            Outcome::StackFull => 4,
+            Outcome::StepsSpent => 5,
+            Outcome::BadInstruction(_) => 6,
+            Outcome::BadAccess(_) => 7,
+            Outcome::BadJump(_) => 8,
+            Outcome::BadEcall(_) => 9,
+            Outcome::NoFile(_) => 10,
+            Outcome::ImageBad(_) => 20,
+            Outcome::ReadFault => 22,
+            Outcome::WriteFault => 23,
+            Outcome::FileFault(_) => 24,
+            Outcome::Memory => 25,
+            Outcome::NotYet => 27,
+        }
+    }
+
+    /// What the line says before its detail.
+    #[tactic(auto, unfolding(crate::specs::Outcome::text_of))]
+    fn text(&self) -> &'static str
+        ensures { result.now ≡ text_of self.now }
+    {
+        match self {
+            Outcome::Done => "",
+            Outcome::Failure(_) => "failure: ",
+            Outcome::Usage => USAGE,
+            Outcome::StoreFull => "store full",
+            Outcome::StackFull => "stack full",
+            Outcome::StepsSpent => "steps spent",
+            Outcome::BadInstruction(_) => "bad instruction at ",
+            Outcome::BadAccess(_) => "bad access at ",
+            Outcome::BadJump(_) => "bad jump to ",
+            Outcome::BadEcall(_) => "bad ecall ",
+            Outcome::NoFile(_) => "no file: ",
+            Outcome::ImageBad(_) => "image bad at ",
+            Outcome::ReadFault => "read fault",
+            Outcome::WriteFault => "write fault",
+            Outcome::FileFault(_) => "file fault: ",
+            Outcome::Memory => "out of memory",
+            Outcome::NotYet => "not yet",
+        }
+    }
+
+    /// What ends the line; nothing where there is none.
+    fn line_end(&self) -> &'static str
+        ensures { result.now ≡ line_end_of self.now }
+    {
+        match self {
+            Outcome::Done => "",
+            _ => "\n",
+        }
+    }
+}
+
+/// The line of status 2.
+pub const USAGE: &str = "usage: clu go|spec|replace|compile|link|run|exec|gen|list|asm|print|xref";
+
+// Sixteen lower-case hexadecimal digits of a number, the highest first.
+fn write_hexadecimal<E: Sink>(errors: &mut E, n: u64) -> Result<(), Failed>
+    ensures counts { E.faults errors.old ≤ E.faults errors.new }
+    ensures failed { OnErr result (Rose (E.faults errors.old) (E.faults errors.new)) }
+    ensures whole { OnOk result (E.written errors.new ≡ appended (E.written errors.old) (hexadecimal_of n)) }
+    ensures part { OnErr result (GrewWithin (E.written errors.old) (E.written errors.new) (hexadecimal_of n)) }
+{
+    let mut digits = [0; 16];
+    match hex::encode_to_slice(n.to_be_bytes(), &mut digits) {
+        Ok(()) => write_all(errors, &digits),
+        Err(_) => unreachable!(),
+    }
+}
+
+// The decimal digits of a number.
+fn write_decimal<E: Sink>(errors: &mut E, n: u64) -> Result<(), Failed>
+    ensures counts { E.faults errors.old ≤ E.faults errors.new }
+    ensures failed { OnErr result (Rose (E.faults errors.old) (E.faults errors.new)) }
+    ensures whole { OnOk result (E.written errors.new ≡ appended (E.written errors.old) (decimal n)) }
+    ensures part { OnErr result (GrewWithin (E.written errors.old) (E.written errors.new) (decimal n)) }
+{
+    write_all(errors, Buffer::new().format(n).as_bytes())
+}
+
+// What the line tells of this outcome, behind its text.
+#[tactic(auto, using(clu_base::proofs::Written::laws))]
+fn write_detail<E: Sink>(errors: &mut E, outcome: &Outcome<'_>) -> Result<(), Failed>
+    ensures counts { E.faults errors.old ≤ E.faults errors.new }
+    ensures failed { OnErr result (Rose (E.faults errors.old) (E.faults errors.new)) }
+    ensures whole { OnOk result (E.written errors.new ≡ appended (E.written errors.old) (detail_of outcome.now)) }
+    ensures part { OnErr result (GrewWithin (E.written errors.old) (E.written errors.new) (detail_of outcome.now)) }
+{
+    match outcome {
+        Outcome::Failure(text) => write_all(errors, text),
+        Outcome::NoFile(name) | Outcome::FileFault(name) => write_all(errors, name.as_bytes()),
+        Outcome::BadInstruction(at) | Outcome::BadAccess(at) | Outcome::BadJump(at) => {
+            write_hexadecimal(errors, *at)
+        }
+        Outcome::BadEcall(n) | Outcome::ImageBad(n) => write_decimal(errors, *n),
+        Outcome::Done
+        | Outcome::Usage
+        | Outcome::StoreFull
+        | Outcome::StackFull
+        | Outcome::StepsSpent
+        | Outcome::ReadFault
+        | Outcome::WriteFault
+        | Outcome::Memory
+        | Outcome::NotYet => Ok(()),
+    }
+}
+
+#[tactic(auto, using(clu_base::proofs::Written::laws))]
+fn write_line<E: Sink>(errors: &mut E, outcome: &Outcome<'_>) -> Result<(), Failed>
+    ensures counts { E.faults errors.old ≤ E.faults errors.new }
+    ensures failed { OnErr result (Rose (E.faults errors.old) (E.faults errors.new)) }
+    ensures whole { OnOk result (E.written errors.new ≡ appended (E.written errors.old) (line_of outcome.now)) }
+    ensures part { OnErr result (GrewWithin (E.written errors.old) (E.written errors.new) (line_of outcome.now)) }
+{
+    write_all(errors, outcome.text().as_bytes())?;
+    write_detail(errors, outcome)?;
+    write_all(errors, outcome.line_end().as_bytes())
+}
+
+/// Writes the line of an outcome to the errors and gives its status: 23 in place of its own where
+/// the line could not be written. `Done` has no line.
+pub fn report<E: Sink>(errors: &mut E, outcome: &Outcome<'_>) -> u8
+    ensures counts { E.faults errors.old ≤ E.faults errors.new }
+    ensures told { IsTold outcome.now result (E.written errors.old) (E.written errors.new) (E.faults errors.old) (E.faults errors.new) }
+{
+    match write_line(errors, outcome) {
+        Ok(()) => outcome.status(),
+        Err(_) => 23,
+    }
+}

@@ -1,0 +1,4 @@
+pub mod Choice
+pub mod Grammar
+pub mod Language
+pub mod Rows

@@ -1,0 +1,4 @@
+pub mod FileLemmas
+pub mod FileOfContents
+pub mod ContentsOfFile
+pub mod ReadLaws

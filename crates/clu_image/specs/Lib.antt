@@ -1,0 +1,4 @@
+pub mod ImageFile
+pub mod Faults
+pub mod Header
+pub mod Parts

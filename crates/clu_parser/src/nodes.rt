@@ -1,0 +1,135 @@
+//! A node as it is made when it is whole, and whether it fits into the tree.
+
+ghost use Rattle.std.specs.Prelude.{◌≡◌, ◌+◌, ◌-◌, ◌<◌, ◌^◌, IfOk, IsTrue, All, map, length, drop, slice_get};
+ghost use Rattle.clu_tree.specs.Count.{counts, count_with};
+ghost use Rattle.clu_parser.specs.Trees.{text, is_marked, end_in, last_of, spelling_at, value_of, place_at, node_of};
+
+use crate::begun::Begun;
+use crate::errors::BuildError;
+use crate::source::{Source, place_in, spelling};
+use clu_base::{Bytes, Place, Sequence};
+use clu_tree::{Node, NodeKind, Tree};
+use std::alloc::Global;
+
+/// The spelling of the token of this number.
+fn spelling_at(alloc: Global, source: &Source, n: u32) -> Result<Bytes, BuildError>
+    ensures { IfOk result (λ b. b ≡ spelling_at (text source.now) n) }
+{
+    spelling(alloc, source.bytes, source.tokens.get(n as usize))
+}
+
+/// The place of the token of this number.
+fn place_at(source: &Source, n: u32) -> Place
+    ensures { result ≡ place_at (text source.now) n }
+{
+    place_in(source.tokens.get(n as usize))
+}
+
+/// The identifiers of these tokens.
+fn names(alloc: Global, source: &Source, tokens: &[u32]) -> Result<Sequence<Bytes>, BuildError>
+    ensures { IfOk result (λ names. names ≡ map (spelling_at (text source.now)) tokens.now) }
+{
+    let mut names = Vec::new(alloc);
+    for n in tokens {
+        let name = spelling_at(alloc, source, *n)?;
+        names.push(name)?;
+    }
+    Ok(Sequence::from_vec(names))
+}
+
+/// What the token gives a node as its value; empty where there is none.
+fn value_of(alloc: Global, source: &Source, token: Option<u32>) -> Result<Bytes, BuildError>
+    ensures { IfOk result (λ b. b ≡ value_of (text source.now) token) }
+{
+    match token {
+        Some(n) => spelling_at(alloc, source, n),
+        None => Ok(Bytes::from_vec(Vec::new(alloc))),
+    }
+}
+
+/// Whether a fault at a node of this kind is reported at its mark, and not at its first token.
+fn is_marked(kind: NodeKind) -> bool
+    ensures { result ≡ is_marked kind }
+{
+    match kind {
+        NodeKind::Infix
+        | NodeKind::Index
+        | NodeKind::Get
+        | NodeKind::Call
+        | NodeKind::Resignal
+        | NodeKind::Except => true,
+        _ => false,
+    }
+}
+
+/// The last token of the node, or the one given where there is no node.
+fn end_in(tree: &Tree, child: Option<u32>, last: u32) -> u32
+    ensures { result ≡ end_in tree.now child last }
+{
+    match child {
+        Some(n) => {
+            if n < tree.len() {
+                tree.node(n).last
+            } else {
+                last
+            }
+        }
+        None => last,
+    }
+}
+
+/// The last token of a node of this kind over these children, where `last` was taken last.
+fn last_of(kind: NodeKind, tree: &Tree, children: &[u32], last: u32) -> u32
+    ensures { result ≡ last_of kind tree.now children.now last }
+{
+    match kind {
+        NodeKind::Restrict => end_in(tree, children.last().copied(), last),
+        _ => last,
+    }
+}
+
+/// The node that began so and ends with the token `last`.
+pub fn make_node(
+    alloc: Global,
+    source: &Source,
+    kind: NodeKind,
+    last: u32,
+    tree: &Tree,
+    children: &[u32],
+    begun: &Begun,
+) -> Result<Node, BuildError>
+    ensures { IfOk result (λ node. node ≡ node_of (text source.now) kind last tree.now children.now begun.now) }
+{
+    let mark = if is_marked(kind) {
+        begun.mark
+    } else {
+        begun.first
+    };
+    let names = names(alloc, source, begun.names.as_slice())?;
+    let value = value_of(alloc, source, begun.value)?;
+    let copy = children.to_vec(alloc)?;
+    Ok(Node {
+        kind,
+        place: place_at(source, mark),
+        first: begun.first,
+        last: last_of(kind, tree, children, last),
+        children: Sequence::from_vec(copy),
+        names,
+        value,
+    })
+}
+
+/// Whether there is room for the node in a tree, by its number and its count.
+pub fn has_room(tree: &Tree, node: &Node) -> bool
+    requires { All (λ c. c < length tree.now) node.now.children }
+    ensures number { IsTrue result → length tree.now < 2 ^ 32 - 1 }
+    ensures count { IsTrue result → count_with (counts tree.now) node.now < 2 ^ 32 }
+{
+    let names = node.names.as_slice().len() as u64;
+    let value = node.value.as_slice().len() as u64;
+    let mut count = names.saturating_add(value).saturating_add(1);
+    for child in node.children.as_slice() {
+        count = count.saturating_add(tree.nodes(*child) as u64);
+    }
+    tree.len() < u32::MAX && count <= u32::MAX as u64
+}

@@ -1,0 +1,4 @@
+pub mod Immediates
+pub mod RowLemmas
+pub mod WordToInstr
+pub mod InstrToWord

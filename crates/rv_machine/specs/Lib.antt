@@ -1,0 +1,10 @@
+pub mod Values
+pub mod State
+pub mod Steps
+pub mod Rows
+pub mod Limits
+pub mod Input
+pub mod Calls
+pub mod Start
+pub mod Emulation
+pub mod Snapshot
