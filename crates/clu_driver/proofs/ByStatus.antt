@@ -33,7 +33,7 @@ usage_shown (Some (command.link a b d)) before after shown = cc
 usage_shown (Some (command.run a b l)) before after shown = cc
 usage_shown (Some (command.list a)) before after shown = cc
 usage_shown (Some (command.asm a b)) before after shown = cc
-usage_shown (Some (command.print a)) before after shown = cc
+usage_shown (Some (command.print a)) before after shown = elim shown.1.1 [ inl refused ↦ elim refused.0 [ ] | inr written ↦ elim written [ ] ]
 usage_shown (Some (command.xref a)) before after shown = cc
 
 -- the status is the outcome's, or the line could not be written

@@ -1,14 +1,17 @@
 -- What holds of the content that was read holds of the file.
-use Rattle.std.proofs.Common.{◌≡◌, ◌≤◌, ◌∙◌, ap, inr, subst, List, ℕ, Option, Some, None}
+use Rattle.std.proofs.Common.{◌≡◌, ◌≤◌, ◌<◌, ◌∙◌, ap, sym, inr, subst, length, List, ℕ, Option, Some, None}
 use Rattle.clu_base.specs.Outside.{Files}
 use Rattle.clu_image.specs.Faults.{IsRefusal, fault_of}
 use Rattle.clu_base.specs.declared.errors.FormatError.TheVariants.{Bad, Memory}
 use Rattle.clu_base.specs.declared.errors.FormatError.{FormatError}
 use Rattle.clu_words.specs.Command.{Limits}
 use Rattle.rv_isa.specs.Image.{Contents}
-use Rattle.clu_driver.specs.Commands.{GoShows, IsFound, PutShows}
+use Rattle.clu_driver.specs.Commands.{GoShows, PutShows}
+use Rattle.clu_driver.specs.Found.{IsFound}
+use Rattle.clu_driver.specs.Sources.{IsRefusedBy, NotParsed, NotSource}
 use Rattle.clu_driver.specs.World.{Streams, World, world_of}
 use Rattle.clu_driver.specs.declared.outcome.Outcome.{Outcome}
+use Rattle.clu_driver.specs.declared.outcome.Outcome.TheVariants as outcome
 
 pub fault_found : (files : Option Files) (name bytes : List ℕ) (at : ℕ) → IsFound files name (λ b. b ≡ bytes) → fault_of bytes ≡ Some at → IsFound files name (λ b. fault_of b ≡ Some at)
 fault_found None name bytes at found fault = tt
@@ -25,3 +28,15 @@ pub go_shows : (how : Outcome) (file name : List ℕ) (limits : Limits) (image :
 go_shows how file name limits image files files' faults faults' streams after same counts put =
     let P : Option Files → Type 0 = λ f. PutShows how name image limits (world_of f faults' streams) after in
     inr (image, faults', counts, subst P same put)
+
+-- what holds of the content that was read holds of the file
+found_with : (P : List ℕ → Type 0) (files : Option Files) (name bytes : List ℕ) → IsFound files name (λ b. b ≡ bytes) → P bytes → IsFound files name P
+found_with P None name bytes found p = tt
+found_with P (Some all) name bytes found p = (found.0, found.1, subst P (sym found.2) p)
+
+pub not_parsed : (how : Outcome) (name bytes : List ℕ) (files : Option Files) (faults faults' : ℕ) → IsFound files name (λ b. b ≡ bytes) → NotSource how name bytes → NotParsed how name files faults faults'
+not_parsed (outcome.Refused n r) name bytes files faults faults' found why = (why.0, found_with (λ b. IsRefusedBy b r) files name bytes found why.1)
+not_parsed (outcome.SourceTooLarge n) name bytes files faults faults' found why = (why.0, found_with (λ b. 1048576 < length b) files name bytes found why.1)
+not_parsed outcome.Memory name bytes files faults faults' found why = tt
+not_parsed outcome.NotYet name bytes files faults faults' found why = tt
+not_parsed _ name bytes files faults faults' found why = elim why [ ]

@@ -6,32 +6,18 @@ use Rattle.clu_image.specs.ImageFile.{IsFileOf, image_bytes}
 use Rattle.clu_words.specs.Command.{Limits, Meant}
 use Rattle.clu_words.specs.Command as command
 use Rattle.rv_isa.specs.Image.{Contents}
+use Rattle.clu_driver.specs.Found.{IsFound, NotRead}
 use Rattle.clu_driver.specs.Generated.{generated_text}
 use Rattle.clu_driver.specs.Shows.{RunShows}
+use Rattle.clu_driver.specs.Sources.{NotParsed}
 use Rattle.clu_driver.specs.World.{IsUnrun, IsUntouched, World, world_of}
 use Rattle.clu_driver.specs.declared.outcome.Outcome.{Outcome}
 use Rattle.clu_driver.specs.declared.outcome.Outcome.TheVariants as outcome
-
--- where files are told, the file of this name has content of which this holds
-abbrev pub IsFound : Option Files → List ℕ → (List ℕ → Type 0) → Type 0
-IsFound files name P = IfSome files (λ all. (bytes : List ℕ) × (all name ≡ Some bytes) × P bytes)
-
--- why a file was not read: there is none, the store failed, or memory was refused
-abbrev pub NotRead : Outcome → List ℕ → Option Files → ℕ → ℕ → Type 0
-NotRead (outcome.NoFile n) name files faults faults' = (n.now ≡ name) × IfSome files (λ all. all name ≡ None)
-NotRead (outcome.FileFault n) name files faults faults' = (n.now ≡ name) × Rose faults faults'
-NotRead outcome.Memory name files faults faults' = Unit {0}
-NotRead _ name files faults faults' = ⊥
 
 -- why an image file was not loaded: it was not read, or its bytes are no image
 abbrev pub NotLoaded : Outcome → List ℕ → Option Files → ℕ → ℕ → Type 0
 NotLoaded (outcome.ImageBad at) name files faults faults' = IsFound files name (λ bytes. fault_of bytes ≡ Some at)
 NotLoaded how name files faults faults' = NotRead how name files faults faults'
-
--- why a source was not compiled: it was not read, or it is none that is compiled yet
-abbrev pub NotCompiled : Outcome → List ℕ → Option Files → ℕ → ℕ → Type 0
-NotCompiled outcome.NotYet name files faults faults' = Unit {0}
-NotCompiled how name files faults faults' = NotRead how name files faults faults'
 
 -- why a file was not put, and what stands under its name then
 abbrev pub NotPut : Outcome → List ℕ → List ℕ → Option Files → Option Files → ℕ → ℕ → Type 0
@@ -59,7 +45,7 @@ PutShows how name image limits before after =
 -- go: the source was refused and nothing changed, or its image was put and run
 abbrev pub GoShows : Outcome → List ℕ → List ℕ → Limits → World → World → Type 0
 GoShows how file name limits before after =
-    (NotCompiled how file before.files before.store_faults after.store_faults × IsUntouched before after)
+    (NotParsed how file before.files before.store_faults after.store_faults × IsUntouched before after)
     ⊎ ((image : Contents) × (faults : ℕ) × (before.store_faults ≤ faults) × PutShows how name image limits (world_of before.files faults before.streams) after)
 
 -- gen: the source was written, or some first bytes of it
@@ -67,6 +53,18 @@ abbrev pub GenShows : Outcome → ℕ → Option (List ℕ) → Option (List ℕ
 GenShows outcome.Done n written written' faults faults' = written' ≡ appended written (generated_text n)
 GenShows outcome.WriteFault n written written' faults faults' = Rose faults faults' × GrewWithin written written' (generated_text n)
 GenShows _ n written written' faults faults' = ⊥
+
+-- a text was written, or some first bytes of it
+abbrev pub TextShows : Outcome → Option (List ℕ) → ℕ → Option (List ℕ) → ℕ → Type 0
+TextShows outcome.Done written faults written' faults' = (text : List ℕ) × (written' ≡ appended written text)
+TextShows outcome.WriteFault written faults written' faults' = Rose faults faults' × ((text : List ℕ) × GrewWithin written written' text)
+TextShows _ written faults written' faults' = ⊥
+
+-- print: the source was refused and nothing changed, or a text was written and no file changed
+abbrev pub PrintedShows : Outcome → List ℕ → Option Files → ℕ → Option (List ℕ) → ℕ → Option Files → ℕ → Option (List ℕ) → ℕ → Type 0
+PrintedShows how file files store_faults written faults files' store_faults' written' faults' =
+    (files' ≡ files)
+    × ((NotParsed how file files store_faults store_faults' × (written' ≡ written)) ⊎ TextShows how written faults written' faults')
 
 -- what the command that the words are shows of the outcome
 abbrev pub CommandShows : Option Meant → Outcome → World → World → Type 0
@@ -76,6 +74,10 @@ CommandShows (Some (command.exec image limits)) how before after = ExecShows how
 CommandShows (Some (command.gen procedures)) how before after =
     (after.files ≡ before.files) × (after.streams.left ≡ before.streams.left)
     × GenShows how procedures before.streams.written after.streams.written before.streams.write_faults after.streams.write_faults
+CommandShows (Some (command.print file)) how before after =
+    (after.streams.left ≡ before.streams.left)
+    × PrintedShows how file before.files before.store_faults before.streams.written before.streams.write_faults
+    after.files after.store_faults after.streams.written after.streams.write_faults
 CommandShows (Some _) how before after = (how ≡ outcome.NotYet) × IsUntouched before after
 
 -- the same, or memory for reading the words was refused
@@ -84,4 +86,4 @@ CluShows meant how before after = ((how ≡ outcome.Memory) × IsUntouched befor
 
 -- a status with which a command is refused: its words, its files, its image or source, or memory
 abbrev pub IsRefusal : ℕ → Type 0
-IsRefusal status = (status ≡ 2) ⊎ ((status ≡ 10) ⊎ ((status ≡ 20) ⊎ ((status ≡ 24) ⊎ ((status ≡ 25) ⊎ (status ≡ 27)))))
+IsRefusal status = (status ≡ 2) ⊎ ((status ≡ 10) ⊎ ((status ≡ 11) ⊎ ((status ≡ 20) ⊎ ((status ≡ 24) ⊎ ((status ≡ 25) ⊎ ((status ≡ 26) ⊎ (status ≡ 27)))))))

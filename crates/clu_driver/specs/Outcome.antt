@@ -3,6 +3,12 @@ use Rattle.std.specs.Prelude.{◌≡◌, ℕ, ◌⊎◌, List, [], ◌∷◌, �
 use Rattle.std.specs.Int.{w64, to_be_bytes}
 use Rattle.hex.specs.Hex.{encode_lower}
 use Rattle.clu_base.specs.Outside.{appended, GrewWithin, Rose}
+use Rattle.clu_base.specs.Rules.{name_of, number_of}
+use Rattle.clu_base.specs.declared.rules.Refused.{Refused}
+use Rattle.clu_base.specs.declared.rules.Rule.{Rule}
+use Rattle.clu_base.specs.declared.tokens.Place.{Place}
+use Rattle.clu_driver.specs.declared.outcome.Mark.{Mark}
+use Rattle.clu_driver.specs.declared.outcome.Mark.TheVariants as mark
 use Rattle.clu_driver.specs.declared.outcome.Outcome.{Outcome}
 use Rattle.clu_driver.specs.declared.outcome.Outcome.TheVariants as outcome
 
@@ -18,11 +24,13 @@ status_of (outcome.BadAccess d) = 7
 status_of (outcome.BadJump d) = 8
 status_of (outcome.BadEcall d) = 9
 status_of (outcome.NoFile d) = 10
+status_of (outcome.Refused n r) = 11
 status_of (outcome.ImageBad d) = 20
 status_of outcome.ReadFault = 22
 status_of outcome.WriteFault = 23
 status_of (outcome.FileFault d) = 24
 status_of outcome.Memory = 25
+status_of (outcome.SourceTooLarge n) = 26
 status_of outcome.NotYet = 27
 
 -- what the line says first
@@ -38,16 +46,35 @@ text_of (outcome.BadAccess d) = codes "bad access at "
 text_of (outcome.BadJump d) = codes "bad jump to "
 text_of (outcome.BadEcall d) = codes "bad ecall "
 text_of (outcome.NoFile d) = codes "no file: "
+text_of (outcome.Refused n r) = []
 text_of (outcome.ImageBad d) = codes "image bad at "
 text_of outcome.ReadFault = codes "read fault"
 text_of outcome.WriteFault = codes "write fault"
 text_of (outcome.FileFault d) = codes "file fault: "
 text_of outcome.Memory = codes "out of memory"
+text_of (outcome.SourceTooLarge n) = codes "source too large: "
 text_of outcome.NotYet = codes "not yet"
 
 -- the sixteen hexadecimal digits of an address
 abbrev pub hexadecimal_of : ℕ → List ℕ
 hexadecimal_of n = encode_lower (to_be_bytes w64 n)
+
+-- what stands before a part of a refusal's line
+unfoldable pub mark_text : Mark → List ℕ
+mark_text mark.Place = codes ":"
+mark_text mark.Rule = codes ": V"
+mark_text mark.Name = codes " "
+
+-- the file, line and column of a place
+abbrev pub place_text : List ℕ → Place → List ℕ
+place_text name place = name ++ ((mark_text mark.Place ++ decimal place.line) ++ (mark_text mark.Place ++ decimal place.col))
+
+-- a rule's number and name, as in V2 Syntax
+abbrev pub rule_text : Rule → List ℕ
+rule_text rule = (mark_text mark.Rule ++ decimal (number_of rule)) ++ (mark_text mark.Name ++ name_of rule)
+
+abbrev pub refused_text : List ℕ → Refused → List ℕ
+refused_text name r = place_text name r.place ++ rule_text r.rule
 
 -- what the line tells behind it: a text or a name, an address, a number
 abbrev pub detail_of : Outcome → List ℕ
@@ -57,6 +84,8 @@ detail_of (outcome.BadAccess d) = hexadecimal_of d
 detail_of (outcome.BadJump d) = hexadecimal_of d
 detail_of (outcome.BadEcall d) = decimal d
 detail_of (outcome.NoFile d) = d.now
+detail_of (outcome.Refused n r) = refused_text n.now r
+detail_of (outcome.SourceTooLarge n) = n.now
 detail_of (outcome.ImageBad d) = decimal d
 detail_of (outcome.FileFault d) = d.now
 detail_of _ = []

@@ -3,15 +3,17 @@
 ghost use Rattle.std.specs.Prelude.{◌≡◌, ◌≤◌, ◌⊎◌, IfErr, OnOk};
 ghost use Rattle.clu_image.specs.ImageFile.{image_bytes};
 ghost use Rattle.clu_words.specs.Command.{seen_limits};
-ghost use Rattle.clu_driver.specs.Commands.{GoShows, IsPut, NotCompiled, NotPut, PutShows};
+ghost use Rattle.clu_driver.specs.Commands.{GoShows, IsPut, NotPut, PutShows};
+ghost use Rattle.clu_driver.specs.Sources.{NotParsed};
 ghost use Rattle.clu_driver.specs.Shows.{Reported};
 ghost use Rattle.clu_driver.specs.World.{streams_of, world_of};
 
-use crate::file::{content, put};
+use crate::file::put;
 use crate::literal::literal_output;
 use crate::literal_code::literal_image;
 use crate::outcome::{Outcome, report};
 use crate::running::run;
+use crate::sources::parse_file;
 use clu_base::{Sink, Source, Store};
 use clu_image::store;
 use clu_words::RunLimits;
@@ -68,10 +70,10 @@ fn put_and_run<S: Source, K: Sink, E: Sink, F: Store>(
 fn compiled<'a, F: Store>(alloc: Global, file: &'a str, files: &mut F) -> Result<Image, Outcome<'a>>
     ensures counts { F.faults files.old ≤ F.faults files.new }
     ensures kept { F.files files.new ≡ F.files files.old }
-    ensures refused { IfErr result (λ how. NotCompiled how file.now (F.files files.old) (F.faults files.old) (F.faults files.new)) }
+    ensures refused { IfErr result (λ how. NotParsed how file.now (F.files files.old) (F.faults files.old) (F.faults files.new)) }
 {
-    let source = content(alloc, file, files)?;
-    literal_program(alloc, &source)
+    let source = parse_file(alloc, file, files)?;
+    literal_program(alloc, &source.bytes)
 }
 
 // Puts the image under its name.

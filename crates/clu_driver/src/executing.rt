@@ -3,7 +3,8 @@
 ghost use Rattle.std.specs.Prelude.{◌≡◌, ◌≤◌, IfErr, IfOk};
 ghost use Rattle.clu_image.specs.ImageFile.{IsFileOf};
 ghost use Rattle.clu_words.specs.Command.{seen_limits};
-ghost use Rattle.clu_driver.specs.Commands.{ExecShows, IsFound, NotLoaded};
+ghost use Rattle.clu_driver.specs.Commands.{ExecShows, NotLoaded};
+ghost use Rattle.clu_driver.specs.Found.{IsFound};
 ghost use Rattle.clu_driver.specs.Shows.{Reported};
 ghost use Rattle.clu_driver.specs.World.{streams_of, world_of};
 

@@ -1,7 +1,8 @@
 //! Reading and putting the files that the words name.
 
 ghost use Rattle.std.specs.Prelude.{◌≡◌, ◌≤◌, IfErr, IfOk, OnOk};
-ghost use Rattle.clu_driver.specs.Commands.{IsFound, IsPut, NotPut, NotRead};
+ghost use Rattle.clu_driver.specs.Commands.{IsPut, NotPut};
+ghost use Rattle.clu_driver.specs.Found.{IsFound, NotRead};
 
 use crate::outcome::Outcome;
 use clu_base::{Store, StoreError};

@@ -9,7 +9,9 @@ mod generating;
 mod literal;
 mod literal_code;
 mod outcome;
+mod printing;
 mod running;
+mod sources;
 #[cfg(test)]
 mod tests;
 mod top;

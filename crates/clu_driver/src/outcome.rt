@@ -3,9 +3,10 @@
 
 ghost use Rattle.std.specs.Prelude.{◌≡◌, ◌≤◌, ◌⊎◌, ◌++◌, OnOk, OnErr, decimal};
 ghost use Rattle.clu_base.specs.Outside.{appended, GrewWithin, Rose};
-ghost use Rattle.clu_driver.specs.Outcome.{status_of, text_of, detail_of, line_end_of, line_of, hexadecimal_of, IsTold};
+ghost use Rattle.clu_base.specs.Rules.{name_of};
+ghost use Rattle.clu_driver.specs.Outcome.{IsTold, detail_of, hexadecimal_of, line_end_of, line_of, mark_text, place_text, refused_text, rule_text, status_of, text_of};
 
-use clu_base::{Failed, Sink, write_all};
+use clu_base::{Failed, Place, Refused, Rule, Sink, write_all};
 use itoa::Buffer;
 
 /// How a command ended. A name is that of a file as the words give it.
@@ -33,6 +34,8 @@ pub enum Outcome<'a> {
     BadEcall(u64),
     /// The store has no such file.
     NoFile(&'a str),
+    /// The source breaks this rule at this place, the first that it breaks.
+    Refused(&'a str, Refused),
     /// The file is no image; the number is the offset of the fault.
     ImageBad(u64),
     /// A read of the input failed.
@@ -43,6 +46,8 @@ pub enum Outcome<'a> {
     FileFault(&'a str),
     /// Memory was refused.
     Memory,
+    /// The source has more than 1,048,576 bytes.
+    SourceTooLarge(&'a str),
     /// What this program cannot do yet.
     NotYet,
 }
@@ -64,11 +69,13 @@ impl Outcome<'_> {
             Outcome::BadJump(_) => 8,
             Outcome::BadEcall(_) => 9,
             Outcome::NoFile(_) => 10,
+            Outcome::Refused(_, _) => 11,
             Outcome::ImageBad(_) => 20,
             Outcome::ReadFault => 22,
             Outcome::WriteFault => 23,
             Outcome::FileFault(_) => 24,
             Outcome::Memory => 25,
+            Outcome::SourceTooLarge(_) => 26,
             Outcome::NotYet => 27,
         }
     }
@@ -79,7 +86,7 @@ impl Outcome<'_> {
         ensures { result.now ≡ text_of self.now }
     {
         match self {
-            Outcome::Done => "",
+            Outcome::Done | Outcome::Refused(_, _) => "",
             Outcome::Failure(_) => "failure: ",
             Outcome::Usage => USAGE,
             Outcome::StoreFull => "store full",
@@ -95,6 +102,7 @@ impl Outcome<'_> {
             Outcome::WriteFault => "write fault",
             Outcome::FileFault(_) => "file fault: ",
             Outcome::Memory => "out of memory",
+            Outcome::SourceTooLarge(_) => "source too large: ",
             Outcome::NotYet => "not yet",
         }
     }
@@ -137,6 +145,89 @@ fn write_decimal<E: Sink>(errors: &mut E, n: u64) -> Result<(), Failed>
     write_all(errors, Buffer::new().format(n).as_bytes())
 }
 
+/// What stands before a part of a refusal's line.
+#[derive(Clone, Copy)]
+enum Mark {
+    /// Before a line or a column.
+    Place,
+    /// Before a rule's number.
+    Rule,
+    /// Before a rule's name.
+    Name,
+}
+
+impl Mark {
+    #[tactic(auto, unfolding(crate::specs::Outcome::mark_text))]
+    fn text(self) -> &'static str
+        ensures { result.now ≡ mark_text self }
+    {
+        match self {
+            Mark::Place => ":",
+            Mark::Rule => ": V",
+            Mark::Name => " ",
+        }
+    }
+}
+
+// A mark and a number behind it.
+#[tactic(auto, using(clu_base::proofs::Written::laws))]
+fn write_numbered<E: Sink>(errors: &mut E, mark: Mark, n: u64) -> Result<(), Failed>
+    ensures counts { E.faults errors.old ≤ E.faults errors.new }
+    ensures failed { OnErr result (Rose (E.faults errors.old) (E.faults errors.new)) }
+    ensures whole { OnOk result (E.written errors.new ≡ appended (E.written errors.old) (mark_text mark ++ decimal n)) }
+    ensures part { OnErr result (GrewWithin (E.written errors.old) (E.written errors.new) (mark_text mark ++ decimal n)) }
+{
+    write_all(errors, mark.text().as_bytes())?;
+    write_decimal(errors, n)
+}
+
+// The file, line and column of a place.
+#[tactic(auto, using(clu_base::proofs::Written::laws))]
+fn write_place<E: Sink>(errors: &mut E, name: &str, place: Place) -> Result<(), Failed>
+    ensures counts { E.faults errors.old ≤ E.faults errors.new }
+    ensures failed { OnErr result (Rose (E.faults errors.old) (E.faults errors.new)) }
+    ensures whole { OnOk result (E.written errors.new ≡ appended (E.written errors.old) (place_text name.now place)) }
+    ensures part { OnErr result (GrewWithin (E.written errors.old) (E.written errors.new) (place_text name.now place)) }
+{
+    write_all(errors, name.as_bytes())?;
+    write_numbered(errors, Mark::Place, place.line as u64)?;
+    write_numbered(errors, Mark::Place, place.col as u64)
+}
+
+// The number and name of a rule.
+#[tactic(auto, using(clu_base::proofs::Written::laws))]
+fn write_rule<E: Sink>(errors: &mut E, rule: Rule) -> Result<(), Failed>
+    ensures counts { E.faults errors.old ≤ E.faults errors.new }
+    ensures failed { OnErr result (Rose (E.faults errors.old) (E.faults errors.new)) }
+    ensures whole { OnOk result (E.written errors.new ≡ appended (E.written errors.old) (rule_text rule)) }
+    ensures part { OnErr result (GrewWithin (E.written errors.old) (E.written errors.new) (rule_text rule)) }
+{
+    write_numbered(errors, Mark::Rule, rule.number() as u64)?;
+    write_rule_name(errors, rule)
+}
+
+#[tactic(auto, using(clu_base::proofs::Written::laws))]
+fn write_rule_name<E: Sink>(errors: &mut E, rule: Rule) -> Result<(), Failed>
+    ensures counts { E.faults errors.old ≤ E.faults errors.new }
+    ensures failed { OnErr result (Rose (E.faults errors.old) (E.faults errors.new)) }
+    ensures whole { OnOk result (E.written errors.new ≡ appended (E.written errors.old) (mark_text Mark.Name ++ name_of rule)) }
+    ensures part { OnErr result (GrewWithin (E.written errors.old) (E.written errors.new) (mark_text Mark.Name ++ name_of rule)) }
+{
+    write_all(errors, Mark::Name.text().as_bytes())?;
+    write_all(errors, rule.name().as_bytes())
+}
+
+#[tactic(auto, using(clu_base::proofs::Written::laws))]
+fn write_refused<E: Sink>(errors: &mut E, name: &str, refused: &Refused) -> Result<(), Failed>
+    ensures counts { E.faults errors.old ≤ E.faults errors.new }
+    ensures failed { OnErr result (Rose (E.faults errors.old) (E.faults errors.new)) }
+    ensures whole { OnOk result (E.written errors.new ≡ appended (E.written errors.old) (refused_text name.now refused.now)) }
+    ensures part { OnErr result (GrewWithin (E.written errors.old) (E.written errors.new) (refused_text name.now refused.now)) }
+{
+    write_place(errors, name, refused.place)?;
+    write_rule(errors, refused.rule)
+}
+
 // What the line tells of this outcome, behind its text.
 #[tactic(auto, using(clu_base::proofs::Written::laws))]
 fn write_detail<E: Sink>(errors: &mut E, outcome: &Outcome<'_>) -> Result<(), Failed>
@@ -147,7 +238,10 @@ fn write_detail<E: Sink>(errors: &mut E, outcome: &Outcome<'_>) -> Result<(), Fa
 {
     match outcome {
         Outcome::Failure(text) => write_all(errors, text),
-        Outcome::NoFile(name) | Outcome::FileFault(name) => write_all(errors, name.as_bytes()),
+        Outcome::NoFile(name) | Outcome::FileFault(name) | Outcome::SourceTooLarge(name) => {
+            write_all(errors, name.as_bytes())
+        }
+        Outcome::Refused(name, refused) => write_refused(errors, name, refused),
         Outcome::BadInstruction(at) | Outcome::BadAccess(at) | Outcome::BadJump(at) => {
             write_hexadecimal(errors, *at)
         }

@@ -106,6 +106,48 @@ fn rows(rt: HostRuntime) -> Result<(), Fail> {
             errors: b"no file: c\n",
         },
         Row {
+            words: "go a b",
+            file: b"",
+            status: 11,
+            output: b"",
+            errors: b"a:1:1: V2 Syntax\n",
+        },
+        Row {
+            words: "go a b",
+            file: b"start_up = proc ()\n",
+            status: 11,
+            output: b"",
+            errors: b"a:2:1: V2 Syntax\n",
+        },
+        Row {
+            words: "print a",
+            file: b"#",
+            status: 11,
+            output: b"",
+            errors: b"a:1:1: V1 Token\n",
+        },
+        Row {
+            words: "print a",
+            file: b"p=PROC()x:int:=1+2 ;END P",
+            status: 0,
+            output: b"p = proc ()\n  x: int := 1 + 2\nend p\n",
+            errors: b"",
+        },
+        Row {
+            words: "go a",
+            file: HI,
+            status: 2,
+            output: b"",
+            errors: b"usage: clu go|spec|replace|compile|link|run|exec|gen|list|asm|print|xref\n",
+        },
+        Row {
+            words: "xref a",
+            file: HI,
+            status: 27,
+            output: b"",
+            errors: b"not yet\n",
+        },
+        Row {
             words: "exec a",
             file: b"CLUI\x01\0\0\0\0\0\0\0\x01\0\0\0\0\0\0\0\0\0\0\0",
             status: 6,
@@ -205,5 +247,55 @@ fn rows(rt: HostRuntime) -> Result<(), Fail> {
         assert_eq!(rt; outside.output.bytes(), row.output);
         assert_eq!(rt; outside.errors.bytes(), row.errors);
     }
+    Ok(())
+}
+
+#[test]
+fn failing_writes_and_files(rt: HostRuntime) -> Result<(), Fail> {
+    let alloc = rt.alloc();
+    let mut broken_output = Outside::new(alloc, vec![in alloc; 0]?, Vec::new(alloc))?;
+    assert_eq!(rt; broken_output.files.put(alloc, FILE, HI), Ok(()));
+    assert_eq!(rt; broken_output.call(alloc, "go a b")?, 23);
+    assert_eq!(rt; broken_output.output.bytes(), b"".as_slice());
+    assert_eq!(rt; broken_output.errors.bytes(), b"write fault\n".as_slice());
+
+    // The put of the image, which is call number 2 of the store, fails and leaves five bytes.
+    let mut broken_store = Outside::new(alloc, Vec::new(alloc), vec![in alloc; 2]?)?;
+    assert_eq!(rt; broken_store.files.put(alloc, FILE, HI), Ok(()));
+    assert_eq!(rt; broken_store.call(alloc, "go a b")?, 24);
+    assert_eq!(rt; broken_store.output.bytes(), b"".as_slice());
+    assert_eq!(rt; broken_store.errors.bytes(), b"file fault: b\n".as_slice());
+    assert_eq!(rt;
+        broken_store.files.file("b").ok_or("no image")?,
+        b"CLUI\x02".as_slice()
+    );
+    Ok(())
+}
+
+#[test]
+fn generated_source(rt: HostRuntime) -> Result<(), Fail> {
+    let alloc = rt.alloc();
+    let mut outside = Outside::new(alloc, Vec::new(alloc), Vec::new(alloc))?;
+    assert_eq!(rt; outside.call(alloc, "gen 2")?, 0);
+    let expected: &[u8] = b"m1 = proc (x: int) returns (int)
+for i: int in int$from_to(1, 1) do
+x := (x * 31 + i) // 1000000
+end
+return (x)
+end m1
+m2 = proc (x: int) returns (int)
+for i: int in int$from_to(1, 2) do
+x := (x * 31 + i) // 1000000
+end
+return (x)
+end m2
+start_up = proc ()
+x: int := 1
+x := m1(x)
+x := m2(x)
+stream$putl(stream$primary_output(), int$unparse(x))
+end start_up
+";
+    assert_eq!(rt; outside.output.bytes(), expected);
     Ok(())
 }

@@ -11,6 +11,7 @@ use crate::compiling::go;
 use crate::executing::exec;
 use crate::generating::generate;
 use crate::outcome::{Outcome, report};
+use crate::printing::print;
 use clu_base::{Sink, Source, Store};
 use clu_words::{Command, WordsError, read_command};
 use std::alloc::Global;
@@ -88,6 +89,7 @@ fn run_command<S: Source, K: Sink, E: Sink, F: Store>(
         Command::Exec { image, limits } => {
             exec(alloc, image, limits, input, output, errors, files)
         }
+        Command::Print { file } => print(alloc, file, output, errors, files),
         Command::Gen { procedures } => generate(procedures, output, errors),
         Command::Spec {
             library: _,
@@ -114,7 +116,6 @@ fn run_command<S: Source, K: Sink, E: Sink, F: Store>(
         }
         | Command::List { image: _ }
         | Command::Asm { file: _, image: _ }
-        | Command::Print { file: _ }
         | Command::Xref { library: _ } => report(errors, &Outcome::NotYet),
     }
 }

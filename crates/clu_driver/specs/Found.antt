@@ -1,0 +1,16 @@
+-- What a store shows of a file that a command reads.
+use Rattle.std.specs.Prelude.{◌≡◌, ℕ, List, Option, Some, None, IfSome}
+use Rattle.clu_base.specs.Outside.{Files, Rose}
+use Rattle.clu_driver.specs.declared.outcome.Outcome.{Outcome}
+use Rattle.clu_driver.specs.declared.outcome.Outcome.TheVariants as outcome
+
+-- where files are told, the file of this name has content of which this holds
+abbrev pub IsFound : Option Files → List ℕ → (List ℕ → Type 0) → Type 0
+IsFound files name P = IfSome files (λ all. (bytes : List ℕ) × (all name ≡ Some bytes) × P bytes)
+
+-- why a file was not read: there is none, the store failed, or memory was refused
+abbrev pub NotRead : Outcome → List ℕ → Option Files → ℕ → ℕ → Type 0
+NotRead (outcome.NoFile n) name files faults faults' = (n.now ≡ name) × IfSome files (λ all. all name ≡ None)
+NotRead (outcome.FileFault n) name files faults faults' = (n.now ≡ name) × Rose faults faults'
+NotRead outcome.Memory name files faults faults' = Unit {0}
+NotRead _ name files faults faults' = ⊥

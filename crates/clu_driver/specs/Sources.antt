@@ -1,0 +1,38 @@
+-- Why a source is refused before it is checked.
+use Rattle.std.specs.Prelude.{◌≡◌, ◌<◌, ◌⊎◌, ℕ, List, Option, length}
+use Rattle.clu_base.specs.Outside.{Files}
+use Rattle.clu_base.specs.declared.rules.Refused.{Refused}
+use Rattle.clu_base.specs.declared.rules.Rule.TheVariants as rule
+use Rattle.clu_base.specs.declared.tokens.Token.{Token}
+use Rattle.clu_lexer.specs.Tokens.{Tokens}
+use Rattle.clu_lexer.specs.Tokens as lexer
+use Rattle.clu_lexer.specs.declared.tokens.LexError.TheVariants as lex
+use Rattle.clu_parser.specs.Parsing as parser
+use Rattle.clu_parser.specs.declared.errors.ParseError.TheVariants as parse
+use Rattle.clu_driver.specs.Found.{IsFound, NotRead}
+use Rattle.clu_driver.specs.declared.outcome.Outcome.{Outcome}
+use Rattle.clu_driver.specs.declared.outcome.Outcome.TheVariants as outcome
+
+-- the rule at this place is the first that the bytes break: no token begins there, the tokens begin
+-- no file of the grammar with the one there, or the source is too deep there
+abbrev pub IsRefusedBy : List ℕ → Refused → Type 0
+IsRefusedBy bytes r =
+    ((r.rule ≡ rule.Token) × lexer.IsFault bytes (lex.Token r.place))
+    ⊎ ((tokens : List Token) × Tokens bytes tokens
+    × (((r.rule ≡ rule.Syntax) × parser.IsFault bytes tokens (parse.Syntax r.place))
+    ⊎ ((r.rule ≡ rule.TooDeep) × parser.IsFault bytes tokens (parse.TooDeep r.place))))
+
+-- why bytes are no source that is parsed
+abbrev pub NotSource : Outcome → List ℕ → List ℕ → Type 0
+NotSource (outcome.Refused n r) name bytes = (n.now ≡ name) × IsRefusedBy bytes r
+NotSource (outcome.SourceTooLarge n) name bytes = (n.now ≡ name) × (1048576 < length bytes)
+NotSource outcome.Memory name bytes = Unit {0}
+NotSource outcome.NotYet name bytes = Unit {0}
+NotSource _ name bytes = ⊥
+
+-- the same of a file, or why it was not read
+abbrev pub NotParsed : Outcome → List ℕ → Option Files → ℕ → ℕ → Type 0
+NotParsed (outcome.Refused n r) name files faults faults' = (n.now ≡ name) × IsFound files name (λ bytes. IsRefusedBy bytes r)
+NotParsed (outcome.SourceTooLarge n) name files faults faults' = (n.now ≡ name) × IsFound files name (λ bytes. 1048576 < length bytes)
+NotParsed outcome.NotYet name files faults faults' = Unit {0}
+NotParsed how name files faults faults' = NotRead how name files faults faults'

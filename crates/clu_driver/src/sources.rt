@@ -1,0 +1,71 @@
+//! Reading a source file into its tokens and its tree.
+
+ghost use Rattle.std.specs.Prelude.{◌≡◌, ◌≤◌, IfErr, IfOk};
+ghost use Rattle.clu_driver.specs.Found.{IsFound};
+ghost use Rattle.clu_driver.specs.Sources.{NotParsed, NotSource};
+
+use crate::file::content;
+use crate::outcome::Outcome;
+use clu_base::{Place, Refused, Rule, Store, Token};
+use clu_lexer::{LexError, lex};
+use clu_parser::{ParseError, parse};
+use clu_tree::Tree;
+use std::alloc::Global;
+
+/// The most bytes of a source file.
+const SOURCE_LIMIT: usize = 1_048_576;
+
+/// A source that is a file of the grammar.
+#[derive(Drop)]
+pub struct Parsed {
+    pub bytes: Vec<u8>,
+    pub tokens: Vec<Token>,
+    pub tree: Tree,
+}
+
+/// The source file of this name, parsed. The outcomes are `NoFile`, `FileFault`, `SourceTooLarge`,
+/// `Refused` by one of the rules V1 to V3, and `Memory`.
+pub fn parse_file<'a, F: Store>(
+    alloc: Global,
+    name: &'a str,
+    files: &mut F,
+) -> Result<Parsed, Outcome<'a>>
+    ensures counts { F.faults files.old ≤ F.faults files.new }
+    ensures kept { F.files files.new ≡ F.files files.old }
+    ensures found { IfOk result (λ source. IsFound (F.files files.old) name.now (λ bytes. bytes ≡ source.bytes.items)) }
+    ensures refused { IfErr result (λ how. NotParsed how name.now (F.files files.old) (F.faults files.old) (F.faults files.new)) }
+{
+    let bytes = content(alloc, name, files)?;
+    source(alloc, name, bytes)
+}
+
+// The source of these bytes.
+fn source<'a>(alloc: Global, name: &'a str, bytes: Vec<u8>) -> Result<Parsed, Outcome<'a>>
+    ensures same { IfOk result (λ source. source.bytes.items ≡ bytes.items) }
+    ensures refused { IfErr result (λ how. NotSource how name.now bytes.items) }
+{
+    if bytes.len() > SOURCE_LIMIT {
+        return Err(Outcome::SourceTooLarge(name));
+    }
+    match lex(alloc, &bytes) {
+        Ok(tokens) => match parse(alloc, &bytes, &tokens) {
+            Ok(tree) => Ok(Parsed {
+                bytes,
+                tokens,
+                tree,
+            }),
+            Err(ParseError::Syntax(place)) => Err(refused(name, Rule::Syntax, place)),
+            Err(ParseError::TooDeep(place)) => Err(refused(name, Rule::TooDeep, place)),
+            Err(ParseError::Memory) => Err(Outcome::Memory),
+            Err(ParseError::NotYet) => Err(Outcome::NotYet),
+        },
+        Err(LexError::Token(place)) => Err(refused(name, Rule::Token, place)),
+        Err(LexError::Memory) => Err(Outcome::Memory),
+    }
+}
+
+fn refused<'a>(name: &'a str, rule: Rule, place: Place) -> Outcome<'a>
+    ensures { result ≡ Outcome.Refused name.entry (record { rule = rule; place = place }) }
+{
+    Outcome::Refused(name, Refused { rule, place })
+}
