@@ -1,6 +1,9 @@
+ghost use Rattle.std.specs.Prelude.{◌≤◌};
+
 use crate::clu;
 use clu_base::{Bytes, MemSink, MemSource, MemStore, Store};
 use std::alloc::Global;
+use std::process::Abort;
 use std::test::Fail;
 
 /// What a call gets and what must come of it.
@@ -31,11 +34,22 @@ impl Outside {
         failing_writes: Vec<u64>,
         failing_files: Vec<u64>,
     ) -> Result<Outside, Fail> {
+        Outside::in_pieces(alloc, 64, failing_writes, failing_files)
+    }
+
+    fn in_pieces(
+        alloc: Global,
+        piece: usize,
+        failing_writes: Vec<u64>,
+        failing_files: Vec<u64>,
+    ) -> Result<Outside, Fail>
+        requires { 1 ≤ piece }
+    {
         let none = Vec::new(alloc);
         Ok(Outside {
-            input: MemSource::new(Bytes::from_slice(alloc, b"")?, 64, Vec::new(alloc)),
-            output: MemSink::new(alloc, 1024, 64, failing_writes)?,
-            errors: MemSink::new(alloc, 1024, 64, none)?,
+            input: MemSource::new(Bytes::from_slice(alloc, b"")?, piece, Vec::new(alloc)),
+            output: MemSink::new(alloc, 1024, piece, failing_writes)?,
+            errors: MemSink::new(alloc, 1024, piece, none)?,
             files: MemStore::new(alloc, failing_files, 5),
         })
     }
@@ -94,6 +108,13 @@ fn rows(rt: HostRuntime) -> Result<(), Fail> {
         Row {
             words: "go a b",
             file: b"start_up = proc () x end start_up",
+            status: 11,
+            output: b"",
+            errors: b"a:1:22: V2 Syntax\n",
+        },
+        Row {
+            words: "go a b",
+            file: b"start_up = proc () x: int := 1 end start_up",
             status: 27,
             output: b"",
             errors: b"not yet\n",
@@ -297,5 +318,50 @@ stream$putl(stream$primary_output(), int$unparse(x))
 end start_up
 ";
     assert_eq!(rt; outside.output.bytes(), expected);
+    Ok(())
+}
+
+/// What `exec` of `HI_IMAGE` writes where the write of this number fails, in pieces of this size.
+fn output_before_fault(
+    rt: &impl Abort,
+    alloc: Global,
+    piece: usize,
+    failing: u64,
+    expected: &[u8],
+) -> Result<(), Fail>
+    requires { 1 ≤ piece }
+{
+    let mut outside = Outside::in_pieces(alloc, piece, vec![in alloc; failing]?, Vec::new(alloc))?;
+    assert_eq!(rt; outside.files.put(alloc, FILE, HI_IMAGE), Ok(()));
+    assert_eq!(rt; outside.call(alloc, "exec a")?, 23);
+    assert_eq!(rt; outside.output.bytes(), expected);
+    assert_eq!(rt; outside.errors.bytes(), b"write fault\n".as_slice());
+    Ok(())
+}
+
+#[test]
+fn each_write_fails_in_turn(rt: HostRuntime) -> Result<(), Fail> {
+    let alloc = rt.alloc();
+    output_before_fault(&rt, alloc, 64, 0, b"")?;
+    output_before_fault(&rt, alloc, 1, 0, b"")?;
+    output_before_fault(&rt, alloc, 1, 1, b"h")?;
+    output_before_fault(&rt, alloc, 1, 2, b"hi")
+}
+
+#[test]
+fn what_is_asked_first_is_refused_first(rt: HostRuntime) -> Result<(), Fail> {
+    let alloc = rt.alloc();
+    // The words before the files, FILE before IMAGE, the size of a source before its tokens.
+    let mut outside = Outside::new(alloc, Vec::new(alloc), vec![in alloc; 4]?)?;
+    let large = vec![in alloc; b'#'; 1_048_577]?;
+    assert_eq!(rt; outside.files.put(alloc, FILE, &large), Ok(()));
+    assert_eq!(rt; outside.call(alloc, "go c b --steps 0")?, 2);
+    assert_eq!(rt; outside.call(alloc, "go c b")?, 10);
+    assert_eq!(rt; outside.call(alloc, "go a b")?, 26);
+    // The put of an image that fails comes behind the source's refusal.
+    assert_eq!(rt; outside.files.put(alloc, FILE, b"#"), Ok(()));
+    assert_eq!(rt; outside.call(alloc, "go a b")?, 24);
+    assert_eq!(rt; outside.call(alloc, "go a b")?, 11);
+    assert!(rt; outside.files.file("b").is_none());
     Ok(())
 }
