@@ -7,7 +7,7 @@ use std::process::Abort;
 use std::test::Fail;
 
 /// What a call gets and what must come of it.
-#[derive(Drop)]
+#[derive(Clone, Copy)]
 struct Row<'a> {
     words: &'a str,
     /// The content of `FILE`, which each row finds in the store.
@@ -80,187 +80,189 @@ const HI_IMAGE: &[u8] = b"CLUI\x01\0\0\0\0\0\0\0\x07\0\0\0\x08\0\0\0\
 const HI_FIXED: &[u8] = b"CLUI\x02\0\0\0\0\0\0\0\x07\0\0\0\x08\0\0\0\0\0\0\0\
     \x93\x08\x40\0\x37\x05\x01\0\x13\x05\x05\x02\x93\x05\x30\0\x73\0\0\0\x93\x08\0\0\x73\0\0\0hi\n\0\0\0\0\0";
 
+/// Each with the source or image in `FILE`.
+const ROWS: [Row<'static>; 25] = [
+    Row {
+        words: "go a b",
+        file: b"start_up = proc () end start_up",
+        status: 0,
+        output: b"",
+        errors: b"",
+    },
+    Row {
+        words: "go a b",
+        file: HI,
+        status: 0,
+        output: b"hi\n",
+        errors: b"",
+    },
+    Row {
+        words: "go --steps 1 a b",
+        file: HI,
+        status: 5,
+        output: b"",
+        errors: b"steps spent\n",
+    },
+    Row {
+        words: "go a b",
+        file: b"start_up = proc () x end start_up",
+        status: 11,
+        output: b"",
+        errors: b"a:1:22: V2 Syntax\n",
+    },
+    Row {
+        words: "go a b",
+        file: b"start_up = proc () x: int := 1 end start_up",
+        status: 27,
+        output: b"",
+        errors: b"not yet\n",
+    },
+    Row {
+        words: "go c b",
+        file: HI,
+        status: 10,
+        output: b"",
+        errors: b"no file: c\n",
+    },
+    Row {
+        words: "go a b",
+        file: b"",
+        status: 11,
+        output: b"",
+        errors: b"a:1:1: V2 Syntax\n",
+    },
+    Row {
+        words: "go a b",
+        file: b"start_up = proc ()\n",
+        status: 11,
+        output: b"",
+        errors: b"a:2:1: V2 Syntax\n",
+    },
+    Row {
+        words: "print a",
+        file: b"#",
+        status: 11,
+        output: b"",
+        errors: b"a:1:1: V1 Token\n",
+    },
+    Row {
+        words: "print a",
+        file: b"p=PROC()x:int:=1+2 ;END P",
+        status: 0,
+        output: b"p = proc ()\n  x: int := 1 + 2\nend p\n",
+        errors: b"",
+    },
+    Row {
+        words: "go a",
+        file: HI,
+        status: 2,
+        output: b"",
+        errors: b"usage: clu go|spec|replace|compile|link|run|exec|gen|list|asm|print|xref\n",
+    },
+    Row {
+        words: "xref a",
+        file: HI,
+        status: 27,
+        output: b"",
+        errors: b"not yet\n",
+    },
+    Row {
+        words: "exec a",
+        file: b"CLUI\x01\0\0\0\0\0\0\0\x01\0\0\0\0\0\0\0\0\0\0\0",
+        status: 6,
+        output: b"",
+        errors: b"bad instruction at 0000000000010000\n",
+    },
+    Row {
+        words: "exec a",
+        file: b"CLU",
+        status: 20,
+        output: b"",
+        errors: b"image bad at 0\n",
+    },
+    Row {
+        words: "exec a",
+        file: b"CLUI\x01\0\0\0\0\0\0\0\x01\0\0\0\0\0\0\0\0\0\0",
+        status: 20,
+        output: b"",
+        errors: b"image bad at 20\n",
+    },
+    Row {
+        words: "exec a",
+        file: b"CLUI\x01\0\0\0\0\0\0\0\x01\0\0\0\0\0\0\0\0\0\0\0\0",
+        status: 20,
+        output: b"",
+        errors: b"image bad at 24\n",
+    },
+    Row {
+        words: "exec a",
+        file: HI_IMAGE,
+        status: 0,
+        output: b"hi\n",
+        errors: b"",
+    },
+    Row {
+        words: "exec --steps 6 a",
+        file: HI_IMAGE,
+        status: 5,
+        output: b"hi\n",
+        errors: b"steps spent\n",
+    },
+    Row {
+        words: "exec a --steps=7",
+        file: HI_IMAGE,
+        status: 0,
+        output: b"hi\n",
+        errors: b"",
+    },
+    Row {
+        words: "exec a",
+        file: HI_FIXED,
+        status: 0,
+        output: b"hi\n",
+        errors: b"",
+    },
+    Row {
+        words: "exec a",
+        file: b"CLUI\x01\0\0\0\0\0\0\0\x01\0\0\0\0\0\0\0\x83\x20\0\0",
+        status: 7,
+        output: b"",
+        errors: b"bad access at 0000000000000000\n",
+    },
+    Row {
+        words: "exec a",
+        file: b"CLUI\x01\0\0\0\0\0\0\0\x01\0\0\0\0\0\0\0\x6f\0\x20\0",
+        status: 8,
+        output: b"",
+        errors: b"bad jump to 0000000000010002\n",
+    },
+    Row {
+        words: "exec a",
+        file: b"CLUI\x01\0\0\0\0\0\0\0\x02\0\0\0\0\0\0\0\x93\x08\x30\x06\x73\0\0\0",
+        status: 9,
+        output: b"",
+        errors: b"bad ecall 99\n",
+    },
+    Row {
+        words: "exec a",
+        file: b"CLUI\x01\0\0\0\0\0\0\0\x02\0\0\0\0\0\0\0\xb3\x48\x00\x02\x73\0\0\0",
+        status: 9,
+        output: b"",
+        errors: b"bad ecall 18446744073709551615\n",
+    },
+    Row {
+        words: "exec a",
+        file: b"CLUI\x02\0\0\0\0\0\0\0\x02\0\0\0\0\0\0\0\0\0\0\0\x37\x05\x01\x00\x23\x20\x05\x00",
+        status: 7,
+        output: b"",
+        errors: b"bad access at 0000000000010000\n",
+    },
+];
+
 #[test]
 fn rows(rt: HostRuntime) -> Result<(), Fail> {
     let alloc = rt.alloc();
-    let rows = [
-        Row {
-            words: "go a b",
-            file: b"start_up = proc () end start_up",
-            status: 0,
-            output: b"",
-            errors: b"",
-        },
-        Row {
-            words: "go a b",
-            file: HI,
-            status: 0,
-            output: b"hi\n",
-            errors: b"",
-        },
-        Row {
-            words: "go --steps 1 a b",
-            file: HI,
-            status: 5,
-            output: b"",
-            errors: b"steps spent\n",
-        },
-        Row {
-            words: "go a b",
-            file: b"start_up = proc () x end start_up",
-            status: 11,
-            output: b"",
-            errors: b"a:1:22: V2 Syntax\n",
-        },
-        Row {
-            words: "go a b",
-            file: b"start_up = proc () x: int := 1 end start_up",
-            status: 27,
-            output: b"",
-            errors: b"not yet\n",
-        },
-        Row {
-            words: "go c b",
-            file: HI,
-            status: 10,
-            output: b"",
-            errors: b"no file: c\n",
-        },
-        Row {
-            words: "go a b",
-            file: b"",
-            status: 11,
-            output: b"",
-            errors: b"a:1:1: V2 Syntax\n",
-        },
-        Row {
-            words: "go a b",
-            file: b"start_up = proc ()\n",
-            status: 11,
-            output: b"",
-            errors: b"a:2:1: V2 Syntax\n",
-        },
-        Row {
-            words: "print a",
-            file: b"#",
-            status: 11,
-            output: b"",
-            errors: b"a:1:1: V1 Token\n",
-        },
-        Row {
-            words: "print a",
-            file: b"p=PROC()x:int:=1+2 ;END P",
-            status: 0,
-            output: b"p = proc ()\n  x: int := 1 + 2\nend p\n",
-            errors: b"",
-        },
-        Row {
-            words: "go a",
-            file: HI,
-            status: 2,
-            output: b"",
-            errors: b"usage: clu go|spec|replace|compile|link|run|exec|gen|list|asm|print|xref\n",
-        },
-        Row {
-            words: "xref a",
-            file: HI,
-            status: 27,
-            output: b"",
-            errors: b"not yet\n",
-        },
-        Row {
-            words: "exec a",
-            file: b"CLUI\x01\0\0\0\0\0\0\0\x01\0\0\0\0\0\0\0\0\0\0\0",
-            status: 6,
-            output: b"",
-            errors: b"bad instruction at 0000000000010000\n",
-        },
-        Row {
-            words: "exec a",
-            file: b"CLU",
-            status: 20,
-            output: b"",
-            errors: b"image bad at 0\n",
-        },
-        Row {
-            words: "exec a",
-            file: b"CLUI\x01\0\0\0\0\0\0\0\x01\0\0\0\0\0\0\0\0\0\0",
-            status: 20,
-            output: b"",
-            errors: b"image bad at 20\n",
-        },
-        Row {
-            words: "exec a",
-            file: b"CLUI\x01\0\0\0\0\0\0\0\x01\0\0\0\0\0\0\0\0\0\0\0\0",
-            status: 20,
-            output: b"",
-            errors: b"image bad at 24\n",
-        },
-        Row {
-            words: "exec a",
-            file: HI_IMAGE,
-            status: 0,
-            output: b"hi\n",
-            errors: b"",
-        },
-        Row {
-            words: "exec --steps 6 a",
-            file: HI_IMAGE,
-            status: 5,
-            output: b"hi\n",
-            errors: b"steps spent\n",
-        },
-        Row {
-            words: "exec a --steps=7",
-            file: HI_IMAGE,
-            status: 0,
-            output: b"hi\n",
-            errors: b"",
-        },
-        Row {
-            words: "exec a",
-            file: HI_FIXED,
-            status: 0,
-            output: b"hi\n",
-            errors: b"",
-        },
-        Row {
-            words: "exec a",
-            file: b"CLUI\x01\0\0\0\0\0\0\0\x01\0\0\0\0\0\0\0\x83\x20\0\0",
-            status: 7,
-            output: b"",
-            errors: b"bad access at 0000000000000000\n",
-        },
-        Row {
-            words: "exec a",
-            file: b"CLUI\x01\0\0\0\0\0\0\0\x01\0\0\0\0\0\0\0\x6f\0\x20\0",
-            status: 8,
-            output: b"",
-            errors: b"bad jump to 0000000000010002\n",
-        },
-        Row {
-            words: "exec a",
-            file: b"CLUI\x01\0\0\0\0\0\0\0\x02\0\0\0\0\0\0\0\x93\x08\x30\x06\x73\0\0\0",
-            status: 9,
-            output: b"",
-            errors: b"bad ecall 99\n",
-        },
-        Row {
-            words: "exec a",
-            file: b"CLUI\x01\0\0\0\0\0\0\0\x02\0\0\0\0\0\0\0\xb3\x48\x00\x02\x73\0\0\0",
-            status: 9,
-            output: b"",
-            errors: b"bad ecall 18446744073709551615\n",
-        },
-        Row {
-            words: "exec a",
-            file: b"CLUI\x02\0\0\0\0\0\0\0\x02\0\0\0\0\0\0\0\0\0\0\0\x37\x05\x01\x00\x23\x20\x05\x00",
-            status: 7,
-            output: b"",
-            errors: b"bad access at 0000000000010000\n",
-        },
-    ];
-    for row in &rows {
+    for row in &ROWS {
         let mut outside = Outside::new(alloc, Vec::new(alloc), Vec::new(alloc))?;
         assert_eq!(rt; outside.files.put(alloc, FILE, row.file), Ok(()));
         let status = outside.call(alloc, row.words)?;
