@@ -49,3 +49,25 @@ impl From<Memory> for FormatError {
         FormatError::Memory
     }
 }
+
+impl From<AllocError> for FormatError {
+    ghost use Rattle.clu_base.specs.declared.errors.FormatError.{FormatError};
+    ghost use Rattle.std.specs.Prelude.{◌≡◌};
+
+    ghost from_gives = { λ _ e. e ≡ FormatError.Memory };
+
+    fn from(_error: AllocError) -> FormatError {
+        FormatError::Memory
+    }
+}
+
+impl<T: Drop> From<AllocFailed<T>> for FormatError {
+    ghost use Rattle.clu_base.specs.declared.errors.FormatError.{FormatError};
+    ghost use Rattle.std.specs.Prelude.{◌≡◌};
+
+    ghost from_gives = { λ _ e. e ≡ FormatError.Memory };
+
+    fn from(_error: AllocFailed<T>) -> FormatError {
+        FormatError::Memory
+    }
+}

@@ -1,6 +1,6 @@
 use crate::{
-    Bytes, Failed, FormatError, MemSink, MemSource, MemStore, Memory, Rule, Sequence, Sink, Source,
-    Store, StoreError, u16_add, u16_at, u32_add, u32_at, u64_add, u64_at, write_all,
+    Bytes, Const, Failed, FormatError, MemSink, MemSource, MemStore, Memory, Rule, Sequence, Sink,
+    Source, Store, StoreError, u16_add, u16_at, u32_add, u32_at, u64_add, u64_at, write_all,
 };
 use std::test::Fail;
 
@@ -102,5 +102,14 @@ fn store_keeps_files_and_tears_them(rt: HostRuntime) -> Result<(), Fail> {
     assert!(rt; store.file("c").is_none());
     let absent = store.get(alloc, "c").map_err(|_| "get failed")?;
     assert!(rt; absent.is_none());
+    Ok(())
+}
+
+#[test]
+fn a_constant_is_copied(rt: HostRuntime) -> Result<(), Fail> {
+    let alloc = rt.alloc();
+    let text = Const::Str(Bytes::from_slice(alloc, b"a")?);
+    assert_eq!(rt; text.copy(alloc)?, text);
+    assert_eq!(rt; Const::Int(-1).copy(alloc)?, Const::Int(-1));
     Ok(())
 }

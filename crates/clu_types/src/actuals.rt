@@ -8,7 +8,7 @@ ghost use Rattle.clu_types.specs.Substituted.{type_put, constant_put};
 ghost use Rattle.clu_types.specs.Actual.{nth};
 
 use crate::term::{Actual, TypeId};
-use clu_base::{Const, Memory};
+use clu_base::Memory;
 use std::alloc::Global;
 
 /// The n-th actual.
@@ -40,22 +40,9 @@ pub fn constant_actual(alloc: Global, actuals: &[Actual], n: u32) -> Result<Actu
     ensures below { IfOk result (λ made. (m : ℕ) → ActualBelow m made) }
 {
     match nth_actual(actuals, n) {
-        Some(Actual::Const(c)) => Ok(Actual::Const(copy_const(alloc, c)?)),
+        Some(Actual::Const(c)) => Ok(Actual::Const(c.copy(alloc)?)),
         Some(Actual::ConstParam(p)) => Ok(Actual::ConstParam(*p)),
         Some(Actual::Of(_)) => Ok(Actual::ConstParam(n)),
         None => Ok(Actual::ConstParam(n)),
-    }
-}
-
-/// An equal constant.
-pub fn copy_const(alloc: Global, c: &Const) -> Result<Const, Memory>
-    ensures { IfOk result (λ copied. copied ≡ c.now) }
-{
-    match c {
-        Const::Null => Ok(Const::Null),
-        Const::Bool(b) => Ok(Const::Bool(*b)),
-        Const::Int(n) => Ok(Const::Int(*n)),
-        Const::Char(b) => Ok(Const::Char(*b)),
-        Const::Str(bytes) => Ok(Const::Str(bytes.copy(alloc)?)),
     }
 }

@@ -78,6 +78,20 @@ impl TypeArena {
         (id.0 as usize) < self.terms.len()
     }
 
+    /// How many types there are.
+    pub fn len(&self) -> usize
+        ensures { result ≡ length self.now }
+    {
+        self.terms.len()
+    }
+
+    /// Whether the types among actuals are numbers of this arena.
+    pub fn holds_actuals(&self, actuals: &[Actual]) -> bool
+        ensures { IsTrue result ↔ ActualsBelow (length self.now) actuals.now }
+    {
+        actuals_below(actuals, self.terms.len() as u64)
+    }
+
     /// Whether the parts of a term are numbers of this arena.
     pub fn holds(&self, term: &Term) -> bool
         ensures { IsTrue result ↔ PartsBelow (length self.now) term.now }

@@ -7,7 +7,7 @@ ghost use Rattle.clu_types.specs.Arena.{type_at, types_at, fields_at, signals_at
 ghost use Rattle.clu_types.specs.Substituted.{substituted, types_substituted, fields_substituted, signals_substituted, actuals_substituted};
 
 use crate::TypeArena;
-use crate::actuals::{constant_actual, copy_const, type_actual};
+use crate::actuals::{constant_actual, type_actual};
 use crate::term::{Actual, Exception, Field, Heading, Term, TypeId};
 use clu_base::{Memory, Sequence};
 use std::alloc::Global;
@@ -241,7 +241,7 @@ impl TypeArena {
     {
         match actual {
             Actual::Of(id) => Ok(Actual::Of(self.carry(alloc, from, *id, actuals)?)),
-            Actual::Const(c) => Ok(Actual::Const(copy_const(alloc, c)?)),
+            Actual::Const(c) => Ok(Actual::Const(c.copy(alloc)?)),
             Actual::ConstParam(n) => constant_actual(alloc, actuals, *n),
         }
     }

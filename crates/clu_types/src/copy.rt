@@ -4,7 +4,6 @@
 ghost use Rattle.std.specs.Prelude.{◌≡◌, IfOk};
 
 use crate::TypeArena;
-use crate::actuals::copy_const;
 use crate::spec::{Demand, Form, OpSpec, Spec};
 use crate::term::{Actual, Exception, Field, Heading, Term, TypeId};
 use clu_base::{Memory, Sequence};
@@ -21,10 +20,7 @@ fn copy_fields(alloc: Global, fields: &[Field]) -> Result<Sequence<Field>, Memor
 {
     let mut copied = Vec::new(alloc);
     for field in fields {
-        copied.push(Field {
-            name: field.name.copy(alloc)?,
-            of: field.of,
-        })?;
+        copied.push(field.copy(alloc)?)?;
     }
     Ok(Sequence::from_vec(copied))
 }
@@ -54,11 +50,7 @@ fn copy_demands(alloc: Global, demands: &[Demand]) -> Result<Sequence<Demand>, M
 {
     let mut copied = Vec::new(alloc);
     for demand in demands {
-        copied.push(Demand {
-            param: demand.param,
-            op: demand.op.copy(alloc)?,
-            wanted: demand.wanted,
-        })?;
+        copied.push(demand.copy(alloc)?)?;
     }
     Ok(Sequence::from_vec(copied))
 }
@@ -71,6 +63,18 @@ fn copy_ops(alloc: Global, ops: &[OpSpec]) -> Result<Sequence<OpSpec>, Memory>
         copied.push(op.copy(alloc)?)?;
     }
     Ok(Sequence::from_vec(copied))
+}
+
+impl Field {
+    /// An equal field of its own.
+    pub fn copy(&self, alloc: Global) -> Result<Field, Memory>
+        ensures { IfOk result (λ copied. copied ≡ self.now) }
+    {
+        Ok(Field {
+            name: self.name.copy(alloc)?,
+            of: self.of,
+        })
+    }
 }
 
 impl Exception {
@@ -105,7 +109,7 @@ impl Actual {
     {
         match self {
             Actual::Of(id) => Ok(Actual::Of(*id)),
-            Actual::Const(c) => Ok(Actual::Const(copy_const(alloc, c)?)),
+            Actual::Const(c) => Ok(Actual::Const(c.copy(alloc)?)),
             Actual::ConstParam(n) => Ok(Actual::ConstParam(*n)),
         }
     }
@@ -152,6 +156,19 @@ impl TypeArena {
             copied.intern(term.copy(alloc)?)?;
         }
         Ok(copied)
+    }
+}
+
+impl Demand {
+    /// An equal demand of its own.
+    pub fn copy(&self, alloc: Global) -> Result<Demand, Memory>
+        ensures { IfOk result (λ copied. copied ≡ self.now) }
+    {
+        Ok(Demand {
+            param: self.param,
+            op: self.op.copy(alloc)?,
+            wanted: self.wanted,
+        })
     }
 }
 

@@ -79,6 +79,9 @@ fn equal_types_have_one_number(rt: HostRuntime) -> Result<(), Fail> {
     assert!(rt; arena.contains(sequence));
     assert!(rt; !arena.contains(TypeId(4)));
     assert!(rt; !arena.holds(&Term::Array(TypeId(4))));
+    assert_eq!(rt; arena.len(), 4);
+    assert!(rt; arena.holds_actuals(&[Actual::ConstParam(1), Actual::Of(sequence)]));
+    assert!(rt; !arena.holds_actuals(&[Actual::Of(TypeId(4))]));
     Ok(())
 }
 

@@ -5,9 +5,9 @@ use Rattle.clu_types.specs.declared.term.Actual.TheVariants as actual
 use Rattle.clu_types.proofs.PutIn.{constant_put-nth}
 use Rattle.clu_types.proofs.actuals.constant_actual.Goals as goal
 
-pub returns-in_ok-copy_const-in-Some-Const-clause-put : goal.returns-in_ok-copy_const-in-Some-Const-clause-put
-returns-in_ok-copy_const-in-Some-Const-clause-put c = λ types behind.
-    ap (λ (k : Const). actual_const k behind) c.in_ok-copy_const-in-Some-Const.ensures
+pub returns-in_ok-copy-in-Some-Const-clause-put : goal.returns-in_ok-copy-in-Some-Const-clause-put
+returns-in_ok-copy-in-Some-Const-clause-put c = λ types behind.
+    ap (λ (k : Const). actual_const k behind) c.in_ok-copy-in-Some-Const.ensures
     ∙ sym (constant_put-nth types c.args.actuals.now c.args.n behind (Some (actual.Const c.in-Some-Const.c)) (sym c.in-Some-Const.ensures ∙ ap Some c.in-Some-Const.field-0-is))
 
 pub returns-in-Some-ConstParam-clause-put : goal.returns-in-Some-ConstParam-clause-put
