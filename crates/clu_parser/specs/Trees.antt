@@ -79,6 +79,7 @@ node_of s k last nodes children o =
       children = children;
       names = map (spelling_at s) o.names;
       value = value_of s o.value;
+      value_token = o.value;
     }
 
 -- the innermost node is whole

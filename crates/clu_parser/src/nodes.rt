@@ -116,6 +116,7 @@ pub fn make_node(
         children: Sequence::from_vec(copy),
         names,
         value,
+        value_token: begun.value,
     })
 }
 
