@@ -1,3 +1,4 @@
 pub mod Cuts
+pub mod Lengths
 pub mod Next
 pub mod Walk

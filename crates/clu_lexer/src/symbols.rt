@@ -314,6 +314,16 @@ fn spells(word: &[u8], text: &[u8]) -> bool
     }
 }
 
+/// The same; texts of other lengths, which are most, are not looked into.
+fn is_spelled(word: &[u8], text: &[u8]) -> bool
+    ensures { result ≡ spells word.now text.now }
+{
+    if word.len() != text.len() {
+        return false;
+    }
+    spells(word, text)
+}
+
 /// The symbol of the entry that the text spells.
 pub fn symbol_named(table: &[(&[u8], Symbol)], text: &[u8]) -> Option<Symbol>
     ensures { result ≡ symbol_named (map (λ entry. (entry.0.now, entry.1)) table.now) text.now }
@@ -321,7 +331,7 @@ pub fn symbol_named(table: &[(&[u8], Symbol)], text: &[u8]) -> Option<Symbol>
     match table {
         [] => None,
         [(word, symbol), rest @ ..] => {
-            if spells(word, text) {
+            if is_spelled(word, text) {
                 Some(*symbol)
             } else {
                 symbol_named(rest, text)
