@@ -1,12 +1,12 @@
 -- Depths, set from the last node to the first.
-use Rattle.std.proofs.Common.{◌≡◌, ◌≢◌, ℕ, zero, suc, ◌+◌, ◌-◌, ◌<◌, ◌≤◌, Bool, true, false, ◌==◌, List, [], ◌∷◌, length, get_or, Option, Some, None, MatchOption, slice_get, All, Contains, refl, sym, ap, ◌∙◌, subst, arith, inl, inr, ◌⊎◌}
+use Rattle.std.proofs.Common.{◌≡◌, ◌≢◌, ℕ, zero, suc, ◌+◌, ◌<◌, ◌≤◌, List, [], ◌∷◌, length, get_or, Option, Some, None, MatchOption, slice_get, Contains, refl, sym, ap, ◌∙◌, subst, arith, inl, inr, ◌⊎◌}
 use Rattle.std.proofs.Math.ListN.{set, length-set}
 use Rattle.std.proofs.lemmas.List.{get_or-set_same, get_or-set_other}
 use Rattle.std.proofs.lemmas.List.Elements.{All-contains}
-use Rattle.std.proofs.lemmas.Option.{slice_get_past, slice_get_within}
+use Rattle.std.proofs.lemmas.Option.{slice_get_within}
 use Rattle.clu_base.specs.declared.tokens.Place.{Place}
 use Rattle.clu_tree.specs.declared.node.Node.{Node}
-use Rattle.clu_tree.specs.Nodes.{IsTree, IsRoot}
+use Rattle.clu_tree.specs.Nodes.{IsTree}
 use Rattle.clu_parser.specs.Depths.{IsDepth, top, below, AreDepths, set_all, IsBefore, IsNotBefore, IsPlaceOf, AreShallow, IsFirstDeep, IsEarlier}
 
 -- from n on no node has k as a child

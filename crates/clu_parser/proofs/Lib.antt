@@ -1,6 +1,17 @@
+pub mod Above
+pub mod Acting
+pub mod Building
+pub mod Counted
 pub mod Deep
+pub mod Effects
+pub mod Finished
+pub mod Forest
 pub mod Heights
+pub mod Means
 pub mod OnWay
+pub mod Reading
 pub mod Room
+pub mod Sizes
 pub mod Sound
 pub mod Stack
+pub mod Stacked

@@ -8,6 +8,8 @@ use Rattle.clu_tree.specs.Count.{counts, count_with}
 use Rattle.clu_tree.specs.Nodes.{IsRoot, Fits}
 use Rattle.clu_tree.proofs.Rows.{got_push}
 use Rattle.clu_parser.specs.Trees.{IsSound}
+use Rattle.clu_parser.proofs.Counted.{counted_close}
+use Rattle.clu_parser.proofs.Forest.{forest_close}
 
 differ_take : (h : ℕ) (tops : List ℕ) → h ≤ length tops → AllPairs ◌≢◌ tops → AllPairs ◌≢◌ (take h tops)
 differ_take h tops inside known i j d less below same =
@@ -65,4 +67,6 @@ sound_close nodes tops h n inside sound is =
       roots = All-push (IsRoot (nodes ++ n ∷ [])) (take h tops) (length nodes) (λ k d below. root_kept nodes tops h n (get_or (take h tops) k d) inside sound is (All-contains_itself (take h tops) k d below)) (root_new nodes tops h n sound is);
       differ = all_pairs_push ◌≢◌ (take h tops) (length nodes) (differ_take h tops inside sound.differ) (λ k d below same. let less = All-take (λ c. c < length nodes) h tops sound.below k d below in let less' : get_or (take h tops) k d < length nodes = less in absurd (omega arith));
       children = children_push nodes tops h n sound is;
+      counted = counted_close nodes tops h n is sound.below sound.counted;
+      order = forest_close nodes tops h n is sound.order;
     }

@@ -8,4 +8,4 @@ use Rattle.clu_parser.specs.declared.errors.ReadError.TheVariants as error
 -- where reading stops for the grammar's sake, the symbols cease to begin a file
 abbrev pub IsReadFault : List Symbol → ReadError → Type 0
 IsReadFault symbols (error.Syntax at) = FailsAt symbols at
-IsReadFault symbols (error.Build e) = Unit {0}
+IsReadFault symbols error.Memory = Unit {0}

@@ -51,4 +51,3 @@ abbrev pub IsFault : List ℕ → List Token → ParseError → Type 0
 IsFault bytes tokens (error.Syntax place) = IsSyntaxFault bytes tokens place
 IsFault bytes tokens (error.TooDeep place) = IsDepthFault bytes tokens place
 IsFault bytes tokens error.Memory = Unit {0}
-IsFault bytes tokens error.NotYet = Unit {0}

@@ -1,11 +1,12 @@
 -- The tree that the actions of the grammar build, and when a tree is that of a source.
-use Rattle.std.specs.Prelude.{◌≡◌, ℕ, ◌+◌, ◌-◌, ◌<◌, Bool, true, false, if◌then◌else◌, List, [], ◌∷◌, ◌++◌, length, map, take, drop, slice_get, Option, Some, None, All, AllPairs, ◌≢◌}
+use Rattle.std.specs.Prelude.{◌≡◌, ℕ, ◌+◌, ◌-◌, ◌<◌, ◌≤◌, Bool, true, false, if◌then◌else◌, List, [], ◌∷◌, ◌++◌, length, map, take, drop, slice_get, slice_index, sum_by, Option, Some, None, All, AllPairs, ◌≢◌}
 use Rattle.clu_base.specs.declared.tokens.Place.{Place}
 use Rattle.clu_base.specs.declared.tokens.Token.{Token}
 use Rattle.clu_lexer.specs.declared.symbols.Symbol.{Symbol}
 use Rattle.clu_tree.specs.declared.node.Node.{Node}
 use Rattle.clu_tree.specs.declared.node.NodeKind.{NodeKind}
 use Rattle.clu_tree.specs.declared.node.NodeKind.TheVariants as kind
+use Rattle.clu_tree.specs.Count.{own_count, counts}
 use Rattle.clu_tree.specs.Nodes.{IsRoot}
 use Rattle.clu_grammar.specs.declared.items.Action.{Action}
 use Rattle.clu_grammar.specs.declared.items.Action.TheVariants as action
@@ -16,6 +17,7 @@ use Rattle.clu_grammar.specs.Grammar.{productions}
 use Rattle.clu_grammar.specs.Language.{IsOneOf, whole}
 use Rattle.clu_parser.specs.declared.begun.Begun.{Begun}
 use Rattle.clu_parser.specs.declared.source.Source.{Source}
+use Rattle.clu_parser.specs.Order.{IsForest}
 use Rattle.clu_parser.specs.Spellings.{spelling, place_in, is_idn, closes}
 
 -- a source: its bytes, its tokens, and what these are to the grammar
@@ -149,9 +151,22 @@ nothing_built = record { nodes = []; tops = []; begun = [] }
 abbrev pub IsBuilt : Text → Built → Type 0
 IsBuilt s z = Builds s whole 0 nothing_built (length s.symbols) z
 
--- what the builder keeps true: the nodes that no node holds are there, differ, and have no parent
+-- each node that has begun stands above a floor, with its first child below it or not, and floors do not fall
+abbrev pub AreStacked : List Begun → ℕ → Type 0
+AreStacked [] top = Unit {0}
+AreStacked (o ∷ os) top = (floor : ℕ) × (o.height ≤ floor) × (floor ≤ o.height + 1) × (floor ≤ top) × AreStacked os floor
+
+-- the nodes that no node holds are there, differ, have no parent, count no more than all nodes do by themselves, and
+-- with what stands below them are all nodes
 pub record IsSound (nodes : List Node) (tops : List ℕ) : Type 0 where
   pub below : All (λ c. c < length nodes) tops
   pub roots : All (IsRoot nodes) tops
   pub differ : AllPairs ◌≢◌ tops
   pub children : (i : ℕ) (n : Node) → slice_get nodes i ≡ Some n → All (λ c. c < length nodes) n.children
+  pub counted : sum_by (slice_index (counts nodes)) tops ≤ sum_by own_count nodes
+  pub order : IsForest nodes 0 tops (length nodes)
+
+-- what the builder keeps true
+pub record IsBuilding (nodes : List Node) (tops : List ℕ) (begun : List Begun) : Type 0 where
+  pub sound : IsSound nodes tops
+  pub stacked : AreStacked begun (length tops)

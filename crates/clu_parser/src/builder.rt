@@ -1,15 +1,16 @@
 //! The tree in the making: what each action of the grammar does to it.
 
-ghost use Rattle.std.specs.Prelude.{◌≡◌, ◌+◌, ◌-◌, ◌∷◌, [], ◌++◌, Some, true, false, OnOk, IfOk, length, slice_get};
+ghost use Rattle.std.specs.Prelude.{◌≡◌, ◌+◌, ◌-◌, ◌∷◌, [], ◌++◌, ◌<◌, ◌≤◌, ◌^◌, Some, true, false, OnOk, IfOk, length, slice_get};
 ghost use Rattle.clu_parser.specs.Trees.{text, acted, closed, wrapped, noted, noted_in, given_in, opened, nothing_built};
+ghost use Rattle.clu_parser.specs.Order.{IsForest};
 ghost use Rattle.clu_parser.specs.Spellings.{is_idn};
+ghost use Rattle.clu_parser.specs.Steps.{begun_for, tops_for, spent};
 
 use crate::begun::Begun;
 use crate::brackets::closes_before_dollar;
-use crate::errors::BuildError;
-use crate::nodes::{has_room, make_node};
+use crate::nodes::make_node;
 use crate::source::Source;
-use clu_base::Sequence;
+use clu_base::{Memory, Sequence};
 use clu_grammar::Action;
 use clu_lexer::Symbol;
 use clu_tree::{NodeKind, Tree};
@@ -28,13 +29,13 @@ pub struct Builder {
 
 impl Model for Builder {
     ghost use Rattle.std.specs.Prelude.{reverse};
-    ghost use Rattle.clu_parser.specs.Trees.{Built, IsSound};
+    ghost use Rattle.clu_parser.specs.Trees.{Built, IsBuilding};
 
     ghost Value = { Built };
 
     ghost view = { λ b. record { nodes = b.tree; tops = b.tops.items; begun = reverse b.begun.items } };
 
-    ghost invariant = { λ b. IsSound b.tree b.tops.items };
+    ghost invariant = { λ b. IsBuilding b.tree b.tops.items (reverse b.begun.items) };
 }
 
 impl Builder {
@@ -50,7 +51,8 @@ impl Builder {
 
     /// The tree, when the source has been read.
     pub fn into_tree(self) -> Tree
-        ensures { result ≡ self.nodes }
+        ensures nodes { result ≡ self.nodes }
+        ensures order { IsForest self.nodes 0 self.tops (length self.nodes) }
     {
         let Builder {
             tree,
@@ -60,18 +62,24 @@ impl Builder {
         tree
     }
 
-    /// Does what the action says, where so many tokens have been taken. Nothing is known of the
-    /// builder after an error.
+    /// Does what the action says, where so many tokens have been taken, one at least. The error is
+    /// want of memory; nothing is known of the builder then.
     pub fn act(
         &mut self,
         alloc: Global,
         source: &Source,
         action: Action,
         at: usize,
-    ) -> Result<(), BuildError>
+    ) -> Result<(), Memory>
+        requires taken { 0 < at }
+        requires numbered { at < 2 ^ 32 }
+        requires begun { begun_for action ≤ length self.old.begun }
+        requires tops { tops_for action ≤ length self.old.tops }
+        requires nodes { length self.old.nodes < 2 ^ 32 - 1 }
+        requires count { spent (text source.now) self.old < 2 ^ 32 - 1 }
         ensures { OnOk result (acted (text source.now) action (at - 1) self.old ≡ Some self.new) }
     {
-        let taken = last_taken(at)?;
+        let taken = (at - 1) as u32;
         match action {
             Action::Open => self.begin(alloc, taken),
             Action::Wrap => self.wrap(alloc, taken),
@@ -83,7 +91,7 @@ impl Builder {
     }
 
     /// A node begins at the token.
-    fn begin(&mut self, alloc: Global, taken: u32) -> Result<(), BuildError>
+    fn begin(&mut self, alloc: Global, taken: u32) -> Result<(), Memory>
         ensures { OnOk result (opened taken taken (length self.old.tops) self.old ≡ self.new) }
     {
         self.begun.push(Begun {
@@ -97,11 +105,12 @@ impl Builder {
     }
 
     /// A node begins that holds the last whole one.
-    fn wrap(&mut self, alloc: Global, taken: u32) -> Result<(), BuildError>
+    fn wrap(&mut self, alloc: Global, taken: u32) -> Result<(), Memory>
+        requires { 0 < length self.old.tops }
         ensures { OnOk result (wrapped taken self.old ≡ Some self.new) }
     {
         let Some(top) = self.tops.as_slice().last().copied() else {
-            return Err(BuildError::NotYet);
+            unreachable!()
         };
         self.begun.push(Begun {
             first: self.tree.node(top).first,
@@ -114,11 +123,12 @@ impl Builder {
     }
 
     /// The token is a name of the innermost node, or its value.
-    fn note(&mut self, source: &Source, taken: u32) -> Result<(), BuildError>
+    fn note(&mut self, source: &Source, taken: u32) -> Result<(), Memory>
+        requires { 0 < length self.old.begun }
         ensures { OnOk result (noted_in (is_idn (slice_get source.now.symbols.now taken)) taken self.old self.old.begun ≡ Some self.new) }
     {
         let Some(begun) = self.begun.pop() else {
-            return Err(BuildError::NotYet);
+            unreachable!()
         };
         let again = noted(begun, is_idn(source.symbols, taken), taken)?;
         self.begun.push(again)?;
@@ -126,14 +136,15 @@ impl Builder {
     }
 
     /// What the innermost node has is that of the node around it.
-    fn give(&mut self) -> Result<(), BuildError>
+    fn give(&mut self) -> Result<(), Memory>
+        requires { 1 < length self.old.begun }
         ensures { OnOk result (given_in self.old self.old.begun ≡ Some self.new) }
     {
         let Some(inner) = self.begun.pop() else {
-            return Err(BuildError::NotYet);
+            unreachable!()
         };
         let Some(outer) = self.begun.pop() else {
-            return Err(BuildError::NotYet);
+            unreachable!()
         };
         let both = given(inner, outer)?;
         self.begun.push(both)?;
@@ -142,7 +153,10 @@ impl Builder {
 
     /// A name ends before the bracket, and a node begins here that holds it; nothing, where the
     /// name is a type's.
-    fn base(&mut self, alloc: Global, source: &Source, taken: u32) -> Result<(), BuildError>
+    fn base(&mut self, alloc: Global, source: &Source, taken: u32) -> Result<(), Memory>
+        requires begun { 0 < length self.old.begun }
+        requires nodes { length self.old.nodes < 2 ^ 32 - 1 }
+        requires count { spent (text source.now) self.old < 2 ^ 32 - 1 }
         ensures { OnOk result (acted (text source.now) Action.Base taken self.old ≡ Some self.new) }
     {
         let behind = taken as usize + 1;
@@ -161,16 +175,16 @@ impl Builder {
         source: &Source,
         kind: NodeKind,
         last: u32,
-    ) -> Result<(), BuildError>
+    ) -> Result<(), Memory>
+        requires begun { 0 < length self.old.begun }
+        requires nodes { length self.old.nodes < 2 ^ 32 - 1 }
+        requires count { spent (text source.now) self.old < 2 ^ 32 - 1 }
         ensures { OnOk result (closed (text source.now) kind last self.old ≡ Some self.new) }
     {
         let Some(begun) = self.begun.pop() else {
-            return Err(BuildError::NotYet);
+            unreachable!()
         };
         let height = begun.height;
-        if height > self.tops.len() {
-            return Err(BuildError::NotYet);
-        }
         self.tops.reserve(1)?;
         let tops = self.tops.as_slice();
         let node = make_node(
@@ -182,9 +196,6 @@ impl Builder {
             &tops[height..],
             &begun,
         )?;
-        if !has_room(&self.tree, &node) {
-            return Err(BuildError::NotYet);
-        }
         let number = self.tree.add(node)?;
         self.tops.truncate(height);
         self.tops.push_reserved(number);
@@ -203,7 +214,7 @@ fn is_idn(symbols: &[Symbol], n: u32) -> bool
 }
 
 /// The node with the token as a further name, or as its value.
-fn noted(begun: Begun, is_name: bool, taken: u32) -> Result<Begun, BuildError>
+fn noted(begun: Begun, is_name: bool, taken: u32) -> Result<Begun, Memory>
     ensures { IfOk result (λ b. b ≡ noted is_name taken begun) }
 {
     let Begun {
@@ -235,7 +246,7 @@ fn noted(begun: Begun, is_name: bool, taken: u32) -> Result<Begun, BuildError>
 }
 
 /// The outer node with the names of the inner one.
-fn given(inner: Begun, outer: Begun) -> Result<Begun, BuildError>
+fn given(inner: Begun, outer: Begun) -> Result<Begun, Memory>
     ensures { IfOk result (λ b. b ≡ record outer { names = outer.names ++ inner.names }) }
 {
     let Begun {
@@ -255,14 +266,4 @@ fn given(inner: Begun, outer: Begun) -> Result<Begun, BuildError>
         names,
         value,
     })
-}
-
-/// The number of the last of so many tokens.
-fn last_taken(at: usize) -> Result<u32, BuildError>
-    ensures { IfOk result (λ taken. taken ≡ at - 1) }
-{
-    match u32::try_from(at) {
-        Ok(at) if at > 0 => Ok(at - 1),
-        _ => Err(BuildError::NotYet),
-    }
 }

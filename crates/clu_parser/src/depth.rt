@@ -3,9 +3,8 @@
 ghost use Rattle.std.specs.Prelude.{◌≡◌, ◌<◌, ◌^◌, length, All, IsTrue, IfOk, MatchBool, slice_get, Some};
 ghost use Rattle.clu_parser.specs.Depths.{set_all, AreDepths, IsBefore, IsNotBefore, IsEarlier, IsFirstTooDeep};
 
-use crate::errors::BuildError;
 use crate::levels::DEEPEST;
-use clu_base::Place;
+use clu_base::{Memory, Place};
 use clu_tree::Tree;
 use std::alloc::Global;
 
@@ -31,7 +30,7 @@ fn set_all(depths: &mut Vec<u32>, nodes: &[u32], depth: u32)
 }
 
 /// The depth of each node.
-fn depths(alloc: Global, tree: &Tree) -> Result<Vec<u32>, BuildError>
+fn depths(alloc: Global, tree: &Tree) -> Result<Vec<u32>, Memory>
     ensures { IfOk result (λ depths. AreDepths tree.now depths.items) }
 {
     let mut depths = vec![in alloc; 0u32; tree.len() as usize]?;
@@ -61,7 +60,7 @@ fn earlier(first: Option<Place>, place: Place) -> Place
 }
 
 /// The first place in the text of a node that is deeper than the deepest.
-pub fn first_too_deep(alloc: Global, tree: &Tree) -> Result<Option<Place>, BuildError>
+pub fn first_too_deep(alloc: Global, tree: &Tree) -> Result<Option<Place>, Memory>
     ensures { IfOk result (IsFirstTooDeep tree.now) }
 {
     let all = depths(alloc, tree)?;

@@ -1,7 +1,8 @@
-//! Why a source has no tree, and what the layers of the parser can refuse.
+//! Why a source has no tree, and why reading its symbols stopped.
+
+ghost use Rattle.std.specs.Prelude.{◌≡◌};
 
 use clu_base::{Memory, Place};
-use std::alloc::{AllocError, AllocFailed};
 
 /// Why a source has no tree.
 #[derive(Clone, Copy, Debug, PartialEq, Eq)]
@@ -12,48 +13,15 @@ pub enum ParseError {
     TooDeep(Place),
     /// Memory was refused.
     Memory,
-    /// What no source brings about, but no contract rules out yet.
-    NotYet,
 }
 
-/// What building the tree can refuse.
-#[derive(Clone, Copy, Debug, PartialEq, Eq)]
-pub enum BuildError {
-    /// Memory was refused.
-    Memory,
-    /// What no source brings about, but no contract rules out yet.
-    NotYet,
-}
+impl From<Memory> for ParseError {
+    ghost use Rattle.clu_parser.specs.declared.errors.ParseError.{ParseError};
 
-impl From<Memory> for BuildError {
-    fn from(_error: Memory) -> BuildError {
-        BuildError::Memory
-    }
-}
+    ghost from_gives = { λ _ e. e ≡ ParseError.Memory };
 
-impl From<AllocError> for BuildError {
-    fn from(_error: AllocError) -> BuildError {
-        BuildError::Memory
-    }
-}
-
-impl<T: Drop> From<AllocFailed<T>> for BuildError {
-    fn from(_error: AllocFailed<T>) -> BuildError {
-        BuildError::Memory
-    }
-}
-
-impl From<BuildError> for ParseError {
-    ghost use Rattle.clu_parser.specs.Refusals.{refusal};
-    ghost use Rattle.std.specs.Prelude.{◌≡◌};
-
-    ghost from_gives = { λ b e. e ≡ refusal b };
-
-    fn from(error: BuildError) -> ParseError {
-        match error {
-            BuildError::Memory => ParseError::Memory,
-            BuildError::NotYet => ParseError::NotYet,
-        }
+    fn from(_error: Memory) -> ParseError {
+        ParseError::Memory
     }
 }
 
@@ -62,17 +30,16 @@ impl From<BuildError> for ParseError {
 pub enum ReadError {
     /// The symbols before the one of this number begin a file, and with it they begin none.
     Syntax(usize),
-    /// The tree could not be built.
-    Build(BuildError),
+    /// Memory was refused.
+    Memory,
 }
 
-impl From<BuildError> for ReadError {
-    ghost use Rattle.std.specs.Prelude.{◌≡◌};
-    ghost use Rattle.clu_parser.specs.declared.errors.ReadError.TheVariants.{Build};
+impl From<Memory> for ReadError {
+    ghost use Rattle.clu_parser.specs.declared.errors.ReadError.{ReadError};
 
-    ghost from_gives = { λ b e. e ≡ Build b };
+    ghost from_gives = { λ _ e. e ≡ ReadError.Memory };
 
-    fn from(error: BuildError) -> ReadError {
-        ReadError::Build(error)
+    fn from(_error: Memory) -> ReadError {
+        ReadError::Memory
     }
 }

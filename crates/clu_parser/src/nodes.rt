@@ -1,18 +1,16 @@
-//! A node as it is made when it is whole, and whether it fits into the tree.
+//! A node as it is made when it is whole.
 
-ghost use Rattle.std.specs.Prelude.{◌≡◌, ◌+◌, ◌-◌, ◌<◌, ◌^◌, IfOk, IsTrue, All, map, length, drop, slice_get};
-ghost use Rattle.clu_tree.specs.Count.{counts, count_with};
+ghost use Rattle.std.specs.Prelude.{◌≡◌, ◌+◌, ◌-◌, IfOk, map, length, slice_get};
 ghost use Rattle.clu_parser.specs.Trees.{text, is_marked, end_in, last_of, spelling_at, value_of, place_at, node_of};
 
 use crate::begun::Begun;
-use crate::errors::BuildError;
 use crate::source::{Source, place_in, spelling};
-use clu_base::{Bytes, Place, Sequence};
+use clu_base::{Bytes, Memory, Place, Sequence};
 use clu_tree::{Node, NodeKind, Tree};
 use std::alloc::Global;
 
 /// The spelling of the token of this number.
-fn spelling_at(alloc: Global, source: &Source, n: u32) -> Result<Bytes, BuildError>
+fn spelling_at(alloc: Global, source: &Source, n: u32) -> Result<Bytes, Memory>
     ensures { IfOk result (λ b. b ≡ spelling_at (text source.now) n) }
 {
     spelling(alloc, source.bytes, source.tokens.get(n as usize))
@@ -26,7 +24,7 @@ fn place_at(source: &Source, n: u32) -> Place
 }
 
 /// The identifiers of these tokens.
-fn names(alloc: Global, source: &Source, tokens: &[u32]) -> Result<Sequence<Bytes>, BuildError>
+fn names(alloc: Global, source: &Source, tokens: &[u32]) -> Result<Sequence<Bytes>, Memory>
     ensures { IfOk result (λ names. names ≡ map (spelling_at (text source.now)) tokens.now) }
 {
     let mut names = Vec::new(alloc);
@@ -38,7 +36,7 @@ fn names(alloc: Global, source: &Source, tokens: &[u32]) -> Result<Sequence<Byte
 }
 
 /// What the token gives a node as its value; empty where there is none.
-fn value_of(alloc: Global, source: &Source, token: Option<u32>) -> Result<Bytes, BuildError>
+fn value_of(alloc: Global, source: &Source, token: Option<u32>) -> Result<Bytes, Memory>
     ensures { IfOk result (λ b. b ≡ value_of (text source.now) token) }
 {
     match token {
@@ -97,7 +95,7 @@ pub fn make_node(
     tree: &Tree,
     children: &[u32],
     begun: &Begun,
-) -> Result<Node, BuildError>
+) -> Result<Node, Memory>
     ensures { IfOk result (λ node. node ≡ node_of (text source.now) kind last tree.now children.now begun.now) }
 {
     let mark = if is_marked(kind) {
@@ -118,19 +116,4 @@ pub fn make_node(
         value,
         value_token: begun.value,
     })
-}
-
-/// Whether there is room for the node in a tree, by its number and its count.
-pub fn has_room(tree: &Tree, node: &Node) -> bool
-    requires { All (λ c. c < length tree.now) node.now.children }
-    ensures number { IsTrue result → length tree.now < 2 ^ 32 - 1 }
-    ensures count { IsTrue result → count_with (counts tree.now) node.now < 2 ^ 32 }
-{
-    let names = node.names.as_slice().len() as u64;
-    let value = node.value.as_slice().len() as u64;
-    let mut count = names.saturating_add(value).saturating_add(1);
-    for child in node.children.as_slice() {
-        count = count.saturating_add(tree.nodes(*child) as u64);
-    }
-    tree.len() < u32::MAX && count <= u32::MAX as u64
 }

@@ -3,8 +3,10 @@
 ghost use Rattle.std.specs.Prelude.{◌≡◌, ◌≤◌, length, slice_get, None, OnOk, IfOk, IfErr};
 ghost use Rattle.std.specs.Option.{option_copied};
 ghost use Rattle.clu_grammar.specs.Language.{IsFile};
+ghost use Rattle.clu_lexer.specs.Tokens.{Tokens};
 ghost use Rattle.clu_parser.specs.Depths.{IsFirstTooDeep};
 ghost use Rattle.clu_parser.specs.Levels.{IsLow};
+ghost use Rattle.clu_parser.specs.Order.{IsPostOrder, IsFileOver};
 ghost use Rattle.clu_parser.specs.Parsing.{symbols_of, place_in, place_of, IsTreeOf, IsFault};
 
 use crate::builder::Builder;
@@ -41,10 +43,13 @@ fn place_of(bytes: &[u8], tokens: &[Token], n: usize) -> Place
 /// `Syntax` at the first token with which the tokens begin no file of the grammar, the end counting
 /// as one; `TooDeep` at the first node in the text that is deeper than 200.
 pub fn parse(alloc: Global, bytes: &[u8], tokens: &[Token]) -> Result<Tree, ParseError>
-    requires { length bytes.now ≤ 1_048_576 }
+    requires small { length bytes.now ≤ 1_048_576 }
+    requires tokens { Tokens bytes.now tokens.now }
     ensures low { OnOk result (IsLow (symbols_of bytes.now tokens.now) (length tokens.now)) }
     ensures file { OnOk result (IsFile (symbols_of bytes.now tokens.now)) }
     ensures tree { IfOk result (IsTreeOf bytes.now tokens.now) }
+    ensures order { IfOk result (λ tree. IsPostOrder tree) }
+    ensures root { IfOk result (IsFileOver (length tokens.now)) }
     ensures shallow { IfOk result (λ tree. IsFirstTooDeep tree None) }
     ensures fault { IfErr result (IsFault bytes.now tokens.now) }
 {
@@ -62,7 +67,7 @@ pub fn parse(alloc: Global, bytes: &[u8], tokens: &[Token]) -> Result<Tree, Pars
     match read(alloc, &source, &mut builder) {
         Ok(()) => {}
         Err(ReadError::Syntax(at)) => return Err(ParseError::Syntax(place_of(bytes, tokens, at))),
-        Err(ReadError::Build(error)) => return Err(ParseError::from(error)),
+        Err(ReadError::Memory) => return Err(ParseError::Memory),
     }
     let tree = builder.into_tree();
     match depth::first_too_deep(alloc, &tree)? {

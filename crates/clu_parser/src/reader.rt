@@ -1,14 +1,16 @@
 //! The driver of the grammar's table: it reads symbols with a stack of items, knows no production,
 //! and hands the actions to the builder.
 
-ghost use Rattle.std.specs.Prelude.{◌≡◌, ◌++◌, ◌↔◌, IsTrue, Some, reverse, slice_get, OnOk, IfErr};
+ghost use Rattle.std.specs.Prelude.{◌≡◌, ◌-◌, ◌^◌, ◌<◌, ◌++◌, ◌↔◌, IsTrue, Some, reverse, slice_get, OnOk, IfErr};
 ghost use Rattle.clu_grammar.specs.Language.{IsFile};
 ghost use Rattle.clu_parser.specs.Faults.{IsReadFault};
+ghost use Rattle.clu_parser.specs.Steps.{allowance};
 ghost use Rattle.clu_parser.specs.Trees.{text, nothing_built, IsBuilt};
 
 use crate::builder::Builder;
-use crate::errors::{BuildError, ReadError};
+use crate::errors::ReadError;
 use crate::source::Source;
+use clu_base::Memory;
 use clu_grammar::{Choice, Item, Nonterminal, choose};
 use clu_lexer::Symbol;
 use std::alloc::Global;
@@ -31,7 +33,7 @@ fn is_at(symbols: &[Symbol], at: usize, symbol: Symbol) -> bool
 }
 
 /// Puts the items on the stack, the first on top.
-fn push_row(stack: &mut Vec<Item>, items: &[Item]) -> Result<(), BuildError>
+fn push_row(stack: &mut Vec<Item>, items: &[Item]) -> Result<(), Memory>
     ensures { OnOk result (reverse stack.new.items ≡ items.now ++ reverse stack.old.items) }
 {
     let mut left = items;
@@ -44,7 +46,8 @@ fn push_row(stack: &mut Vec<Item>, items: &[Item]) -> Result<(), BuildError>
 
 /// Reads the symbols as a file of the grammar, with a tree in the making.
 pub fn read(alloc: Global, source: &Source, builder: &mut Builder) -> Result<(), ReadError>
-    requires { builder.old ≡ nothing_built }
+    requires nothing { builder.old ≡ nothing_built }
+    requires room { allowance (text source.now) < 2 ^ 32 - 1 }
     ensures file { OnOk result (IsFile source.now.symbols.now) }
     ensures tree { OnOk result (IsBuilt (text source.now) builder.new) }
     ensures fault { IfErr result (IsReadFault source.now.symbols.now) }

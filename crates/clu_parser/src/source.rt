@@ -3,8 +3,7 @@
 ghost use Rattle.std.specs.Prelude.{◌≡◌, map, IfOk, slice_get, option_copied};
 ghost use Rattle.clu_parser.specs.Spellings.{bytes_of, symbol_in, spelled, spelling, place_in};
 
-use crate::errors::BuildError;
-use clu_base::{Bytes, Kind, Place, Token};
+use clu_base::{Bytes, Kind, Memory, Place, Token};
 use clu_lexer::{Symbol, symbol_of};
 use std::alloc::Global;
 
@@ -27,7 +26,7 @@ pub fn bytes_of<'a>(bytes: &'a [u8], token: &Token) -> &'a [u8]
 }
 
 /// The symbols of the tokens, in order.
-pub fn symbols_of(alloc: Global, bytes: &[u8], tokens: &[Token]) -> Result<Vec<Symbol>, BuildError>
+pub fn symbols_of(alloc: Global, bytes: &[u8], tokens: &[Token]) -> Result<Vec<Symbol>, Memory>
     ensures { IfOk result (λ symbols. symbols.items ≡ map (symbol_in bytes.now) tokens.now) }
 {
     let mut symbols = Vec::new(alloc);
@@ -48,7 +47,7 @@ pub fn place_in(token: Option<&Token>) -> Place
 }
 
 /// The bytes as they stand in a node: those of literals as they are, all others in lower case.
-fn spelled(alloc: Global, kind: Kind, text: &[u8]) -> Result<Bytes, BuildError>
+fn spelled(alloc: Global, kind: Kind, text: &[u8]) -> Result<Bytes, Memory>
     ensures { IfOk result (λ b. b ≡ spelled kind text.now) }
 {
     match kind {
@@ -64,7 +63,7 @@ fn spelled(alloc: Global, kind: Kind, text: &[u8]) -> Result<Bytes, BuildError>
 }
 
 /// The token as it stands in a node; empty where there is none.
-pub fn spelling(alloc: Global, bytes: &[u8], token: Option<&Token>) -> Result<Bytes, BuildError>
+pub fn spelling(alloc: Global, bytes: &[u8], token: Option<&Token>) -> Result<Bytes, Memory>
     ensures { IfOk result (λ b. b ≡ spelling bytes.now (option_copied token.entry)) }
 {
     match token {

@@ -57,12 +57,13 @@ const REFUSED: [(&[u8], ParseError); 9] = [
     ),
 ];
 
+/// The tree of a source that has tokens.
 fn read(alloc: Global, source: &[u8]) -> Result<Tree, ParseError>
     requires { length source.now ≤ 1_048_576 }
 {
     match lex(alloc, source) {
         Ok(tokens) => parse(alloc, source, tokens.as_slice()),
-        Err(_) => Err(ParseError::NotYet),
+        Err(_) => Err(ParseError::Memory),
     }
 }
 

@@ -1,5 +1,4 @@
-use Rattle.std.proofs.Common.{◌≡◌, ℕ, ◌+◌, ◌-◌, ◌≤◌, sym, ap, ◌∙◌, subst, arith, get_or}
-use Rattle.clu_parser.specs.Depths.{set_all, AreDepths}
+use Rattle.std.proofs.Common.{◌≡◌, ℕ, ◌+◌, ◌-◌, sym, subst, arith}
 use Rattle.clu_parser.proofs.Deep.{IsDeepFrom, deep_more, deep_all}
 use Rattle.clu_parser.proofs.depth.depths.Goals as goal
 

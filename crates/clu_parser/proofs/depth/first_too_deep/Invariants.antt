@@ -1,4 +1,3 @@
-use Rattle.std.proofs.Common.{length}
 use Rattle.clu_parser.specs.Depths.{AreDepths}
 use Rattle.clu_parser.proofs.Deep.{IsFirstOf}
 use Rattle.clu_parser.proofs.depth.first_too_deep.Given as goal

@@ -5,12 +5,17 @@ use Rattle.clu_grammar.specs.Grammar.{productions}
 use Rattle.clu_grammar.proofs.Runs.{Runs, runs_none, runs_terminal, runs_action, runs_take, runs_go, fails_terminal, fails_no, fails_rest, ends, take_below}
 use Rattle.clu_grammar.proofs.Weights.{smaller_terminal, smaller_take, smaller_go}
 use Rattle.clu_parser.specs.Trees.{text}
+use Rattle.clu_parser.proofs.Means.{HasMeans, means_none, means_terminal, means_action, means_take, means_go}
 use Rattle.clu_parser.proofs.OnWay.{IsOnWay, way_none, way_terminal, way_action, way_take, way_go, way_end}
 use Rattle.clu_parser.proofs.Stack.{popped}
 use Rattle.clu_parser.proofs.reader.read.Goals as goal
 
 pub items-init : goal.items-init
-items-init c = rw (c.in_ok-push_row.ensures, c.new-stack.ensures.items) (record { runs = runs_none c.args.source.now.symbols.now; builds = rw c.requires (way_none (text c.args.source.now)) })
+items-init c = rw (c.in_ok-push_row.ensures, c.new-stack.ensures.items) (record {
+  runs = runs_none c.args.source.now.symbols.now;
+  builds = rw c.requires.nothing (way_none (text c.args.source.now));
+  means = rw c.requires.nothing (means_none (text c.args.source.now));
+})
 
 pub returns-then-not-is_at-clause-fault : goal.returns-then-not-is_at-clause-fault
 returns-then-not-is_at-clause-fault c =
@@ -25,6 +30,7 @@ items-preserved-in-Terminal c =
       runs = runs_terminal c.args.source.now.symbols.now c.items.at c.in-Terminal.symbol (reverse c.pop.new.self.items) (subst (Runs c.args.source.now.symbols.now c.items.at) top c.items.invariant.runs)
           (c.if-not-is_at.ensures.0 refl);
       builds = way_terminal (text c.args.source.now) c.in-Terminal.symbol (reverse c.pop.new.self.items) c.items.at c.items.builder (subst (λ (x : List Item). IsOnWay (text c.args.source.now) x c.items.at c.items.builder) top c.items.invariant.builds) (c.if-not-is_at.ensures.0 refl);
+      means = means_terminal (text c.args.source.now) c.in-Terminal.symbol (reverse c.pop.new.self.items) c.items.at c.items.builder (subst (λ (x : List Item). HasMeans (text c.args.source.now) x c.items.at c.items.builder) top c.items.invariant.means) (c.if-not-is_at.ensures.0 refl);
     }
 
 pub items-smaller-in-Terminal : goal.items-smaller-in-Terminal
@@ -38,6 +44,7 @@ items-preserved-in-Continue-branch-2 c =
     record {
       runs = runs_action c.args.source.now.symbols.now c.items.at c.in-Action.action (reverse c.pop.new.self.items) (subst (Runs c.args.source.now.symbols.now c.items.at) top c.items.invariant.runs);
       builds = way_action (text c.args.source.now) c.in-Action.action (reverse c.pop.new.self.items) c.items.at c.items.builder c.act.new.self (subst (λ (x : List Item). IsOnWay (text c.args.source.now) x c.items.at c.items.builder) top c.items.invariant.builds) c.in_ok-act-in-Action.ensures;
+      means = means_action (text c.args.source.now) c.in-Action.action (reverse c.pop.new.self.items) c.items.at c.items.builder c.act.new.self (subst (λ (x : List Item). HasMeans (text c.args.source.now) x c.items.at c.items.builder) top c.items.invariant.means) c.in_ok-act-in-Action.ensures;
     }
 
 pub items-preserved-in-Continue-branch-3 : goal.items-preserved-in-Continue-branch-3
@@ -48,6 +55,7 @@ items-preserved-in-Continue-branch-3 c =
     (record {
       runs = (runs_take c.args.source.now.symbols.now c.items.at c.in-Nonterminal.nonterminal (reverse c.pop.new.self.items) c.in-Take.items.now (subst (Runs c.args.source.now.symbols.now c.items.at) top c.items.invariant.runs) is);
       builds = way_take (text c.args.source.now) c.in-Nonterminal.nonterminal (reverse c.pop.new.self.items) c.in-Take.items.now c.items.at c.items.builder (subst (λ (x : List Item). IsOnWay (text c.args.source.now) x c.items.at c.items.builder) top c.items.invariant.builds) is;
+      means = means_take (text c.args.source.now) c.in-Nonterminal.nonterminal (reverse c.pop.new.self.items) c.in-Take.items.now c.items.at c.items.builder (subst (λ (x : List Item). HasMeans (text c.args.source.now) x c.items.at c.items.builder) top c.items.invariant.means) (take_below c.args.source.now.symbols.now c.items.at c.in-Nonterminal.nonterminal c.in-Take.items.now is) is;
     })
 
 pub items-smaller-in-Continue-branch-3 : goal.items-smaller-in-Continue-branch-3
@@ -65,6 +73,7 @@ items-preserved c =
     (record {
       runs = (runs_go c.args.source.now.symbols.now c.items.at c.in-Nonterminal.nonterminal (reverse c.pop.new.self.items) c.in-Go.items.now (subst (Runs c.args.source.now.symbols.now c.items.at) top c.items.invariant.runs) is);
       builds = way_go (text c.args.source.now) c.in-Nonterminal.nonterminal (reverse c.pop.new.self.items) c.in-Go.items.now c.items.at c.items.builder (subst (λ (x : List Item). IsOnWay (text c.args.source.now) x c.items.at c.items.builder) top c.items.invariant.builds) is;
+      means = means_go (text c.args.source.now) c.in-Nonterminal.nonterminal (reverse c.pop.new.self.items) c.in-Go.items.now c.items.at c.items.builder (subst (λ (x : List Item). HasMeans (text c.args.source.now) x c.items.at c.items.builder) top c.items.invariant.means) is;
     })
 
 pub items-smaller : goal.items-smaller
