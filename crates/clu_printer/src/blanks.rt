@@ -1,9 +1,14 @@
 //! Blanks between two tokens of a line.
 
+ghost use Rattle.std.specs.Prelude.{◌≡◌};
+ghost use Rattle.clu_printer.specs.Blanks.{blank_between, clings, holds, is_argument_list, takes_arguments, would_be_real};
+
 use clu_lexer::Symbol;
 
 /// Whether a token never has a blank before it, but behind an integer literal.
-fn clings(symbol: Symbol) -> bool {
+fn clings(symbol: Symbol) -> bool
+    ensures { result ≡ clings symbol }
+{
     match symbol {
         Symbol::Comma
         | Symbol::Colon
@@ -18,7 +23,9 @@ fn clings(symbol: Symbol) -> bool {
 }
 
 /// Whether a `(` clings to the token.
-fn takes_arguments(symbol: Symbol) -> bool {
+fn takes_arguments(symbol: Symbol) -> bool
+    ensures { result ≡ takes_arguments symbol }
+{
     match symbol {
         Symbol::Idn | Symbol::RightParen | Symbol::RightBracket | Symbol::RightBrace => true,
         _ => false,
@@ -26,7 +33,9 @@ fn takes_arguments(symbol: Symbol) -> bool {
 }
 
 /// Whether what follows the token clings to it.
-fn holds(symbol: Symbol) -> bool {
+fn holds(symbol: Symbol) -> bool
+    ensures { result ≡ holds symbol }
+{
     match symbol {
         Symbol::LeftParen
         | Symbol::LeftBracket
@@ -37,13 +46,23 @@ fn holds(symbol: Symbol) -> bool {
     }
 }
 
+/// Whether the two tokens would be a real literal without a blank.
+fn would_be_real(before: Symbol, symbol: Symbol) -> bool
+    ensures { result ≡ would_be_real before symbol }
+{
+    before == Symbol::IntLiteral && symbol == Symbol::Point
+}
+
+fn is_argument_list(before: Symbol, symbol: Symbol) -> bool
+    ensures { result ≡ is_argument_list before symbol }
+{
+    symbol == Symbol::LeftParen && takes_arguments(before)
+}
+
 /// Whether a blank stands between the tokens.
-pub fn blank_between(before: Symbol, symbol: Symbol) -> bool {
-    if before == Symbol::IntLiteral && symbol == Symbol::Point {
-        return true;
-    }
-    if clings(symbol) || holds(before) {
-        return false;
-    }
-    !(symbol == Symbol::LeftParen && takes_arguments(before))
+pub fn blank_between(before: Symbol, symbol: Symbol) -> bool
+    ensures { result ≡ blank_between before symbol }
+{
+    would_be_real(before, symbol)
+        || !(clings(symbol) || holds(before) || is_argument_list(before, symbol))
 }

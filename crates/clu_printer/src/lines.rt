@@ -1,5 +1,8 @@
 //! Where lines begin, how far they are indented, and which tokens are prefix operators.
 
+ghost use Rattle.std.specs.Prelude.{◌≡◌, map, IfOk};
+ghost use Rattle.clu_printer.specs.Printed.{bytes_of, symbol_in};
+
 use clu_base::{Memory, Token};
 use clu_lexer::{Symbol, symbol_of};
 use clu_tree::{Node, NodeKind, Tree};
@@ -53,9 +56,10 @@ fn is_statement(kind: NodeKind) -> bool {
     }
 }
 
-/// Whether the lines of the children stand further in than the node's own.
-fn has_body(kind: NodeKind) -> bool {
-    match kind {
+/// Whether the child's lines stand in a body of the node, and so further in than the node's own. In
+/// a tagcase these are the statements behind `others`.
+fn is_in_body(node: NodeKind, child: NodeKind) -> bool {
+    match node {
         NodeKind::Routine
         | NodeKind::Cluster
         | NodeKind::While
@@ -65,6 +69,7 @@ fn has_body(kind: NodeKind) -> bool {
         | NodeKind::TagArm
         | NodeKind::When
         | NodeKind::Others => true,
+        NodeKind::Tagcase => child != NodeKind::TagArm,
         _ => false,
     }
 }
@@ -105,12 +110,12 @@ impl Layout {
         if matches!(node.kind, NodeKind::Prefix) {
             set(&mut self.prefix, from as usize, true);
         }
-        let inner = inner_indent(node.kind, indent);
         for child in node.children.as_slice() {
             if *child < tree.len() {
                 let child = tree.node(*child);
                 self.mark_words(symbols, from, child.first, indent);
                 if begins_line(child.kind) && !matches!(node.kind, NodeKind::TypeSet) {
+                    let inner = inner_indent(node.kind, child.kind, indent);
                     set(&mut self.begins, child.first as usize, Some(inner));
                 }
                 from = child.last.saturating_add(1);
@@ -120,12 +125,22 @@ impl Layout {
     }
 }
 
-/// How far the lines of the children are indented.
-fn inner_indent(kind: NodeKind, indent: u32) -> u32 {
-    if has_body(kind) {
+/// How far the child's lines are indented.
+fn inner_indent(node: NodeKind, child: NodeKind, indent: u32) -> u32 {
+    if is_in_body(node, child) {
         indent.saturating_add(1)
     } else {
         indent
+    }
+}
+
+/// Tells the children of the node how far they are indented.
+fn indent_children(indents: &mut Vec<u32>, tree: &Tree, node: &Node, indent: u32) {
+    for child in node.children.as_slice() {
+        if *child < tree.len() {
+            let inner = inner_indent(node.kind, tree.node(*child).kind, indent);
+            set(indents, *child as usize, inner);
+        }
     }
 }
 
@@ -140,27 +155,29 @@ pub fn layout_of(alloc: Global, symbols: &[Symbol], tree: &Tree) -> Result<Layou
     for n in (0..tree.len()).rev() {
         let node = tree.node(n);
         let indent = indents.get(n as usize).copied().unwrap_or(0);
-        let inner = inner_indent(node.kind, indent);
-        for child in node.children.as_slice() {
-            set(&mut indents, *child as usize, inner);
-        }
+        indent_children(&mut indents, tree, node, indent);
         layout.mark_node(tree, symbols, node, indent);
     }
     Ok(layout)
 }
 
-/// What the tokens are to the grammar.
-pub fn symbols_of(alloc: Global, bytes: &[u8], tokens: &[Token]) -> Result<Vec<Symbol>, Memory> {
+/// The symbols of the tokens, in order.
+pub fn symbols_of(alloc: Global, bytes: &[u8], tokens: &[Token]) -> Result<Vec<Symbol>, Memory>
+    ensures { IfOk result (λ symbols. symbols.items ≡ map (symbol_in bytes.now) tokens.now) }
+{
     let mut symbols = Vec::new(alloc);
     for token in tokens {
-        symbols.push(symbol_of(token.kind, text_of(bytes, token)))?;
+        symbols.push(symbol_of(token.kind, bytes_of(bytes, token)))?;
     }
     Ok(symbols)
 }
 
 /// The bytes of a token.
-pub fn text_of<'a>(bytes: &'a [u8], token: &Token) -> &'a [u8] {
-    bytes
-        .get(token.start as usize..token.end as usize)
-        .unwrap_or(&[])
+pub fn bytes_of<'a>(bytes: &'a [u8], token: &Token) -> &'a [u8]
+    ensures { result.now ≡ bytes_of bytes.now token.now }
+{
+    let start = (token.start as usize).min(bytes.len());
+    let rest = &bytes[start..];
+    let len = (token.end.saturating_sub(token.start) as usize).min(rest.len());
+    &rest[..len]
 }
