@@ -38,5 +38,4 @@ pub not_parsed : (how : Outcome) (name bytes : List ℕ) (files : Option Files) 
 not_parsed (outcome.Refused n r) name bytes files faults faults' found why = (why.0, found_with (λ b. IsRefusedBy b r) files name bytes found why.1)
 not_parsed (outcome.SourceTooLarge n) name bytes files faults faults' found why = (why.0, found_with (λ b. 1048576 < length b) files name bytes found why.1)
 not_parsed outcome.Memory name bytes files faults faults' found why = tt
-not_parsed outcome.NotYet name bytes files faults faults' found why = tt
 not_parsed _ name bytes files faults faults' found why = elim why [ ]

@@ -27,7 +27,6 @@ abbrev pub NotSource : Outcome → List ℕ → List ℕ → Type 0
 NotSource (outcome.Refused n r) name bytes = (n.now ≡ name) × IsRefusedBy bytes r
 NotSource (outcome.SourceTooLarge n) name bytes = (n.now ≡ name) × (1048576 < length bytes)
 NotSource outcome.Memory name bytes = Unit {0}
-NotSource outcome.NotYet name bytes = Unit {0}
 NotSource _ name bytes = ⊥
 
 -- the same of a file, or why it was not read

@@ -16,6 +16,7 @@ use crate::running::run;
 use crate::sources::parse_file;
 use clu_base::{Sink, Source, Store};
 use clu_image::store;
+use clu_tree::Tree;
 use clu_words::RunLimits;
 use rv_isa::Image;
 use std::alloc::Global;
@@ -73,7 +74,7 @@ fn compiled<'a, F: Store>(alloc: Global, file: &'a str, files: &mut F) -> Result
     ensures refused { IfErr result (λ how. NotParsed how file.now (F.files files.old) (F.faults files.old) (F.faults files.new)) }
 {
     let source = parse_file(alloc, file, files)?;
-    literal_program(alloc, &source.bytes)
+    literal_program(alloc, &source.tree)
 }
 
 // Puts the image under its name.
@@ -94,11 +95,11 @@ fn put_image<'a, F: Store>(
 }
 
 // The image of a literal program; other programs are not compiled yet.
-fn literal_program<'a>(alloc: Global, source: &[u8]) -> Result<Image, Outcome<'a>>
+fn literal_program<'a>(alloc: Global, tree: &Tree) -> Result<Image, Outcome<'a>>
     ensures { IfErr result (λ how. (how ≡ Outcome.NotYet) ⊎ (how ≡ Outcome.Memory)) }
 {
-    match literal_output(alloc, source) {
-        Ok(Some(output)) => match literal_image(alloc, &output) {
+    match literal_output(alloc, tree) {
+        Ok(Some(output)) => match literal_image(alloc, output.as_slice()) {
             Ok(image) => Ok(image),
             Err(_) => Err(Outcome::Memory),
         },

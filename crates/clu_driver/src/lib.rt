@@ -9,9 +9,12 @@ mod generating;
 mod literal;
 mod literal_code;
 mod outcome;
+#[cfg(test)]
+mod print_tests;
 mod printing;
 mod running;
 mod sources;
+mod stream_calls;
 #[cfg(test)]
 mod tests;
 mod top;

@@ -1,140 +1,123 @@
-//! Literal programs: one procedure `start_up` that writes string literals and nothing else. This
-//! reads such a source into the bytes that the program writes.
+//! Literal programs: one procedure `start_up` whose statements write string literals, and nothing
+//! else. This finds in a syntax tree the bytes that such a program writes.
 
-ghost use Rattle.std.specs.Prelude.{◌≤◌, ◌*◌, ◌+◌, length, vec_len, IfOk, IfSome, IsTrue, ◌≡◌, ◌<◌};
+ghost use Rattle.std.specs.Prelude.{◌≡◌, ◌≤◌, ◌*◌, [], Some, length, slice_get, IfOk, IfSome};
+ghost use Rattle.std.specs.Option.{option_copied};
+ghost use Rattle.clu_driver.specs.LiteralProgram.{is_both, is_start_up, literal_output, node_in, only_child, statement_text, statements, written_behind};
+ghost use Rattle.clu_driver.specs.declared.stream_calls.TheConstants.{SPELLING_LIMIT};
 
-use clu_base::Memory;
+use crate::stream_calls::{SPELLING_LIMIT, is_kind, is_text, node_at, put_with};
+use clu_base::{Bytes, Memory};
+use clu_tree::{Node, NodeKind, Tree};
 use std::alloc::Global;
 
-/// The most bytes of a source file.
-pub const SOURCE_LIMIT: usize = 1_048_576;
-
-/// The most calls of a literal program.
+/// The most statements of a literal program.
 const CALL_LIMIT: usize = 100;
 
-/// The most bytes of one literal.
-const LITERAL_LIMIT: usize = 200;
+/// No literal program writes more bytes: what a literal denotes and the end of a line are no more
+/// than the literal's spelling.
+pub const OUTPUT_LIMIT: usize = CALL_LIMIT * SPELLING_LIMIT;
 
-/// The most bytes that a literal program writes.
-pub const OUTPUT_LIMIT: usize = CALL_LIMIT * (LITERAL_LIMIT + 1);
+const START_UP: &[u8] = b"start_up";
 
-/// The bytes that a literal program writes, or None where the source is none.
+const PROC: &[u8] = b"proc";
+
+/// The bytes that the program of this tree writes, or None where it is no literal program.
 ///
-/// A literal program is `start_up = proc ()`, at most 100 calls, and `end start_up`. A call is
-/// `stream$putl(stream$primary_output(), L)` or the same with `puts`, where L is a string literal
-/// of at most 200 printable characters without `"` and `\`. Blanks may stand between all tokens.
-pub fn literal_output(alloc: Global, source: &[u8]) -> Result<Option<Vec<u8>>, Memory>
-    ensures { IfOk result (λ found. IfSome found (λ output. vec_len output ≤ OUTPUT_LIMIT)) }
+/// A literal program is one procedure `start_up = proc ()` without equates and own variables, with
+/// at most 100 statements. Each is a call `stream$putl(stream$primary_output(), L)` or the same with
+/// `puts`, where L is a string literal of at most 200 bytes between its marks without octal codes
+/// above 377. The only error is want of memory.
+pub fn literal_output(alloc: Global, tree: &Tree) -> Result<Option<Bytes>, Memory>
+    ensures output { IfOk result (λ found. found ≡ literal_output tree.now) }
+    ensures bounded { IfOk result (λ found. IfSome found (λ output. length output ≤ OUTPUT_LIMIT)) }
 {
-    let mut cursor = Cursor { rest: source };
+    match statements(tree) {
+        Some(statements) => written(alloc, tree, statements),
+        None => Ok(None),
+    }
+}
+
+/// The only child of a node of the kind.
+fn only_child(kind: NodeKind, node: Option<&Node>) -> Option<u32>
+    ensures { result ≡ only_child kind (option_copied node.entry) }
+{
+    match node {
+        Some(node) if is_kind(kind, node) => match node.children.as_slice() {
+            [child] => Some(*child),
+            _ => None,
+        },
+        _ => None,
+    }
+}
+
+fn node_in(tree: &Tree, n: Option<u32>) -> Option<&Node>
+    ensures { option_copied result ≡ node_in tree.now n }
+{
+    match n {
+        Some(n) => node_at(tree, n),
+        None => None,
+    }
+}
+
+/// Whether there are two names and both are this one.
+fn is_both(names: &[Bytes], name: &[u8]) -> bool
+    ensures { result ≡ is_both names.now name.now }
+{
+    match names {
+        [first, last] => is_text(first.as_slice(), name) && is_text(last.as_slice(), name),
+        _ => false,
+    }
+}
+
+/// Whether the node is a procedure `start_up` with no more than 100 parts.
+fn is_start_up(node: &Node) -> bool
+    ensures { result ≡ is_start_up node.now }
+{
+    is_kind(NodeKind::Routine, node)
+        && is_text(node.value.as_slice(), PROC)
+        && is_both(node.names.as_slice(), START_UP)
+        && node.children.as_slice().len() <= CALL_LIMIT
+}
+
+/// The parts of the only module, if it is such a procedure.
+fn statements(tree: &Tree) -> Option<&[u32]>
+    ensures parts { option_copied result ≡ statements tree.now }
+    ensures few { IfSome result (λ parts. length parts.now ≤ CALL_LIMIT) }
+{
+    let file = node_at(tree, tree.len().saturating_sub(1));
+    let module = node_in(tree, only_child(NodeKind::File, file));
+    match node_in(tree, only_child(NodeKind::Module, module)) {
+        Some(node) if is_start_up(node) => Some(node.children.as_slice()),
+        _ => None,
+    }
+}
+
+/// What a statement writes, if it is one of a literal program.
+fn statement_text(alloc: Global, tree: &Tree, n: u32) -> Result<Option<Bytes>, Memory>
+    ensures text { IfOk result (λ found. found ≡ statement_text tree.now n) }
+    ensures short { IfOk result (λ found. IfSome found (λ text. length text ≤ SPELLING_LIMIT)) }
+{
+    match node_in(tree, only_child(NodeKind::CallS, node_at(tree, n))) {
+        Some(call) if is_kind(NodeKind::Call, call) => {
+            put_with(alloc, tree, call.children.as_slice())
+        }
+        _ => Ok(None),
+    }
+}
+
+/// What the statements write, one behind the other.
+fn written(alloc: Global, tree: &Tree, statements: &[u32]) -> Result<Option<Bytes>, Memory>
+    requires { length statements.now ≤ CALL_LIMIT }
+    ensures output { IfOk result (λ found. found ≡ written_behind tree.now (Some []) statements.now) }
+    ensures bounded { IfOk result (λ found. IfSome found (λ output. length output ≤ OUTPUT_LIMIT)) }
+{
     let mut output = Vec::new(alloc);
-    if source.len() > SOURCE_LIMIT || !cursor.takes_all(&[b"start_up", b"=", b"proc", b"(", b")"]) {
-        return Ok(None);
-    }
-    for _ in 0..CALL_LIMIT {
-        let Some(call) = cursor.call() else { break };
-        output.extend_from_slice(call.literal)?;
-        if call.ends_line {
-            output.push(b'\n')?;
+    for n in statements {
+        match statement_text(alloc, tree, *n)? {
+            Some(text) => output.extend_from_slice(text.as_slice())?,
+            None => return Ok(None),
         }
     }
-    if cursor.is_at_end_of_procedure() {
-        Ok(Some(output))
-    } else {
-        Ok(None)
-    }
-}
-
-/// One call of a literal program.
-#[derive(Drop)]
-struct Call<'a> {
-    literal: &'a [u8],
-    ends_line: bool,
-}
-
-/// What is left of the source.
-#[derive(Drop)]
-struct Cursor<'a> {
-    rest: &'a [u8],
-}
-
-impl<'a> Cursor<'a> {
-    // Takes blanks, and tells whether there was one.
-    fn takes_blanks(&mut self) -> bool {
-        let is_blank = |b: &u8| matches!(*b, b'\t'..=b'\r' | b' ');
-        let end = self.rest.iter().position(|b| !is_blank(b));
-        let blanks = end.unwrap_or(self.rest.len());
-        self.rest = &self.rest[blanks..];
-        blanks > 0
-    }
-
-    // Takes blanks and then these bytes; false where others stand there.
-    fn takes(&mut self, token: &[u8]) -> bool {
-        self.takes_blanks();
-        match self.rest.strip_prefix(token) {
-            Some(rest) => {
-                self.rest = rest;
-                true
-            }
-            None => false,
-        }
-    }
-
-    fn takes_all(&mut self, tokens: &[&[u8]]) -> bool {
-        for token in tokens {
-            if !self.takes(token) {
-                return false;
-            }
-        }
-        true
-    }
-
-    // A string literal, without its marks.
-    fn literal(&mut self) -> Option<&'a [u8]>
-        ensures { IfSome result (λ bytes. length bytes.now ≤ LITERAL_LIMIT) }
-    {
-        if !self.takes(b"\"") {
-            return None;
-        }
-        let end = self.rest.iter().position(|b| *b == b'"')?;
-        let (literal, rest) = self.rest.split_at(end);
-        let is_plain = literal
-            .iter()
-            .all(|b| matches!(*b, b' '..=b'~') && *b != b'\\');
-        if !is_plain || literal.len() > LITERAL_LIMIT {
-            return None;
-        }
-        self.rest = &rest[1..];
-        Some(literal)
-    }
-
-    // A call, or None where none stands there; then nothing is taken.
-    fn call(&mut self) -> Option<Call<'a>>
-        ensures { IfSome result (λ call. length call.literal.now ≤ LITERAL_LIMIT) }
-    {
-        let mut ahead = Cursor { rest: self.rest };
-        if !ahead.takes_all(&[b"stream", b"$"]) {
-            return None;
-        }
-        let ends_line = ahead.takes(b"putl");
-        if !ends_line && !ahead.takes(b"puts") {
-            return None;
-        }
-        if !ahead.takes_all(&[b"(", b"stream", b"$", b"primary_output", b"(", b")", b","]) {
-            return None;
-        }
-        let literal = ahead.literal()?;
-        if !ahead.takes(b")") {
-            return None;
-        }
-        self.rest = ahead.rest;
-        Some(Call { literal, ends_line })
-    }
-
-    // Whether `end start_up` and nothing else is left.
-    fn is_at_end_of_procedure(&mut self) -> bool {
-        let is_end = self.takes(b"end") && self.takes_blanks() && self.takes(b"start_up");
-        self.takes_blanks();
-        is_end && self.rest.is_empty()
-    }
+    Ok(Some(Bytes::from_vec(output)))
 }

@@ -57,7 +57,6 @@ fn source<'a>(alloc: Global, name: &'a str, bytes: Vec<u8>) -> Result<Parsed, Ou
             Err(ParseError::Syntax(place)) => Err(refused(name, Rule::Syntax, place)),
             Err(ParseError::TooDeep(place)) => Err(refused(name, Rule::TooDeep, place)),
             Err(ParseError::Memory) => Err(Outcome::Memory),
-            Err(ParseError::NotYet) => Err(Outcome::NotYet),
         },
         Err(LexError::Token(place)) => Err(refused(name, Rule::Token, place)),
         Err(LexError::Memory) => Err(Outcome::Memory),

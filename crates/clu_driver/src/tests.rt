@@ -259,10 +259,56 @@ const ROWS: [Row<'static>; 25] = [
     },
 ];
 
-#[test]
-fn rows(rt: HostRuntime) -> Result<(), Fail> {
-    let alloc = rt.alloc();
-    for row in &ROWS {
+/// Literal programs, and sources that are nearly some.
+const LITERAL_PROGRAMS: [Row<'static>; 6] = [
+    Row {
+        words: "go a b",
+        file: b"START_UP = proc () % note\nstream$puts(stream$primary_output(), \"a\\tb\\101\"); end start_up\n",
+        status: 0,
+        output: b"\x61\x09\x62\x41",
+        errors: b"",
+    },
+    Row {
+        words: "go a b",
+        file: b"START_UP = proc () % note\nstream$puts(stream$primary_output(), \"a\\tb\\101\"); end start_up",
+        status: 0,
+        output: b"\x61\x09\x62\x41",
+        errors: b"",
+    },
+    // An octal code above 377; two statements of which one is none of a literal program; another
+    // operation; a parameter of the type.
+    Row {
+        words: "go a b",
+        file: b"start_up = proc () stream$puts(stream$primary_output(), \"\\400\") end start_up",
+        status: 27,
+        output: b"",
+        errors: b"not yet\n",
+    },
+    Row {
+        words: "go a b",
+        file: b"start_up = proc () stream$puts(stream$primary_output(), \"a\") return end start_up",
+        status: 27,
+        output: b"",
+        errors: b"not yet\n",
+    },
+    Row {
+        words: "go a b",
+        file: b"start_up = proc () stream$putc(stream$primary_output(), \"a\") end start_up",
+        status: 27,
+        output: b"",
+        errors: b"not yet\n",
+    },
+    Row {
+        words: "go a b",
+        file: b"start_up = proc () stream[int]$puts(stream$primary_output(), \"a\") end start_up",
+        status: 27,
+        output: b"",
+        errors: b"not yet\n",
+    },
+];
+
+fn answers(rt: &impl Abort, alloc: Global, rows: &[Row<'_>]) -> Result<(), Fail> {
+    for row in rows {
         let mut outside = Outside::new(alloc, Vec::new(alloc), Vec::new(alloc))?;
         assert_eq!(rt; outside.files.put(alloc, FILE, row.file), Ok(()));
         let status = outside.call(alloc, row.words)?;
@@ -271,6 +317,16 @@ fn rows(rt: HostRuntime) -> Result<(), Fail> {
         assert_eq!(rt; outside.errors.bytes(), row.errors);
     }
     Ok(())
+}
+
+#[test]
+fn rows(rt: HostRuntime) -> Result<(), Fail> {
+    answers(&rt, rt.alloc(), &ROWS)
+}
+
+#[test]
+fn literal_programs(rt: HostRuntime) -> Result<(), Fail> {
+    answers(&rt, rt.alloc(), &LITERAL_PROGRAMS)
 }
 
 #[test]
