@@ -16,14 +16,14 @@ use std::test::Fail;
 fn refuses_at_places(rt: HostRuntime) -> Result<(), Fail> {
     for (args, statement, wanted) in &OUTSIDE {
         assert_eq!(rt;
-            outcome(rt.alloc(), args, statement, false),
+            refusal_of(rt.alloc(), args, statement, false),
             *wanted,
             "{statement}"
         );
     }
     for (args, statement, wanted) in &INSIDE {
         assert_eq!(rt;
-            outcome(rt.alloc(), args, statement, true),
+            refusal_of(rt.alloc(), args, statement, true),
             *wanted,
             "{statement}"
         );
@@ -34,7 +34,7 @@ fn refuses_at_places(rt: HostRuntime) -> Result<(), Fail> {
 #[test]
 fn notes_types_and_operations(rt: HostRuntime) -> Result<(), Fail> {
     for (args, statement, raises, op) in &NOTED {
-        match noted(rt.alloc(), args, statement) {
+        match what_is_noted(rt.alloc(), args, statement) {
             Ok(found) => {
                 assert!(rt; found.typed, "{statement}");
                 assert_eq!(rt; found.raises.as_slice(), raises.as_bytes(), "{statement}");
@@ -54,8 +54,8 @@ struct Noted {
     op: Vec<u8>,
 }
 
-fn noted(alloc: Global, args: &str, statement: &str) -> Result<Noted, CheckError> {
-    let Outcome { tree, mut c, scope } = checked(alloc, args, statement, false)?;
+fn what_is_noted(alloc: Global, args: &str, statement: &str) -> Result<Noted, CheckError> {
+    let Walked { tree, mut c, scope } = checked(alloc, args, statement, false)?;
     for n in 0..tree.len() {
         let node = tree.node(n);
         match (node.kind, node.children.as_slice()) {
@@ -102,7 +102,7 @@ fn op_name(op: &OpRef) -> &[u8] {
 }
 
 /// In which column of line 2 which rule is violated; in column 0 where there is no other answer.
-fn outcome(alloc: Global, args: &str, statement: &str, inside: bool) -> Option<(Rule, u32)> {
+fn refusal_of(alloc: Global, args: &str, statement: &str, inside: bool) -> Option<(Rule, u32)> {
     match checked(alloc, args, statement, inside) {
         Ok(_) => None,
         Err(CheckError::Refused(refused)) if refused.place.line == 2 => {
@@ -114,19 +114,14 @@ fn outcome(alloc: Global, args: &str, statement: &str, inside: bool) -> Option<(
 
 /// A tree with the context and the scope in which its statement was checked.
 #[derive(Drop)]
-struct Outcome {
+struct Walked {
     tree: Tree,
     c: Context,
     scope: Scope,
 }
 
 /// Checks a routine with these arguments and this statement in its second line.
-fn checked(
-    alloc: Global,
-    args: &str,
-    statement: &str,
-    inside: bool,
-) -> Result<Outcome, CheckError> {
+fn checked(alloc: Global, args: &str, statement: &str, inside: bool) -> Result<Walked, CheckError> {
     let tree = read(alloc, source(alloc, args, statement)?.as_slice())?;
     let mut scope = Scope::new(alloc);
     let unit = if inside {
@@ -144,7 +139,7 @@ fn checked(
     for n in 0..tree.len() {
         enter(&mut c, &tree, &mut scope, n)?;
     }
-    Ok(Outcome { tree, c, scope })
+    Ok(Walked { tree, c, scope })
 }
 
 fn source(alloc: Global, args: &str, statement: &str) -> Result<Vec<u8>, CheckError> {

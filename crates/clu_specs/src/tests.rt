@@ -258,7 +258,8 @@ fn tally(rt: HostRuntime) -> Result<(), Fail> {
     let int = made(&mut types, Term::Int)?;
     let bool = made(&mut types, Term::Bool)?;
     let parameter = made(&mut types, Term::Param(1))?;
-    let wanted = made(&mut types, Term::Proc(binary(alloc, parameter, bool)?))?;
+    let equal = binary(alloc, parameter, bool)?;
+    let wanted = made(&mut types, Term::Proc(equal))?;
     let note = OpSpec {
         name: name(alloc, "note")?,
         iter: false,
@@ -282,7 +283,7 @@ fn tally(rt: HostRuntime) -> Result<(), Fail> {
     let again = read_spec(alloc, TALLY.as_bytes())?;
     assert_eq!(rt; again.name, spec.name);
     assert_eq!(rt; again.kinds.as_slice(), [ParamKind::OfType].as_slice());
-    match again.form {
+    match &again.form {
         Form::Cluster(demands, ops) => {
             assert_eq!(rt; demands.as_slice().len(), 1);
             assert_eq!(rt; ops.as_slice().len(), 1);
