@@ -16,6 +16,10 @@ mod running;
 mod sources;
 mod stream_calls;
 #[cfg(test)]
+mod syntax_rows;
+#[cfg(test)]
+mod syntax_tests;
+#[cfg(test)]
 mod tests;
 mod top;
 
