@@ -2,19 +2,23 @@
 //! files, and the status with which it ends.
 #![tactic(auto)]
 
+mod build_error;
+mod building;
 mod compiling;
+mod entering;
 mod executing;
 mod file;
 mod generating;
-mod literal;
-mod literal_code;
+#[cfg(test)]
+mod go_rows;
+#[cfg(test)]
+mod go_tests;
 mod outcome;
 #[cfg(test)]
 mod print_tests;
 mod printing;
 mod running;
 mod sources;
-mod stream_calls;
 #[cfg(test)]
 mod syntax_rows;
 #[cfg(test)]

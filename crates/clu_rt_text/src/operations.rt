@@ -1,0 +1,54 @@
+//! The word code of an operation, found by its type and its name.
+
+use crate::assembly::routine;
+use crate::booleans::{BOOL, NULL};
+use crate::characters::CHAR;
+use crate::code::Operation;
+use crate::integers::INT;
+use crate::streams::STREAM;
+use crate::strings::STRING;
+use clu_base::{Bytes, Memory};
+use clu_types::{Term, TypeArena, TypeId};
+use clu_wir::WRoutine;
+use std::alloc::Global;
+
+/// The word code of the built-in operation `op` of the type `of`; None where the type has no such operation whose code
+/// is kept here. The routine uses no others and names no types, and its `nodes` are 0, since limits on programs count
+/// no operations. The only error is want of memory.
+pub fn word_code(
+    alloc: Global,
+    types: &TypeArena,
+    of: TypeId,
+    op: &Bytes,
+) -> Result<Option<WRoutine>, Memory> {
+    if !types.contains(of) {
+        return Ok(None);
+    }
+    match named(operations(types.view(of)), op.as_slice()) {
+        Some(operation) => Ok(Some(routine(alloc, operation)?)),
+        None => Ok(None),
+    }
+}
+
+/// The operations of a type.
+fn operations(term: &Term) -> &'static [Operation] {
+    match term {
+        Term::Null => NULL,
+        Term::Bool => BOOL,
+        Term::Int => INT,
+        Term::Char => CHAR,
+        Term::Str => STRING,
+        Term::Stream => STREAM,
+        _ => &[],
+    }
+}
+
+/// The operation of this name.
+pub fn named(operations: &'static [Operation], name: &[u8]) -> Option<&'static Operation> {
+    for operation in operations {
+        if operation.name == name {
+            return Some(operation);
+        }
+    }
+    None
+}
