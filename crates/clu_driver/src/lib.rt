@@ -2,23 +2,19 @@
 //! files, and the status with which it ends.
 #![tactic(auto)]
 
-mod build_error;
-mod building;
 mod compiling;
-mod entering;
 mod executing;
 mod file;
 mod generating;
-#[cfg(test)]
-mod go_rows;
-#[cfg(test)]
-mod go_tests;
+mod literal;
+mod literal_code;
 mod outcome;
 #[cfg(test)]
 mod print_tests;
 mod printing;
 mod running;
 mod sources;
+mod stream_calls;
 #[cfg(test)]
 mod syntax_rows;
 #[cfg(test)]
