@@ -328,16 +328,12 @@ fn is_spelled(word: &[u8], text: &[u8]) -> bool
 pub fn symbol_named(table: &[(&[u8], Symbol)], text: &[u8]) -> Option<Symbol>
     ensures { result ≡ symbol_named (map (λ entry. (entry.0.now, entry.1)) table.now) text.now }
 {
-    match table {
-        [] => None,
-        [(word, symbol), rest @ ..] => {
-            if is_spelled(word, text) {
-                Some(*symbol)
-            } else {
-                symbol_named(rest, text)
-            }
+    for (word, symbol) in table {
+        if is_spelled(word, text) {
+            return Some(*symbol);
         }
     }
+    None
 }
 
 /// What a token of this kind and text is to the grammar.
