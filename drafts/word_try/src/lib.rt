@@ -1,0 +1,7 @@
+//! Tries word code.
+#![tactic(auto)]
+
+#[cfg(test)]
+mod machine;
+#[cfg(test)]
+mod tests;
