@@ -1,0 +1,4 @@
+-- Lemmas on texts and their readers.
+pub mod Growing
+pub mod Writing
+pub mod Strings
