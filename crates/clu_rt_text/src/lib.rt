@@ -1,0 +1,22 @@
+//! What the operations of null, bool, int, char, string and stream do, as word code. Each is data (`code`), one
+//! operation in one place; docs/operations.md says what they mean.
+#![tactic(auto)]
+
+mod assembly;
+mod booleans;
+mod characters;
+mod code;
+mod finding;
+mod integers;
+mod operations;
+mod parsing;
+mod streams;
+mod strings;
+
+pub use crate::assembly::routine;
+pub use crate::code::{COPY, EQUAL, Expr, Operation, Step, X, Y, Z};
+pub use crate::finding::named;
+pub use crate::operations::{operation_of, word_code};
+
+#[cfg(test)]
+mod tests;
