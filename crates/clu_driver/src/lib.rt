@@ -2,35 +2,19 @@
 //! files, and the status with which it ends.
 #![tactic(auto)]
 
-mod build_error;
-mod building;
 mod compiling;
-mod entering;
 mod executing;
 mod file;
 mod generating;
-#[cfg(test)]
-mod go_data_rows;
-#[cfg(test)]
-mod go_rows;
-#[cfg(test)]
-mod go_tests;
-#[cfg(test)]
-mod op_costs;
-#[cfg(test)]
-mod op_helpers;
-#[cfg(test)]
-mod op_rows_data;
-#[cfg(test)]
-mod op_rows_text;
-#[cfg(test)]
-mod op_tests;
+mod literal;
+mod literal_code;
 mod outcome;
 #[cfg(test)]
 mod print_tests;
 mod printing;
 mod running;
 mod sources;
+mod stream_calls;
 #[cfg(test)]
 mod syntax_rows;
 #[cfg(test)]
