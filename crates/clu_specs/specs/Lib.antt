@@ -8,9 +8,4 @@ pub mod Constants
 pub mod Texts
 pub mod Uses
 pub mod Specifications
-pub mod TypeReading
-pub mod Grammar
-pub mod UseReading
-pub mod SpecReading
 pub mod Seen
-pub mod Offsets

