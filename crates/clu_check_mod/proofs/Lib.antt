@@ -1,2 +1,0 @@
--- Lemmas on the modules of a file.
-pub mod OwnSpecs
