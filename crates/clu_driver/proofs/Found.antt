@@ -1,6 +1,7 @@
 -- What holds of the content that was read holds of the file.
-use Rattle.std.proofs.Common.{◌≡◌, ◌≤◌, ◌<◌, ◌∙◌, ap, sym, inr, subst, length, List, ℕ, Option, Some, None}
+use Rattle.std.proofs.Common.{◌≡◌, ◌≤◌, ◌<◌, ◌⊎◌, ◌∙◌, ap, sym, inl, inr, subst, length, List, ℕ, Option, Some, None}
 use Rattle.clu_base.specs.Outside.{Files}
+use Rattle.clu_base.specs.Rules.{number_of}
 use Rattle.clu_image.specs.Faults.{IsRefusal, fault_of}
 use Rattle.clu_base.specs.declared.errors.FormatError.TheVariants.{Bad, Memory}
 use Rattle.clu_base.specs.declared.errors.FormatError.{FormatError}
@@ -8,7 +9,7 @@ use Rattle.clu_words.specs.Command.{Limits}
 use Rattle.rv_isa.specs.Image.{Contents}
 use Rattle.clu_driver.specs.Commands.{GoShows, PutShows}
 use Rattle.clu_driver.specs.Found.{IsFound}
-use Rattle.clu_driver.specs.Sources.{IsRefusedBy, NotParsed, NotSource}
+use Rattle.clu_driver.specs.Sources.{IsRefusedBy, NotAccepted, NotCompiled, NotParsed, NotSource}
 use Rattle.clu_driver.specs.World.{Streams, World, world_of}
 use Rattle.clu_driver.specs.declared.outcome.Outcome.{Outcome}
 use Rattle.clu_driver.specs.declared.outcome.Outcome.TheVariants as outcome
@@ -39,3 +40,20 @@ not_parsed (outcome.Refused n r) name bytes files faults faults' found why = (wh
 not_parsed (outcome.SourceTooLarge n) name bytes files faults faults' found why = (why.0, found_with (λ b. 1048576 < length b) files name bytes found why.1)
 not_parsed outcome.Memory name bytes files faults faults' found why = tt
 not_parsed _ name bytes files faults faults' found why = elim why [ ]
+
+-- what a file shows, it shows of a wider property too
+found_as : (P Q : List ℕ → Type 0) (files : Option Files) (name : List ℕ) → ((bytes : List ℕ) → P bytes → Q bytes) → IsFound files name P → IsFound files name Q
+found_as P Q None name f found = tt
+found_as P Q (Some all) name f found = (found.0, found.1, f found.0 found.2)
+
+pub parsed_not : (how : Outcome) (name : List ℕ) (files : Option Files) (faults faults' : ℕ) → NotParsed how name files faults faults' → NotCompiled how name files faults faults'
+parsed_not (outcome.Refused n r) name files faults faults' why =
+    (why.0, found_as (λ b. IsRefusedBy b r) (λ b. IsRefusedBy b r ⊎ (4 ≤ number_of r.rule)) files name (λ b is. inl is) why.1)
+parsed_not _ name files faults faults' why = why
+
+pub accepted_not : (how : Outcome) (name bytes : List ℕ) (files : Option Files) (faults faults' : ℕ) → IsFound files name (λ b. b ≡ bytes) → NotAccepted how name → NotCompiled how name files faults faults'
+accepted_not (outcome.Refused n r) name bytes files faults faults' found why =
+    (why.0, found_as (λ b. b ≡ bytes) (λ b. IsRefusedBy b r ⊎ (4 ≤ number_of r.rule)) files name (λ b is. inr why.1) found)
+accepted_not outcome.Memory name bytes files faults faults' found why = tt
+accepted_not outcome.NotYet name bytes files faults faults' found why = tt
+accepted_not _ name bytes files faults faults' found why = elim why [ ]

@@ -9,7 +9,7 @@ use Rattle.rv_isa.specs.Image.{Contents}
 use Rattle.clu_driver.specs.Found.{IsFound, NotRead}
 use Rattle.clu_driver.specs.Generated.{generated_text}
 use Rattle.clu_driver.specs.Shows.{RunShows}
-use Rattle.clu_driver.specs.Sources.{NotParsed}
+use Rattle.clu_driver.specs.Sources.{NotCompiled, NotParsed}
 use Rattle.clu_driver.specs.World.{IsUnrun, IsUntouched, World, world_of}
 use Rattle.clu_driver.specs.declared.outcome.Outcome.{Outcome}
 use Rattle.clu_driver.specs.declared.outcome.Outcome.TheVariants as outcome
@@ -45,7 +45,7 @@ PutShows how name image limits before after =
 -- go: the source was refused and nothing changed, or its image was put and run
 abbrev pub GoShows : Outcome → List ℕ → List ℕ → Limits → World → World → Type 0
 GoShows how file name limits before after =
-    (NotParsed how file before.files before.store_faults after.store_faults × IsUntouched before after)
+    (NotCompiled how file before.files before.store_faults after.store_faults × IsUntouched before after)
     ⊎ ((image : Contents) × (faults : ℕ) × (before.store_faults ≤ faults) × PutShows how name image limits (world_of before.files faults before.streams) after)
 
 -- gen: the source was written, or some first bytes of it

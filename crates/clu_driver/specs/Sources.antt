@@ -1,6 +1,7 @@
 -- Why a source is refused before it is checked.
-use Rattle.std.specs.Prelude.{◌≡◌, ◌<◌, ◌⊎◌, ℕ, List, Option, length}
+use Rattle.std.specs.Prelude.{◌≡◌, ◌<◌, ◌≤◌, ◌⊎◌, ℕ, List, Option, length}
 use Rattle.clu_base.specs.Outside.{Files}
+use Rattle.clu_base.specs.Rules.{number_of}
 use Rattle.clu_base.specs.declared.rules.Refused.{Refused}
 use Rattle.clu_base.specs.declared.rules.Rule.TheVariants as rule
 use Rattle.clu_base.specs.declared.tokens.Token.{Token}
@@ -35,3 +36,16 @@ NotParsed (outcome.Refused n r) name files faults faults' = (n.now ≡ name) × 
 NotParsed (outcome.SourceTooLarge n) name files faults faults' = (n.now ≡ name) × IsFound files name (λ bytes. 1048576 < length bytes)
 NotParsed outcome.NotYet name files faults faults' = Unit {0}
 NotParsed how name files faults faults' = NotRead how name files faults faults'
+
+-- a tree of which the check gave a refusal. That it is one of the rules on modules is all that is known of it: no definition
+-- ties it to the bytes yet
+abbrev pub NotAccepted : Outcome → List ℕ → Type 0
+NotAccepted (outcome.Refused n r) name = (n.now ≡ name) × (4 ≤ number_of r.rule)
+NotAccepted outcome.Memory name = Unit {0}
+NotAccepted outcome.NotYet name = Unit {0}
+NotAccepted _ name = ⊥
+
+-- why a source file is not compiled: it was not parsed, or it was refused by a rule on modules
+abbrev pub NotCompiled : Outcome → List ℕ → Option Files → ℕ → ℕ → Type 0
+NotCompiled (outcome.Refused n r) name files faults faults' = (n.now ≡ name) × IsFound files name (λ bytes. IsRefusedBy bytes r ⊎ (4 ≤ number_of r.rule))
+NotCompiled how name files faults faults' = NotParsed how name files faults faults'

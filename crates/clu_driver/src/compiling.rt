@@ -4,7 +4,7 @@ ghost use Rattle.std.specs.Prelude.{◌≡◌, ◌≤◌, ◌⊎◌, IfErr, OnOk
 ghost use Rattle.clu_image.specs.ImageFile.{image_bytes};
 ghost use Rattle.clu_words.specs.Command.{seen_limits};
 ghost use Rattle.clu_driver.specs.Commands.{GoShows, IsPut, NotPut, PutShows};
-ghost use Rattle.clu_driver.specs.Sources.{NotParsed};
+ghost use Rattle.clu_driver.specs.Sources.{NotAccepted, NotCompiled};
 ghost use Rattle.clu_driver.specs.Shows.{Reported};
 ghost use Rattle.clu_driver.specs.World.{streams_of, world_of};
 
@@ -14,9 +14,11 @@ use crate::literal_code::literal_image;
 use crate::outcome::{Outcome, report};
 use crate::running::run;
 use crate::sources::parse_file;
-use clu_base::{Sink, Source, Store};
+use clu_base::{Refused, Sink, Source, Store};
+use clu_check_mod::{CheckError, check};
 use clu_image::store;
 use clu_tree::Tree;
+use clu_types::Specs;
 use clu_words::RunLimits;
 use rv_isa::Image;
 use std::alloc::Global;
@@ -71,10 +73,34 @@ fn put_and_run<S: Source, K: Sink, E: Sink, F: Store>(
 fn compiled<'a, F: Store>(alloc: Global, file: &'a str, files: &mut F) -> Result<Image, Outcome<'a>>
     ensures counts { F.faults files.old ≤ F.faults files.new }
     ensures kept { F.files files.new ≡ F.files files.old }
-    ensures refused { IfErr result (λ how. NotParsed how file.now (F.files files.old) (F.faults files.old) (F.faults files.new)) }
+    ensures refused { IfErr result (λ how. NotCompiled how file.now (F.files files.old) (F.faults files.old) (F.faults files.new)) }
 {
-    let source = parse_file(alloc, file, files)?;
-    literal_program(alloc, &source.tree)
+    match parse_file(alloc, file, files) {
+        Ok(source) => image_of(alloc, file, source.tree),
+        Err(how) => Err(how),
+    }
+}
+
+// The image of a file that has this tree, checked over no specifications.
+fn image_of<'a>(alloc: Global, name: &'a str, tree: Tree) -> Result<Image, Outcome<'a>>
+    ensures refused { IfErr result (λ how. NotAccepted how name.now) }
+{
+    match check(alloc, tree, &Specs::new(alloc)) {
+        Ok(checked) => literal_program(alloc, &checked.tree),
+        Err(CheckError::Refused(refused)) => Err(not_accepted(name, refused)),
+        Err(CheckError::Memory) => Err(Outcome::Memory),
+        Err(CheckError::NotYet) => Err(Outcome::NotYet),
+    }
+}
+
+// The outcome of a refusal by the check, which asks the rules behind the third.
+fn not_accepted<'a>(name: &'a str, refused: Refused) -> Outcome<'a>
+    ensures { NotAccepted result name.now }
+{
+    if refused.rule.number() < 4 {
+        return Outcome::NotYet;
+    }
+    Outcome::Refused(name, refused)
 }
 
 // Puts the image under its name.

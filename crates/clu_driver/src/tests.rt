@@ -259,6 +259,59 @@ const ROWS: [Row<'static>; 25] = [
     },
 ];
 
+/// Sources that break a rule on modules.
+const NOT_ACCEPTED: [Row<'static>; 7] = [
+    Row {
+        words: "go a b",
+        file: b"start_up = proc ()\nx: int := 9223372036854775808\nend start_up",
+        status: 11,
+        output: b"",
+        errors: b"a:2:11: V4 LiteralRange\n",
+    },
+    Row {
+        words: "go a b",
+        file: b"start_up = proc () x: int := y end start_up",
+        status: 11,
+        output: b"",
+        errors: b"a:1:30: V5 UnknownName\n",
+    },
+    Row {
+        words: "go a b",
+        file: b"start_up = proc () break end start_up",
+        status: 11,
+        output: b"",
+        errors: b"a:1:20: V28 NotInLoop\n",
+    },
+    Row {
+        words: "go a b",
+        file: b"start_up = proc () signal e end start_up",
+        status: 11,
+        output: b"",
+        errors: b"a:1:20: V25 SignalNotListed\n",
+    },
+    Row {
+        words: "go a b",
+        file: b"start_up = proc () end go",
+        status: 11,
+        output: b"",
+        errors: b"a:1:1: V34 EndName\n",
+    },
+    Row {
+        words: "go a b",
+        file: b"p = proc () q() end p q = proc (x: int) end q",
+        status: 11,
+        output: b"",
+        errors: b"a:1:14: V12 ArgumentCount\n",
+    },
+    Row {
+        words: "go a b",
+        file: b"start_up = proc ()\na: array[int] := down(box$make())\nend start_up\nbox = cluster is make rep = array[int] make = proc () returns (cvt) return (rep$new()) end make end box",
+        status: 11,
+        output: b"",
+        errors: b"a:2:18: V32 UpDown\n",
+    },
+];
+
 /// Literal programs, and sources that are nearly some.
 const LITERAL_PROGRAMS: [Row<'static>; 6] = [
     Row {
@@ -275,14 +328,14 @@ const LITERAL_PROGRAMS: [Row<'static>; 6] = [
         output: b"\x61\x09\x62\x41",
         errors: b"",
     },
-    // An octal code above 377; two statements of which one is none of a literal program; another
-    // operation; a parameter of the type.
+    // An octal code above 377; two statements of which one is none of a literal program; an operation
+    // that takes no string; a parameter of the type.
     Row {
         words: "go a b",
         file: b"start_up = proc () stream$puts(stream$primary_output(), \"\\400\") end start_up",
-        status: 27,
+        status: 11,
         output: b"",
-        errors: b"not yet\n",
+        errors: b"a:1:57: V4 LiteralRange\n",
     },
     Row {
         words: "go a b",
@@ -294,16 +347,16 @@ const LITERAL_PROGRAMS: [Row<'static>; 6] = [
     Row {
         words: "go a b",
         file: b"start_up = proc () stream$putc(stream$primary_output(), \"a\") end start_up",
-        status: 27,
+        status: 11,
         output: b"",
-        errors: b"not yet\n",
+        errors: b"a:1:31: V13 ArgumentType\n",
     },
     Row {
         words: "go a b",
         file: b"start_up = proc () stream[int]$puts(stream$primary_output(), \"a\") end start_up",
-        status: 27,
+        status: 11,
         output: b"",
-        errors: b"not yet\n",
+        errors: b"a:1:20: V19 ParameterKind\n",
     },
 ];
 
@@ -322,6 +375,11 @@ fn answers(rt: &impl Abort, alloc: Global, rows: &[Row<'_>]) -> Result<(), Fail>
 #[test]
 fn rows(rt: HostRuntime) -> Result<(), Fail> {
     answers(&rt, rt.alloc(), &ROWS)
+}
+
+#[test]
+fn rules_on_modules(rt: HostRuntime) -> Result<(), Fail> {
+    answers(&rt, rt.alloc(), &NOT_ACCEPTED)
 }
 
 #[test]

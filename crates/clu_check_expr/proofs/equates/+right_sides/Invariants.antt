@@ -1,0 +1,14 @@
+use Rattle.std.proofs.Common.{◌+◌, ◌*◌}
+use Rattle.clu_check_expr.proofs.equates.+right_sides.Given as goal
+
+abbrev pub decreases-enter : goal.decreases-enter
+decreases-enter l = 5 * l.depth + 1
+
+abbrev pub decreases-check_right_side : goal.decreases-check_right_side
+decreases-check_right_side l = 5 * l.depth
+
+abbrev pub decreases-check_inside : goal.decreases-check_inside
+decreases-check_inside l = 5 * l.depth + 2
+
+abbrev pub decreases-check_set : goal.decreases-check_set
+decreases-check_set l = 5 * l.depth + 3

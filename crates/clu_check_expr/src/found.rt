@@ -1,0 +1,162 @@
+//! The operations that a type has, found by their names, with what they ask.
+
+use crate::carried::routine_type;
+use crate::invoked::Operation;
+use clu_base::{Bytes, Sequence};
+use clu_builtin::{Need, heading};
+use clu_core::{Context, OpRef, Unit};
+use clu_equates::{CheckError, intern, term};
+use clu_types::{Actual, Demand, Form, OpSpec, Spec, Specs, Term, TypeArena, TypeId};
+use std::alloc::Global;
+use std::cmp::Ordering;
+
+/// What an operation asks of its type.
+#[derive(Debug, Drop)]
+pub enum Asked {
+    Nothing,
+    /// What a built-in operation needs of the types of the parts.
+    Needs(Sequence<Need>),
+    /// What the where clause of a cluster's routine demands.
+    Where,
+}
+
+/// An operation that was found.
+#[derive(Debug, Drop)]
+pub struct Found {
+    pub operation: Operation,
+    pub asked: Asked,
+}
+
+/// A cluster's name and its actual parameters.
+#[derive(Debug, Drop)]
+pub struct Instance {
+    pub name: Bytes,
+    pub actuals: Sequence<Actual>,
+}
+
+/// The instance that a cluster type is.
+pub fn instance_of(
+    alloc: Global,
+    types: &TypeArena,
+    of: TypeId,
+) -> Result<Option<Instance>, CheckError> {
+    match term(types, of)? {
+        Term::Cluster(name, actuals) => Ok(Some(Instance {
+            name: name.copy(alloc)?,
+            actuals: Sequence::from_vec(copied(alloc, actuals.as_slice())?),
+        })),
+        _ => Ok(None),
+    }
+}
+
+fn copied(alloc: Global, actuals: &[Actual]) -> Result<Vec<Actual>, CheckError> {
+    let mut made = Vec::new(alloc);
+    for actual in actuals {
+        made.push(actual.copy(alloc)?)?;
+    }
+    Ok(made)
+}
+
+/// The operation of a type that sugar and `t$op` mean: of the cluster round the place all routines, of another one
+/// the exported ones.
+pub fn find_operation(
+    c: &mut Context,
+    of: TypeId,
+    op: &Bytes,
+) -> Result<Option<Found>, CheckError> {
+    match term(&c.types, of)? {
+        Term::Param(n) => {
+            let n = *n;
+            find_given(c, n, op)
+        }
+        Term::Cluster(_, _) => find_in_cluster(c, of, op),
+        _ => find_builtin(c, of, op),
+    }
+}
+
+fn find_given(c: &Context, n: u32, op: &Bytes) -> Result<Option<Found>, CheckError> {
+    match given(c.unit.demands.as_slice(), n, op) {
+        Some(demand) => Ok(Some(Found {
+            operation: Operation {
+                of: demand.wanted,
+                op: OpRef::Param(n, op.copy(c.alloc)?),
+            },
+            asked: Asked::Nothing,
+        })),
+        None => Ok(None),
+    }
+}
+
+/// What the first of the demands gives of this parameter and this name.
+pub fn given<'a>(demands: &'a [Demand], n: u32, op: &Bytes) -> Option<&'a Demand> {
+    for demand in demands {
+        if demand.param == n && demand.op == *op {
+            return Some(demand);
+        }
+    }
+    None
+}
+
+fn find_in_cluster(c: &mut Context, of: TypeId, op: &Bytes) -> Result<Option<Found>, CheckError> {
+    let Some(instance) = instance_of(c.alloc, &c.types, of)? else {
+        return Ok(None);
+    };
+    let Some(spec) = seen_spec(&c.unit, &c.specs, &instance.name) else {
+        return Ok(None);
+    };
+    let Some(routine) = op_named(spec, op) else {
+        return Ok(None);
+    };
+    let actuals = instance.actuals.as_slice();
+    let routine = routine_type(c.alloc, &mut c.types, &spec.types, routine, actuals)?;
+    Ok(Some(Found {
+        operation: Operation {
+            of: routine,
+            op: OpRef::Cluster(of, op.copy(c.alloc)?),
+        },
+        asked: Asked::Where,
+    }))
+}
+
+/// The specification of a module as it is seen from the unit: the unit's own cluster has all its routines.
+pub fn seen_spec<'a>(unit: &'a Unit, specs: &'a Specs, module: &Bytes) -> Option<&'a Spec> {
+    match &unit.cluster {
+        Some(cluster) if unit.name == *module => Some(&cluster.inner),
+        _ => specs.get(module),
+    }
+}
+
+/// The routine of this name in the specification of a cluster.
+pub fn op_named<'a>(spec: &'a Spec, op: &Bytes) -> Option<&'a OpSpec> {
+    match &spec.form {
+        Form::Cluster(_, ops) => {
+            let ops = ops.as_slice();
+            match ops.binary_search_by(|o| -> Ordering { o.name.cmp(op) }) {
+                Ok(at) => ops.get(at),
+                Err(_) => None,
+            }
+        }
+        Form::Routine(_) => None,
+    }
+}
+
+fn find_builtin(c: &mut Context, of: TypeId, op: &Bytes) -> Result<Option<Found>, CheckError> {
+    if !c.types.contains(of) {
+        return Err(CheckError::NotYet);
+    }
+    let Some(builtin) = heading(c.alloc, &mut c.types, of, op)? else {
+        return Ok(None);
+    };
+    let routine = if builtin.iter {
+        intern(&mut c.types, Term::Iter(builtin.heading))?
+    } else {
+        intern(&mut c.types, Term::Proc(builtin.heading))?
+    };
+    Ok(Some(Found {
+        operation: Operation {
+            of: routine,
+            op: OpRef::Builtin(of, op.copy(c.alloc)?),
+        },
+        asked: Asked::Needs(builtin.needs),
+    }))
+}

@@ -1,0 +1,2 @@
+-- Lemmas on the modules of a file.
+pub mod OwnSpecs

@@ -1,0 +1,375 @@
+//! The specifications of the modules of a file, by their headings alone (CLU Reference Manual, section 4). No rule is
+//! asked: what denotes nothing is left out, and refused where the headings are walked.
+
+ghost use Rattle.std.specs.Prelude.{◌≡◌, IfOk};
+
+use crate::carried::{move_demands, move_op};
+use crate::demands::{Demands, demands_of, listed};
+use crate::entering::{Walk, enter_module, enter_routine};
+use crate::heading::heading_of;
+use crate::nodes::{Module, children_of};
+use crate::units::own_type;
+use clu_base::{Bytes, Sequence};
+use clu_core::{Context, SetDemand, Unit};
+use clu_equates::{CheckError, Scope, Value, Wanted, first_name, node_at, term, value_of};
+use clu_tree::{Node, NodeKind, Tree};
+use clu_types::{Demand, Form, Heading, OpSpec, ParamKind, Spec, Term, TypeArena, TypeId};
+use indexmap::{IndexMap, IndexSet};
+use std::alloc::Global;
+
+/// The specification of a module, with all routines of a cluster, exported or not. The scope, which has all modules,
+/// is as before.
+pub fn specification(
+    c: &mut Context,
+    tree: &Tree,
+    scope: &mut Scope,
+    module: &Module<'_>,
+) -> Result<Spec, CheckError>
+    ensures { IfOk result (λ spec. spec.name ≡ «module».now.name.now) }
+{
+    let base = scope.len();
+    enter_with_kinds(c, tree, scope, module)?;
+    let spec = match module.node.kind {
+        NodeKind::Cluster => cluster_spec(c, tree, scope, module)?,
+        _ => routine_spec(c, tree, scope, module)?,
+    };
+    scope.leave(base);
+    Ok(spec)
+}
+
+// Brings the names of the module into scope and gives the unit the kinds of its parameters. Those may be written by
+// equates, and equates may name parameters: so the names are entered twice where a parameter is no type.
+fn enter_with_kinds(
+    c: &mut Context,
+    tree: &Tree,
+    scope: &mut Scope,
+    module: &Module<'_>,
+) -> Result<(), CheckError> {
+    let base = scope.len();
+    let parms = children_of(c.alloc, tree, module.node, NodeKind::Parm)?;
+    c.unit = Unit::new(c.alloc, module.name.copy(c.alloc)?);
+    c.unit.kinds = Sequence::from_vec(all_types(c.alloc, tree, parms.as_slice())?);
+    enter_module(c, tree, scope, module, Walk::Specifications)?;
+    let kinds = kinds_of(c, tree, scope, parms.as_slice())?;
+    if c.unit.kinds.as_slice() != kinds.as_slice() {
+        c.unit.kinds = Sequence::from_vec(kinds);
+        scope.leave(base);
+        enter_module(c, tree, scope, module, Walk::Specifications)?;
+    }
+    Ok(())
+}
+
+// As many kinds as there are parameters.
+fn all_types(alloc: Global, tree: &Tree, parms: &[u32]) -> Result<Vec<ParamKind>, CheckError> {
+    let mut kinds = Vec::new(alloc);
+    for parm in parms {
+        for _ in node_at(tree, *parm)?.names.as_slice() {
+            kinds.push(ParamKind::OfType)?;
+        }
+    }
+    Ok(kinds)
+}
+
+fn kinds_of(
+    c: &mut Context,
+    tree: &Tree,
+    scope: &Scope,
+    parms: &[u32],
+) -> Result<Vec<ParamKind>, CheckError> {
+    let mut kinds = Vec::new(c.alloc);
+    for parm in parms {
+        let parm = node_at(tree, *parm)?;
+        let kind = kind_of(c, tree, scope, parm)?;
+        for _ in parm.names.as_slice() {
+            kinds.push(kind.unwrap_or(ParamKind::Null))?;
+        }
+    }
+    Ok(kinds)
+}
+
+/// What the parameters of a Parm are, where that is a kind that parameters may have.
+pub fn kind_of(
+    c: &mut Context,
+    tree: &Tree,
+    scope: &Scope,
+    parm: &Node,
+) -> Result<Option<ParamKind>, CheckError> {
+    let Some(of) = parm.children.as_slice().first() else {
+        return Ok(Some(ParamKind::OfType));
+    };
+    let value = value_of(c.alloc, tree, scope, &mut c.types, *of, Wanted::Type);
+    match had(value)? {
+        Some(Value::Of(of)) => Ok(match term(&c.types, of)? {
+            Term::Null => Some(ParamKind::Null),
+            Term::Bool => Some(ParamKind::Bool),
+            Term::Int => Some(ParamKind::Int),
+            Term::Char => Some(ParamKind::Char),
+            Term::Str => Some(ParamKind::Str),
+            _ => None,
+        }),
+        _ => Ok(None),
+    }
+}
+
+/// What a call gave, or nothing where it was refused by a rule.
+pub fn had<T>(given: Result<T, CheckError>) -> Result<Option<T>, CheckError> {
+    match given {
+        Ok(value) => Ok(Some(value)),
+        Err(CheckError::Refused(_)) => Ok(None),
+        Err(CheckError::Memory) => Err(CheckError::Memory),
+        Err(CheckError::NotYet) => Err(CheckError::NotYet),
+    }
+}
+
+fn routine_spec(
+    c: &mut Context,
+    tree: &Tree,
+    scope: &mut Scope,
+    module: &Module<'_>,
+) -> Result<Spec, CheckError>
+    ensures { IfOk result (λ spec. spec.name ≡ «module».now.name.now) }
+{
+    let op = op_spec(c, tree, scope, module.node, None, true)?;
+    let op = match op {
+        Some(op) => op,
+        None => bare(c.alloc, module.node)?,
+    };
+    let mut types = TypeArena::new(c.alloc);
+    let op = move_op(c.alloc, &mut types, &c.types, &op)?;
+    finished(c, module, types, Form::Routine(op))
+}
+
+fn cluster_spec(
+    c: &mut Context,
+    tree: &Tree,
+    scope: &mut Scope,
+    module: &Module<'_>,
+) -> Result<Spec, CheckError>
+    ensures { IfOk result (λ spec. spec.name ≡ «module».now.name.now) }
+{
+    let own = own_type(c)?;
+    let mut types = TypeArena::new(c.alloc);
+    let form = cluster_form(c, tree, scope, module.node, own, &mut types)?;
+    finished(c, module, types, form)
+}
+
+fn cluster_form(
+    c: &mut Context,
+    tree: &Tree,
+    scope: &mut Scope,
+    cluster: &Node,
+    own: TypeId,
+    types: &mut TypeArena,
+) -> Result<Form, CheckError> {
+    let demands = cluster_demands(c, tree, scope, cluster, types)?;
+    let ops = cluster_ops(c, tree, scope, cluster, own, types)?;
+    let demands = Sequence::from_vec(demands);
+    Ok(Form::Cluster(demands, Sequence::from_vec(ops)))
+}
+
+fn cluster_demands(
+    c: &mut Context,
+    tree: &Tree,
+    scope: &mut Scope,
+    cluster: &Node,
+    types: &mut TypeArena,
+) -> Result<Vec<Demand>, CheckError> {
+    let demands = demands_of(c, tree, scope, cluster)?;
+    note_sets(c, &demands, None)?;
+    let demands = listed(c.alloc, &demands)?;
+    move_demands(c.alloc, types, &c.types, demands.as_slice())
+}
+
+// The operations of a cluster, ascending by name. The first of a name counts; the second is refused later.
+fn cluster_ops(
+    c: &mut Context,
+    tree: &Tree,
+    scope: &mut Scope,
+    cluster: &Node,
+    own: TypeId,
+    types: &mut TypeArena,
+) -> Result<Vec<OpSpec>, CheckError> {
+    let mut ops = IndexMap::new(c.alloc);
+    for routine in children_of(c.alloc, tree, cluster, NodeKind::Routine)? {
+        let base = scope.len();
+        let routine = node_at(tree, routine)?;
+        enter_routine(c, tree, scope, routine, Walk::Specifications)?;
+        if let Some(op) = op_spec(c, tree, scope, routine, Some(own), false)? {
+            note_op(c, &mut ops, &op, types)?;
+        }
+        scope.leave(base);
+    }
+    ascending(c.alloc, ops)
+}
+
+// Notes an operation, with types of the arena, if it is the first of its name.
+fn note_op(
+    c: &Context,
+    ops: &mut IndexMap<Bytes, OpSpec>,
+    op: &OpSpec,
+    types: &mut TypeArena,
+) -> Result<(), CheckError> {
+    if !ops.contains_key(&op.name) {
+        let name = op.name.copy(c.alloc)?;
+        ops.insert(name, move_op(c.alloc, types, &c.types, op)?)?;
+    }
+    Ok(())
+}
+
+fn ascending(alloc: Global, mut ops: IndexMap<Bytes, OpSpec>) -> Result<Vec<OpSpec>, CheckError> {
+    let mut listed = Vec::new(alloc);
+    ops.sort_keys()?;
+    for (_, op) in ops.drain(..) {
+        listed.push(op)?;
+    }
+    Ok(listed)
+}
+
+// A routine whose names are in scope, or nothing where its heading denotes nothing.
+fn op_spec(
+    c: &mut Context,
+    tree: &Tree,
+    scope: &mut Scope,
+    routine: &Node,
+    own: Option<TypeId>,
+    is_module: bool,
+) -> Result<Option<OpSpec>, CheckError> {
+    let demands = demands_of(c, tree, scope, routine)?;
+    let name = first_name(routine)?;
+    note_sets(c, &demands, if is_module { None } else { Some(name) })?;
+    let heading = heading_of(c, tree, scope, routine, own);
+    match had(heading)? {
+        Some(heading) => Ok(Some(OpSpec {
+            name: name.copy(c.alloc)?,
+            iter: is_iter(routine),
+            heading,
+            demands: Sequence::from_vec(listed(c.alloc, &demands)?),
+        })),
+        None => Ok(None),
+    }
+}
+
+/// Whether the Routine is an iterator.
+pub fn is_iter(routine: &Node) -> bool {
+    routine.value.as_slice() == b"iter".as_slice()
+}
+
+// A routine without arguments, results, signals and demands.
+fn bare(alloc: Global, routine: &Node) -> Result<OpSpec, CheckError> {
+    Ok(OpSpec {
+        name: first_name(routine)?.copy(alloc)?,
+        iter: is_iter(routine),
+        heading: Heading {
+            args: Sequence::from_vec(Vec::new(alloc)),
+            results: Sequence::from_vec(Vec::new(alloc)),
+            signals: Sequence::from_vec(Vec::new(alloc)),
+        },
+        demands: Sequence::from_vec(Vec::new(alloc)),
+    })
+}
+
+// Notes which demands of the module, or of this routine of it, type sets alone make.
+fn note_sets(
+    c: &mut Context,
+    demands: &Demands,
+    routine: Option<&Bytes>,
+) -> Result<(), CheckError> {
+    for (asked, wish) in demands.iter() {
+        if wish.by_set {
+            let module = c.unit.name.copy(c.alloc)?;
+            let routine = match routine {
+                Some(name) => name.copy(c.alloc)?,
+                None => Bytes::from_slice(c.alloc, b"")?,
+            };
+            c.set_demands.insert(SetDemand {
+                module,
+                routine,
+                param: asked.param,
+                op: asked.op.copy(c.alloc)?,
+            })?;
+        }
+    }
+    Ok(())
+}
+
+fn finished(
+    c: &Context,
+    module: &Module<'_>,
+    types: TypeArena,
+    form: Form,
+) -> Result<Spec, CheckError>
+    ensures { IfOk result (λ spec. spec.name ≡ «module».now.name.now) }
+{
+    Ok(Spec {
+        name: module.name.copy(c.alloc)?,
+        kinds: Sequence::from_vec(c.unit.kinds.as_slice().to_vec(c.alloc)?),
+        types,
+        form,
+    })
+}
+
+/// The part of a module's specification that other modules see: of a cluster the exported operations, of a routine all.
+pub fn exported(alloc: Global, spec: &Spec, module: &Module<'_>) -> Result<Spec, CheckError>
+    ensures { IfOk result (λ seen. seen.name ≡ «module».now.name.now) }
+{
+    let mut types = TypeArena::new(alloc);
+    let form = exported_form(alloc, &mut types, spec, module.node)?;
+    Ok(Spec {
+        name: module.name.copy(alloc)?,
+        kinds: Sequence::from_vec(spec.kinds.as_slice().to_vec(alloc)?),
+        types,
+        form,
+    })
+}
+
+fn exported_form(
+    alloc: Global,
+    types: &mut TypeArena,
+    spec: &Spec,
+    node: &Node,
+) -> Result<Form, CheckError> {
+    match &spec.form {
+        Form::Routine(op) => Ok(Form::Routine(move_op(alloc, types, &spec.types, op)?)),
+        Form::Cluster(demands, ops) => {
+            let demands = move_demands(alloc, types, &spec.types, demands.as_slice())?;
+            let seen = exported_ops(alloc, types, &spec.types, ops.as_slice(), node)?;
+            Ok(Form::Cluster(Sequence::from_vec(demands), Sequence::from_vec(seen)))
+        }
+    }
+}
+
+fn exported_ops(
+    alloc: Global,
+    to: &mut TypeArena,
+    from: &TypeArena,
+    ops: &[OpSpec],
+    node: &Node,
+) -> Result<Vec<OpSpec>, CheckError> {
+    let names = exports(alloc, node)?;
+    let mut seen = Vec::new(alloc);
+    for op in ops {
+        if names.contains(&op.name) {
+            seen.push(move_op(alloc, to, from, op)?)?;
+        }
+    }
+    Ok(seen)
+}
+
+fn exports(alloc: Global, node: &Node) -> Result<IndexSet<Bytes>, CheckError> {
+    let mut names = IndexSet::new(alloc);
+    for name in export_names(node) {
+        names.insert(name.copy(alloc)?)?;
+    }
+    Ok(names)
+}
+
+/// The exports of a Cluster, which stand between its name and the one behind `end`.
+pub fn export_names(node: &Node) -> &[Bytes] {
+    match node.names.as_slice().split_first() {
+        Some((_, rest)) => match rest.split_last() {
+            Some((_, exports)) => exports,
+            None => &[],
+        },
+        None => &[],
+    }
+}

@@ -1,0 +1,81 @@
+//! The module, cluster and routine round the nodes that are walked, as the context knows them.
+
+use crate::carried::carried_demands;
+use clu_base::{Bytes, Sequence};
+use clu_core::{ClusterUnit, Context, Unit};
+use clu_equates::{CheckError, intern};
+use clu_types::{Actual, Demand, Form, OpSpec, ParamKind, Spec, Term, TypeId};
+
+/// Makes a module the context's own. Its specification has all routines of a cluster.
+pub fn open_unit(c: &mut Context, spec: &Spec) -> Result<(), CheckError> {
+    c.unit = Unit::new(c.alloc, spec.name.copy(c.alloc)?);
+    c.unit.kinds = Sequence::from_vec(spec.kinds.as_slice().to_vec(c.alloc)?);
+    match &spec.form {
+        Form::Routine(op) => {
+            c.unit.demands = carried_demands(c, &spec.types, op.demands.as_slice())?;
+        }
+        Form::Cluster(demands, _) => {
+            c.unit.demands = carried_demands(c, &spec.types, demands.as_slice())?;
+            let own = own_type(c)?;
+            c.unit.cluster = Some(ClusterUnit {
+                own,
+                rep: None,
+                inner: spec.copy(c.alloc)?,
+            });
+        }
+    }
+    Ok(())
+}
+
+/// The type of the cluster that is the context's module, with its own parameters as actuals.
+pub fn own_type(c: &mut Context) -> Result<TypeId, CheckError> {
+    let actuals = own_actuals(c)?;
+    let name = c.unit.name.copy(c.alloc)?;
+    intern(
+        &mut c.types,
+        Term::Cluster(name, Sequence::from_vec(actuals)),
+    )
+}
+
+/// The parameters of the context's module as actuals of their own.
+pub fn own_actuals(c: &mut Context) -> Result<Vec<Actual>, CheckError> {
+    let mut actuals = Vec::new(c.alloc);
+    let mut number = 0u32;
+    for kind in c.unit.kinds.as_slice() {
+        number = number.saturating_add(1);
+        actuals.push(match kind {
+            ParamKind::OfType => Actual::Of(intern(&mut c.types, Term::Param(number))?),
+            _ => Actual::ConstParam(number),
+        })?;
+    }
+    Ok(actuals)
+}
+
+/// Puts the demands of a routine of the cluster before those of the cluster.
+pub fn open_routine(c: &mut Context, spec: &Spec, routine: &Bytes) -> Result<(), CheckError> {
+    let Form::Cluster(demands, ops) = &spec.form else {
+        return Ok(());
+    };
+    let own = routine_demands(ops.as_slice(), routine);
+    let demands = demands.as_slice();
+    if own.is_empty() && c.unit.demands.len() == demands.len() {
+        return Ok(());
+    }
+    let mut all = carried_demands(c, &spec.types, own)?;
+    for demand in carried_demands(c, &spec.types, demands)? {
+        all.push(demand)?;
+    }
+    c.unit.demands = all;
+    Ok(())
+}
+
+// The demands of the operation of this name; operations ascend by name.
+fn routine_demands<'a>(ops: &'a [OpSpec], routine: &Bytes) -> &'a [Demand] {
+    match ops.binary_search_by(|op| op.name.cmp(routine)) {
+        Ok(place) => match ops.get(place) {
+            Some(op) => op.demands.as_slice(),
+            None => &[],
+        },
+        Err(_) => &[],
+    }
+}

@@ -1,0 +1,112 @@
+//! Except and its arms, and Resignal (CLU Reference Manual, sections 12.2 to 12.4).
+
+use crate::frame::Frame;
+use crate::nodes::check_lengths;
+use crate::signals::{fit, fits_signal, is_listed};
+use clu_base::{Bytes, Rule};
+use clu_core::Context;
+use clu_equates::{CheckError, Scope, included, intern, refuse};
+use clu_tree::Node;
+use clu_types::{Term, TypeId};
+use indexmap::IndexSet;
+
+/// The rules at a When behind its body: V4, V23 and V24. Notes its names as taken.
+pub fn check_when(
+    c: &Context,
+    when: &Node,
+    variables: &[TypeId],
+    frame: &mut Frame,
+) -> Result<(), CheckError> {
+    check_lengths(when)?;
+    let names = distinct(c, when)?;
+    if when.value_token.is_none() {
+        for name in names.as_slice() {
+            if !takes_raised(c, name, variables, frame)? {
+                return refuse(Rule::ArmTypes, when.place);
+            }
+        }
+    }
+    for name in names.as_slice() {
+        if !frame.seen.insert(name.copy(c.alloc)?)? {
+            return refuse(Rule::ArmTwice, when.place);
+        }
+    }
+    Ok(())
+}
+
+/// The names of a node, each once.
+fn distinct(c: &Context, node: &Node) -> Result<IndexSet<Bytes>, CheckError> {
+    let mut names = IndexSet::new(c.alloc);
+    for name in node.names.as_slice() {
+        names.insert(name.copy(c.alloc)?)?;
+    }
+    Ok(names)
+}
+
+/// Whether variables of these types take the objects of all that the statement raises by this name.
+fn takes_raised(
+    c: &Context,
+    name: &Bytes,
+    variables: &[TypeId],
+    frame: &Frame,
+) -> Result<bool, CheckError> {
+    for place in frame.raised.places(name) {
+        let Some(exception) = frame.raised.at(*place) else {
+            return Err(CheckError::NotYet);
+        };
+        if !fit(&c.types, exception.objects.as_slice(), variables)? {
+            return Ok(false);
+        }
+    }
+    Ok(true)
+}
+
+/// The rules at an Others behind its body: V4, V6 of its variable, and V23 where it can't name a string.
+pub fn check_others(
+    c: &mut Context,
+    scope: &Scope,
+    others: &Node,
+    variables: &[TypeId],
+) -> Result<(), CheckError> {
+    check_lengths(others)?;
+    for name in others.names.as_slice() {
+        if scope.has_own(name) {
+            return refuse(Rule::DefinedTwice, others.place);
+        }
+    }
+    let string = intern(&mut c.types, Term::Str)?;
+    for of in variables {
+        if !included(&c.types, string, *of)? {
+            return refuse(Rule::ArmTypes, others.place);
+        }
+    }
+    Ok(())
+}
+
+/// What an Except raises besides the bodies of its arms: what no arm takes.
+pub fn end_except(c: &mut Context, frame: &mut Frame) -> Result<(), CheckError> {
+    if frame.takes_all {
+        return Ok(());
+    }
+    frame.raised.pass_on(c, &frame.seen)
+}
+
+/// The rules at a Resignal behind its statement: V4, V25 and V26. What it doesn't name goes on.
+pub fn end_resignal(c: &mut Context, node: &Node, frame: &mut Frame) -> Result<(), CheckError> {
+    frame.raised.exchange(c);
+    check_lengths(node)?;
+    let names = distinct(c, node)?;
+    for name in names.as_slice() {
+        if !is_listed(c, name)? {
+            return refuse(Rule::SignalNotListed, node.place);
+        }
+    }
+    for exception in frame.raised.all() {
+        if names.contains(&exception.name)
+            && !fits_signal(c, &exception.name, exception.objects.as_slice())?
+        {
+            return refuse(Rule::SignalTypes, node.place);
+        }
+    }
+    frame.raised.pass_on(c, &names)
+}

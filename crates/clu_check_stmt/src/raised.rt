@@ -1,0 +1,74 @@
+//! What a statement raises, by the names of the exceptions.
+
+use clu_base::{Bytes, Memory};
+use clu_core::Context;
+use clu_equates::CheckError;
+use clu_types::Exception;
+use indexmap::{IndexMap, IndexSet};
+use std::alloc::Global;
+use std::mem;
+
+/// What a statement raises, each pair of a name and object types once.
+#[derive(Drop)]
+pub struct Raised {
+    all: IndexSet<Exception>,
+    /// For each name the places of its exceptions in `all`.
+    by_name: IndexMap<Bytes, Vec<usize>>,
+}
+
+impl Raised {
+    /// Nothing.
+    pub fn new(alloc: Global) -> Raised {
+        Raised {
+            all: IndexSet::new(alloc),
+            by_name: IndexMap::new(alloc),
+        }
+    }
+
+    /// All exceptions.
+    pub fn all(&self) -> &[Exception] {
+        self.all.as_slice()
+    }
+
+    /// Puts what is kept here in the place of what the context notes as raised, and keeps that.
+    pub fn exchange(&mut self, c: &mut Context) {
+        mem::swap(&mut self.all, &mut c.raises);
+    }
+
+    /// Makes exceptions found by name.
+    pub fn index(&mut self, alloc: Global) -> Result<(), Memory> {
+        for (at, exception) in self.all.as_slice().iter().enumerate() {
+            match self.by_name.get_mut(&exception.name) {
+                Some(places) => places.push(at)?,
+                None => {
+                    let places = vec![in alloc; at]?;
+                    self.by_name.insert(exception.name.copy(alloc)?, places)?;
+                }
+            }
+        }
+        Ok(())
+    }
+
+    /// The places of the exceptions of a name, once they were indexed.
+    pub fn places(&self, name: &Bytes) -> &[usize] {
+        match self.by_name.get(name) {
+            Some(places) => places.as_slice(),
+            None => &[],
+        }
+    }
+
+    /// The exception at a place.
+    pub fn at(&self, place: usize) -> Option<&Exception> {
+        self.all.get_index(place)
+    }
+
+    /// Adds all but those of the given names to what the context notes as raised.
+    pub fn pass_on(&mut self, c: &mut Context, taken: &IndexSet<Bytes>) -> Result<(), CheckError> {
+        for exception in self.all.drain(..) {
+            if !taken.contains(&exception.name) {
+                c.raises.insert(exception)?;
+            }
+        }
+        Ok(())
+    }
+}

@@ -1,0 +1,64 @@
+//! A file that was checked.
+
+ghost use Rattle.std.specs.Prelude.{◌≡◌, [], None, IfOk, IfErr, length, replicate};
+
+use crate::op_ref::OpRef;
+use crate::tables::Tables;
+use clu_base::ObjConst;
+use clu_tree::Tree;
+use clu_types::{Spec, TypeArena, TypeId};
+use std::alloc::Global;
+
+/// A file with what its check found.
+#[derive(Debug, Drop)]
+pub struct Checked {
+    pub tree: Tree,
+    pub types: TypeArena,
+    /// For each node the type of the expression that it is.
+    pub type_of: Vec<Option<TypeId>>,
+    /// For each node the operation that it invokes or names.
+    pub op_of: Vec<Option<OpRef>>,
+    /// For each node of a type outside equates, the type that it denotes.
+    pub denoted: Vec<Option<TypeId>>,
+    /// For each name that stands for a constant in an expression, that constant.
+    pub constant_of: Vec<Option<ObjConst>>,
+    /// The specifications of the file's modules in the order of the text, and behind them, ascending
+    /// by name, those of all other modules under which it was checked.
+    pub specs: Vec<Spec>,
+}
+
+/// Why there is no checked file; the tree is handed back.
+#[derive(Debug, Drop)]
+pub enum CoreError {
+    Memory(Tree),
+}
+
+impl Checked {
+    ghost use Rattle.clu_core.specs.declared.checked.CoreError.TheVariants as error;
+
+    /// A file of which nothing is known yet: no types, no specifications, and nothing at any node. The only
+    /// error is want of memory.
+    pub fn new(alloc: Global, tree: Tree) -> Result<Checked, CoreError>
+        ensures tree { IfOk result (λ checked. checked.tree ≡ tree) }
+        ensures types { IfOk result (λ checked. checked.types ≡ []) }
+        ensures type_of { IfOk result (λ checked. checked.type_of.items ≡ replicate (length tree) None) }
+        ensures op_of { IfOk result (λ checked. checked.op_of.items ≡ replicate (length tree) None) }
+        ensures denoted { IfOk result (λ checked. checked.denoted.items ≡ replicate (length tree) None) }
+        ensures constant_of { IfOk result (λ checked. checked.constant_of.items ≡ replicate (length tree) None) }
+        ensures specs { IfOk result (λ checked. checked.specs.items ≡ []) }
+        ensures refused { IfErr result (λ e. e ≡ error.Memory tree) }
+    {
+        match Tables::new(alloc, tree.len() as usize) {
+            Err(_) => Err(CoreError::Memory(tree)),
+            Ok(tables) => Ok(Checked {
+                tree,
+                types: TypeArena::new(alloc),
+                type_of: tables.type_of,
+                op_of: tables.op_of,
+                denoted: tables.denoted,
+                constant_of: tables.constant_of,
+                specs: Vec::new(alloc),
+            }),
+        }
+    }
+}

@@ -1,0 +1,43 @@
+//! Equates and constants: scopes of names, what the unfolding of an equate comes to, and the values
+//! of types and constant expressions (CLU Reference Manual, sections 7.2 and 13.2).
+#![tactic(auto)]
+
+mod arena;
+mod constant;
+mod dependencies;
+mod errors;
+mod evaluation;
+mod folding;
+mod literals;
+mod named;
+mod nodes;
+mod scope;
+mod sets;
+mod settling;
+mod text_length;
+mod value;
+
+pub use crate::arena::{carry, included, intern, subst, term};
+pub use crate::errors::{CheckError, refuse};
+pub use crate::nodes::{first_name, node_at, only_child};
+pub use crate::scope::{Bound, Means, Scope, Settled};
+pub use crate::sets::{inner_equates, set_demands};
+pub use crate::settling::{settle_equates, wanted_of};
+pub use crate::value::{Value, Wanted, value_of, value_with};
+
+#[cfg(test)]
+mod call_tests;
+#[cfg(test)]
+mod equated_constants;
+#[cfg(test)]
+mod equated_types;
+#[cfg(test)]
+mod fixtures;
+#[cfg(test)]
+mod refused_equates;
+#[cfg(test)]
+mod shown;
+#[cfg(test)]
+mod tests;
+#[cfg(test)]
+mod type_texts;
