@@ -1,0 +1,2 @@
+-- Numbers that a program has.
+pub mod Numbers

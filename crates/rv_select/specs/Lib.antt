@@ -1,0 +1,3 @@
+-- What selection hands on, and its tables.
+pub mod Operations
+pub mod Selected

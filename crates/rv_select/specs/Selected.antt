@@ -1,0 +1,29 @@
+-- What a routine of flat code hands on to its object, and what the parts of the runtime are.
+use Rattle.std.specs.Prelude.{◌≡◌, ◌≤◌, ℕ, List, [], length, IsTrue}
+use Rattle.clu_frames.specs.Steps.{code_words}
+use Rattle.clu_frames.specs.declared.flat.FlatRoutine.{FlatRoutine}
+use Rattle.clu_object.specs.Holes.{has_holes}
+use Rattle.clu_object.specs.declared.object.ObjRoutine.{ObjRoutine}
+
+-- all but its steps: the name, the number of nodes, and what holes name
+pub record HandsOn (flat : FlatRoutine) (object : ObjRoutine) : Type 0 where
+  pub name : object.name ≡ flat.name
+  pub nodes : object.nodes ≡ flat.nodes
+  pub uses : object.uses ≡ flat.uses.items
+  pub constants : object.constants ≡ flat.constants.items
+  pub types : object.types ≡ flat.types.items
+
+-- its words are no more than are counted for its steps, and each hole is where the linker fills in what it names
+pub record IsSelected (flat : FlatRoutine) (object : ObjRoutine) : Type 0 where
+  pub words : length object.code ≤ code_words flat.code.items
+  pub holes : IsTrue (has_holes object)
+
+-- a part has a name and words with holes, and nothing else
+pub record IsPart (name : List ℕ) (object : ObjRoutine) : Type 0 where
+  pub named : object.name ≡ name
+  pub nodes : object.nodes ≡ 0
+  pub uses : object.uses ≡ []
+  pub constants : object.constants ≡ []
+  pub types : object.types ≡ []
+  pub regions : object.regions ≡ []
+  pub holes : IsTrue (has_holes object)
