@@ -119,8 +119,14 @@ module _ (scope : Scope) (part : Reader CluType) (has : (of : Sort) (n : ℕ) �
 
   digit_lead : (first : ℕ) (more : List ℕ) → 48 ≤ first → first ≤ 57 → lead_of (first ∷ more) ≡ lead.Integer
   digit_lead first more low high =
-      rw (ne_eqb first 37 (λ e. absurd (omega (arith, e, high, low))), ne_eqb first 39 (λ e. absurd (omega (arith, e, low))), ne_eqb first 34 (λ e. absurd (omega (arith, e, low))),
-        ne_eqb first 45 (λ e. absurd (omega (arith, e, low))), le-leb 48 first low, le-leb first 57 high) refl
+      rw (
+        ne_eqb first 37 (λ e. absurd (omega (arith, e, high, low))),
+        ne_eqb first 39 (λ e. absurd (omega (arith, e, low))),
+        ne_eqb first 34 (λ e. absurd (omega (arith, e, low))),
+        ne_eqb first 45 (λ e. absurd (omega (arith, e, low))),
+        le-leb 48 first low,
+        le-leb first 57 high,
+      ) refl
 
   int_actual : (n : ℤ) (rest : List ℕ) → IsInteger n → is_stop rest ≡ true → actual_read scope part (signed_decimal n ++ rest) ≡ Ok (actual_const (const.Int n) no_actuals, rest)
   int_actual (pos zero) rest h stop =

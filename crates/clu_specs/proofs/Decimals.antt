@@ -103,13 +103,13 @@ parameter_again scope of n bytes rest p some e =
 value_of : (n : ℕ) → n < 16 → hex_value (hex_digit n) ≡ Some n
 value_of n lt = elim (cases_lt n 10) [
   | inl low ↦ (let text : hex_digit n ≡ 48 + n = rw (lt-ltb n 10 low) refl in
-    let back : 48 + n - 48 ≡ n = omega arith in
-    ap hex_value text ∙ rw (digit_of n low, back) refl)
+      let back : 48 + n - 48 ≡ n = omega arith in
+      ap hex_value text ∙ rw (digit_of n low, back) refl)
   | inr high ↦ (let letter : ℕ = 97 + (n - 10) in
-    let text : hex_digit n ≡ letter = rw (le-ltb n 10 high) refl in
-    let back : letter - 97 + 10 ≡ n = omega (arith, high) in
-    let other : is_ascii_digit letter ≡ false = and_right (nat_le 48 letter) (nat_le letter 57) (lt-leb letter 57 (omega arith)) in
-    ap hex_value text ∙ rw (other, le-leb 97 letter (omega arith), le-leb letter 102 (omega (arith, lt)), back) refl)
+      let text : hex_digit n ≡ letter = rw (le-ltb n 10 high) refl in
+      let back : letter - 97 + 10 ≡ n = omega (arith, high) in
+      let other : is_ascii_digit letter ≡ false = and_right (nat_le 48 letter) (nat_le letter 57) (lt-leb letter 57 (omega arith)) in
+      ap hex_value text ∙ rw (other, le-leb 97 letter (omega arith), le-leb letter 102 (omega (arith, lt)), back) refl)
 ]
 
 digit_again : (n : ℕ) (rest : List ℕ) → n < 16 → digit_at (hex_digit n ∷ rest) ≡ Ok (n, rest)

@@ -17,6 +17,7 @@ pub mod Spelled
 pub mod TypesSpelled
 pub mod ActualsSpelled
 pub mod UsesSpelled
+pub mod KindsSpelled
 pub mod SpecsSpelled
 pub mod Wholes
 pub mod SpecRows
@@ -27,4 +28,12 @@ pub mod LocalTypes
 pub mod LocalActuals
 pub mod LocalSpecs
 pub mod LocalWholes
+pub mod Fronts
+pub mod FrontsNames
+pub mod FrontsNumbers
+pub mod FrontsTypes
+pub mod FrontsActuals
+pub mod FrontsUses
+pub mod FrontsRoutines
+pub mod FrontsSpecs
 pub mod Offsets

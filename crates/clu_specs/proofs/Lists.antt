@@ -67,7 +67,7 @@ module _ (scope : Scope) (part : Reader CluType) where
   types_row (type_and t ts) all (suc n) made rest le =
       let more : CluTypes = types_joined made (type_and t no_types) in
       item (types_step part) (λ made rest. behind 44 rest) n made more ((type_text t ++ more_types_text ts) ++ 41 ∷ rest) (more_types_text ts ++ 41 ∷ rest)
-        (types_turn t made (more_types_text ts) rest all.0 (types_stop ts rest))
+      (types_turn t made (more_types_text ts) rest all.0 (types_stop ts rest))
       ∙ types_row ts all.1 n more rest (omega (arith, le, length-append (type_text t) (more_types_text ts)))
       ∙ ap (λ (x : CluTypes). Ok (x, 41 ∷ rest)) (types_joined_assoc made (type_and t no_types) ts)
 
@@ -112,7 +112,7 @@ module _ (scope : Scope) (part : Reader CluType) where
       let more : Fields = fields_joined made (field_and name t no_fields) in
       let text : List ℕ = ((name ++ 58 ∷ type_text t) ++ more_fields_text fs) ++ 93 ∷ rest in
       let turned = item (fields_step part) fields_next n (made, before) (more, name) text (more_fields_text fs ++ 93 ∷ rest)
-        (fields_turn name t made before (more_fields_text fs) rest are.0 are.1 all.0 (fields_stop fs rest)) in
+      (fields_turn name t made before (more_fields_text fs) rest are.0 are.1 all.0 (fields_stop fs rest)) in
       rw (next_some before text (later_some before name is are.0 are.1))
       (ap without_name turned
       ∙ fields_row fs name are.0 are.3 all.1 n more rest (omega (arith, le, length-append (name ++ 58 ∷ type_text t) (more_fields_text fs)))
@@ -129,7 +129,7 @@ module _ (scope : Scope) (part : Reader CluType) where
       let n : ℕ = length ((name ++ 58 ∷ type_text t) ++ more_fields_text fs) + length rest in
       let len : length bytes ≡ suc n = omega (arith, length-append ((name ++ 58 ∷ type_text t) ++ more_fields_text fs) (93 ∷ rest)) in
       let turned = item (fields_step part) fields_next n (no_fields, []) (field_and name t no_fields, name) bytes (more_fields_text fs ++ 93 ∷ rest)
-        (fields_turn name t no_fields [] (more_fields_text fs) rest are.0 are.1 all.0 (fields_stop fs rest)) in
+      (fields_turn name t no_fields [] (more_fields_text fs) rest are.0 are.1 all.0 (fields_stop fs rest)) in
       fields_by bytes rest (suc n) (field_and name t fs) len
       (ap without_name turned ∙ fields_row fs name are.0 are.3 all.1 n (field_and name t no_fields) rest (omega (arith, length-append (name ++ 58 ∷ type_text t) (more_fields_text fs))))
 
@@ -179,7 +179,7 @@ module _ (scope : Scope) (part : Reader CluType) where
       let more : Signals = signals_joined made (signal_and name ts no_signals) in
       let text : List ℕ = ((name ++ closed_text (40 ∷ []) ts) ++ more_signals_text ss) ++ 41 ∷ rest in
       let turned = item (signals_step part) signals_next n (made, before) (more, name) text (more_signals_text ss ++ 41 ∷ rest)
-        (signals_turn name ts made before (more_signals_text ss) rest are.0 are.1 are.2 all.0 (signals_stop ss rest) (signals_no_mark ss rest)) in
+      (signals_turn name ts made before (more_signals_text ss) rest are.0 are.1 are.2 all.0 (signals_stop ss rest) (signals_no_mark ss rest)) in
       rw (next_some before text (later_some before name is are.0 are.2))
       (ap without_name turned
       ∙ signals_row ss name are.0 are.4 all.1 n more rest (omega (arith, le, length-append (name ++ closed_text (40 ∷ []) ts) (more_signals_text ss)))
@@ -196,7 +196,7 @@ module _ (scope : Scope) (part : Reader CluType) where
       let n : ℕ = length ((name ++ closed_text (40 ∷ []) ts) ++ more_signals_text ss) + length rest in
       let len : length bytes ≡ suc n = omega (arith, length-append ((name ++ closed_text (40 ∷ []) ts) ++ more_signals_text ss) (41 ∷ rest)) in
       let turned = item (signals_step part) signals_next n (no_signals, []) (signal_and name ts no_signals, name) bytes (more_signals_text ss ++ 41 ∷ rest)
-        (signals_turn name ts no_signals [] (more_signals_text ss) rest are.0 are.1 are.2 all (signals_stop ss rest) (signals_no_mark ss rest)) in
+      (signals_turn name ts no_signals [] (more_signals_text ss) rest are.0 are.1 are.2 all (signals_stop ss rest) (signals_no_mark ss rest)) in
       signals_by bytes rest (suc n) (signal_and name ts ss) len
       (ap without_name turned ∙ signals_row ss name are.0 are.4 others n (signal_and name ts no_signals) rest (omega (arith, length-append (name ++ closed_text (40 ∷ []) ts) (more_signals_text ss))))
 

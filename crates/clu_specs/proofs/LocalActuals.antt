@@ -162,7 +162,6 @@ module _ {A W : Type 0} (word : List ℕ → Option W) (one two : Option W → R
   pub word_local : Local m n read_one read_two
   word_local = record { bound = λ bytes. word_bound (word (first_word bytes)) bytes; like = word_like }
 
-
 char_local : (m n : ℕ) → Local m n (λ b. byte_at b >>= λ c. Ok (actual_const (const.Char c.0) no_actuals, c.1)) (λ b. byte_at b >>= λ c. Ok (actual_const (const.Char c.0) no_actuals, c.1))
 char_local m n = then_on (λ c b. Ok (actual_const (const.Char c) no_actuals, b)) (λ c b. Ok (actual_const (const.Char c) no_actuals, b)) byte_at byte_at m n (byte_local m n) (λ c. just m n (actual_const (const.Char c) no_actuals))
 
@@ -221,8 +220,8 @@ module _ (scope : Scope) where
     word_actual_local : Local m n (word_actual_read part) (word_actual_read other)
     unfolding word_actual_by
     word_actual_local = word_local word_constant (word_actual_by part) (word_actual_by other) (λ b. part b >>= λ t. Ok (actual_type t.0 no_actuals, t.1)) (λ b. other b >>= λ t. Ok (actual_type t.0 no_actuals, t.1)) m n type_then
-      (λ b p s a all less. wordy b p s a all (ok_left (λ t. actual_type t no_actuals) (part ((b ∷ p) ++ s)) (length s) less)) (λ bytes. refl) (λ bytes. refl) (λ c b. Ok (actual_const c no_actuals, b)) (λ c b. Ok (actual_const c no_actuals, b)) (λ c. just m n (actual_const c no_actuals)) (λ c bytes. refl) (λ c bytes. refl)
-      (λ b p x f. no_constant (word_constant ((b ∷ p) ++ x)) b p x f refl)
+        (λ b p s a all less. wordy b p s a all (ok_left (λ t. actual_type t no_actuals) (part ((b ∷ p) ++ s)) (length s) less)) (λ bytes. refl) (λ bytes. refl) (λ c b. Ok (actual_const c no_actuals, b)) (λ c b. Ok (actual_const c no_actuals, b)) (λ c. just m n (actual_const c no_actuals)) (λ c bytes. refl) (λ c bytes. refl)
+        (λ b p x f. no_constant (word_constant ((b ∷ p) ++ x)) b p x f refl)
 
     actual_bound : (l : Lead) (bytes : List ℕ) → left_of (actual_by scope part l bytes) ≤ length bytes
     unfolding actual_by
@@ -250,14 +249,14 @@ module _ (scope : Scope) where
     all_actuals_local : Local m n (all_actuals_read scope part) (all_actuals_read scope other)
     unfolding all_actuals_by
     all_actuals_local = mark_local (all_actuals_by scope part) (all_actuals_by scope other) (λ b. actuals_read scope part b >>= λ given. closing 93 given.0 given.1) (λ b. actuals_read scope other b >>= λ given. closing 93 given.0 given.1) 91 m n (just m n no_actuals)
-      (then_on (λ given b. closing 93 given b) (λ given b. closing 93 given b) (actuals_read scope part) (actuals_read scope other) m n actuals_local (λ given. closing_local m n 93 given)) (λ rest bytes. refl) (λ rest bytes. refl)
+        (then_on (λ given b. closing 93 given b) (λ given b. closing 93 given b) (actuals_read scope part) (actuals_read scope other) m n actuals_local (λ given. closing_local m n 93 given)) (λ rest bytes. refl) (λ rest bytes. refl)
 
     -- one byte more, since a name comes first
     cluster_local : Local (suc m) (suc n) (cluster_type_read scope part) (cluster_type_read scope other)
     unfolding cluster_type_read
     cluster_local = thens (λ name b. all_actuals_read scope part b >>= λ given. Ok (cluster_of name given.0, given.1)) (λ name b. all_actuals_read scope other b >>= λ given. Ok (cluster_of name given.0, given.1)) (name_after [] 200) (name_after [] 200) 1 m n (suc m) (suc n) (omega arith) (omega arith) (name_consumes [] 200)
-      (name_local [] 200 (λ h. omega arith) (suc m) (suc n))
-      (λ name. then_on (λ given b. Ok (cluster_of name given, b)) (λ given b. Ok (cluster_of name given, b)) (all_actuals_read scope part) (all_actuals_read scope other) m n all_actuals_local (λ given. just m n (cluster_of name given)))
+        (name_local [] 200 (λ h. omega arith) (suc m) (suc n))
+        (λ name. then_on (λ given b. Ok (cluster_of name given, b)) (λ given b. Ok (cluster_of name given, b)) (all_actuals_read scope part) (all_actuals_read scope other) m n all_actuals_local (λ given. just m n (cluster_of name given)))
 
     cluster_wordy : Wordy (suc m) (cluster_type_read scope part)
     unfolding cluster_type_read
@@ -267,15 +266,15 @@ module _ (scope : Scope) where
     unfolding keyword_type_read
     keyword_local (keyword.Simple word) = just (suc m) (suc n) (simple_type word)
     keyword_local (keyword.Listing word) = fixed_then (λ b. part b >>= λ t. closing 93 (listing_type word t.0) t.1) (λ b. other b >>= λ t. closing 93 (listing_type word t.0) t.1) (91 ∷ []) m n (suc m) (suc n) (omega arith) (omega arith)
-      (then_on (λ t b. closing 93 (listing_type word t) b) (λ t b. closing 93 (listing_type word t) b) part other m n parts (λ t. closing_local m n 93 (listing_type word t)))
+        (then_on (λ t b. closing 93 (listing_type word t) b) (λ t b. closing 93 (listing_type word t) b) part other m n parts (λ t. closing_local m n 93 (listing_type word t)))
     keyword_local (keyword.Selecting word) = fixed_then (λ b. fields_read part b >>= λ fs. closing 93 (selecting_type word fs.0) fs.1) (λ b. fields_read other b >>= λ fs. closing 93 (selecting_type word fs.0) fs.1) (91 ∷ []) m n (suc m) (suc n) (omega arith) (omega arith)
-      (then_on (λ fs b. closing 93 (selecting_type word fs) b) (λ fs b. closing 93 (selecting_type word fs) b) (fields_read part) (fields_read other) m n (fields_local part other m n parts) (λ fs. closing_local m n 93 (selecting_type word fs)))
+        (then_on (λ fs b. closing 93 (selecting_type word fs) b) (λ fs b. closing 93 (selecting_type word fs) b) (fields_read part) (fields_read other) m n (fields_local part other m n parts) (λ fs. closing_local m n 93 (selecting_type word fs)))
     keyword_local (keyword.Routine iter) = then_on (λ h b. Ok (routine_type iter h.0 h.1 h.2, b)) (λ h b. Ok (routine_type iter h.0 h.1 h.2, b)) (heading_read part iter) (heading_read other iter) (suc m) (suc n) (heading_local part other m n parts iter) (λ h. just (suc m) (suc n) (routine_type iter h.0 h.1 h.2))
 
     word_type_local : Local (suc m) (suc n) (word_type_read scope part) (word_type_read scope other)
     unfolding word_type_by
     word_type_local = word_local keyword_of (word_type_by scope part) (word_type_by scope other) (cluster_type_read scope part) (cluster_type_read scope other) (suc m) (suc n) cluster_local cluster_wordy (λ bytes. refl) (λ bytes. refl)
-      (keyword_type_read scope part) (keyword_type_read scope other) keyword_local (λ k bytes. refl) (λ k bytes. refl) (λ b p x f. no_keyword (keyword_of ((b ∷ p) ++ x)) b p x f refl)
+        (keyword_type_read scope part) (keyword_type_read scope other) keyword_local (λ k bytes. refl) (λ k bytes. refl) (λ b p x f. no_keyword (keyword_of ((b ∷ p) ++ x)) b p x f refl)
 
     one_bound : (o : Option (List ℕ)) (bytes : List ℕ) → behind 35 bytes ≡ o → left_of (one_type_by scope part o bytes) ≤ length bytes
     unfolding one_type_by

@@ -46,8 +46,8 @@ name_bound previous limit bytes =
     let behind : length (behind_word bytes) ≤ length bytes = omega (arith, length-drop (word_len bytes) bytes) in
     rw (name_choice previous limit bytes)
     (four_bound (not (is_named (first_word bytes))) (not (is_before previous (take limit (first_word bytes)))) (nat_lt limit (length (first_word bytes))) (is_reserved (first_word bytes)) (first_word bytes) (behind_word bytes)
-      (length bytes) (length bytes - min (common previous (take limit (first_word bytes))) (unwrap_or (shared_with_later previous) 0)) (length bytes - limit) (length (behind_word bytes)) (length bytes)
-      (omega arith) (omega arith) (omega arith) behind behind)
+    (length bytes) (length bytes - min (common previous (take limit (first_word bytes))) (unwrap_or (shared_with_later previous) 0)) (length bytes - limit) (length (behind_word bytes)) (length bytes)
+    (omega arith) (omega arith) (omega arith) behind behind)
 
 named_some : (name : List ℕ) → is_named name ≡ true → 1 ≤ length name
 named_some [] e = absurd (cc)
@@ -80,7 +80,7 @@ ends (b ∷ p) = elim (cases_Bool (goes_on_name b)) [
 pub stops_here : (c : ℕ) (rest : List ℕ) → goes_on_name c ≡ false → word_len (c ∷ rest) ≡ 0
 stops_here c rest e = rw e refl
 
-word_over : (p s : List ℕ) → word_len p ≡ length p → word_len (p ++ s) ≡ length p + word_len s
+pub word_over : (p s : List ℕ) → word_len p ≡ length p → word_len (p ++ s) ≡ length p + word_len s
 word_over [] s e = omega arith
 word_over (b ∷ p) s e =
     let h = word_goes_on b p e in
@@ -122,7 +122,7 @@ common_le a [] = omega arith
 common_le [] (y ∷ b) = omega arith
 common_le (x ∷ a) (y ∷ b) = elim (cases_Bool (x == y)) [ inl holds ↦ rw holds (omega (arith, common_le a b)) | inr fails ↦ rw fails (omega arith) ]
 
-shared_short : (name : List ℕ) → length name < 200 → unwrap_or (shared_with_later name) 0 ≡ length name
+pub shared_short : (name : List ℕ) → length name < 200 → unwrap_or (shared_with_later name) 0 ≡ length name
 unfolding shared_with_later
 shared_short name lt = rw (lt-ltb (length name) 200 lt) refl
 
@@ -130,7 +130,7 @@ shared_long : (name : List ℕ) (i : ℕ) → 200 ≤ length name → last_below
 unfolding shared_with_later
 shared_long name i le e = rw (le-ltb (length name) 200 le, e) refl
 
-word_take : (x : List ℕ) (j : ℕ) → word_len x ≡ length x → word_len (take j x) ≡ length (take j x)
+pub word_take : (x : List ℕ) (j : ℕ) → word_len x ≡ length x → word_len (take j x) ≡ length (take j x)
 word_take [] zero e = refl
 word_take [] (suc j) e = refl
 word_take (b ∷ x) zero e = refl
@@ -149,10 +149,10 @@ module _ (previous : List ℕ) (limit : ℕ) (fits : 200 ≤ length previous →
       elim (cases_lt (length previous) 200) [
         | inl short ↦ omega (arith, low, shared.0, shared_short previous short, common_le previous (p ++ take i x))
         | inr long ↦ (let whole = length-append p (take i y) in
-          let small : length (p ++ take i y) ≤ length previous = omega (arith, whole, length-take i y, e, long, fits long) in
-          let is : word_len (p ++ take i y) ≡ length (p ++ take i y) = word_over p (take i y) word ∙ ap (λ (n : ℕ). length p + n) (word_take y i other) ∙ sym whole in
-          let last = last_shared previous (p ++ take i y) b small is in
-          omega (arith, low, shared.1, last.2, shared_long previous last.0 long last.1))
+            let small : length (p ++ take i y) ≤ length previous = omega (arith, whole, length-take i y, e, long, fits long) in
+            let is : word_len (p ++ take i y) ≡ length (p ++ take i y) = word_over p (take i y) word ∙ ap (λ (n : ℕ). length p + n) (word_take y i other) ∙ sym whole in
+            let last = last_shared previous (p ++ take i y) b small is in
+            omega (arith, low, shared.1, last.2, shared_long previous last.0 long last.1))
       ]
 
   taken : (p x : List ℕ) (i : ℕ) → length p + i ≡ limit → take limit (p ++ x) ≡ p ++ take i x
@@ -164,14 +164,14 @@ module _ (previous : List ℕ) (limit : ℕ) (fits : 200 ≤ length previous →
     | inr fails ↦ ap not fails
     | inl holds ↦ absurd (elim (cases_lt limit (length p)) [
       | inl short ↦ (let one : take limit (p ++ x) ≡ take limit p = take-append-le limit p x (omega (arith, short)) in
-        let two : take limit (p ++ y) ≡ take limit p = take-append-le limit p y (omega (arith, short)) in
-        both_ways (is_before previous (take limit p)) (ap (is_before previous) (sym one) ∙ not-true (is_before previous (take limit (p ++ x))) f) (ap (is_before previous) (sym two) ∙ holds))
+          let two : take limit (p ++ y) ≡ take limit p = take-append-le limit p y (omega (arith, short)) in
+          both_ways (is_before previous (take limit p)) (ap (is_before previous) (sym one) ∙ not-true (is_before previous (take limit (p ++ x))) f) (ap (is_before previous) (sym two) ∙ holds))
       | inr long ↦ (let i : ℕ = limit - length p in
-        let e : length p + i ≡ limit = omega (arith, long) in
-        let one = taken p x i e in
-        let two = taken p y i e in
-        let less : min (common previous (take limit (p ++ x))) (unwrap_or (shared_with_later previous) 0) < length p = omega (arith, c, length-append p s) in
-        not_shared p x y i word other e (ap (is_before previous) (sym one) ∙ not-true (is_before previous (take limit (p ++ x))) f) (ap (is_before previous) (sym two) ∙ holds)
+          let e : length p + i ≡ limit = omega (arith, long) in
+          let one = taken p x i e in
+          let two = taken p y i e in
+          let less : min (common previous (take limit (p ++ x))) (unwrap_or (shared_with_later previous) 0) < length p = omega (arith, c, length-append p s) in
+          not_shared p x y i word other e (ap (is_before previous) (sym one) ∙ not-true (is_before previous (take limit (p ++ x))) f) (ap (is_before previous) (sym two) ∙ holds)
           (subst (λ (z : List ℕ). min (common previous z) (unwrap_or (shared_with_later previous) 0) < length p) one less))
     ])
   ]
@@ -203,15 +203,15 @@ module _ (previous : List ℕ) (limit : ℕ) (fits : 200 ≤ length previous →
   name_like [] s t c = absurd (omega (arith, c, name_bound previous limit s))
   name_like (b ∷ p) s t c = elim (ends (b ∷ p)) [
     | inl h ↦ (let at : (x : List ℕ) → (b ∷ p) ++ x ≡ h.word ++ (h.next ∷ (h.others ++ x)) = λ x. ap (λ (y : List ℕ). y ++ x) h.whole ∙ append_assoc h.word (h.next ∷ h.others) x in
-      let word : (x : List ℕ) → first_word ((b ∷ p) ++ x) ≡ h.word = λ x. ap first_word (at x) ∙ word_first h.word (h.next ∷ (h.others ++ x)) h.goes_on (stops_here h.next (h.others ++ x) h.stops) in
-      let behind : (x : List ℕ) → behind_word ((b ∷ p) ++ x) ≡ h.next ∷ (h.others ++ x) = λ x. ap behind_word (at x) ∙ word_behind h.word (h.next ∷ (h.others ++ x)) h.goes_on (stops_here h.next (h.others ++ x) h.stops) in
-      like_at s t _ _ _ _ (choice_at ((b ∷ p) ++ s) h.word (h.next ∷ (h.others ++ s)) (word s) (behind s)) (choice_at ((b ∷ p) ++ t) h.word (h.next ∷ (h.others ++ t)) (word t) (behind t))
-      (λ _. four_like (not (is_named h.word)) (not (is_before previous (take limit h.word))) (nat_lt limit (length h.word)) (is_reserved h.word) s t h.word (h.next ∷ h.others) (length ((b ∷ p) ++ s)) (before_fault ((b ∷ p) ++ s) h.word) (length ((b ∷ p) ++ s) - limit) (length (h.next ∷ (h.others ++ s)))
+        let word : (x : List ℕ) → first_word ((b ∷ p) ++ x) ≡ h.word = λ x. ap first_word (at x) ∙ word_first h.word (h.next ∷ (h.others ++ x)) h.goes_on (stops_here h.next (h.others ++ x) h.stops) in
+        let behind : (x : List ℕ) → behind_word ((b ∷ p) ++ x) ≡ h.next ∷ (h.others ++ x) = λ x. ap behind_word (at x) ∙ word_behind h.word (h.next ∷ (h.others ++ x)) h.goes_on (stops_here h.next (h.others ++ x) h.stops) in
+        like_at s t _ _ _ _ (choice_at ((b ∷ p) ++ s) h.word (h.next ∷ (h.others ++ s)) (word s) (behind s)) (choice_at ((b ∷ p) ++ t) h.word (h.next ∷ (h.others ++ t)) (word t) (behind t))
+        (λ _. four_like (not (is_named h.word)) (not (is_before previous (take limit h.word))) (nat_lt limit (length h.word)) (is_reserved h.word) s t h.word (h.next ∷ h.others) (length ((b ∷ p) ++ s)) (before_fault ((b ∷ p) ++ s) h.word) (length ((b ∷ p) ++ s) - limit) (length (h.next ∷ (h.others ++ s)))
         (length ((b ∷ p) ++ t)) (before_fault ((b ∷ p) ++ t) h.word) (length ((b ∷ p) ++ t) - limit) (length (h.next ∷ (h.others ++ t)))) c)
     | inr all ↦ (let one : List ℕ = b ∷ p in
-      let rest : length (behind_word s) ≤ length s = omega (arith, length-drop (word_len s) s) in
-      like_at s t _ _ _ _ (choice_at (one ++ s) (one ++ first_word s) (behind_word s) (first_over one s all) (behind_over one s all)) (choice_at (one ++ t) (one ++ first_word t) (behind_word t) (first_over one t all) (behind_over one t all))
-      (λ now. over_like (not (begins_name b)) _ _ _ _ _ _ _ _ _ _ _ _ _ _ s t _ (behind_word s) _ _
+        let rest : length (behind_word s) ≤ length s = omega (arith, length-drop (word_len s) s) in
+        like_at s t _ _ _ _ (choice_at (one ++ s) (one ++ first_word s) (behind_word s) (first_over one s all) (behind_over one s all)) (choice_at (one ++ t) (one ++ first_word t) (behind_word t) (first_over one t all) (behind_over one t all))
+        (λ now. over_like (not (begins_name b)) _ _ _ _ _ _ _ _ _ _ _ _ _ _ s t _ (behind_word s) _ _
         (λ less f. refused_too one s (first_word s) (first_word t) all (first_goes_on t) less f)
         (λ less f. lt-ltb limit (length (one ++ first_word t)) (omega (arith, less, length-append one s, length-append one (first_word t)))) rest rest now) c)
   ]

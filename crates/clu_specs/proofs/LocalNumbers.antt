@@ -28,10 +28,10 @@ digits_like limit read [] s t c = absurd (omega (arith, c, digits_bound limit re
 digits_like limit read (b ∷ p) s t c = elim (cases_Bool (not (is_ascii_digit b))) [
   | inl holds ↦ rw holds (b ∷ p, refl, refl)
   | inr fails ↦ (let now : length s < left_of (if nat_le (10 * read + (b - 48)) limit then digits_from limit (10 * read + (b - 48)) (p ++ s) else Err (suc (length (p ++ s)))) = rw fails at c in
-    rw fails (elim (cases_Bool (nat_le (10 * read + (b - 48)) limit)) [
-      | inl fits ↦ rw fits (digits_like limit (10 * read + (b - 48)) p s t (rw fits at now))
-      | inr large ↦ rw large (suc (length (p ++ t)), refl)
-    ]))
+      rw fails (elim (cases_Bool (nat_le (10 * read + (b - 48)) limit)) [
+        | inl fits ↦ rw fits (digits_like limit (10 * read + (b - 48)) p s t (rw fits at now))
+        | inr large ↦ rw large (suc (length (p ++ t)), refl)
+      ]))
 ]
 
 cond_bound : {A : Type 0} (c : Bool) (r : Read A) (left n : ℕ) → left_of r ≤ n → left ≤ n → left_of (if c then r else Err left) ≤ n
@@ -123,8 +123,8 @@ digits_divided limit read (b ∷ bytes) n rest e =
     elim (digit_choice (not (is_ascii_digit b)) (nat_le m limit) (read, b ∷ bytes) (digits_from limit m bytes) (suc (length bytes)) (n, rest) e) [
       | inl h ↦ (0, ap (λ (x : ℕ × List ℕ). x.0) (sym h.1))
       | inr h ↦ (let digit = digit_bounds b (not-false (is_ascii_digit b) h.0) in
-        let more = digits_divided limit m bytes n rest h.2 in
-        (suc more.0, divided_last more.0 n ∙ ap (λ (x : ℕ). x / 10) more.1 ∙ omega (arith, digit.0, digit.1)))
+          let more = digits_divided limit m bytes n rest h.2 in
+          (suc more.0, divided_last more.0 n ∙ ap (λ (x : ℕ). x / 10) more.1 ∙ omega (arith, digit.0, digit.1)))
     ]
 
 -- numbers of parameters
@@ -164,10 +164,10 @@ module _ (scope : Scope) (of : Sort) (least : ℕ) where
       elim (digit_choice (not (is_ascii_digit b)) (nat_le m 4294967295) (read, b ∷ (p ++ t)) (digits_from 4294967295 m (p ++ t)) (suc (length (p ++ t))) (n, rest) e) [
         | inl h ↦ absurd (omega (arith, ap (λ (x : ℕ × List ℕ). length x.1) h.1, short, length-append p t))
         | inr h ↦ (let fits : m ≤ 4294967295 = leb-true m 4294967295 h.1 in
-          let j = digits_divided 4294967295 m (p ++ t) n rest h.2 in
-          let begun : begins_number scope of least m ≡ true = begun_by scope.alone m n refl some fits named le (begins j.0 m n some j.1 small) in
-          let goes : (not (is_ascii_digit b) || nat_lt 4294967295 read) ≡ false = or_from (not (is_ascii_digit b)) (nat_lt 4294967295 read) h.0 (le-ltb 4294967295 read (omega (arith, fits))) in
-          rw (goes, begun) (more h.2))
+            let j = digits_divided 4294967295 m (p ++ t) n rest h.2 in
+            let begun : begins_number scope of least m ≡ true = begun_by scope.alone m n refl some fits named le (begins j.0 m n some j.1 small) in
+            let goes : (not (is_ascii_digit b) || nat_lt 4294967295 read) ≡ false = or_from (not (is_ascii_digit b)) (nat_lt 4294967295 read) h.0 (le-ltb 4294967295 read (omega (arith, fits))) in
+            rw (goes, begun) (more h.2))
       ]
 
   passes : (read : ℕ) (p s t : List ℕ) (n : ℕ) (rest : List ℕ) → 0 < read → names scope of n ≡ true → least ≤ n → n ≤ 4294967295 → digits_from 4294967295 read (p ++ t) ≡ Ok (n, rest) → length rest ≤ length t
@@ -184,7 +184,7 @@ module _ (scope : Scope) (of : Sort) (least : ℕ) where
       let first : 49 ≤ b = leb-true 49 b (and_parts (nat_le 49 b) (nat_le b 57) h.0).0 in
       passes_on b 0 p s t n rest (omega (arith, first)) named le small h.1 short (λ more. passes (10 * 0 + (b - 48)) p s t n rest (omega (arith, first)) named le small more short)
 
-  accepted_err : (read : Read ℕ) (left at : ℕ) → accepted scope of least read left ≡ Err at → left ≡ at
+  pub accepted_err : (read : Read ℕ) (left at : ℕ) → accepted scope of least read left ≡ Err at → left ≡ at
   accepted_err (Err x) left at e = cc
   accepted_err (Ok x) left at e = elim (cases_Bool (nat_le least x.0 && names scope of x.0)) [
     | inl holds ↦ absurd (no_ok x at (sym (cond-true (nat_le least x.0 && names scope of x.0) (Ok x) (Err left) holds) ∙ e))
@@ -214,9 +214,9 @@ module _ (scope : Scope) (of : Sort) (least : ℕ) where
       let read = number_read 4294967295 (p ++ t) x.0 x.1 (omega arith) a.0 in
       absurd (elim (cases_lt (length t) (length x.1)) [
         | inl inside ↦ (let h = like_ok t s (digits_at 4294967295 (p ++ t)) (digits_at 4294967295 (p ++ s)) x a.0 (digits_at_like 4294967295 p t s) inside in
-          no_ok (x.0, h.0 ++ s) left (sym (number_by scope of x.0 least (p ++ s) (h.0 ++ s) h.2 a.1 a.2) ∙ e))
+            no_ok (x.0, h.0 ++ s) left (sym (number_by scope of x.0 least (p ++ s) (h.0 ++ s) h.2 a.1 a.2) ∙ e))
         | inr out ↦ (let same : left_of_number scope of least 0 (p ++ s) ≡ left = accepted_err (digits_at 4294967295 (p ++ s)) (left_of_number scope of least 0 (p ++ s)) left e in
-          omega (arith, c, same, passes_all p s t x.0 x.1 a.2 (leb-true least x.0 a.1) read.small a.0 out))
+            omega (arith, c, same, passes_all p s t x.0 x.1 a.2 (leb-true least x.0 a.1) read.small a.0 out))
       ])
 
   pub number_local : (m n : ℕ) → Local m n at at
@@ -267,7 +267,7 @@ string_local (suc k) zero made = record { bound = string_bound (suc k) made; lik
 string_local (suc k) (suc i) made = local_from (string_at (suc k) made) (string_at (suc i) made) (suc k) (suc i) (string_bound (suc k) made) (λ c p s t a d e. elim (cases_Bool (c == 34)) [
   | inl holds ↦ rw holds (p, refl, refl)
   | inr fails ↦ rw fails (after_like (λ x. string_at k (made ++ x ∷ [])) (λ x. string_at i (made ++ x ∷ [])) 1 k i (c ∷ p) s t (byte_at (c ∷ (p ++ s))) (byte_at (c ∷ (p ++ t))) (byte_consumes (c ∷ (p ++ s)))
-    ((byte_local (suc k) (suc i)).like (c ∷ p) s t a d) (λ x. string_local k i (made ++ x ∷ [])) (omega (arith, a)) (omega (arith, d)) (rw fails at e))
+      ((byte_local (suc k) (suc i)).like (c ∷ p) s t a d) (λ x. string_local k i (made ++ x ∷ [])) (omega (arith, a)) (omega (arith, d)) (rw fails at e))
 ])
 
 pub whole_string_local : (m n : ℕ) → Local m n (λ b. string_at (length b) [] b) (λ b. string_at (length b) [] b)
@@ -294,8 +294,8 @@ unfolding integer_at
 integer_local m n = local_from integer_at integer_at m n integer_bound (λ c p s t a d e. elim (cases_Bool (c == 48)) [
   | inl holds ↦ rw holds (p, refl, refl)
   | inr fails ↦ (let now : length s < left_of (if c == 45 then negative_at (p ++ s) else positive_at (c ∷ (p ++ s))) = rw fails at e in
-    rw fails (elim (cases_Bool (c == 45)) [
-      | inl holds ↦ rw holds ((negative_local m n).like p s t (omega (arith, a)) (omega (arith, d)) (rw holds at now))
-      | inr other ↦ rw other ((positive_local m n).like (c ∷ p) s t a d (rw other at now))
-    ]))
+      rw fails (elim (cases_Bool (c == 45)) [
+        | inl holds ↦ rw holds ((negative_local m n).like p s t (omega (arith, a)) (omega (arith, d)) (rw holds at now))
+        | inr other ↦ rw other ((positive_local m n).like (c ∷ p) s t a d (rw other at now))
+      ]))
 ])

@@ -4,7 +4,7 @@ use Rattle.std.specs.Str.{bytes_eq}
 use Rattle.std.proofs.lemmas.Bool.{cases_Bool}
 use Rattle.clu_types.specs.declared.spec.ParamKind.{ParamKind}
 use Rattle.clu_types.specs.CluType.{CluType, CluTypes, Signals}
-use Rattle.clu_specs.specs.declared.read_specs.TheConstants.{KINDS}
+use Rattle.clu_specs.specs.declared.read_kinds.TheConstants.{KINDS}
 use Rattle.clu_specs.specs.declared.scope.Sort.TheVariants as sort
 use Rattle.clu_specs.specs.declared.scope.Scope.{Scope}
 use Rattle.clu_specs.specs.Reading.{◌>>=◌, Read, literal_at, behind, begins_with, several, end_at}
@@ -44,9 +44,9 @@ kind_like : (table : List (List ℕ × ParamKind)) (c : ℕ) (p s t : List ℕ) 
 kind_like [] c p s t less = (suc (length (p ++ t)), refl)
 kind_like (entry ∷ table) c p s t less = elim (cases_Bool (begin_alike entry.0 (c ∷ (p ++ s)))) [
   | inl holds ↦ (let other : begin_alike entry.0 (c ∷ (p ++ t)) ≡ true = alike_same entry.0 c (p ++ t) (p ++ s) ∙ holds in
-    rw (holds, other) ((fixed_then (λ b. Ok (entry.1, b)) (λ b. Ok (entry.1, b)) entry.0 (length (c ∷ (p ++ s))) (length (c ∷ (p ++ t))) (length (c ∷ (p ++ s))) (length (c ∷ (p ++ t))) (omega arith) (omega arith) (just (length (c ∷ (p ++ s))) (length (c ∷ (p ++ t))) entry.1)).like (c ∷ p) s t (omega arith) (omega arith) (rw holds at less)))
+      rw (holds, other) ((fixed_then (λ b. Ok (entry.1, b)) (λ b. Ok (entry.1, b)) entry.0 (length (c ∷ (p ++ s))) (length (c ∷ (p ++ t))) (length (c ∷ (p ++ s))) (length (c ∷ (p ++ t))) (omega arith) (omega arith) (just (length (c ∷ (p ++ s))) (length (c ∷ (p ++ t))) entry.1)).like (c ∷ p) s t (omega arith) (omega arith) (rw holds at less)))
   | inr fails ↦ (let other : begin_alike entry.0 (c ∷ (p ++ t)) ≡ false = alike_same entry.0 c (p ++ t) (p ++ s) ∙ fails in
-    rw (fails, other) (kind_like table c p s t (rw fails at less)))
+      rw (fails, other) (kind_like table c p s t (rw fails at less)))
 ]
 
 kind_local : (m n : ℕ) → Local m n kind_read kind_read
@@ -75,7 +75,7 @@ module _ (scope : Scope) (m n : ℕ) where
   asked_local param previous =
       fixed_then (λ b. number_at scope sort.Type (least_behind param previous) b >>= λ asked. literal_at (codes " has ") asked.1 >>= λ rest. name_from asked.0 param previous rest) (λ b. number_at scope sort.Type (least_behind param previous) b >>= λ asked. literal_at (codes " has ") asked.1 >>= λ rest. name_from asked.0 param previous rest) (35 ∷ []) m n m n (omega arith) (omega arith)
       (then_on (λ asked b. literal_at (codes " has ") b >>= λ rest. name_from asked param previous rest) (λ asked b. literal_at (codes " has ") b >>= λ rest. name_from asked param previous rest) (number_at scope sort.Type (least_behind param previous)) (number_at scope sort.Type (least_behind param previous)) m n (number_local scope sort.Type (least_behind param previous) m n)
-        (λ asked. fixed_then (name_from asked param previous) (name_from asked param previous) (codes " has ") m n m n (omega arith) (omega arith) (name_from_local asked param previous)))
+      (λ asked. fixed_then (name_from asked param previous) (name_from asked param previous) (codes " has ") m n m n (omega arith) (omega arith) (name_from_local asked param previous)))
 
 -- an operation's word behind its semicolon
 abbrev behind_semicolon : List ℕ → Reader (List ℕ × Bool)
@@ -84,8 +84,8 @@ behind_semicolon previous b = name_after previous 200 b >>= λ name. literal_at 
 word_rest : (m n : ℕ) (previous : List ℕ) → Local m n (behind_semicolon previous) (behind_semicolon previous)
 word_rest m n previous =
     then_on (λ name b. literal_at (58 ∷ []) b >>= λ rest. routine_word_read rest >>= λ iter. Ok ((name, iter.0), iter.1)) (λ name b. literal_at (58 ∷ []) b >>= λ rest. routine_word_read rest >>= λ iter. Ok ((name, iter.0), iter.1)) (name_after previous 200) (name_after previous 200) m n (name_local previous 200 (λ h. omega arith) m n)
-      (λ name. fixed_then (λ b. routine_word_read b >>= λ iter. Ok ((name, iter.0), iter.1)) (λ b. routine_word_read b >>= λ iter. Ok ((name, iter.0), iter.1)) (58 ∷ []) m n m n (omega arith) (omega arith)
-        (then_on (λ iter b. Ok ((name, iter), b)) (λ iter b. Ok ((name, iter), b)) routine_word_read routine_word_read m n (word_local m n) (λ iter. just m n (name, iter))))
+    (λ name. fixed_then (λ b. routine_word_read b >>= λ iter. Ok ((name, iter.0), iter.1)) (λ b. routine_word_read b >>= λ iter. Ok ((name, iter.0), iter.1)) (58 ∷ []) m n m n (omega arith) (omega arith)
+    (then_on (λ iter b. Ok ((name, iter), b)) (λ iter b. Ok ((name, iter), b)) routine_word_read routine_word_read m n (word_local m n) (λ iter. just m n (name, iter))))
 
 word_rest_local : (previous : List ℕ) → Local 0 0 (behind_semicolon previous) (behind_semicolon previous)
 word_rest_local previous = word_rest 0 0 previous
@@ -110,13 +110,13 @@ module _ (scope : Scope) (part other : Reader CluType) (m n : ℕ) (parts : Loca
   demands_local : Local m n (demands_read scope part) (demands_read scope other)
   unfolding demands_read
   demands_local = then_on (λ x b. Ok (x.0, b)) (λ x b. Ok (x.0, b)) (λ bytes. several (demands_step scope part) (demands_next scope part) (length bytes) ([], 0, []) bytes) (λ bytes. several (demands_step scope other) (demands_next scope other) (length bytes) ([], 0, []) bytes) m n
-    (tested_rows (λ made. nat_le (least_behind made.1 made.2) (last_in scope sort.Type)) (demands_step scope part) (demands_step scope other) m n
+      (tested_rows (λ made. nat_le (least_behind made.1 made.2) (last_in scope sort.Type)) (demands_step scope part) (demands_step scope other) m n
       (λ made. then_on (λ d b. Ok ((made.0 ++ d ∷ [], d.param, d.op), b)) (λ d b. Ok ((made.0 ++ d ∷ [], d.param, d.op), b)) (demand_read scope part made.1 made.2) (demand_read scope other made.1 made.2) m n (demand_local made.1 made.2) (λ d. just m n (made.0 ++ d ∷ [], d.param, d.op))) ([], 0, []))
-    (λ x. just m n x.0)
+      (λ x. just m n x.0)
 
   demands_behind : Local (suc m) (suc n) (λ b. literal_at (codes " where ") b >>= λ rest. demands_read scope part rest >>= λ ds. closing 32 ds.0 ds.1) (λ b. literal_at (codes " where ") b >>= λ rest. demands_read scope other rest >>= λ ds. closing 32 ds.0 ds.1)
   demands_behind = fixed_then (λ b. demands_read scope part b >>= λ ds. closing 32 ds.0 ds.1) (λ b. demands_read scope other b >>= λ ds. closing 32 ds.0 ds.1) (codes " where ") m n (suc m) (suc n) (omega arith) (omega arith)
-    (then_on (λ ds b. closing 32 ds b) (λ ds b. closing 32 ds b) (demands_read scope part) (demands_read scope other) m n demands_local (λ ds. closing_local m n 32 ds))
+      (then_on (λ ds b. closing 32 ds b) (λ ds b. closing 32 ds b) (demands_read scope part) (demands_read scope other) m n demands_local (λ ds. closing_local m n 32 ds))
 
   -- where there is a parameter to demand of, a blank begins the demands
   where_bound : (blank some : Bool) (bytes : List ℕ) (r : Read (List Demanded)) → left_of r ≤ length bytes → left_of (if not blank || not some then Ok ([], bytes) else r) ≤ length bytes
@@ -133,8 +133,8 @@ module _ (scope : Scope) (part other : Reader CluType) (m n : ℕ) (parts : Loca
   all_demands_local : Local (suc m) (suc n) (all_demands_read scope part) (all_demands_read scope other)
   unfolding all_demands_read
   all_demands_local = local_from (all_demands_read scope part) (all_demands_read scope other) (suc m) (suc n)
-    (λ bytes. where_bound (begins_with 32 bytes) (nat_le 1 (last_in scope sort.Type)) bytes (literal_at (codes " where ") bytes >>= λ rest. demands_read scope part rest >>= λ ds. closing 32 ds.0 ds.1) (demands_behind.bound bytes))
-    (λ c p s t a d less. where_like (c == 32) (nat_le 1 (last_in scope sort.Type)) c p s t (literal_at (codes " where ") (c ∷ (p ++ s)) >>= λ rest. demands_read scope part rest >>= λ ds. closing 32 ds.0 ds.1) (literal_at (codes " where ") (c ∷ (p ++ t)) >>= λ rest. demands_read scope other rest >>= λ ds. closing 32 ds.0 ds.1)
+      (λ bytes. where_bound (begins_with 32 bytes) (nat_le 1 (last_in scope sort.Type)) bytes (literal_at (codes " where ") bytes >>= λ rest. demands_read scope part rest >>= λ ds. closing 32 ds.0 ds.1) (demands_behind.bound bytes))
+      (λ c p s t a d less. where_like (c == 32) (nat_le 1 (last_in scope sort.Type)) c p s t (literal_at (codes " where ") (c ∷ (p ++ s)) >>= λ rest. demands_read scope part rest >>= λ ds. closing 32 ds.0 ds.1) (literal_at (codes " where ") (c ∷ (p ++ t)) >>= λ rest. demands_read scope other rest >>= λ ds. closing 32 ds.0 ds.1)
       (demands_behind.like (c ∷ p) s t a d) less)
 
   abbrev built : List ℕ → Bool → CluTypes × CluTypes × Signals → List Demanded → Operation
@@ -187,11 +187,11 @@ module _ (scope : Scope) (part other : Reader CluType) (m n : ℕ) (parts : Loca
   operations_local : Local (suc m) (suc n) (operations_read scope part) (operations_read scope other)
   unfolding operations_read
   operations_local = then_on (λ x b. Ok (x.0, b)) (λ x b. Ok (x.0, b)) (λ bytes. several (operations_step scope part) (operations_next scope part) (length bytes) ([], []) bytes) (λ bytes. several (operations_step scope other) (operations_next scope other) (length bytes) ([], []) bytes) (suc m) (suc n)
-    (rows_local (operations_step scope part) (operations_step scope other) (operations_next scope part) ops_next_local (suc m) (suc n) ops_step_local ops_progress ([], [])) (λ x. just (suc m) (suc n) x.0)
+      (rows_local (operations_step scope part) (operations_step scope other) (operations_next scope part) ops_next_local (suc m) (suc n) ops_step_local ops_progress ([], [])) (λ x. just (suc m) (suc n) x.0)
 
   pub form_local : Local (suc m) (suc n) (cluster_form_read scope part) (cluster_form_read scope other)
   unfolding cluster_form_read
   form_local =
       then_on (λ ds b. literal_at (codes "is") b >>= λ rest. operations_read scope part rest >>= λ ops. Ok (cluster ds ops.0, ops.1)) (λ ds b. literal_at (codes "is") b >>= λ rest. operations_read scope other rest >>= λ ops. Ok (cluster ds ops.0, ops.1)) (all_demands_read scope part) (all_demands_read scope other) (suc m) (suc n) all_demands_local
       (λ ds. fixed_then (λ b. operations_read scope part b >>= λ ops. Ok (cluster ds ops.0, ops.1)) (λ b. operations_read scope other b >>= λ ops. Ok (cluster ds ops.0, ops.1)) (codes "is") (suc m) (suc n) (suc m) (suc n) (omega arith) (omega arith)
-        (then_on (λ ops b. Ok (cluster ds ops, b)) (λ ops b. Ok (cluster ds ops, b)) (operations_read scope part) (operations_read scope other) (suc m) (suc n) operations_local (λ ops. just (suc m) (suc n) (cluster ds ops))))
+      (then_on (λ ops b. Ok (cluster ds ops, b)) (λ ops b. Ok (cluster ds ops, b)) (operations_read scope part) (operations_read scope other) (suc m) (suc n) operations_local (λ ops. just (suc m) (suc n) (cluster ds ops))))

@@ -117,20 +117,20 @@ module _ (d e : ℕ) (name : List ℕ) where
       (λ iter b. parameters_read b >>= λ kinds. specs.operation_read (scope_of kinds.0) (type_read (scope_of kinds.0) e) name iter kinds.1 >>= λ op. end_at (made kinds.0 (routine op.0)) op.1)
       routine_word_read routine_word_read d e (word_local d e)
       (λ iter. then_rest (λ kinds b. specs.operation_read (scope_of kinds) (type_read (scope_of kinds) d) name iter b >>= λ op. end_at (made kinds (routine op.0)) op.1) (λ kinds b. specs.operation_read (scope_of kinds) (type_read (scope_of kinds) e) name iter b >>= λ op. end_at (made kinds (routine op.0)) op.1)
-        parameters_read parameters_read d e (parameters_local d e)
-        (λ kinds. then_rest (λ op b. end_at (made kinds (routine op)) b) (λ op b. end_at (made kinds (routine op)) b) (specs.operation_read (scope_of kinds) (type_read (scope_of kinds) d) name iter) (specs.operation_read (scope_of kinds) (type_read (scope_of kinds) e) name iter) d e
-          (local_less (specs.operation_read (scope_of kinds) (type_read (scope_of kinds) d) name iter) (specs.operation_read (scope_of kinds) (type_read (scope_of kinds) e) name iter) (suc d) (suc e) d e (operation_local (scope_of kinds) (type_read (scope_of kinds) d) (type_read (scope_of kinds) e) d e (type_local (scope_of kinds) d e) name iter) (omega arith) (omega arith))
-          (λ op. ended d e (made kinds (routine op)))))
+      parameters_read parameters_read d e (parameters_local d e)
+      (λ kinds. then_rest (λ op b. end_at (made kinds (routine op)) b) (λ op b. end_at (made kinds (routine op)) b) (specs.operation_read (scope_of kinds) (type_read (scope_of kinds) d) name iter) (specs.operation_read (scope_of kinds) (type_read (scope_of kinds) e) name iter) d e
+      (local_less (specs.operation_read (scope_of kinds) (type_read (scope_of kinds) d) name iter) (specs.operation_read (scope_of kinds) (type_read (scope_of kinds) e) name iter) (suc d) (suc e) d e (operation_local (scope_of kinds) (type_read (scope_of kinds) d) (type_read (scope_of kinds) e) d e (type_local (scope_of kinds) d e) name iter) (omega arith) (omega arith))
+      (λ op. ended d e (made kinds (routine op)))))
 
   cluster_alike : Alike d e (cluster_read name d) (cluster_read name e)
   unfolding cluster_read
   cluster_alike =
       fixed_rest (λ b. parameters_read b >>= λ kinds. cluster_form_read (scope_of kinds.0) (type_read (scope_of kinds.0) d) kinds.1 >>= λ shape. end_at (made kinds.0 shape.0) shape.1) (λ b. parameters_read b >>= λ kinds. cluster_form_read (scope_of kinds.0) (type_read (scope_of kinds.0) e) kinds.1 >>= λ shape. end_at (made kinds.0 shape.0) shape.1) d e
       (then_rest (λ kinds b. cluster_form_read (scope_of kinds) (type_read (scope_of kinds) d) b >>= λ shape. end_at (made kinds shape.0) shape.1) (λ kinds b. cluster_form_read (scope_of kinds) (type_read (scope_of kinds) e) b >>= λ shape. end_at (made kinds shape.0) shape.1)
-        parameters_read parameters_read d e (parameters_local d e)
-        (λ kinds. then_rest (λ shape b. end_at (made kinds shape) b) (λ shape b. end_at (made kinds shape) b) (cluster_form_read (scope_of kinds) (type_read (scope_of kinds) d)) (cluster_form_read (scope_of kinds) (type_read (scope_of kinds) e)) d e
-          (local_less (cluster_form_read (scope_of kinds) (type_read (scope_of kinds) d)) (cluster_form_read (scope_of kinds) (type_read (scope_of kinds) e)) (suc d) (suc e) d e (form_local (scope_of kinds) (type_read (scope_of kinds) d) (type_read (scope_of kinds) e) d e (type_local (scope_of kinds) d e)) (omega arith) (omega arith))
-          (λ shape. ended d e (made kinds shape))))
+      parameters_read parameters_read d e (parameters_local d e)
+      (λ kinds. then_rest (λ shape b. end_at (made kinds shape) b) (λ shape b. end_at (made kinds shape) b) (cluster_form_read (scope_of kinds) (type_read (scope_of kinds) d)) (cluster_form_read (scope_of kinds) (type_read (scope_of kinds) e)) d e
+      (local_less (cluster_form_read (scope_of kinds) (type_read (scope_of kinds) d)) (cluster_form_read (scope_of kinds) (type_read (scope_of kinds) e)) (suc d) (suc e) d e (form_local (scope_of kinds) (type_read (scope_of kinds) d) (type_read (scope_of kinds) e) d e (type_local (scope_of kinds) d e)) (omega arith) (omega arith))
+      (λ shape. ended d e (made kinds shape))))
       (codes "cluster")
 
 abbrev body : ℕ → List ℕ → List ℕ → Result Specification ℕ
@@ -144,7 +144,7 @@ spec_at_alike d e =
     then_rest (λ name b. if bytes_eq name (codes "stream") then Err (length b) else literal_at (61 ∷ []) b >>= body d name) (λ name b. if bytes_eq name (codes "stream") then Err (length b) else literal_at (61 ∷ []) b >>= body e name)
     (name_after [] 200) (name_after [] 200) d e (name_local [] 200 (λ h. omega arith) d e)
     (λ name. refused_if d e (bytes_eq name (codes "stream")) (λ b. literal_at (61 ∷ []) b >>= body d name) (λ b. literal_at (61 ∷ []) b >>= body e name)
-      (fixed_rest (body d name) (body e name) d e (choice_rest (cluster_read name d) (cluster_read name e) (routine_read name d) (routine_read name e) 99 d e (cluster_alike d e name) (routine_alike d e name)) (61 ∷ [])))
+    (fixed_rest (body d name) (body e name) d e (choice_rest (cluster_read name d) (cluster_read name e) (routine_read name d) (routine_read name e) 99 d e (cluster_alike d e name) (routine_alike d e name)) (61 ∷ [])))
 
 pub whole_spec_alike : (p s t : List ℕ) (left : ℕ) → whole_spec (p ++ s) ≡ Err left → length s < left → (at : ℕ) × (whole_spec (p ++ t) ≡ Err at)
 unfolding whole_spec
@@ -203,18 +203,18 @@ chosen_alike [] s u less = absurd (omega (arith, less, chosen_bound (bytes_eq (f
 chosen_alike (b ∷ p) s u less = elim (ends (b ∷ p)) [
   | inr all ↦ over (bytes_eq (first_word ((b ∷ p) ++ s)) (codes "own")) (bytes_eq (first_word ((b ∷ p) ++ s)) (codes "force")) b p s u all less
   | inl h ↦ (let at : (x : List ℕ) → (b ∷ p) ++ x ≡ h.word ++ (h.next ∷ (h.others ++ x)) = λ x. ap (λ (y : List ℕ). y ++ x) h.whole ∙ append_assoc h.word (h.next ∷ h.others) x in
-    let first : (x : List ℕ) → first_word ((b ∷ p) ++ x) ≡ h.word = λ x. ap first_word (at x) ∙ word_first h.word (h.next ∷ (h.others ++ x)) h.goes_on (stops_here h.next (h.others ++ x) h.stops) in
-    let behind : (x : List ℕ) → behind_word ((b ∷ p) ++ x) ≡ (h.next ∷ h.others) ++ x = λ x. ap behind_word (at x) ∙ word_behind h.word (h.next ∷ (h.others ++ x)) h.goes_on (stops_here h.next (h.others ++ x) h.stops) in
-    let now : length s < refused_left (chosen_by (bytes_eq h.word (codes "own")) (bytes_eq h.word (codes "force")) ((b ∷ p) ++ s)) =
-    subst (λ (z : List ℕ). length s < refused_left (chosen_by (bytes_eq z (codes "own")) (bytes_eq z (codes "force")) ((b ∷ p) ++ s))) (first s) less in
-    let l = inside (bytes_eq h.word (codes "own")) (bytes_eq h.word (codes "force")) (h.next ∷ h.others) (b ∷ p) s u (behind s) (behind u) now in
-    (l.0, ap (λ (z : List ℕ). chosen_by (bytes_eq z (codes "own")) (bytes_eq z (codes "force")) ((b ∷ p) ++ u)) (first u) ∙ l.1))
+      let first : (x : List ℕ) → first_word ((b ∷ p) ++ x) ≡ h.word = λ x. ap first_word (at x) ∙ word_first h.word (h.next ∷ (h.others ++ x)) h.goes_on (stops_here h.next (h.others ++ x) h.stops) in
+      let behind : (x : List ℕ) → behind_word ((b ∷ p) ++ x) ≡ (h.next ∷ h.others) ++ x = λ x. ap behind_word (at x) ∙ word_behind h.word (h.next ∷ (h.others ++ x)) h.goes_on (stops_here h.next (h.others ++ x) h.stops) in
+      let now : length s < refused_left (chosen_by (bytes_eq h.word (codes "own")) (bytes_eq h.word (codes "force")) ((b ∷ p) ++ s)) =
+      subst (λ (z : List ℕ). length s < refused_left (chosen_by (bytes_eq z (codes "own")) (bytes_eq z (codes "force")) ((b ∷ p) ++ s))) (first s) less in
+      let l = inside (bytes_eq h.word (codes "own")) (bytes_eq h.word (codes "force")) (h.next ∷ h.others) (b ∷ p) s u (behind s) (behind u) now in
+      (l.0, ap (λ (z : List ℕ). chosen_by (bytes_eq z (codes "own")) (bytes_eq z (codes "force")) ((b ∷ p) ++ u)) (first u) ∙ l.1))
 ]
 
 operation_alike : (m n : ℕ) → Alike m n operation_read operation_read
 unfolding operation_read
 operation_alike m n = fixed_rest chosen_at chosen_at m n
-  (record { bound = λ bytes. chosen_bound (bytes_eq (first_word bytes) (codes "own")) (bytes_eq (first_word bytes) (codes "force")) bytes; alike = λ p s u a d less. chosen_alike p s u less }) (36 ∷ [])
+    (record { bound = λ bytes. chosen_bound (bytes_eq (first_word bytes) (codes "own")) (bytes_eq (first_word bytes) (codes "force")) bytes; alike = λ p s u a d less. chosen_alike p s u less }) (36 ∷ [])
 
 module _ (t : CluType) where
   -- nothing, or an operation

@@ -1,14 +1,15 @@
--- The offset of a refusal: no text begins with the bytes up to that at the offset.
+-- The offset of a refusal: the bytes before it begin a text, and no text begins with these and the byte at it.
 use Rattle.std.proofs.Common.{◌≡◌, ℕ, zero, suc, ◌+◌, ◌-◌, ◌<◌, ◌≤◌, ◌==◌, Bool, true, false, List, [], ◌∷◌, ◌++◌, length, take, drop, Result, Ok, Err, if◌then◌else◌, refl, sym, ap, subst, ◌∙◌, arith, length-append, length-drop}
 use Rattle.std.proofs.lemmas.Bool.{ne_eqb}
 use Rattle.std.proofs.lemmas.List.{take-append-drop}
+use Rattle.std.proofs.Math.Seq.{take-append_seam}
 use Rattle.clu_base.specs.declared.errors.FormatError.{FormatError}
 use Rattle.clu_base.specs.declared.errors.FormatError.TheVariants as error
 use Rattle.clu_types.specs.CluType.{CluType}
 use Rattle.clu_specs.specs.Reading.{◌>>=◌, Read, Fails, end_at, offset_error}
 use Rattle.clu_specs.specs.Scopes.{any_scope}
 use Rattle.clu_specs.specs.TypeReading.{Reader, type_read, whole_type}
-use Rattle.clu_specs.specs.Offsets.{BeginsType, BeginsUse, BeginsSpec, NoFurther}
+use Rattle.clu_specs.specs.Offsets.{BeginsType, BeginsUse, BeginsSpec, SoFar, NoFurther}
 use Rattle.clu_specs.proofs.TypesAgain.{whole_again}
 use Rattle.clu_specs.proofs.Local.{left_of, Like, Local}
 use Rattle.clu_specs.proofs.LocalActuals.{type_local}
@@ -17,6 +18,10 @@ use Rattle.clu_specs.specs.SpecReading.{whole_spec}
 use Rattle.clu_specs.proofs.UsesAgain.{use_again}
 use Rattle.clu_specs.proofs.SpecsAgain.{spec_again}
 use Rattle.clu_specs.proofs.LocalWholes.{whole_use_alike, whole_spec_alike}
+use Rattle.clu_specs.proofs.Fronts.{Front, front_as}
+use Rattle.clu_specs.proofs.FrontsActuals.{whole_type_front}
+use Rattle.clu_specs.proofs.FrontsUses.{whole_use_front}
+use Rattle.clu_specs.proofs.FrontsSpecs.{whole_spec_front}
 
 -- a whole text is refused alike, whatever comes behind the byte at the fault
 abbrev pub RefusedAlike : {A : Type 0} → (List ℕ → Result A ℕ) → Type 0
@@ -79,3 +84,25 @@ use_no_further (error.Bad left) bytes f = λ less begun. no_further_by whole_use
 pub spec_no_further : (e : FormatError) (bytes : List ℕ) → Fails e (whole_spec bytes) → NoFurther BeginsSpec bytes (offset_error (length bytes) e)
 spec_no_further error.Memory bytes f = tt
 spec_no_further (error.Bad left) bytes f = λ less begun. no_further_by whole_spec bytes left whole_spec_alike f less begun.0 (take (length bytes - left + 1) bytes ++ begun.1) begun.1 (spec_again begun.0 (take (length bytes - left + 1) bytes ++ begun.1) begun.2 (sym begun.3)) refl
+
+-- the bytes before the offset
+module _ (Begins : List ℕ → Type 0) (bytes : List ℕ) (left : ℕ) where
+  taken : (f : Front Begins bytes left) → take (length bytes - left) bytes ≡ f.front
+  taken f =
+      let many : length bytes - left ≡ length f.front = omega (arith, ap length f.whole, length-append f.front f.back, f.rest) in
+      ap (λ (n : ℕ). take n bytes) many ∙ ap (take (length f.front)) f.whole ∙ take-append_seam f.front f.back
+
+  so_far_by : Front Begins bytes left → SoFar Begins bytes (error.Bad (length bytes - left))
+  so_far_by f = (omega arith, subst Begins (sym (taken f)) f.begun)
+
+pub type_so_far : (e : FormatError) (bytes : List ℕ) → Fails e (whole_type bytes) → SoFar BeginsType bytes (offset_error (length bytes) e)
+type_so_far error.Memory bytes f = tt
+type_so_far (error.Bad left) bytes f = so_far_by BeginsType bytes left (front_as bytes left (whole_type_front bytes left f) (λ q x. (x.t, x.rest, x.is, x.spelled)))
+
+pub use_so_far : (e : FormatError) (bytes : List ℕ) → Fails e (whole_use bytes) → SoFar BeginsUse bytes (offset_error (length bytes) e)
+use_so_far error.Memory bytes f = tt
+use_so_far (error.Bad left) bytes f = so_far_by BeginsUse bytes left (front_as bytes left (whole_use_front bytes left f) (λ q x. (x.u, x.rest, x.is, x.spelled)))
+
+pub spec_so_far : (e : FormatError) (bytes : List ℕ) → Fails e (whole_spec bytes) → SoFar BeginsSpec bytes (offset_error (length bytes) e)
+spec_so_far error.Memory bytes f = tt
+spec_so_far (error.Bad left) bytes f = so_far_by BeginsSpec bytes left (front_as bytes left (whole_spec_front bytes left f) (λ q x. (x.s, x.rest, x.is, x.spelled)))

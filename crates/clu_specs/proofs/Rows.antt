@@ -1,5 +1,5 @@
 -- Items in a row, as a loop reads them while its arena grows.
-use Rattle.std.proofs.Common.{◌≡◌, ℕ, zero, suc, ◌+◌, ◌-◌, ◌<◌, ◌≤◌, List, [], ◌∷◌, ◌++◌, length, Result, Ok, Err, Option, Some, None, Bool, refl, sym, ap, ◌∙◌, arith}
+use Rattle.std.proofs.Common.{◌≡◌, ℕ, zero, suc, ◌+◌, ◌-◌, ◌<◌, ◌≤◌, List, [], ◌∷◌, ◌++◌, length, Result, Ok, Err, Option, Some, None, Bool, true, refl, sym, ap, subst, ◌∙◌, arith}
 use Rattle.clu_base.specs.declared.errors.FormatError.{FormatError}
 use Rattle.clu_base.specs.declared.errors.FormatError.TheVariants as error
 use Rattle.clu_types.specs.CluType.{CluType, CluTypes, no_types, type_and, Fields, no_fields, field_and, Signals, no_signals, signal_and, Actuals, no_actuals, actual_type, actual_const, actual_param}
@@ -13,9 +13,10 @@ use Rattle.clu_types.specs.declared.term.Term.{Term}
 use Rattle.clu_types.proofs.Arenas.{types_grown}
 use Rattle.clu_types.proofs.Carrying.{grows_on}
 use Rattle.clu_types.proofs.Parts.{types_same, fields_same, signals_same, actuals_same}
+use Rattle.clu_specs.specs.declared.actuals.Lead.{Lead}
 use Rattle.clu_specs.specs.declared.scope.Scope.{Scope}
 use Rattle.clu_specs.specs.Reading.{◌>>=◌, Read, Fails, several}
-use Rattle.clu_specs.specs.TypeReading.{Reader, types_joined, fields_joined, signals_joined, actuals_joined, types_step, fields_step, signals_step, actuals_step, field_read, signal_read, actual_read, arguments_read, results_read, all_signals_read, heading_read}
+use Rattle.clu_specs.specs.TypeReading.{Reader, types_joined, fields_joined, signals_joined, actuals_joined, types_step, fields_step, signals_step, actuals_step, field_read, signal_read, lead_of, is_marked, marked_actual_read, actual_by, actual_read, arguments_read, results_read, all_signals_read, heading_read}
 
 module _ {A : Type 0} (step : A → List ℕ → Read A) (next : A → List ℕ → Option (List ℕ)) where
   pub row_on : (len i : ℕ) (made more : A) (bytes after rest : List ℕ) (total : Read A) → i < len → step made bytes ≡ Ok (more, after) → next more after ≡ Some rest
@@ -49,6 +50,18 @@ module _ {A : Type 0} (step : A → List ℕ → Read A) (next : A → List ℕ 
       let k : len - i ≡ 0 = omega arith in
       let one : several step next (len - i) made bytes ≡ Err (length bytes) = rw k refl in
       sym so_far ∙ one
+
+-- what is refused by a step is refused with what follows it
+pub fails_on : {X Y : Type 0} (e : FormatError) (r : Result X ℕ) (f : X → Result Y ℕ) → Fails e r → Fails e (r >>= f)
+fails_on error.Memory r f h = tt
+fails_on (error.Bad left) r f h = rw h refl
+
+-- a constant or a constant parameter that is refused
+pub marked_fails : (scope : Scope) (part : Reader CluType) (e : FormatError) (lead : Lead) (bytes : List ℕ) → Fails e (marked_actual_read scope lead bytes) → is_marked lead ≡ true → lead ≡ lead_of bytes → Fails e (actual_read scope part bytes)
+unfolding actual_by
+marked_fails scope part e lead bytes h marked same =
+    let now : is_marked (lead_of bytes) ≡ true = ap is_marked (sym same) ∙ marked in
+    rw now (subst (λ (x : Lead). Fails e (marked_actual_read scope x bytes)) same h)
 
 -- one item more
 types_push : (ks : List CluType) (xs : List TypeId) (y : TypeId) → types_at ks (xs ++ y ∷ []) ≡ types_joined (types_at ks xs) (type_and (type_at ks y) no_types)

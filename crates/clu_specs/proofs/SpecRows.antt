@@ -6,6 +6,7 @@ use Rattle.clu_types.specs.declared.term.Heading.{Heading}
 use Rattle.clu_types.specs.declared.term.Term.{Term}
 use Rattle.clu_types.specs.declared.spec.Demand.{Demand}
 use Rattle.clu_types.specs.declared.spec.OpSpec.{OpSpec}
+use Rattle.clu_types.specs.declared.spec.ParamKind.{ParamKind}
 use Rattle.clu_types.proofs.Arenas.{types_grown}
 use Rattle.clu_types.proofs.Parts.{types_same, signals_same}
 use Rattle.clu_specs.specs.declared.scope.Scope.{Scope}
@@ -13,11 +14,14 @@ use Rattle.clu_specs.specs.Reading.{◌>>=◌, Read, literal_at}
 use Rattle.clu_specs.specs.TypeReading.{Reader, heading_read}
 use Rattle.clu_specs.specs.Seen.{Demanded, Operation, Shape, cluster, demand_seen, op_seen}
 use Rattle.clu_specs.specs.Specifications.{DemandsBelow, OpBelow, OpsBelow}
-use Rattle.clu_specs.specs.SpecReading.{demand_read, demands_step, all_demands_read, operation_read, named_operation_read, operations_step, operations_read, cluster_form_read}
+use Rattle.clu_specs.specs.SpecReading.{kind_read, kinds_step, demand_read, demands_step, all_demands_read, operation_read, named_operation_read, operations_step, operations_read, cluster_form_read}
 
 map_push : {X Y : Type 0} (f : X → Y) (xs : List X) (y : X) → map f (xs ++ y ∷ []) ≡ map f xs ++ f y ∷ []
 map_push f [] y = refl
 map_push {X} {Y} f (x ∷ xs) y = ap (λ (t : List Y). f x ∷ t) (map_push f xs y)
+
+pub kinds_made : (made : List ParamKind) (k : ParamKind) (bytes after : List ℕ) → kind_read bytes ≡ Ok (k, after) → kinds_step made bytes ≡ Ok (made ++ k ∷ [], after)
+kinds_made made k bytes after e = rw e refl
 
 -- what was made over an arena is the same over one that has grown from it
 module _ (new newer : List Term) (g : Grows new newer) where

@@ -174,7 +174,7 @@ module _ (ks : List ParamKind) (depth : ℕ) where
       let len = length-append (demand_text d) (more_demands ds) in
       rw goes_on
       (ap alone (item step next n (made, param, name) (made ++ d ∷ [], d.param, d.op) text (more_demands ds ++ 32 ∷ rest)
-          (demands_turn param name made d (more_demands ds) rest are.0 are.1 f are.3 (omega (arith, short, len, wanted_short d)) (demands_stop ds rest)))
+      (demands_turn param name made d (more_demands ds) rest are.0 are.1 f are.3 (omega (arith, short, len, wanted_short d)) (demands_stop ds rest)))
       ∙ demands_row ds d.param d.op are.1 are.4 (omega (arith, short, len)) n (made ++ d ∷ []) rest (omega (arith, le, len))
       ∙ ap (λ (x : List Demanded). Ok (x, 32 ∷ rest)) (append_assoc made (d ∷ []) ds))
 
@@ -195,7 +195,7 @@ module _ (ks : List ParamKind) (depth : ℕ) where
       let len = length-append (demand_text d) (more_demands ds) in
       let whole = length-append text (32 ∷ []) in
       let turned = item step next n ([], 0, []) (d ∷ [], d.param, d.op) (text ++ 32 ∷ rest) (more_demands ds ++ 32 ∷ rest)
-        (demands_turn 0 [] [] d (more_demands ds) rest are.0 are.1 (inl (parameter_some d.param are.0.named)) are.3 (omega (arith, short, len, whole, wanted_short d)) (demands_stop ds rest)) in
+      (demands_turn 0 [] [] d (more_demands ds) rest are.0 are.1 (inl (parameter_some d.param are.0.named)) are.3 (omega (arith, short, len, whole, wanted_short d)) (demands_stop ds rest)) in
       let read : demands_read scope part (text ++ 32 ∷ rest) ≡ Ok (d ∷ ds, 32 ∷ rest) =
       demands_by (text ++ 32 ∷ rest) rest (suc n) (d ∷ ds) (omega (arith, length-append text (32 ∷ rest)))
       (ap alone turned ∙ demands_row ds d.param d.op are.1 are.4 (omega (arith, short, len, whole)) n (d ∷ []) rest (omega (arith, len))) in
@@ -220,7 +220,7 @@ module _ (ks : List ParamKind) (depth : ℕ) where
       operation_by op (routine_text op ++ rest) behind_heading rest
       (ap (heading_read part op.iter) (append_assoc (heading_text op.iter op.args op.results op.signals) (demands_text op.demands) rest)
       ∙ heading_again scope part op.iter op.args op.results op.signals behind_heading is.0 is.2 (types_all scope (scope_has ks) op.args is.0 depth (omega (arith, short, len, parts)))
-        (types_all scope (scope_has ks) op.results is.1 depth (omega (arith, short, len, parts))) (signals_all scope (scope_has ks) op.signals [] is.2 depth (omega (arith, short, len, parts))) (demands_end op.demands rest stop))
+      (types_all scope (scope_has ks) op.results is.1 depth (omega (arith, short, len, parts))) (signals_all scope (scope_has ks) op.signals [] is.2 depth (omega (arith, short, len, parts))) (demands_end op.demands rest stop))
       (all_demands_again op.demands rest is.3 (omega (arith, short, len)) none)
 
   -- operations
@@ -269,7 +269,7 @@ module _ (ks : List ParamKind) (depth : ℕ) where
       let len = length-append (op_text op) (ops_text ops) in
       rw (later_some name op.name is are.0 are.1)
       (ap without_name (item ops_step ops_next n (made, name) (made ++ op ∷ [], op.name) (op_text op ++ ops_text ops) (ops_text ops)
-          (ops_turn name made op (ops_text ops) are.0 are.1 are.2 (omega (arith, short, len, op_short op)) (ops_stop ops) (ops_no_blank ops)))
+      (ops_turn name made op (ops_text ops) are.0 are.1 are.2 (omega (arith, short, len, op_short op)) (ops_stop ops) (ops_no_blank ops)))
       ∙ ops_row ops op.name are.0 are.3 (omega (arith, short, len)) n (made ++ op ∷ []) (omega (arith, le, len, op_some op))
       ∙ ap (λ (x : List Operation). Ok (x, [])) (append_assoc made (op ∷ []) ops))
 
@@ -283,7 +283,7 @@ module _ (ks : List ParamKind) (depth : ℕ) where
       let len = length-append (op_text op) (ops_text ops) in
       let n : ℕ = length (ops_text (op ∷ ops)) - 1 in
       let turned = item ops_step ops_next n ([], []) (op ∷ [], op.name) (op_text op ++ ops_text ops) (ops_text ops)
-        (ops_turn [] [] op (ops_text ops) are.0 are.1 are.2 (omega (arith, short, len, op_short op)) (ops_stop ops) (ops_no_blank ops)) in
+      (ops_turn [] [] op (ops_text ops) are.0 are.1 are.2 (omega (arith, short, len, op_short op)) (ops_stop ops) (ops_no_blank ops)) in
       ops_by (ops_text (op ∷ ops)) (suc n) (op ∷ ops) (omega (arith, len, op_some op))
       (ap without_name turned ∙ ops_row ops op.name are.0 are.3 (omega (arith, short, len)) n (op ∷ []) (omega (arith, len, op_some op)))
 
@@ -337,8 +337,8 @@ shaped_again name bytes ks (cluster ds ops) named other few is e =
     let form_len = length-append (demands_text ds) (codes "is" ++ flat_map op_text ops) in
     whole_by name bytes rest (record { name = name; kinds = ks; shape = cluster ds ops }) (ap (name_after [] 200) e ∙ name_again [] name (61 ∷ rest) 200 named (before_any name named.begins) refl) other
     (cluster_by name depth ks (cluster ds ops) (kinds_text ks ++ form) form (parameters_again ks form few (no_bracket ds (flat_map op_text ops)))
-      (form_by ks depth ds ops form (all_demands_again ks depth ds (codes "is" ++ flat_map op_text ops) is.0 (omega (arith, ap length e, len, kinds_len, form_len)) refl)
-        (operations_again ks depth ops is.1 is.2 (omega (arith, ap length e, len, kinds_len, form_len)))))
+    (form_by ks depth ds ops form (all_demands_again ks depth ds (codes "is" ++ flat_map op_text ops) is.0 (omega (arith, ap length e, len, kinds_len, form_len)) refl)
+    (operations_again ks depth ops is.1 is.2 (omega (arith, ap length e, len, kinds_len, form_len)))))
 
 pub spec_again : (s : Specification) (bytes : List ℕ) → IsSpecification s → bytes ≡ spec_text s → whole_spec bytes ≡ Ok s
 spec_again s bytes is e = shaped_again s.name bytes s.kinds s.shape is.named is.other is.few is.shaped e

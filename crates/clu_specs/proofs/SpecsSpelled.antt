@@ -1,181 +1,67 @@
 -- Specifications: what was read is of the grammar, and spelled by the bytes that were read.
-use Rattle.std.proofs.Common.{◌≡◌, ℕ, zero, suc, ◌+◌, ◌<◌, ◌≤◌, ◌⊎◌, ◌==◌, nat_le, nat_lt, not, ◌||◌, Bool, true, false, List, [], ◌∷◌, ◌++◌, length, map, codes, decimal, flat_map, Option, Some, None, Result, Ok, Err, if◌then◌else◌, refl, sym, ap, subst, ◌∙◌, arith, length-append, append_assoc, append-nil, inl, inr}
+use Rattle.std.proofs.Common.{◌≡◌, ℕ, ◌+◌, ◌<◌, ◌≤◌, ◌⊎◌, ◌==◌, nat_le, not, ◌||◌, Bool, true, false, List, [], ◌∷◌, ◌++◌, length, codes, decimal, flat_map, Some, None, Result, Ok, Err, if◌then◌else◌, refl, sym, ap, subst, ◌∙◌, arith, append_assoc, append-nil, inl, inr}
 use Rattle.std.specs.Str.{bytes_eq}
-use Rattle.std.proofs.lemmas.Bool.{cases_Bool, cases_order, eqb-true, eqb-false, ltb-true}
+use Rattle.std.proofs.lemmas.Bool.{cases_Bool, eqb-true}
 use Rattle.clu_types.specs.declared.spec.ParamKind.{ParamKind}
 use Rattle.clu_types.specs.CluType.{CluType, CluTypes, Signals}
-use Rattle.clu_specs.specs.declared.read_specs.TheConstants.{KINDS}
 use Rattle.clu_specs.specs.declared.scope.Sort.TheVariants as sort
 use Rattle.clu_specs.specs.declared.scope.Scope.{Scope}
 use Rattle.clu_specs.specs.Reading.{◌>>=◌, Read, literal_at, behind, begins_with, several, end_at}
 use Rattle.clu_specs.specs.Names.{is_before, has_later, name_after}
 use Rattle.clu_specs.specs.Scopes.{last_in, number_at, scope_of}
-use Rattle.clu_specs.specs.Texts.{type_text, heading_text}
+use Rattle.clu_specs.specs.Texts.{heading_text}
 use Rattle.clu_specs.specs.TypeReading.{Reader, type_read, heading_read}
-use Rattle.clu_specs.specs.Seen.{Demanded, Operation, Shape, routine, cluster, Specification, kind_text, kinds_text, demand_text, demands_text, routine_word, routine_text, op_text, shape_text, spec_text}
-use Rattle.clu_specs.specs.SpecReading.{routine_word_read, begin_alike, kind_in, kind_read, kinds_step, next_kind, kinds_next, kinds_read, parameters_by, parameters_read, least_behind, asked_read, next_demand, demand_read, demands_step, demands_next, demands_read, all_demands_read, operation_read, operation_word_read, next_operation, named_operation_read, operations_step, operations_next, operations_read, cluster_form_read, routine_read, cluster_read, whole_spec}
+use Rattle.clu_specs.specs.Seen.{Demanded, Operation, Shape, routine, cluster, Specification, kinds_text, demand_text, demands_text, routine_word, routine_text, op_text, shape_text, spec_text}
+use Rattle.clu_specs.specs.SpecReading.{routine_word_read, parameters_read, least_behind, asked_read, demand_read, demands_step, demands_next, demands_read, all_demands_read, operation_read, operation_word_read, named_operation_read, operations_step, operations_next, operations_read, cluster_form_read, routine_read, cluster_read, whole_spec}
 use Rattle.clu_specs.specs.Grammar.{IsName, IsParameter, IsType, AreDemands, IsOperation, AreOperations, IsShape, IsSpecification}
-use Rattle.clu_specs.proofs.Outcomes.{and_then, some_same, none_some, ok_same, not_refused, either, found, literal_spelled, behind_spelled, closing, closed_spelled, ended_spelled, row_spelled}
+use Rattle.clu_specs.proofs.Outcomes.{and_then, some_same, none_some, ok_same, not_refused, either, literal_spelled, closed_spelled, ended_spelled, row_spelled}
 use Rattle.clu_specs.proofs.Spelled.{name_read, parameter_number}
 use Rattle.clu_specs.proofs.TypesSpelled.{Sound, heading_spelled}
 use Rattle.clu_specs.proofs.ActualsSpelled.{type_spelled}
-
--- items with commas between them
-module _ {X : Type 0} (text : X → List ℕ) where
-  abbrev more : List X → List ℕ
-  more xs = flat_map (λ x. 44 ∷ text x) xs
-
-  abbrev listed : List X → List ℕ
-  listed [] = []
-  listed (x ∷ xs) = text x ++ more xs
-
-  -- with a comma behind them, if there are any
-  abbrev led : List X → List ℕ
-  led [] = []
-  led (x ∷ xs) = (text x ++ more xs) ++ 44 ∷ []
-
-  more_joined : (xs : List X) (y : X) → more (xs ++ y ∷ []) ≡ more xs ++ 44 ∷ text y
-  more_joined [] y = ap (λ (t : List ℕ). 44 ∷ t) (append-nil (text y))
-  more_joined (x ∷ xs) y = ap (λ (t : List ℕ). 44 ∷ (text x ++ t)) (more_joined xs y) ∙ ap (λ (t : List ℕ). 44 ∷ t) (sym (append_assoc (text x) (more xs) (44 ∷ text y)))
-
-  listed_joined : (xs : List X) (y : X) (rest : List ℕ) → listed (xs ++ y ∷ []) ++ rest ≡ led xs ++ (text y ++ rest)
-  listed_joined [] y rest = ap (λ (t : List ℕ). t ++ rest) (append-nil (text y))
-  listed_joined (x ∷ xs) y rest = ap (λ (t : List ℕ). (text x ++ t) ++ rest) (more_joined xs y) ∙ simp append_assoc
-
-  led_text : (xs : List X) (rest : List ℕ) → 0 < length xs → listed xs ++ 44 ∷ rest ≡ led xs ++ rest
-  led_text [] rest some = absurd (omega (arith, some))
-  led_text (x ∷ xs) rest some = sym (append_assoc (text x ++ more xs) (44 ∷ []) rest)
-
-differs : (a b : ℕ) → (a == b) ≡ false → (a < b) ⊎ (b < a)
-differs a b e = elim (cases_order a b) [ inl same ↦ absurd (eqb-false a b e same) | inr other ↦ other ]
-
-joined_some : {X : Type 0} (xs : List X) (y : X) → 0 < length (xs ++ y ∷ [])
-joined_some xs y = omega (arith, length-append xs (y ∷ []))
-
--- proc and iter
-abbrev worded : Bool → List ℕ → Read Bool
-worded x rest = Ok (x, rest)
-
-word_by : (x : Bool) (bytes : List ℕ) (iter : Bool) (rest word : List ℕ) → word ≡ routine_word x → (r : List ℕ) × (literal_at word bytes ≡ Ok r) × (worded x r ≡ Ok (iter, rest)) → bytes ≡ routine_word iter ++ rest
-word_by x bytes iter rest word w h =
-    let same : (x, h.0) ≡ (iter, rest) = ok_same (Ok (x, h.0)) (x, h.0) (iter, rest) refl h.2 in
-    subst (λ (p : Bool × List ℕ). bytes ≡ routine_word p.0 ++ p.1) same (literal_spelled word bytes h.0 h.1 ∙ ap (λ (t : List ℕ). t ++ h.0) w)
-
-word_spelled : (bytes : List ℕ) (iter : Bool) (rest : List ℕ) → routine_word_read bytes ≡ Ok (iter, rest) → bytes ≡ routine_word iter ++ rest
-unfolding routine_word_read
-word_spelled bytes iter rest e =
-    elim (either (begins_with 105 bytes) (literal_at (codes "iter") bytes >>= λ rest. Ok (true, rest)) (literal_at (codes "proc") bytes >>= λ rest. Ok (false, rest)) (Ok (iter, rest)) e) [
-      | inl h ↦ word_by true bytes iter rest (codes "iter") refl (and_then (literal_at (codes "iter") bytes) (λ (rest : List ℕ). Ok (true, rest)) (iter, rest) h.1)
-      | inr h ↦ word_by false bytes iter rest (codes "proc") refl (and_then (literal_at (codes "proc") bytes) (λ (rest : List ℕ). Ok (false, rest)) (iter, rest) h.1)
-    ]
-
--- kinds
-abbrev AllKinds : List (List ℕ × ParamKind) → Type 0
-AllKinds [] = Unit {0}
-AllKinds (entry ∷ table) = (entry.0 ≡ kind_text entry.1) × AllKinds table
-
-kind_found : (table : List (List ℕ × ParamKind)) (bytes : List ℕ) (k : ParamKind) (rest : List ℕ) → AllKinds table → kind_in table bytes ≡ Ok (k, rest) → bytes ≡ kind_text k ++ rest
-kind_found [] bytes k rest all e = absurd (cc)
-kind_found (entry ∷ table) bytes k rest all e =
-    elim (either (begin_alike entry.0 bytes) (literal_at entry.0 bytes >>= λ rest. Ok (entry.1, rest)) (kind_in table bytes) (Ok (k, rest)) e) [
-      | inl h ↦ (let a = and_then (literal_at entry.0 bytes) (λ (rest : List ℕ). Ok (entry.1, rest)) (k, rest) h.1 in
-        let same : (entry.1, a.0) ≡ (k, rest) = ok_same (Ok (entry.1, a.0)) (entry.1, a.0) (k, rest) refl a.2 in
-        subst (λ (p : ParamKind × List ℕ). bytes ≡ kind_text p.0 ++ p.1) same (literal_spelled entry.0 bytes a.0 a.1 ∙ ap (λ (t : List ℕ). t ++ a.0) all.0))
-      | inr h ↦ kind_found table bytes k rest all.1 h.1
-    ]
-
-kind_spelled : (bytes : List ℕ) (k : ParamKind) (rest : List ℕ) → kind_read bytes ≡ Ok (k, rest) → bytes ≡ kind_text k ++ rest
-unfolding kind_read
-kind_spelled bytes k rest e = kind_found (map (λ entry. (entry.0.now, entry.1)) KINDS) bytes k rest (refl, (refl, (refl, (refl, (refl, (refl, tt)))))) e
-
-record KindsRead (whole : List ℕ) (ks : List ParamKind) (rest : List ℕ) : Type 0 where
-  pub few : length ks ≤ 4294967295
-  pub some : 0 < length ks
-  pub spelled : whole ≡ listed kind_text ks ++ rest
-
-abbrev KindsBefore : List ℕ → List ParamKind → List ℕ → Type 0
-KindsBefore whole made bytes = (length made < 4294967295) × (whole ≡ led kind_text made ++ bytes)
-
-kinds_on : (whole : List ℕ) (made : List ParamKind) (bytes : List ℕ) (all : List ParamKind) (after : List ℕ) → KindsBefore whole made bytes → kinds_step made bytes ≡ Ok (all, after) → KindsRead whole all after
-kinds_on whole made bytes all after b e =
-    let h = and_then (kind_read bytes) (λ (k : ParamKind × List ℕ). Ok (made ++ k.0 ∷ [], k.1)) (all, after) e in
-    let now : List ParamKind × List ℕ = (made ++ h.0.0 ∷ [], h.0.1) in
-    let few : length (made ++ h.0.0 ∷ []) ≤ 4294967295 = omega (arith, b.0, length-append made (h.0.0 ∷ [])) in
-    subst (λ (x : List ParamKind × List ℕ). KindsRead whole x.0 x.1) (ok_same (Ok now) now (all, after) refl h.2)
-    (record { few = few; some = joined_some made h.0.0; spelled = b.1 ∙ ap (λ (x : List ℕ). led kind_text made ++ x) (kind_spelled bytes h.0.0 h.0.1 h.1) ∙ sym (listed_joined kind_text made h.0.0 h.0.1) })
-
--- what follows a comma where a test holds
-tested : (c : Bool) (bytes rest : List ℕ) → (if c then behind 44 bytes else None) ≡ Some rest → (c ≡ true) × (bytes ≡ 44 ∷ rest)
-tested true bytes rest e = (refl, behind_spelled 44 bytes rest e)
-tested false bytes rest e = absurd (none_some rest e)
-
-kinds_more : (whole : List ℕ) (made : List ParamKind) (bytes rest : List ℕ) → KindsRead whole made bytes → kinds_next made bytes ≡ Some rest → KindsBefore whole made rest
-kinds_more whole made bytes rest r e =
-    let h = tested (nat_lt (length made) 4294967295) bytes rest e in
-    (ltb-true (length made) 4294967295 h.0, r.spelled ∙ ap (λ (x : List ℕ). listed kind_text made ++ x) h.1 ∙ led_text kind_text made rest r.some)
-
-kinds_spelled : (bytes : List ℕ) (ks : List ParamKind) (rest : List ℕ) → kinds_read bytes ≡ Ok (ks, rest) → KindsRead bytes ks rest
-unfolding kinds_read
-kinds_spelled bytes ks rest e = row_spelled kinds_step kinds_next (KindsBefore bytes) (KindsRead bytes) (kinds_on bytes) (kinds_more bytes) (length bytes) [] bytes ks rest (omega arith, refl) e
-
-kinds_shown : (ks : List ParamKind) (rest : List ℕ) → 0 < length ks → 91 ∷ (listed kind_text ks ++ 93 ∷ rest) ≡ kinds_text ks ++ rest
-kinds_shown [] rest some = absurd (omega (arith, some))
-kinds_shown (k ∷ ks) rest some = ap (λ (x : List ℕ). 91 ∷ x) (sym (append_assoc (kind_text k ++ more kind_text ks) (93 ∷ []) rest))
-
-parameters_spelled : (o : Option (List ℕ)) (bytes : List ℕ) (ks : List ParamKind) (rest : List ℕ) → behind 91 bytes ≡ o → parameters_by o bytes ≡ Ok (ks, rest) → (length ks ≤ 4294967295) × (bytes ≡ kinds_text ks ++ rest)
-unfolding parameters_by
-parameters_spelled None bytes ks rest o e =
-    let now : List ParamKind × List ℕ = ([], bytes) in
-    subst (λ (x : List ParamKind × List ℕ). (length x.0 ≤ 4294967295) × (bytes ≡ kinds_text x.0 ++ x.1)) (ok_same (Ok now) now (ks, rest) refl e) (omega arith, refl)
-parameters_spelled (Some inner) bytes ks rest o e =
-    let h = and_then (kinds_read inner) (λ (ks : List ParamKind × List ℕ). literal_at (93 ∷ []) ks.1 >>= λ rest. Ok (ks.0, rest)) (ks, rest) e in
-    let c = closed_spelled 93 h.0.0 h.0.1 ks rest h.2 in
-    let read = kinds_spelled inner h.0.0 h.0.1 h.1 in
-    let text : bytes ≡ kinds_text h.0.0 ++ rest = behind_spelled 91 bytes inner o ∙ ap (λ (x : List ℕ). 91 ∷ x) (read.spelled ∙ ap (λ (x : List ℕ). listed kind_text h.0.0 ++ x) c.1) ∙ kinds_shown h.0.0 rest read.some in
-    subst (λ (x : List ParamKind). (length x ≤ 4294967295) × (bytes ≡ kinds_text x ++ rest)) c.0 (read.few, text)
+use Rattle.clu_specs.proofs.KindsSpelled.{more, listed, led, listed_joined, led_text, differs, joined_some, word_spelled, tested, parameters_spelled}
 
 -- demands
-abbrev Follows : ℕ → List ℕ → ℕ → List ℕ → Type 0
+abbrev pub Follows : ℕ → List ℕ → ℕ → List ℕ → Type 0
 Follows param name asked op = (param < asked) ⊎ ((param ≡ asked) × (is_before name op ≡ true))
 
 -- the parameter and the name of the last, behind those of the one before
-abbrev last_demand : ℕ → List ℕ → List Demanded → ℕ × List ℕ
+abbrev pub last_demand : ℕ → List ℕ → List Demanded → ℕ × List ℕ
 last_demand param name [] = (param, name)
 last_demand param name (d ∷ ds) = last_demand d.param d.op ds
 
-last_demand_joined : (ds : List Demanded) (param : ℕ) (name : List ℕ) (d : Demanded) → last_demand param name (ds ++ d ∷ []) ≡ (d.param, d.op)
+pub last_demand_joined : (ds : List Demanded) (param : ℕ) (name : List ℕ) (d : Demanded) → last_demand param name (ds ++ d ∷ []) ≡ (d.param, d.op)
 last_demand_joined [] param name d = refl
 last_demand_joined (x ∷ ds) param name d = last_demand_joined ds x.param x.op d
 
 module _ (scope : Scope) where
-  demands_joined : (ds : List Demanded) (param : ℕ) (name : List ℕ) (d : Demanded) → AreDemands scope param name ds → IsParameter scope sort.Type d.param → IsName 200 d.op
+  pub demands_joined : (ds : List Demanded) (param : ℕ) (name : List ℕ) (d : Demanded) → AreDemands scope param name ds → IsParameter scope sort.Type d.param → IsName 200 d.op
       → Follows (last_demand param name ds).0 (last_demand param name ds).1 d.param d.op → IsType scope d.wanted → AreDemands scope param name (ds ++ d ∷ [])
   demands_joined [] param name d are is named f typed = (is, named, f, typed, tt)
   demands_joined (x ∷ ds) param name d are is named f typed = (are.0, are.1, are.2, are.3, demands_joined ds x.param x.op d are.4 is named f typed)
 
-  record AskedRead (param : ℕ) (previous bytes : List ℕ) (asked : ℕ) (name rest : List ℕ) : Type 0 where
+  pub record AskedRead (param : ℕ) (previous bytes : List ℕ) (asked : ℕ) (name rest : List ℕ) : Type 0 where
     pub is : IsParameter scope sort.Type asked
     pub named : IsName 200 name
     pub follows : Follows param previous asked name
     pub spelled : bytes ≡ (35 ∷ decimal asked) ++ (codes " has " ++ (name ++ 58 ∷ rest))
 
-  at_least : (param asked : ℕ) (previous : List ℕ) → least_behind param previous ≤ asked → param ≤ asked
+  pub at_least : (param asked : ℕ) (previous : List ℕ) → least_behind param previous ≤ asked → param ≤ asked
   at_least param asked previous le = elim (cases_Bool (has_later previous)) [
     | inl holds ↦ (let h : param ≤ asked = rw holds at le in h)
     | inr fails ↦ (let h : param + 1 ≤ asked = rw fails at le in omega (arith, h))
   ]
 
-  above : (param asked : ℕ) → param ≤ asked → (asked < param) ⊎ (param < asked) → param < asked
+  pub above : (param asked : ℕ) → param ≤ asked → (asked < param) ⊎ (param < asked) → param < asked
   above param asked le (inl less) = absurd (omega (arith, le, less))
   above param asked le (inr less) = less
 
-  follows_by : (param asked : ℕ) (previous name : List ℕ) → param ≤ asked → is_before (if asked == param then previous else []) name ≡ true → Follows param previous asked name
+  pub follows_by : (param asked : ℕ) (previous name : List ℕ) → param ≤ asked → is_before (if asked == param then previous else []) name ≡ true → Follows param previous asked name
   follows_by param asked previous name le b = elim (cases_Bool (asked == param)) [
     | inl holds ↦ inr (sym (eqb-true asked param holds), rw holds at b)
     | inr fails ↦ inl (above param asked le (differs asked param fails))
   ]
 
-  asked_spelled : (param : ℕ) (previous bytes : List ℕ) (asked : ℕ) (name rest : List ℕ) → asked_read scope param previous bytes ≡ Ok ((asked, name), rest) → AskedRead param previous bytes asked name rest
+  pub asked_spelled : (param : ℕ) (previous bytes : List ℕ) (asked : ℕ) (name rest : List ℕ) → asked_read scope param previous bytes ≡ Ok ((asked, name), rest) → AskedRead param previous bytes asked name rest
   unfolding asked_read
   asked_spelled param previous bytes asked name rest e =
       let y : (ℕ × List ℕ) × List ℕ = ((asked, name), rest) in
@@ -194,28 +80,28 @@ module _ (scope : Scope) where
       (record { is = number.is; named = named.is; follows = follows_by param n previous op (at_least param n previous number.after) named.after; spelled = text })
 
 module _ (scope : Scope) (part : Reader CluType) (sound : Sound scope part) where
-  abbrev State : Type 0
+  abbrev pub State : Type 0
   State = List Demanded × ℕ × List ℕ
 
-  record DemandsAfter (whole : List ℕ) (made : State) (rest : List ℕ) : Type 0 where
+  pub record DemandsAfter (whole : List ℕ) (made : State) (rest : List ℕ) : Type 0 where
     pub are : AreDemands scope 0 [] made.0
     pub last : last_demand 0 [] made.0 ≡ (made.1, made.2)
     pub some : 0 < length made.0
     pub spelled : whole ≡ listed demand_text made.0 ++ rest
 
-  record DemandsBefore (whole : List ℕ) (made : State) (rest : List ℕ) : Type 0 where
+  pub record DemandsBefore (whole : List ℕ) (made : State) (rest : List ℕ) : Type 0 where
     pub are : AreDemands scope 0 [] made.0
     pub last : last_demand 0 [] made.0 ≡ (made.1, made.2)
     pub spelled : whole ≡ led demand_text made.0 ++ rest
 
-  record DemandRead (param : ℕ) (previous bytes : List ℕ) (d : Demanded) (rest : List ℕ) : Type 0 where
+  pub record DemandRead (param : ℕ) (previous bytes : List ℕ) (d : Demanded) (rest : List ℕ) : Type 0 where
     pub is : IsParameter scope sort.Type d.param
     pub named : IsName 200 d.op
     pub follows : Follows param previous d.param d.op
     pub typed : IsType scope d.wanted
     pub spelled : bytes ≡ demand_text d ++ rest
 
-  demand_spelled : (param : ℕ) (previous bytes : List ℕ) (d : Demanded) (rest : List ℕ) → demand_read scope part param previous bytes ≡ Ok (d, rest) → DemandRead param previous bytes d rest
+  pub demand_spelled : (param : ℕ) (previous bytes : List ℕ) (d : Demanded) (rest : List ℕ) → demand_read scope part param previous bytes ≡ Ok (d, rest) → DemandRead param previous bytes d rest
   unfolding demand_read
   demand_spelled param previous bytes d rest e =
       let h = and_then (asked_read scope param previous bytes) (λ (asked : (ℕ × List ℕ) × List ℕ). part asked.1 >>= λ t. Ok (record { param = asked.0.0; op = asked.0.1; wanted = t.0 }, t.1)) (d, rest) e in
@@ -228,7 +114,7 @@ module _ (scope : Scope) (part : Reader CluType) (sound : Sound scope part) wher
       subst (λ (x : Demanded × List ℕ). DemandRead param previous bytes x.0 x.1) (ok_same (Ok now) now (d, rest) refl g.2)
       (record { is = asked.is; named = asked.named; follows = asked.follows; typed = read.is; spelled = text })
 
-  demands_on : (whole : List ℕ) (made : State) (bytes : List ℕ) (all : State) (after : List ℕ) → DemandsBefore whole made bytes → demands_step scope part made bytes ≡ Ok (all, after) → DemandsAfter whole all after
+  pub demands_on : (whole : List ℕ) (made : State) (bytes : List ℕ) (all : State) (after : List ℕ) → DemandsBefore whole made bytes → demands_step scope part made bytes ≡ Ok (all, after) → DemandsAfter whole all after
   demands_on whole made bytes all after b e =
       let h = and_then (demand_read scope part made.1 made.2 bytes) (λ (d : Demanded × List ℕ). Ok ((made.0 ++ d.0 ∷ [], d.0.param, d.0.op), d.1)) (all, after) e in
       let d : Demanded = h.0.0 in
@@ -243,17 +129,17 @@ module _ (scope : Scope) (part : Reader CluType) (sound : Sound scope part) wher
         spelled = b.spelled ∙ ap (λ (x : List ℕ). led demand_text made.0 ++ x) read.spelled ∙ sym (listed_joined demand_text made.0 d h.0.1);
       })
 
-  demands_more : (whole : List ℕ) (made : State) (bytes rest : List ℕ) → DemandsAfter whole made bytes → demands_next scope part made bytes ≡ Some rest → DemandsBefore whole made rest
+  pub demands_more : (whole : List ℕ) (made : State) (bytes rest : List ℕ) → DemandsAfter whole made bytes → demands_next scope part made bytes ≡ Some rest → DemandsBefore whole made rest
   demands_more whole made bytes rest r e =
       let h = tested (nat_le (least_behind made.1 made.2) (last_in scope sort.Type)) bytes rest e in
       record { are = r.are; last = r.last; spelled = r.spelled ∙ ap (λ (x : List ℕ). listed demand_text made.0 ++ x) h.1 ∙ led_text demand_text made.0 rest r.some }
 
-  record DemandsRead (whole : List ℕ) (ds : List Demanded) (rest : List ℕ) : Type 0 where
+  pub record DemandsRead (whole : List ℕ) (ds : List Demanded) (rest : List ℕ) : Type 0 where
     pub are : AreDemands scope 0 [] ds
     pub some : 0 < length ds
     pub spelled : whole ≡ listed demand_text ds ++ rest
 
-  demands_spelled : (bytes : List ℕ) (ds : List Demanded) (rest : List ℕ) → demands_read scope part bytes ≡ Ok (ds, rest) → DemandsRead bytes ds rest
+  pub demands_spelled : (bytes : List ℕ) (ds : List Demanded) (rest : List ℕ) → demands_read scope part bytes ≡ Ok (ds, rest) → DemandsRead bytes ds rest
   unfolding demands_read
   demands_spelled bytes ds rest e =
       let h = and_then (several (demands_step scope part) (demands_next scope part) (length bytes) ([], 0, []) bytes) (λ (x : State × List ℕ). Ok (x.0.0, x.1)) (ds, rest) e in
@@ -261,34 +147,34 @@ module _ (scope : Scope) (part : Reader CluType) (sound : Sound scope part) wher
       let now : List Demanded × List ℕ = (h.0.0.0, h.0.1) in
       subst (λ (x : List Demanded × List ℕ). DemandsRead bytes x.0 x.1) (ok_same (Ok now) now (ds, rest) refl h.2) (record { are = r.are; some = r.some; spelled = r.spelled })
 
-  demands_shown : (ds : List Demanded) (rest : List ℕ) → 0 < length ds → codes " where " ++ (listed demand_text ds ++ 32 ∷ rest) ≡ demands_text ds ++ rest
+  pub demands_shown : (ds : List Demanded) (rest : List ℕ) → 0 < length ds → codes " where " ++ (listed demand_text ds ++ 32 ∷ rest) ≡ demands_text ds ++ rest
   demands_shown [] rest some = absurd (omega (arith, some))
   demands_shown (d ∷ ds) rest some = ap (λ (x : List ℕ). codes " where " ++ x) (sym (append_assoc (demand_text d ++ more demand_text ds) (32 ∷ []) rest))
 
-  all_demands_spelled : (bytes : List ℕ) (ds : List Demanded) (rest : List ℕ) → all_demands_read scope part bytes ≡ Ok (ds, rest) → AreDemands scope 0 [] ds × (bytes ≡ demands_text ds ++ rest)
+  pub all_demands_spelled : (bytes : List ℕ) (ds : List Demanded) (rest : List ℕ) → all_demands_read scope part bytes ≡ Ok (ds, rest) → AreDemands scope 0 [] ds × (bytes ≡ demands_text ds ++ rest)
   unfolding all_demands_read
   all_demands_spelled bytes ds rest e =
       let by : List ℕ → Read (List Demanded) = λ (rest : List ℕ). demands_read scope part rest >>= λ ds. literal_at (32 ∷ []) ds.1 >>= λ rest. Ok (ds.0, rest) in
       elim (either (not (begins_with 32 bytes) || not (nat_le 1 (last_in scope sort.Type))) (Ok ([], bytes)) (literal_at (codes " where ") bytes >>= by) (Ok (ds, rest)) e) [
         | inl q ↦ (let now : List Demanded × List ℕ = ([], bytes) in
-          subst (λ (x : List Demanded × List ℕ). AreDemands scope 0 [] x.0 × (bytes ≡ demands_text x.0 ++ x.1)) (ok_same (Ok now) now (ds, rest) refl q.1) (tt, refl))
+            subst (λ (x : List Demanded × List ℕ). AreDemands scope 0 [] x.0 × (bytes ≡ demands_text x.0 ++ x.1)) (ok_same (Ok now) now (ds, rest) refl q.1) (tt, refl))
         | inr q ↦ (let a = and_then (literal_at (codes " where ") bytes) by (ds, rest) q.1 in
-          let b = and_then (demands_read scope part a.0) (λ (ds : List Demanded × List ℕ). literal_at (32 ∷ []) ds.1 >>= λ rest. Ok (ds.0, rest)) (ds, rest) a.2 in
-          let c = closed_spelled 32 b.0.0 b.0.1 ds rest b.2 in
-          let read = demands_spelled a.0 b.0.0 b.0.1 b.1 in
-          let text : bytes ≡ demands_text b.0.0 ++ rest =
-          literal_spelled (codes " where ") bytes a.0 a.1 ∙ ap (λ (x : List ℕ). codes " where " ++ x) (read.spelled ∙ ap (λ (x : List ℕ). listed demand_text b.0.0 ++ x) c.1) ∙ demands_shown b.0.0 rest read.some in
-          subst (λ (x : List Demanded). AreDemands scope 0 [] x × (bytes ≡ demands_text x ++ rest)) c.0 (read.are, text))
+            let b = and_then (demands_read scope part a.0) (λ (ds : List Demanded × List ℕ). literal_at (32 ∷ []) ds.1 >>= λ rest. Ok (ds.0, rest)) (ds, rest) a.2 in
+            let c = closed_spelled 32 b.0.0 b.0.1 ds rest b.2 in
+            let read = demands_spelled a.0 b.0.0 b.0.1 b.1 in
+            let text : bytes ≡ demands_text b.0.0 ++ rest =
+            literal_spelled (codes " where ") bytes a.0 a.1 ∙ ap (λ (x : List ℕ). codes " where " ++ x) (read.spelled ∙ ap (λ (x : List ℕ). listed demand_text b.0.0 ++ x) c.1) ∙ demands_shown b.0.0 rest read.some in
+            subst (λ (x : List Demanded). AreDemands scope 0 [] x × (bytes ≡ demands_text x ++ rest)) c.0 (read.are, text))
       ]
 
   -- routines
-  record OperationRead (name : List ℕ) (iter : Bool) (bytes : List ℕ) (op : Operation) (rest : List ℕ) : Type 0 where
+  pub record OperationRead (name : List ℕ) (iter : Bool) (bytes : List ℕ) (op : Operation) (rest : List ℕ) : Type 0 where
     pub is : IsOperation scope op
     pub named : op.name ≡ name
     pub kind : op.iter ≡ iter
     pub spelled : bytes ≡ routine_text op ++ rest
 
-  operation_spelled : (name : List ℕ) (iter : Bool) (bytes : List ℕ) (op : Operation) (rest : List ℕ) → operation_read scope part name iter bytes ≡ Ok (op, rest) → OperationRead name iter bytes op rest
+  pub operation_spelled : (name : List ℕ) (iter : Bool) (bytes : List ℕ) (op : Operation) (rest : List ℕ) → operation_read scope part name iter bytes ≡ Ok (op, rest) → OperationRead name iter bytes op rest
   unfolding operation_read
   operation_spelled name iter bytes op rest e =
       let a = and_then (heading_read part iter bytes) (λ (h : (CluTypes × CluTypes × Signals) × List ℕ). all_demands_read scope part h.1 >>= λ ds. Ok (record { name = name; iter = iter; args = h.0.0; results = h.0.1; signals = h.0.2; demands = ds.0 }, ds.1)) (op, rest) e in
@@ -307,12 +193,12 @@ module _ (scope : Scope) (part : Reader CluType) (sound : Sound scope part) wher
       })
 
   -- operations
-  record WordRead (previous bytes name : List ℕ) (iter : Bool) (rest : List ℕ) : Type 0 where
+  pub record WordRead (previous bytes name : List ℕ) (iter : Bool) (rest : List ℕ) : Type 0 where
     pub is : IsName 200 name
     pub after : is_before previous name ≡ true
     pub spelled : bytes ≡ 59 ∷ (name ++ 58 ∷ (routine_word iter ++ rest))
 
-  operation_word_spelled : (previous bytes name : List ℕ) (iter : Bool) (rest : List ℕ) → operation_word_read previous bytes ≡ Ok ((name, iter), rest) → WordRead previous bytes name iter rest
+  pub operation_word_spelled : (previous bytes name : List ℕ) (iter : Bool) (rest : List ℕ) → operation_word_read previous bytes ≡ Ok ((name, iter), rest) → WordRead previous bytes name iter rest
   unfolding operation_word_read
   operation_word_spelled previous bytes name iter rest e =
       let y : (List ℕ × Bool) × List ℕ = ((name, iter), rest) in
@@ -326,40 +212,40 @@ module _ (scope : Scope) (part : Reader CluType) (sound : Sound scope part) wher
       literal_spelled (59 ∷ []) bytes a.0 a.1 ∙ ap (λ (x : List ℕ). 59 ∷ x) (named.spelled ∙ ap (λ (x : List ℕ). b.0.0 ++ x) (literal_spelled (58 ∷ []) b.0.1 c.0 c.1 ∙ ap (λ (x : List ℕ). 58 ∷ x) (word_spelled c.0 d.0.0 d.0.1 d.1))) in
       subst (λ (x : (List ℕ × Bool) × List ℕ). WordRead previous bytes x.0.0 x.0.1 x.1) (ok_same (Ok now) now y refl d.2) (record { is = named.is; after = named.after; spelled = text })
 
-  abbrev last_name : List ℕ → List Operation → List ℕ
+  abbrev pub last_name : List ℕ → List Operation → List ℕ
   last_name before [] = before
   last_name before (op ∷ ops) = last_name op.name ops
 
-  last_name_joined : (ops : List Operation) (before : List ℕ) (op : Operation) → last_name before (ops ++ op ∷ []) ≡ op.name
+  pub last_name_joined : (ops : List Operation) (before : List ℕ) (op : Operation) → last_name before (ops ++ op ∷ []) ≡ op.name
   last_name_joined [] before op = refl
   last_name_joined (x ∷ ops) before op = last_name_joined ops x.name op
 
-  operations_joined : (ops : List Operation) (before : List ℕ) (op : Operation) → AreOperations scope before ops → IsName 200 op.name → is_before (last_name before ops) op.name ≡ true → IsOperation scope op → AreOperations scope before (ops ++ op ∷ [])
+  pub operations_joined : (ops : List Operation) (before : List ℕ) (op : Operation) → AreOperations scope before ops → IsName 200 op.name → is_before (last_name before ops) op.name ≡ true → IsOperation scope op → AreOperations scope before (ops ++ op ∷ [])
   operations_joined [] before op are named after is = (named, after, is, tt)
   operations_joined (x ∷ ops) before op are named after is = (are.0, are.1, are.2, operations_joined ops x.name op are.3 named after is)
 
-  ops_joined_text : (ops : List Operation) (op : Operation) (rest : List ℕ) → flat_map op_text (ops ++ op ∷ []) ++ rest ≡ flat_map op_text ops ++ (op_text op ++ rest)
+  pub ops_joined_text : (ops : List Operation) (op : Operation) (rest : List ℕ) → flat_map op_text (ops ++ op ∷ []) ++ rest ≡ flat_map op_text ops ++ (op_text op ++ rest)
   ops_joined_text [] op rest = ap (λ (x : List ℕ). x ++ rest) (append-nil (op_text op))
   ops_joined_text (x ∷ ops) op rest =
       append_assoc (op_text x) (flat_map op_text (ops ++ op ∷ [])) rest ∙ ap (λ (t : List ℕ). op_text x ++ t) (ops_joined_text ops op rest) ∙ sym (append_assoc (op_text x) (flat_map op_text ops) (op_text op ++ rest))
 
   -- with the name of the last
-  record OpsBefore (whole : List ℕ) (made : List Operation × List ℕ) (rest : List ℕ) : Type 0 where
+  pub record OpsBefore (whole : List ℕ) (made : List Operation × List ℕ) (rest : List ℕ) : Type 0 where
     pub are : AreOperations scope [] made.0
     pub last : last_name [] made.0 ≡ made.1
     pub spelled : whole ≡ flat_map op_text made.0 ++ rest
 
-  record OpsAfter (whole : List ℕ) (made : List Operation × List ℕ) (rest : List ℕ) : Type 0 where
+  pub record OpsAfter (whole : List ℕ) (made : List Operation × List ℕ) (rest : List ℕ) : Type 0 where
     pub before : OpsBefore whole made rest
     pub some : 0 < length made.0
 
-  record NamedRead (previous bytes : List ℕ) (op : Operation) (rest : List ℕ) : Type 0 where
+  pub record NamedRead (previous bytes : List ℕ) (op : Operation) (rest : List ℕ) : Type 0 where
     pub is : IsOperation scope op
     pub named : IsName 200 op.name
     pub after : is_before previous op.name ≡ true
     pub spelled : bytes ≡ op_text op ++ rest
 
-  named_operation_spelled : (previous bytes : List ℕ) (op : Operation) (rest : List ℕ) → named_operation_read scope part previous bytes ≡ Ok (op, rest) → NamedRead previous bytes op rest
+  pub named_operation_spelled : (previous bytes : List ℕ) (op : Operation) (rest : List ℕ) → named_operation_read scope part previous bytes ≡ Ok (op, rest) → NamedRead previous bytes op rest
   unfolding named_operation_read
   named_operation_spelled previous bytes op rest e =
       let a = and_then (operation_word_read previous bytes) (λ (word : (List ℕ × Bool) × List ℕ). operation_read scope part word.0.0 word.0.1 word.1) (op, rest) e in
@@ -376,7 +262,7 @@ module _ (scope : Scope) (part : Reader CluType) (sound : Sound scope part) wher
         spelled = word.spelled ∙ ap (λ (x : List ℕ). 59 ∷ (name ++ 58 ∷ (routine_word iter ++ x))) read.spelled ∙ same;
       }
 
-  ops_on : (whole : List ℕ) (made : List Operation × List ℕ) (bytes : List ℕ) (all : List Operation × List ℕ) (after : List ℕ) → OpsBefore whole made bytes → operations_step scope part made bytes ≡ Ok (all, after) → OpsAfter whole all after
+  pub ops_on : (whole : List ℕ) (made : List Operation × List ℕ) (bytes : List ℕ) (all : List Operation × List ℕ) (after : List ℕ) → OpsBefore whole made bytes → operations_step scope part made bytes ≡ Ok (all, after) → OpsAfter whole all after
   ops_on whole made bytes all after b e =
       let g = and_then (named_operation_read scope part made.1 bytes) (λ (op : Operation × List ℕ). Ok ((made.0 ++ op.0 ∷ [], op.0.name), op.1)) (all, after) e in
       let op : Operation = g.0.0 in
@@ -393,19 +279,19 @@ module _ (scope : Scope) (part : Reader CluType) (sound : Sound scope part) wher
         some = joined_some made.0 op;
       })
 
-  next_is : (stop : Bool) (bytes rest : List ℕ) → (if stop then None else Some bytes) ≡ Some rest → bytes ≡ rest
+  pub next_is : (stop : Bool) (bytes rest : List ℕ) → (if stop then None else Some bytes) ≡ Some rest → bytes ≡ rest
   next_is true bytes rest e = absurd (none_some rest e)
   next_is false bytes rest e = some_same bytes rest e
 
-  ops_more : (whole : List ℕ) (made : List Operation × List ℕ) (bytes rest : List ℕ) → OpsAfter whole made bytes → operations_next scope part made bytes ≡ Some rest → OpsBefore whole made rest
+  pub ops_more : (whole : List ℕ) (made : List Operation × List ℕ) (bytes rest : List ℕ) → OpsAfter whole made bytes → operations_next scope part made bytes ≡ Some rest → OpsBefore whole made rest
   ops_more whole made bytes rest r e = subst (OpsBefore whole made) (next_is (not (has_later made.1) || not (begins_with 59 bytes)) bytes rest e) r.before
 
-  record OperationsRead (whole : List ℕ) (ops : List Operation) (rest : List ℕ) : Type 0 where
+  pub record OperationsRead (whole : List ℕ) (ops : List Operation) (rest : List ℕ) : Type 0 where
     pub are : AreOperations scope [] ops
     pub some : 0 < length ops
     pub spelled : whole ≡ flat_map op_text ops ++ rest
 
-  operations_spelled : (bytes : List ℕ) (ops : List Operation) (rest : List ℕ) → operations_read scope part bytes ≡ Ok (ops, rest) → OperationsRead bytes ops rest
+  pub operations_spelled : (bytes : List ℕ) (ops : List Operation) (rest : List ℕ) → operations_read scope part bytes ≡ Ok (ops, rest) → OperationsRead bytes ops rest
   unfolding operations_read
   operations_spelled bytes ops rest e =
       let h = and_then (several (operations_step scope part) (operations_next scope part) (length bytes) ([], []) bytes) (λ (x : (List Operation × List ℕ) × List ℕ). Ok (x.0.0, x.1)) (ops, rest) e in
@@ -414,7 +300,7 @@ module _ (scope : Scope) (part : Reader CluType) (sound : Sound scope part) wher
       subst (λ (x : List Operation × List ℕ). OperationsRead bytes x.0 x.1) (ok_same (Ok now) now (ops, rest) refl h.2) (record { are = r.before.are; some = r.some; spelled = r.before.spelled })
 
   -- the demands and operations of a cluster
-  record ShapeRead (whole : List ℕ) (shape : Shape) (rest : List ℕ) : Type 0 where
+  pub record ShapeRead (whole : List ℕ) (shape : Shape) (rest : List ℕ) : Type 0 where
     pub demands : List Demanded
     pub ops : List Operation
     pub shaped : shape ≡ cluster demands ops
@@ -423,7 +309,7 @@ module _ (scope : Scope) (part : Reader CluType) (sound : Sound scope part) wher
     pub are_ops : AreOperations scope [] ops
     pub spelled : whole ≡ demands_text demands ++ (codes "is" ++ (flat_map op_text ops ++ rest))
 
-  form_spelled : (bytes : List ℕ) (shape : Shape) (rest : List ℕ) → cluster_form_read scope part bytes ≡ Ok (shape, rest) → ShapeRead bytes shape rest
+  pub form_spelled : (bytes : List ℕ) (shape : Shape) (rest : List ℕ) → cluster_form_read scope part bytes ≡ Ok (shape, rest) → ShapeRead bytes shape rest
   unfolding cluster_form_read
   form_spelled bytes shape rest e =
       let a = and_then (all_demands_read scope part bytes) (λ (ds : List Demanded × List ℕ). literal_at (codes "is") ds.1 >>= λ rest. operations_read scope part rest >>= λ ops. Ok (cluster ds.0 ops.0, ops.1)) (shape, rest) e in
@@ -444,13 +330,13 @@ module _ (scope : Scope) (part : Reader CluType) (sound : Sound scope part) wher
       })
 
 -- whole specifications, behind their names
-record BodyRead (name bytes : List ℕ) (s : Specification) : Type 0 where
+pub record BodyRead (name bytes : List ℕ) (s : Specification) : Type 0 where
   pub named : s.name ≡ name
   pub few : length s.kinds ≤ 4294967295
   pub shaped : IsShape (scope_of s.kinds) name s.shape
   pub spelled : 61 ∷ bytes ≡ shape_text s.kinds s.shape
 
-routine_spelled : (name : List ℕ) (depth : ℕ) (bytes : List ℕ) (s : Specification) → routine_read name depth bytes ≡ Ok s → BodyRead name bytes s
+pub routine_spelled : (name : List ℕ) (depth : ℕ) (bytes : List ℕ) (s : Specification) → routine_read name depth bytes ≡ Ok s → BodyRead name bytes s
 unfolding routine_read
 routine_spelled name depth bytes s e =
     let a = and_then (routine_word_read bytes) (λ (iter : Bool × List ℕ). parameters_read iter.1 >>= λ kinds. operation_read (scope_of kinds.0) (type_read (scope_of kinds.0) depth) name iter.0 kinds.1 >>= λ op. end_at (record { name = name; kinds = kinds.0; shape = routine op.0 }) op.1) s e in
@@ -469,7 +355,7 @@ routine_spelled name depth bytes s e =
     word ∙ ap (λ (x : List ℕ). routine_word iter ++ x) (parameters.1 ∙ ap (λ (x : List ℕ). kinds_text kinds ++ x) body) ∙ ap (λ (x : Bool). routine_word x ++ (kinds_text kinds ++ routine_text op)) (sym read.kind) in
     subst (BodyRead name bytes) ended.0 (record { named = refl; few = parameters.0; shaped = (read.named, read.is); spelled = ap (λ (x : List ℕ). 61 ∷ x) text })
 
-cluster_spelled : (name : List ℕ) (depth : ℕ) (bytes : List ℕ) (s : Specification) → cluster_read name depth bytes ≡ Ok s → BodyRead name bytes s
+pub cluster_spelled : (name : List ℕ) (depth : ℕ) (bytes : List ℕ) (s : Specification) → cluster_read name depth bytes ≡ Ok s → BodyRead name bytes s
 unfolding cluster_read
 cluster_spelled name depth bytes s e =
     let a = and_then (literal_at (codes "cluster") bytes) (λ (rest : List ℕ). parameters_read rest >>= λ kinds. cluster_form_read (scope_of kinds.0) (type_read (scope_of kinds.0) depth) kinds.1 >>= λ shape. end_at (record { name = name; kinds = kinds.0; shape = shape.0 }) shape.1) s e in
@@ -501,10 +387,12 @@ whole_spec_spelled bytes s e =
       | inr h ↦ routine_spelled name (length bytes) c.0 s h.1
     ] in
     let text : bytes ≡ spec_text s =
-    named.spelled ∙ ap (λ (x : List ℕ). name ++ x) (literal_spelled (61 ∷ []) a.0.1 c.0 c.1 ∙ read.spelled) ∙ ap (λ (x : List ℕ). x ++ shape_text s.kinds s.shape) (sym read.named) in
-    (record {
-      named = subst (IsName 200) (sym read.named) named.is;
-      other = ap (λ (x : List ℕ). bytes_eq x (codes "stream")) read.named ∙ b.0;
-      few = read.few;
-      shaped = subst (λ (x : List ℕ). IsShape (scope_of s.kinds) x s.shape) (sym read.named) read.shaped;
-    }, text)
+    named.spelled ∙ ap (λ (x : List ℕ). name ++ x) (literal_spelled (61 ∷ []) a.0.1 c.0 c.1 ∙ read.spelled) ∙ ap (λ (x : List ℕ). x ++ shape_text s.kinds s.shape) (sym read.named) in (
+      record {
+        named = subst (IsName 200) (sym read.named) named.is;
+        other = ap (λ (x : List ℕ). bytes_eq x (codes "stream")) read.named ∙ b.0;
+        few = read.few;
+        shaped = subst (λ (x : List ℕ). IsShape (scope_of s.kinds) x s.shape) (sym read.named) read.shaped;
+      },
+      text,
+    )

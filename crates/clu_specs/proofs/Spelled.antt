@@ -89,7 +89,7 @@ pub record NumberRead (limit : ℕ) (whole : List ℕ) (n : ℕ) (rest : List �
   pub some : 0 < n
   pub small : n ≤ limit
 
-one_more : (read b : ℕ) (bytes : List ℕ) → 0 < read → 10 * read + (b - 48) < 2 ^ 64 → 48 ≤ b → b ≤ 57 → decimal read ++ b ∷ bytes ≡ decimal (10 * read + (b - 48)) ++ bytes
+pub one_more : (read b : ℕ) (bytes : List ℕ) → 0 < read → 10 * read + (b - 48) < 2 ^ 64 → 48 ≤ b → b ≤ 57 → decimal read ++ b ∷ bytes ≡ decimal (10 * read + (b - 48)) ++ bytes
 one_more read b bytes some fits low high =
     let m : ℕ = 10 * read + (b - 48) in
     let front : m / 10 ≡ read = omega (arith, low, high) in
@@ -106,9 +106,9 @@ digits_spelled limit (b ∷ bytes) read n rest small some le e =
     elim (digit_choice (not (is_ascii_digit b)) (nat_le m limit) (read, b ∷ bytes) (digits_from limit m bytes) (suc (length bytes)) (n, rest) e) [
       | inl h ↦ subst (λ (x : ℕ × List ℕ). NumberRead limit (decimal read ++ b ∷ bytes) x.0 x.1) h.1 (record { spelled = refl; some = some; small = le })
       | inr h ↦ (let digit = digit_bounds b (not-false (is_ascii_digit b) h.0) in
-        let fits : m ≤ limit = leb-true m limit h.1 in
-        let more = digits_spelled limit bytes m n rest small (omega (arith, some)) fits h.2 in
-        record { spelled = one_more read b bytes some (omega (arith, fits, small)) digit.0 digit.1 ∙ more.spelled; some = more.some; small = more.small })
+          let fits : m ≤ limit = leb-true m limit h.1 in
+          let more = digits_spelled limit bytes m n rest small (omega (arith, some)) fits h.2 in
+          record { spelled = one_more read b bytes some (omega (arith, fits, small)) digit.0 digit.1 ∙ more.spelled; some = more.some; small = more.small })
     ]
 
 pub number_read : (limit : ℕ) (bytes : List ℕ) (n : ℕ) (rest : List ℕ) → limit ≤ 2 ^ 63 → digits_at limit bytes ≡ Ok (n, rest) → NumberRead limit bytes n rest
@@ -125,7 +125,7 @@ number_read limit (b ∷ bytes) n rest small e =
     elim (digit_choice (not (is_ascii_digit b)) (nat_le m limit) (0, b ∷ bytes) (digits_from limit m bytes) (suc (length bytes)) (n, rest) h.1) [
       | inl q ↦ absurd (both_ways (is_ascii_digit b) (not-true (is_ascii_digit b) q.0) (digit_within b (omega (arith, low)) high))
       | inr q ↦ (let more = digits_spelled limit bytes m n rest small (omega (arith, low)) (leb-true m limit q.1) q.2 in
-        record { spelled = sym (ap (λ (x : List ℕ). x ++ bytes) text) ∙ more.spelled; some = more.some; small = more.small })
+          record { spelled = sym (ap (λ (x : List ℕ). x ++ bytes) text) ∙ more.spelled; some = more.some; small = more.small })
     ]
 
 -- parameters
@@ -164,15 +164,15 @@ hex_choice false false x y v e = absurd (cc)
 value_spelled : (b v : ℕ) → hex_value b ≡ Some v → (hex_digit v ≡ b) × (v < 16)
 value_spelled b v e = elim (hex_choice (is_ascii_digit b) (nat_le 97 b && nat_le b 102) (b - 48) (b - 97 + 10) v e) [
   | inl h ↦ (let digit = digit_bounds b h.0 in
-    let low : v < 10 = omega (arith, h.1, digit.1) in
-    let back : 48 + v ≡ b = omega (arith, h.1, digit.0) in
-    (rw (lt-ltb v 10 low) back, omega (arith, low)))
+      let low : v < 10 = omega (arith, h.1, digit.1) in
+      let back : 48 + v ≡ b = omega (arith, h.1, digit.0) in
+      (rw (lt-ltb v 10 low) back, omega (arith, low)))
   | inr h ↦ (let p = and_parts (nat_le 97 b) (nat_le b 102) h.0 in
-    let low : 97 ≤ b = leb-true 97 b p.0 in
-    let high : b ≤ 102 = leb-true b 102 p.1 in
-    let large : 10 ≤ v = omega (arith, h.1) in
-    let back : 97 + (v - 10) ≡ b = omega (arith, h.1, low) in
-    (rw (le-ltb v 10 large) back, omega (arith, h.1, low, high)))
+      let low : 97 ≤ b = leb-true 97 b p.0 in
+      let high : b ≤ 102 = leb-true b 102 p.1 in
+      let large : 10 ≤ v = omega (arith, h.1) in
+      let back : 97 + (v - 10) ≡ b = omega (arith, h.1, low) in
+      (rw (le-ltb v 10 large) back, omega (arith, h.1, low, high)))
 ]
 
 digit_made : (o : Option ℕ) (b : ℕ) (bytes : List ℕ) (v : ℕ) (rest : List ℕ) → digit_by o b bytes ≡ Ok (v, rest) → (o ≡ Some v) × (bytes ≡ rest)
@@ -181,14 +181,14 @@ digit_made (Some value) b bytes v rest e =
     let same : (value, bytes) ≡ (v, rest) = cc in
     (ap (λ (x : ℕ × List ℕ). Some x.0) same, ap (λ (x : ℕ × List ℕ). x.1) same)
 
-digit_spelled : (bytes : List ℕ) (v : ℕ) (rest : List ℕ) → digit_at bytes ≡ Ok (v, rest) → (bytes ≡ hex_digit v ∷ rest) × (v < 16)
+pub digit_spelled : (bytes : List ℕ) (v : ℕ) (rest : List ℕ) → digit_at bytes ≡ Ok (v, rest) → (bytes ≡ hex_digit v ∷ rest) × (v < 16)
 digit_spelled [] v rest e = absurd (cc)
 digit_spelled (b ∷ bytes) v rest e =
     let h = digit_made (hex_value b) b bytes v rest e in
     let value = value_spelled b v h.0 in
     (rw (value.0, h.1) refl, value.1)
 
-hex_made : (high low : ℕ) (rest : List ℕ) → high < 16 → low < 16 → hex_digit high ∷ hex_digit low ∷ rest ≡ hex_byte (16 * high + low) ++ rest
+pub hex_made : (high low : ℕ) (rest : List ℕ) → high < 16 → low < 16 → hex_digit high ∷ hex_digit low ∷ rest ≡ hex_byte (16 * high + low) ++ rest
 hex_made high low rest h l =
     let first : (16 * high + low) / 16 ≡ high = omega (arith, h, l) in
     let second : (16 * high + low) % 16 ≡ low = omega (arith, h, l) in
@@ -227,14 +227,14 @@ string_spelled (suc n) made bytes text rest e =
     elim (string_choice (behind 34 bytes) made (byte_at bytes >>= λ x. string_at n (made ++ x.0 ∷ []) x.1) text rest e) [
       | inl h ↦ record { more = []; whole = sym h.1 ∙ sym (append-nil made); are = tt; spelled = behind_spelled 34 bytes rest h.0 }
       | inr h ↦ (let one = and_then (byte_at bytes) (λ (x : ℕ × List ℕ). string_at n (made ++ x.0 ∷ []) x.1) (text, rest) h in
-        let byte = byte_spelled bytes one.0.0 one.0.1 one.1 in
-        let s = string_spelled n (made ++ one.0.0 ∷ []) one.0.1 text rest one.2 in
-        record {
-          more = one.0.0 ∷ s.more;
-          whole = s.whole ∙ append_assoc made (one.0.0 ∷ []) s.more;
-          are = (byte.1, s.are);
-          spelled = byte.0 ∙ ap (λ (x : List ℕ). hex_byte one.0.0 ++ x) s.spelled ∙ sym (append_assoc (hex_byte one.0.0) (flat_map hex_byte s.more) (34 ∷ rest));
-        })
+          let byte = byte_spelled bytes one.0.0 one.0.1 one.1 in
+          let s = string_spelled n (made ++ one.0.0 ∷ []) one.0.1 text rest one.2 in
+          record {
+            more = one.0.0 ∷ s.more;
+            whole = s.whole ∙ append_assoc made (one.0.0 ∷ []) s.more;
+            are = (byte.1, s.are);
+            spelled = byte.0 ∙ ap (λ (x : List ℕ). hex_byte one.0.0 ++ x) s.spelled ∙ sym (append_assoc (hex_byte one.0.0) (flat_map hex_byte s.more) (34 ∷ rest));
+          })
     ]
 
 -- integers

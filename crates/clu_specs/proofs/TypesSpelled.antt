@@ -21,7 +21,7 @@ abbrev pub Sound : Scope → Reader CluType → Type 0
 Sound scope part = (bytes : List ℕ) (t : CluType) (rest : List ℕ) → part bytes ≡ Ok (t, rest) → TypeRead scope bytes t rest
 
 -- types with a comma behind them, if there are any
-abbrev types_led : CluTypes → List ℕ
+abbrev pub types_led : CluTypes → List ℕ
 types_led no_types = []
 types_led (type_and t ts) = (type_text t ++ more_types_text ts) ++ 44 ∷ []
 
@@ -29,110 +29,110 @@ abbrev pub HasTypes : CluTypes → Type 0
 HasTypes no_types = ⊥
 HasTypes (type_and t ts) = Unit {0}
 
-more_types_joined : (ts : CluTypes) (t : CluType) → more_types_text (types_joined ts (type_and t no_types)) ≡ more_types_text ts ++ 44 ∷ type_text t
+pub more_types_joined : (ts : CluTypes) (t : CluType) → more_types_text (types_joined ts (type_and t no_types)) ≡ more_types_text ts ++ 44 ∷ type_text t
 more_types_joined no_types t = ap (λ (x : List ℕ). 44 ∷ x) (append-nil (type_text t))
 more_types_joined (type_and u ts) t = ap (λ (x : List ℕ). 44 ∷ (type_text u ++ x)) (more_types_joined ts t) ∙ ap (λ (x : List ℕ). 44 ∷ x) (sym (append_assoc (type_text u) (more_types_text ts) (44 ∷ type_text t)))
 
-types_joined_text : (ts : CluTypes) (t : CluType) (rest : List ℕ) → types_text (types_joined ts (type_and t no_types)) ++ rest ≡ types_led ts ++ (type_text t ++ rest)
+pub types_joined_text : (ts : CluTypes) (t : CluType) (rest : List ℕ) → types_text (types_joined ts (type_and t no_types)) ++ rest ≡ types_led ts ++ (type_text t ++ rest)
 types_joined_text no_types t rest = ap (λ (x : List ℕ). x ++ rest) (append-nil (type_text t))
 types_joined_text (type_and u ts) t rest = ap (λ (x : List ℕ). (type_text u ++ x) ++ rest) (more_types_joined ts t) ∙ simp append_assoc
 
-types_led_text : (ts : CluTypes) (rest : List ℕ) → HasTypes ts → types_text ts ++ 44 ∷ rest ≡ types_led ts ++ rest
+pub types_led_text : (ts : CluTypes) (rest : List ℕ) → HasTypes ts → types_text ts ++ 44 ∷ rest ≡ types_led ts ++ rest
 types_led_text no_types rest h = absurd h
 types_led_text (type_and t ts) rest h = sym (append_assoc (type_text t ++ more_types_text ts) (44 ∷ []) rest)
 
-types_joined_some : (ts : CluTypes) (t : CluType) → HasTypes (types_joined ts (type_and t no_types))
+pub types_joined_some : (ts : CluTypes) (t : CluType) → HasTypes (types_joined ts (type_and t no_types))
 types_joined_some no_types t = tt
 types_joined_some (type_and u ts) t = tt
 
 -- selectors
-abbrev fields_led : Fields → List ℕ
+abbrev pub fields_led : Fields → List ℕ
 fields_led no_fields = []
 fields_led (field_and name t fs) = ((name ++ 58 ∷ type_text t) ++ more_fields_text fs) ++ 44 ∷ []
 
-more_fields_joined : (fs : Fields) (name : List ℕ) (t : CluType) → more_fields_text (fields_joined fs (field_and name t no_fields)) ≡ more_fields_text fs ++ 44 ∷ (name ++ 58 ∷ type_text t)
+pub more_fields_joined : (fs : Fields) (name : List ℕ) (t : CluType) → more_fields_text (fields_joined fs (field_and name t no_fields)) ≡ more_fields_text fs ++ 44 ∷ (name ++ 58 ∷ type_text t)
 more_fields_joined no_fields name t = ap (λ (x : List ℕ). 44 ∷ x) (append-nil (name ++ 58 ∷ type_text t))
 more_fields_joined (field_and n u fs) name t = ap (λ (x : List ℕ). 44 ∷ ((n ++ 58 ∷ type_text u) ++ x)) (more_fields_joined fs name t) ∙ ap (λ (x : List ℕ). 44 ∷ x) (sym (append_assoc (n ++ 58 ∷ type_text u) (more_fields_text fs) (44 ∷ (name ++ 58 ∷ type_text t))))
 
-fields_joined_text : (fs : Fields) (name : List ℕ) (t : CluType) (rest : List ℕ) → fields_text (fields_joined fs (field_and name t no_fields)) ++ rest ≡ fields_led fs ++ ((name ++ 58 ∷ type_text t) ++ rest)
+pub fields_joined_text : (fs : Fields) (name : List ℕ) (t : CluType) (rest : List ℕ) → fields_text (fields_joined fs (field_and name t no_fields)) ++ rest ≡ fields_led fs ++ ((name ++ 58 ∷ type_text t) ++ rest)
 fields_joined_text no_fields name t rest = ap (λ (x : List ℕ). x ++ rest) (append-nil (name ++ 58 ∷ type_text t))
 fields_joined_text (field_and n u fs) name t rest = ap (λ (x : List ℕ). ((n ++ 58 ∷ type_text u) ++ x) ++ rest) (more_fields_joined fs name t) ∙ simp append_assoc
 
-fields_led_text : (fs : Fields) (rest : List ℕ) → HasFields fs → fields_text fs ++ 44 ∷ rest ≡ fields_led fs ++ rest
+pub fields_led_text : (fs : Fields) (rest : List ℕ) → HasFields fs → fields_text fs ++ 44 ∷ rest ≡ fields_led fs ++ rest
 fields_led_text no_fields rest h = absurd h
 fields_led_text (field_and n t fs) rest h = sym (append_assoc ((n ++ 58 ∷ type_text t) ++ more_fields_text fs) (44 ∷ []) rest)
 
-fields_joined_some : (fs : Fields) (name : List ℕ) (t : CluType) → HasFields (fields_joined fs (field_and name t no_fields))
+pub fields_joined_some : (fs : Fields) (name : List ℕ) (t : CluType) → HasFields (fields_joined fs (field_and name t no_fields))
 fields_joined_some no_fields name t = tt
 fields_joined_some (field_and n u fs) name t = tt
 
 -- the last name, behind that of the selector before
-abbrev last_field : List ℕ → Fields → List ℕ
+abbrev pub last_field : List ℕ → Fields → List ℕ
 last_field before no_fields = before
 last_field before (field_and name t fs) = last_field name fs
 
-last_field_joined : (fs : Fields) (before name : List ℕ) (t : CluType) → last_field before (fields_joined fs (field_and name t no_fields)) ≡ name
+pub last_field_joined : (fs : Fields) (before name : List ℕ) (t : CluType) → last_field before (fields_joined fs (field_and name t no_fields)) ≡ name
 last_field_joined no_fields before name t = refl
 last_field_joined (field_and n u fs) before name t = last_field_joined fs n name t
 
 -- signals
-abbrev signal_spelled : List ℕ → CluTypes → List ℕ
+abbrev pub signal_spelled : List ℕ → CluTypes → List ℕ
 signal_spelled name ts = name ++ closed_text (40 ∷ []) ts
 
-abbrev signals_text : Signals → List ℕ
+abbrev pub signals_text : Signals → List ℕ
 signals_text no_signals = []
 signals_text (signal_and name ts ss) = signal_spelled name ts ++ more_signals_text ss
 
-abbrev signals_led : Signals → List ℕ
+abbrev pub signals_led : Signals → List ℕ
 signals_led no_signals = []
 signals_led (signal_and name ts ss) = (signal_spelled name ts ++ more_signals_text ss) ++ 44 ∷ []
 
-abbrev HasSignals : Signals → Type 0
+abbrev pub HasSignals : Signals → Type 0
 HasSignals no_signals = ⊥
 HasSignals (signal_and name ts ss) = Unit {0}
 
-more_signals_joined : (ss : Signals) (name : List ℕ) (ts : CluTypes) → more_signals_text (signals_joined ss (signal_and name ts no_signals)) ≡ more_signals_text ss ++ 44 ∷ signal_spelled name ts
+pub more_signals_joined : (ss : Signals) (name : List ℕ) (ts : CluTypes) → more_signals_text (signals_joined ss (signal_and name ts no_signals)) ≡ more_signals_text ss ++ 44 ∷ signal_spelled name ts
 more_signals_joined no_signals name ts = ap (λ (x : List ℕ). 44 ∷ x) (append-nil (signal_spelled name ts))
 more_signals_joined (signal_and n us ss) name ts = ap (λ (x : List ℕ). 44 ∷ (signal_spelled n us ++ x)) (more_signals_joined ss name ts) ∙ ap (λ (x : List ℕ). 44 ∷ x) (sym (append_assoc (signal_spelled n us) (more_signals_text ss) (44 ∷ signal_spelled name ts)))
 
-signals_joined_text : (ss : Signals) (name : List ℕ) (ts : CluTypes) (rest : List ℕ) → signals_text (signals_joined ss (signal_and name ts no_signals)) ++ rest ≡ signals_led ss ++ (signal_spelled name ts ++ rest)
+pub signals_joined_text : (ss : Signals) (name : List ℕ) (ts : CluTypes) (rest : List ℕ) → signals_text (signals_joined ss (signal_and name ts no_signals)) ++ rest ≡ signals_led ss ++ (signal_spelled name ts ++ rest)
 signals_joined_text no_signals name ts rest = ap (λ (x : List ℕ). x ++ rest) (append-nil (signal_spelled name ts))
 signals_joined_text (signal_and n us ss) name ts rest = ap (λ (x : List ℕ). (signal_spelled n us ++ x) ++ rest) (more_signals_joined ss name ts) ∙ simp append_assoc
 
-signals_led_text : (ss : Signals) (rest : List ℕ) → HasSignals ss → signals_text ss ++ 44 ∷ rest ≡ signals_led ss ++ rest
+pub signals_led_text : (ss : Signals) (rest : List ℕ) → HasSignals ss → signals_text ss ++ 44 ∷ rest ≡ signals_led ss ++ rest
 signals_led_text no_signals rest h = absurd h
 signals_led_text (signal_and n ts ss) rest h = sym (append_assoc (signal_spelled n ts ++ more_signals_text ss) (44 ∷ []) rest)
 
-signals_joined_some : (ss : Signals) (name : List ℕ) (ts : CluTypes) → HasSignals (signals_joined ss (signal_and name ts no_signals))
+pub signals_joined_some : (ss : Signals) (name : List ℕ) (ts : CluTypes) → HasSignals (signals_joined ss (signal_and name ts no_signals))
 signals_joined_some no_signals name ts = tt
 signals_joined_some (signal_and n us ss) name ts = tt
 
-abbrev last_signal : List ℕ → Signals → List ℕ
+abbrev pub last_signal : List ℕ → Signals → List ℕ
 last_signal before no_signals = before
 last_signal before (signal_and name ts ss) = last_signal name ss
 
-last_signal_joined : (ss : Signals) (before name : List ℕ) (ts : CluTypes) → last_signal before (signals_joined ss (signal_and name ts no_signals)) ≡ name
+pub last_signal_joined : (ss : Signals) (before name : List ℕ) (ts : CluTypes) → last_signal before (signals_joined ss (signal_and name ts no_signals)) ≡ name
 last_signal_joined no_signals before name ts = refl
 last_signal_joined (signal_and n us ss) before name ts = last_signal_joined ss n name ts
 
-all_signals_shown : (ss : Signals) (rest : List ℕ) → HasSignals ss → codes "signals(" ++ (signals_text ss ++ 41 ∷ rest) ≡ all_signals_text ss ++ rest
+pub all_signals_shown : (ss : Signals) (rest : List ℕ) → HasSignals ss → codes "signals(" ++ (signals_text ss ++ 41 ∷ rest) ≡ all_signals_text ss ++ rest
 all_signals_shown no_signals rest h = absurd h
 all_signals_shown (signal_and name ts ss) rest h = ap (λ (x : List ℕ). codes "signals(" ++ x) (sym (append_assoc (signal_spelled name ts ++ more_signals_text ss) (41 ∷ []) rest))
 
-closed_shown : (word : List ℕ) (ts : CluTypes) (rest : List ℕ) → HasTypes ts → word ++ (types_text ts ++ 41 ∷ rest) ≡ closed_text word ts ++ rest
+pub closed_shown : (word : List ℕ) (ts : CluTypes) (rest : List ℕ) → HasTypes ts → word ++ (types_text ts ++ 41 ∷ rest) ≡ closed_text word ts ++ rest
 closed_shown word no_types rest h = absurd h
 closed_shown word (type_and t ts) rest h = simp append_assoc
 
 module _ (scope : Scope) where
-  types_joined_are : (ts : CluTypes) (t : CluType) → AreTypes scope ts → IsType scope t → AreTypes scope (types_joined ts (type_and t no_types))
+  pub types_joined_are : (ts : CluTypes) (t : CluType) → AreTypes scope ts → IsType scope t → AreTypes scope (types_joined ts (type_and t no_types))
   types_joined_are no_types t are is = (is, tt)
   types_joined_are (type_and u ts) t are is = (are.0, types_joined_are ts t are.1 is)
 
-  fields_joined_are : (fs : Fields) (before name : List ℕ) (t : CluType) → AreFields scope before fs → IsName 200 name → is_before (last_field before fs) name ≡ true → IsType scope t → AreFields scope before (fields_joined fs (field_and name t no_fields))
+  pub fields_joined_are : (fs : Fields) (before name : List ℕ) (t : CluType) → AreFields scope before fs → IsName 200 name → is_before (last_field before fs) name ≡ true → IsType scope t → AreFields scope before (fields_joined fs (field_and name t no_fields))
   fields_joined_are no_fields before name t are is after typed = (is, after, typed, tt)
   fields_joined_are (field_and n u fs) before name t are is after typed = (are.0, are.1, are.2, fields_joined_are fs n name t are.3 is after typed)
 
-  signals_joined_are : (ss : Signals) (before name : List ℕ) (ts : CluTypes) → AreSignals scope before ss → IsName 200 name → bytes_eq name (codes "failure") ≡ false → is_before (last_signal before ss) name ≡ true → AreTypes scope ts
+  pub signals_joined_are : (ss : Signals) (before name : List ℕ) (ts : CluTypes) → AreSignals scope before ss → IsName 200 name → bytes_eq name (codes "failure") ≡ false → is_before (last_signal before ss) name ≡ true → AreTypes scope ts
       → AreSignals scope before (signals_joined ss (signal_and name ts no_signals))
   signals_joined_are no_signals before name ts are is other after typed = (is, other, after, typed, tt)
   signals_joined_are (signal_and n us ss) before name ts are is other after typed = (are.0, are.1, are.2, are.3, signals_joined_are ss n name ts are.4 is other after typed)
@@ -146,27 +146,27 @@ pub record ListRead (scope : Scope) (whole word : List ℕ) (ts : CluTypes) (res
   pub are : AreTypes scope ts
   pub spelled : whole ≡ closed_text word ts ++ rest
 
-record FieldRead (scope : Scope) (previous bytes name : List ℕ) (t : CluType) (rest : List ℕ) : Type 0 where
+pub record FieldRead (scope : Scope) (previous bytes name : List ℕ) (t : CluType) (rest : List ℕ) : Type 0 where
   pub is : IsName 200 name
   pub after : is_before previous name ≡ true
   pub typed : IsType scope t
   pub spelled : bytes ≡ (name ++ 58 ∷ type_text t) ++ rest
 
 -- with the name of the last
-record FieldsBehind (scope : Scope) (whole : List ℕ) (fs : Fields) (last rest : List ℕ) : Type 0 where
+pub record FieldsBehind (scope : Scope) (whole : List ℕ) (fs : Fields) (last rest : List ℕ) : Type 0 where
   pub are : AreFields scope [] fs
   pub name : last_field [] fs ≡ last
   pub some : HasFields fs
   pub spelled : whole ≡ fields_text fs ++ rest
 
-record SignalRead (scope : Scope) (previous bytes name : List ℕ) (ts : CluTypes) (rest : List ℕ) : Type 0 where
+pub record SignalRead (scope : Scope) (previous bytes name : List ℕ) (ts : CluTypes) (rest : List ℕ) : Type 0 where
   pub is : IsName 200 name
   pub other : bytes_eq name (codes "failure") ≡ false
   pub after : is_before previous name ≡ true
   pub typed : AreTypes scope ts
   pub spelled : bytes ≡ signal_spelled name ts ++ rest
 
-record SignalsBehind (scope : Scope) (whole : List ℕ) (ss : Signals) (last rest : List ℕ) : Type 0 where
+pub record SignalsBehind (scope : Scope) (whole : List ℕ) (ss : Signals) (last rest : List ℕ) : Type 0 where
   pub are : AreSignals scope [] ss
   pub name : last_signal [] ss ≡ last
   pub some : HasSignals ss
@@ -182,11 +182,11 @@ pub record HeadingRead (scope : Scope) (iter : Bool) (whole : List ℕ) (args re
   pub signals_are : AreSignals scope [] signals
   pub spelled : whole ≡ heading_text iter args results signals ++ rest
 
-next_spelled : (name bytes rest : List ℕ) → next_after name bytes ≡ Some rest → bytes ≡ 44 ∷ rest
+pub next_spelled : (name bytes rest : List ℕ) → next_after name bytes ≡ Some rest → bytes ≡ 44 ∷ rest
 next_spelled name bytes rest e = elim (either (has_later name) (behind 44 bytes) None (Some rest) e) [ inl h ↦ behind_spelled 44 bytes rest h.1 | inr h ↦ absurd (none_some rest h.1) ]
 
 -- the name of a signal
-signal_named : (previous bytes name rest : List ℕ) → signal_name_after previous bytes ≡ Ok (name, rest) → NameRead previous 200 bytes name rest × (bytes_eq name (codes "failure") ≡ false)
+pub signal_named : (previous bytes name rest : List ℕ) → signal_name_after previous bytes ≡ Ok (name, rest) → NameRead previous 200 bytes name rest × (bytes_eq name (codes "failure") ≡ false)
 unfolding signal_name_after
 signal_named previous bytes name rest e =
     let h = and_then (name_after previous 200 bytes) (λ (x : List ℕ × List ℕ). if bytes_eq x.0 (codes "failure") then Err (length x.1) else Ok x) (name, rest) e in
@@ -197,10 +197,10 @@ signal_named previous bytes name rest e =
 
 module _ (scope : Scope) (part : Reader CluType) (sound : Sound scope part) where
   -- types
-  abbrev TypesBefore : List ℕ → CluTypes → List ℕ → Type 0
+  abbrev pub TypesBefore : List ℕ → CluTypes → List ℕ → Type 0
   TypesBefore whole made bytes = AreTypes scope made × (whole ≡ types_led made ++ bytes)
 
-  types_on : (whole : List ℕ) (made : CluTypes) (bytes : List ℕ) (more : CluTypes) (after : List ℕ) → TypesBefore whole made bytes → types_step part made bytes ≡ Ok (more, after) → TypesRead scope whole more after
+  pub types_on : (whole : List ℕ) (made : CluTypes) (bytes : List ℕ) (more : CluTypes) (after : List ℕ) → TypesBefore whole made bytes → types_step part made bytes ≡ Ok (more, after) → TypesRead scope whole more after
   types_on whole made bytes more after b e =
       let h = and_then (part bytes) (λ (t : CluType × List ℕ). Ok (types_joined made (type_and t.0 no_types), t.1)) (more, after) e in
       let read = sound bytes h.0.0 h.0.1 h.1 in
@@ -213,15 +213,15 @@ module _ (scope : Scope) (part : Reader CluType) (sound : Sound scope part) wher
         spelled = b.1 ∙ ap (λ (x : List ℕ). types_led made ++ x) read.spelled ∙ sym (types_joined_text made h.0.0 h.0.1);
       })
 
-  types_next : (whole : List ℕ) (made : CluTypes) (bytes rest : List ℕ) → TypesRead scope whole made bytes → behind 44 bytes ≡ Some rest → TypesBefore whole made rest
+  pub types_next : (whole : List ℕ) (made : CluTypes) (bytes rest : List ℕ) → TypesRead scope whole made bytes → behind 44 bytes ≡ Some rest → TypesBefore whole made rest
   types_next whole made bytes rest r e = (r.are, r.spelled ∙ ap (λ (x : List ℕ). types_text made ++ x) (behind_spelled 44 bytes rest e) ∙ types_led_text made rest r.some)
 
-  types_spelled : (bytes : List ℕ) (ts : CluTypes) (rest : List ℕ) → types_read part bytes ≡ Ok (ts, rest) → TypesRead scope bytes ts rest
+  pub types_spelled : (bytes : List ℕ) (ts : CluTypes) (rest : List ℕ) → types_read part bytes ≡ Ok (ts, rest) → TypesRead scope bytes ts rest
   unfolding types_read
   types_spelled bytes ts rest e =
       row_spelled (types_step part) (λ made rest. behind 44 rest) (TypesBefore bytes) (TypesRead scope bytes) (types_on bytes) (types_next bytes) (length bytes) no_types bytes ts rest (tt, refl) e
 
-  closed_types_spelled : (bytes : List ℕ) (ts : CluTypes) (rest : List ℕ) → closed_types_read part bytes ≡ Ok (ts, rest) → TypesRead scope bytes ts (41 ∷ rest)
+  pub closed_types_spelled : (bytes : List ℕ) (ts : CluTypes) (rest : List ℕ) → closed_types_read part bytes ≡ Ok (ts, rest) → TypesRead scope bytes ts (41 ∷ rest)
   unfolding closed_types_read
   closed_types_spelled bytes ts rest e =
       let h = and_then (types_read part bytes) (λ (ts : CluTypes × List ℕ). literal_at (41 ∷ []) ts.1 >>= λ rest. Ok (ts.0, rest)) (ts, rest) e in
@@ -230,17 +230,17 @@ module _ (scope : Scope) (part : Reader CluType) (sound : Sound scope part) wher
       subst (λ (x : CluTypes). TypesRead scope bytes x (41 ∷ rest)) c.0 (subst (λ (x : List ℕ). TypesRead scope bytes h.0.0 x) c.1 read)
 
   -- behind a word, with a closing parenthesis
-  worded_spelled : (word bytes : List ℕ) (ts : CluTypes) (rest : List ℕ) → (literal_at word bytes >>= λ rest. closed_types_read part rest) ≡ Ok (ts, rest) → ListRead scope bytes word ts rest
+  pub worded_spelled : (word bytes : List ℕ) (ts : CluTypes) (rest : List ℕ) → (literal_at word bytes >>= λ rest. closed_types_read part rest) ≡ Ok (ts, rest) → ListRead scope bytes word ts rest
   worded_spelled word bytes ts rest e =
       let h = and_then (literal_at word bytes) (λ (rest : List ℕ). closed_types_read part rest) (ts, rest) e in
       let read = closed_types_spelled h.0 ts rest h.2 in
       record { are = read.are; spelled = literal_spelled word bytes h.0 h.1 ∙ ap (λ (x : List ℕ). word ++ x) read.spelled ∙ closed_shown word ts rest read.some }
 
-  no_list : (word bytes : List ℕ) (ts : CluTypes) (rest : List ℕ) → SameRead CluTypes (no_types, bytes) (ts, rest) → ListRead scope bytes word ts rest
+  pub no_list : (word bytes : List ℕ) (ts : CluTypes) (rest : List ℕ) → SameRead CluTypes (no_types, bytes) (ts, rest) → ListRead scope bytes word ts rest
   no_list word bytes ts rest same = subst (λ (x : CluTypes × List ℕ). ListRead scope bytes word x.0 x.1) same (record { are = tt; spelled = refl })
 
   -- selectors
-  field_spelled : (previous bytes name : List ℕ) (t : CluType) (rest : List ℕ) → field_read part previous bytes ≡ Ok ((name, t), rest) → FieldRead scope previous bytes name t rest
+  pub field_spelled : (previous bytes name : List ℕ) (t : CluType) (rest : List ℕ) → field_read part previous bytes ≡ Ok ((name, t), rest) → FieldRead scope previous bytes name t rest
   unfolding field_read
   field_spelled previous bytes name t rest e =
       let a = and_then (name_after previous 200 bytes) (λ (name : List ℕ × List ℕ). literal_at (58 ∷ []) name.1 >>= λ rest. part rest >>= λ t. Ok ((name.0, t.0), t.1)) ((name, t), rest) e in
@@ -251,17 +251,19 @@ module _ (scope : Scope) (part : Reader CluType) (sound : Sound scope part) wher
       let same : ((a.0.0, c.0.0), c.0.1) ≡ ((name, t), rest) = ok_same (Ok ((a.0.0, c.0.0), c.0.1)) ((a.0.0, c.0.0), c.0.1) ((name, t), rest) refl c.2 in
       subst (λ (x : (List ℕ × CluType) × List ℕ). FieldRead scope previous bytes x.0.0 x.0.1 x.1) same
       (record {
-        is = named.is; after = named.after; typed = read.is;
+        is = named.is;
+        after = named.after;
+        typed = read.is;
         spelled = named.spelled ∙ ap (λ (x : List ℕ). a.0.0 ++ x) (literal_spelled (58 ∷ []) a.0.1 b.0 b.1 ∙ ap (λ (x : List ℕ). 58 ∷ x) read.spelled) ∙ sym (append_assoc a.0.0 (58 ∷ type_text c.0.0) c.0.1);
       })
 
-  abbrev FieldsBefore : List ℕ → Fields × List ℕ → List ℕ → Type 0
+  abbrev pub FieldsBefore : List ℕ → Fields × List ℕ → List ℕ → Type 0
   FieldsBefore whole made bytes = AreFields scope [] made.0 × (last_field [] made.0 ≡ made.1) × (whole ≡ fields_led made.0 ++ bytes)
 
-  abbrev FieldsAfter : List ℕ → Fields × List ℕ → List ℕ → Type 0
+  abbrev pub FieldsAfter : List ℕ → Fields × List ℕ → List ℕ → Type 0
   FieldsAfter whole made bytes = FieldsBehind scope whole made.0 made.1 bytes
 
-  fields_on : (whole : List ℕ) (made : Fields × List ℕ) (bytes : List ℕ) (more : Fields × List ℕ) (after : List ℕ) → FieldsBefore whole made bytes → fields_step part made bytes ≡ Ok (more, after) → FieldsAfter whole more after
+  pub fields_on : (whole : List ℕ) (made : Fields × List ℕ) (bytes : List ℕ) (more : Fields × List ℕ) (after : List ℕ) → FieldsBefore whole made bytes → fields_step part made bytes ≡ Ok (more, after) → FieldsAfter whole more after
   fields_on whole made bytes more after b e =
       let h = and_then (field_read part made.1 bytes) (λ (f : (List ℕ × CluType) × List ℕ). Ok ((fields_joined made.0 (field_and f.0.0 f.0.1 no_fields), f.0.0), f.1)) (more, after) e in
       let name : List ℕ = h.0.0.0 in
@@ -278,7 +280,7 @@ module _ (scope : Scope) (part : Reader CluType) (sound : Sound scope part) wher
       } in
       subst (λ (x : (Fields × List ℕ) × List ℕ). FieldsAfter whole x.0 x.1) same now
 
-  fields_next : (whole : List ℕ) (made : Fields × List ℕ) (bytes rest : List ℕ) → FieldsAfter whole made bytes → next_after made.1 bytes ≡ Some rest → FieldsBefore whole made rest
+  pub fields_next : (whole : List ℕ) (made : Fields × List ℕ) (bytes rest : List ℕ) → FieldsAfter whole made bytes → next_after made.1 bytes ≡ Some rest → FieldsBefore whole made rest
   fields_next whole made bytes rest r e =
       (r.are, r.name, r.spelled ∙ ap (λ (x : List ℕ). fields_text made.0 ++ x) (next_spelled made.1 bytes rest e) ∙ fields_led_text made.0 rest r.some)
 
@@ -291,14 +293,14 @@ module _ (scope : Scope) (part : Reader CluType) (sound : Sound scope part) wher
       subst (λ (x : Fields × List ℕ). AreFields scope [] x.0 × HasFields x.0 × (bytes ≡ fields_text x.0 ++ x.1)) same (r.are, r.some, r.spelled)
 
   -- signals
-  objects_by_spelled : (o : Option (List ℕ)) (bytes : List ℕ) (ts : CluTypes) (rest : List ℕ) → behind 40 bytes ≡ o → objects_by part o bytes ≡ Ok (ts, rest) → ListRead scope bytes (40 ∷ []) ts rest
+  pub objects_by_spelled : (o : Option (List ℕ)) (bytes : List ℕ) (ts : CluTypes) (rest : List ℕ) → behind 40 bytes ≡ o → objects_by part o bytes ≡ Ok (ts, rest) → ListRead scope bytes (40 ∷ []) ts rest
   unfolding objects_by
   objects_by_spelled None bytes ts rest o e = no_list (40 ∷ []) bytes ts rest (ok_same (Ok (no_types, bytes)) (no_types, bytes) (ts, rest) refl e)
   objects_by_spelled (Some inner) bytes ts rest o e =
       let read = closed_types_spelled inner ts rest e in
       record { are = read.are; spelled = behind_spelled 40 bytes inner o ∙ ap (λ (x : List ℕ). 40 ∷ x) read.spelled ∙ closed_shown (40 ∷ []) ts rest read.some }
 
-  signal_read_spelled : (previous bytes name : List ℕ) (ts : CluTypes) (rest : List ℕ) → signal_read part previous bytes ≡ Ok ((name, ts), rest) → SignalRead scope previous bytes name ts rest
+  pub signal_read_spelled : (previous bytes name : List ℕ) (ts : CluTypes) (rest : List ℕ) → signal_read part previous bytes ≡ Ok ((name, ts), rest) → SignalRead scope previous bytes name ts rest
   unfolding signal_read
   signal_read_spelled previous bytes name ts rest e =
       let a = and_then (signal_name_after previous bytes) (λ (name : List ℕ × List ℕ). objects_read part name.1 >>= λ ts. Ok ((name.0, ts.0), ts.1)) ((name, ts), rest) e in
@@ -308,17 +310,20 @@ module _ (scope : Scope) (part : Reader CluType) (sound : Sound scope part) wher
       let same : ((a.0.0, b.0.0), b.0.1) ≡ ((name, ts), rest) = ok_same (Ok ((a.0.0, b.0.0), b.0.1)) ((a.0.0, b.0.0), b.0.1) ((name, ts), rest) refl b.2 in
       subst (λ (x : (List ℕ × CluTypes) × List ℕ). SignalRead scope previous bytes x.0.0 x.0.1 x.1) same
       (record {
-        is = named.0.is; other = named.1; after = named.0.after; typed = read.are;
+        is = named.0.is;
+        other = named.1;
+        after = named.0.after;
+        typed = read.are;
         spelled = named.0.spelled ∙ ap (λ (x : List ℕ). a.0.0 ++ x) read.spelled ∙ sym (append_assoc a.0.0 (closed_text (40 ∷ []) b.0.0) b.0.1);
       })
 
-  abbrev SignalsBefore : List ℕ → Signals × List ℕ → List ℕ → Type 0
+  abbrev pub SignalsBefore : List ℕ → Signals × List ℕ → List ℕ → Type 0
   SignalsBefore whole made bytes = AreSignals scope [] made.0 × (last_signal [] made.0 ≡ made.1) × (whole ≡ signals_led made.0 ++ bytes)
 
-  abbrev SignalsAfter : List ℕ → Signals × List ℕ → List ℕ → Type 0
+  abbrev pub SignalsAfter : List ℕ → Signals × List ℕ → List ℕ → Type 0
   SignalsAfter whole made bytes = SignalsBehind scope whole made.0 made.1 bytes
 
-  signals_on : (whole : List ℕ) (made : Signals × List ℕ) (bytes : List ℕ) (more : Signals × List ℕ) (after : List ℕ) → SignalsBefore whole made bytes → signals_step part made bytes ≡ Ok (more, after) → SignalsAfter whole more after
+  pub signals_on : (whole : List ℕ) (made : Signals × List ℕ) (bytes : List ℕ) (more : Signals × List ℕ) (after : List ℕ) → SignalsBefore whole made bytes → signals_step part made bytes ≡ Ok (more, after) → SignalsAfter whole more after
   signals_on whole made bytes more after b e =
       let h = and_then (signal_read part made.1 bytes) (λ (s : (List ℕ × CluTypes) × List ℕ). Ok ((signals_joined made.0 (signal_and s.0.0 s.0.1 no_signals), s.0.0), s.1)) (more, after) e in
       let name : List ℕ = h.0.0.0 in
@@ -335,11 +340,11 @@ module _ (scope : Scope) (part : Reader CluType) (sound : Sound scope part) wher
       } in
       subst (λ (x : (Signals × List ℕ) × List ℕ). SignalsAfter whole x.0 x.1) same now
 
-  signals_next : (whole : List ℕ) (made : Signals × List ℕ) (bytes rest : List ℕ) → SignalsAfter whole made bytes → next_after made.1 bytes ≡ Some rest → SignalsBefore whole made rest
+  pub signals_next : (whole : List ℕ) (made : Signals × List ℕ) (bytes rest : List ℕ) → SignalsAfter whole made bytes → next_after made.1 bytes ≡ Some rest → SignalsBefore whole made rest
   signals_next whole made bytes rest r e =
       (r.are, r.name, r.spelled ∙ ap (λ (x : List ℕ). signals_text made.0 ++ x) (next_spelled made.1 bytes rest e) ∙ signals_led_text made.0 rest r.some)
 
-  signals_spelled : (bytes : List ℕ) (ss : Signals) (rest : List ℕ) → signals_read part bytes ≡ Ok (ss, rest) → AreSignals scope [] ss × HasSignals ss × (bytes ≡ signals_text ss ++ rest)
+  pub signals_spelled : (bytes : List ℕ) (ss : Signals) (rest : List ℕ) → signals_read part bytes ≡ Ok (ss, rest) → AreSignals scope [] ss × HasSignals ss × (bytes ≡ signals_text ss ++ rest)
   unfolding signals_read
   signals_spelled bytes ss rest e =
       let h = and_then (several (signals_step part) (λ made rest. next_after made.1 rest) (length bytes) (no_signals, []) bytes) (λ (x : (Signals × List ℕ) × List ℕ). Ok (x.0.0, x.1)) (ss, rest) e in
@@ -347,23 +352,23 @@ module _ (scope : Scope) (part : Reader CluType) (sound : Sound scope part) wher
       let same : (h.0.0.0, h.0.1) ≡ (ss, rest) = ok_same (Ok (h.0.0.0, h.0.1)) (h.0.0.0, h.0.1) (ss, rest) refl h.2 in
       subst (λ (x : Signals × List ℕ). AreSignals scope [] x.0 × HasSignals x.0 × (bytes ≡ signals_text x.0 ++ x.1)) same (r.are, r.some, r.spelled)
 
-  all_signals_spelled : (bytes : List ℕ) (ss : Signals) (rest : List ℕ) → all_signals_read part bytes ≡ Ok (ss, rest) → SignalsRead scope bytes ss rest
+  pub all_signals_spelled : (bytes : List ℕ) (ss : Signals) (rest : List ℕ) → all_signals_read part bytes ≡ Ok (ss, rest) → SignalsRead scope bytes ss rest
   unfolding all_signals_read
   all_signals_spelled bytes ss rest e =
       elim (either (begins_with 115 bytes) (literal_at (codes "signals(") bytes >>= λ rest. signals_read part rest >>= λ ss. literal_at (41 ∷ []) ss.1 >>= λ rest. Ok (ss.0, rest)) (Ok (no_signals, bytes)) (Ok (ss, rest)) e) [
         | inl q ↦ (let a = and_then (literal_at (codes "signals(") bytes) (λ (rest : List ℕ). signals_read part rest >>= λ ss. literal_at (41 ∷ []) ss.1 >>= λ rest. Ok (ss.0, rest)) (ss, rest) q.1 in
-          let b = and_then (signals_read part a.0) (λ (ss : Signals × List ℕ). literal_at (41 ∷ []) ss.1 >>= λ rest. Ok (ss.0, rest)) (ss, rest) a.2 in
-          let c = closed_spelled 41 b.0.0 b.0.1 ss rest b.2 in
-          let read = signals_spelled a.0 b.0.0 b.0.1 b.1 in
-          let text : bytes ≡ all_signals_text b.0.0 ++ rest =
-          literal_spelled (codes "signals(") bytes a.0 a.1 ∙ ap (λ (x : List ℕ). codes "signals(" ++ x) (read.2 ∙ ap (λ (x : List ℕ). signals_text b.0.0 ++ x) c.1) ∙ all_signals_shown b.0.0 rest read.1 in
-          subst (λ (x : Signals). SignalsRead scope bytes x rest) c.0 (record { are = read.0; spelled = text }))
+            let b = and_then (signals_read part a.0) (λ (ss : Signals × List ℕ). literal_at (41 ∷ []) ss.1 >>= λ rest. Ok (ss.0, rest)) (ss, rest) a.2 in
+            let c = closed_spelled 41 b.0.0 b.0.1 ss rest b.2 in
+            let read = signals_spelled a.0 b.0.0 b.0.1 b.1 in
+            let text : bytes ≡ all_signals_text b.0.0 ++ rest =
+            literal_spelled (codes "signals(") bytes a.0 a.1 ∙ ap (λ (x : List ℕ). codes "signals(" ++ x) (read.2 ∙ ap (λ (x : List ℕ). signals_text b.0.0 ++ x) c.1) ∙ all_signals_shown b.0.0 rest read.1 in
+            subst (λ (x : Signals). SignalsRead scope bytes x rest) c.0 (record { are = read.0; spelled = text }))
         | inr q ↦ (let same : (no_signals, bytes) ≡ (ss, rest) = ok_same (Ok (no_signals, bytes)) (no_signals, bytes) (ss, rest) refl q.1 in
-          subst (λ (x : Signals × List ℕ). SignalsRead scope bytes x.0 x.1) same (record { are = tt; spelled = refl }))
+            subst (λ (x : Signals × List ℕ). SignalsRead scope bytes x.0 x.1) same (record { are = tt; spelled = refl }))
       ]
 
   -- headings
-  results_spelled : (iter : Bool) (bytes : List ℕ) (ts : CluTypes) (rest : List ℕ) → results_read part iter bytes ≡ Ok (ts, rest) → ListRead scope bytes (results_word iter) ts rest
+  pub results_spelled : (iter : Bool) (bytes : List ℕ) (ts : CluTypes) (rest : List ℕ) → results_read part iter bytes ≡ Ok (ts, rest) → ListRead scope bytes (results_word iter) ts rest
   unfolding results_read
   results_spelled true bytes ts rest e =
       elim (either (begins_with 121 bytes) (literal_at (codes "yields(") bytes >>= λ rest. closed_types_read part rest) (Ok (no_types, bytes)) (Ok (ts, rest)) e) [
@@ -376,18 +381,18 @@ module _ (scope : Scope) (part : Reader CluType) (sound : Sound scope part) wher
         | inr h ↦ no_list (codes "returns(") bytes ts rest (ok_same (Ok (no_types, bytes)) (no_types, bytes) (ts, rest) refl h.1)
       ]
 
-  record ArgumentsRead (whole : List ℕ) (ts : CluTypes) (rest : List ℕ) : Type 0 where
+  pub record ArgumentsRead (whole : List ℕ) (ts : CluTypes) (rest : List ℕ) : Type 0 where
     pub are : AreTypes scope ts
     pub spelled : whole ≡ types_text ts ++ 41 ∷ rest
 
-  arguments_by_spelled : (o : Option (List ℕ)) (bytes : List ℕ) (ts : CluTypes) (rest : List ℕ) → behind 41 bytes ≡ o → arguments_by part o bytes ≡ Ok (ts, rest) → ArgumentsRead bytes ts rest
+  pub arguments_by_spelled : (o : Option (List ℕ)) (bytes : List ℕ) (ts : CluTypes) (rest : List ℕ) → behind 41 bytes ≡ o → arguments_by part o bytes ≡ Ok (ts, rest) → ArgumentsRead bytes ts rest
   unfolding arguments_by
   arguments_by_spelled None bytes ts rest o e = let read = closed_types_spelled bytes ts rest e in record { are = read.are; spelled = read.spelled }
   arguments_by_spelled (Some inner) bytes ts rest o e =
       let same : (no_types, inner) ≡ (ts, rest) = ok_same (Ok (no_types, inner)) (no_types, inner) (ts, rest) refl e in
       subst (λ (x : CluTypes × List ℕ). ArgumentsRead bytes x.0 x.1) same (record { are = tt; spelled = behind_spelled 41 bytes inner o })
 
-  arguments_spelled : (bytes : List ℕ) (ts : CluTypes) (rest : List ℕ) → arguments_read part bytes ≡ Ok (ts, rest) → AreTypes scope ts × (bytes ≡ 40 ∷ (types_text ts ++ 41 ∷ rest))
+  pub arguments_spelled : (bytes : List ℕ) (ts : CluTypes) (rest : List ℕ) → arguments_read part bytes ≡ Ok (ts, rest) → AreTypes scope ts × (bytes ≡ 40 ∷ (types_text ts ++ 41 ∷ rest))
   unfolding arguments_read
   arguments_spelled bytes ts rest e =
       let h = and_then (literal_at (40 ∷ []) bytes) (λ (rest : List ℕ). arguments_by part (behind 41 rest) rest) (ts, rest) e in

@@ -37,16 +37,16 @@ operation_spelled t bytes op is e =
     let given : (x : Operation) (text : List ℕ) → IsUse (operation_seen t x) → rest ≡ text → type_text t ++ 36 ∷ text ≡ use_text (operation_seen t x) → x ≡ op → IsUse (operation_seen t op) × (type_text t ++ bytes ≡ use_text (operation_seen t op)) = λ x text made whole shown same.
     subst (λ (y : Operation). IsUse (operation_seen t y) × (type_text t ++ bytes ≡ use_text (operation_seen t y))) same (made, ap (λ (y : List ℕ). type_text t ++ y) (mark ∙ ap (λ (y : List ℕ). 36 ∷ y) whole) ∙ shown) in
     elim (either (bytes_eq (first_word rest) (codes "own")) (end_at operation.Own (behind_word rest))
-      (if bytes_eq (first_word rest) (codes "force") then end_at operation.Force (behind_word rest) else name_after [] 204 rest >>= λ name. end_at (operation.Named name.0) name.1) (Ok op) a.2) [
+    (if bytes_eq (first_word rest) (codes "force") then end_at operation.Force (behind_word rest) else name_after [] 204 rest >>= λ name. end_at (operation.Named name.0) name.1) (Ok op) a.2) [
       | inl h ↦ (let ended = ended_spelled operation.Own (behind_word rest) op h.1 in
-        given operation.Own (codes "own") is (word_alone rest (codes "own") (word_is (first_word rest) (codes "own") h.0) ended.1) refl ended.0)
+          given operation.Own (codes "own") is (word_alone rest (codes "own") (word_is (first_word rest) (codes "own") h.0) ended.1) refl ended.0)
       | inr h ↦ elim (either (bytes_eq (first_word rest) (codes "force")) (end_at operation.Force (behind_word rest)) (name_after [] 204 rest >>= λ name. end_at (operation.Named name.0) name.1) (Ok op) h.1) [
         | inl q ↦ (let ended = ended_spelled operation.Force (behind_word rest) op q.1 in
-          given operation.Force (codes "force") is (word_alone rest (codes "force") (word_is (first_word rest) (codes "force") q.0) ended.1) refl ended.0)
+            given operation.Force (codes "force") is (word_alone rest (codes "force") (word_is (first_word rest) (codes "force") q.0) ended.1) refl ended.0)
         | inr q ↦ (let b = and_then (name_after [] 204 rest) (λ (name : List ℕ × List ℕ). end_at (operation.Named name.0) name.1) op q.1 in
-          let named = name_read [] 204 rest b.0.0 b.0.1 b.1 in
-          let ended = ended_spelled (operation.Named b.0.0) b.0.1 op b.2 in
-          given (operation.Named b.0.0) b.0.0 (is, named.is) (named.spelled ∙ ap (λ (x : List ℕ). b.0.0 ++ x) ended.1 ∙ append-nil b.0.0) refl ended.0)
+            let named = name_read [] 204 rest b.0.0 b.0.1 b.1 in
+            let ended = ended_spelled (operation.Named b.0.0) b.0.1 op b.2 in
+            given (operation.Named b.0.0) b.0.0 (is, named.is) (named.spelled ∙ ap (λ (x : List ℕ). b.0.0 ++ x) ended.1 ∙ append-nil b.0.0) refl ended.0)
       ]
     ]
 
@@ -59,6 +59,6 @@ whole_use_spelled bytes u e =
     elim (either (length h.0.1 == 0) (module_of t) (operation_read h.0.1 >>= λ op. Ok (operation_seen t op)) (Ok u) h.2) [
       | inl q ↦ (let m = module_spelled t u read.is q.1 in (m.0, read.spelled ∙ ap (λ (x : List ℕ). type_text t ++ x) (none_left h.0.1 q.0) ∙ append-nil (type_text t) ∙ m.1))
       | inr q ↦ (let g = and_then (operation_read h.0.1) (λ (op : Operation). Ok (operation_seen t op)) u q.1 in
-        let o = operation_spelled t h.0.1 g.0 read.is g.1 in
-        subst (λ (x : Used). IsUse x × (bytes ≡ use_text x)) (ok_same (Ok (operation_seen t g.0)) (operation_seen t g.0) u refl g.2) (o.0, read.spelled ∙ o.1))
+          let o = operation_spelled t h.0.1 g.0 read.is g.1 in
+          subst (λ (x : Used). IsUse x × (bytes ≡ use_text x)) (ok_same (Ok (operation_seen t g.0)) (operation_seen t g.0) u refl g.2) (o.0, read.spelled ∙ o.1))
     ]

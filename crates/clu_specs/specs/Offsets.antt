@@ -1,5 +1,5 @@
 -- Where a text is refused.
-use Rattle.std.specs.Prelude.{◌≡◌, ℕ, ◌+◌, ◌<◌, List, ◌++◌, length, take}
+use Rattle.std.specs.Prelude.{◌≡◌, ℕ, ◌+◌, ◌<◌, ◌≤◌, List, ◌++◌, length, take}
 use Rattle.clu_base.specs.declared.errors.FormatError.{FormatError}
 use Rattle.clu_base.specs.declared.errors.FormatError.TheVariants as error
 use Rattle.clu_types.specs.CluType.{CluType}
@@ -17,6 +17,11 @@ BeginsUse bytes = (u : Used) × (rest : List ℕ) × IsUse u × (use_text u ≡ 
 
 abbrev pub BeginsSpec : List ℕ → Type 0
 BeginsSpec bytes = (s : Specification) × (rest : List ℕ) × IsSpecification s × (spec_text s ≡ bytes ++ rest)
+
+-- the bytes before the offset begin a text
+abbrev pub SoFar : (List ℕ → Type 0) → List ℕ → FormatError → Type 0
+SoFar Begins bytes error.Memory = Unit {0}
+SoFar Begins bytes (error.Bad offset) = (offset ≤ length bytes) × Begins (take offset bytes)
 
 -- no text begins with the bytes up to that at the offset
 abbrev pub NoFurther : (List ℕ → Type 0) → List ℕ → FormatError → Type 0

@@ -5,7 +5,7 @@ use Rattle.std.specs.Str.{bytes_eq}
 use Rattle.clu_types.specs.declared.spec.ParamKind.{ParamKind}
 use Rattle.clu_types.specs.declared.spec.ParamKind.TheVariants as kind
 use Rattle.clu_types.specs.CluType.{CluType}
-use Rattle.clu_specs.specs.declared.read_specs.TheConstants.{KINDS}
+use Rattle.clu_specs.specs.declared.read_kinds.TheConstants.{KINDS}
 use Rattle.clu_specs.specs.declared.scope.Sort.TheVariants as sort
 use Rattle.clu_specs.specs.declared.scope.Scope.{Scope}
 use Rattle.clu_specs.specs.Reading.{◌>>=◌, Read, literal_at, behind, begins_with, several, end_at}
@@ -126,18 +126,30 @@ module _ (scope : Scope) (part : Reader CluType) where
       all_demands_read bytes >>= λ ds. literal_at (codes "is") ds.1 >>= λ rest. operations_read rest >>= λ ops.
       Ok (cluster ds.0 ops.0, ops.1)
 
--- a routine's specification behind its =, to the end; types are nested so deep at most
+  -- a routine, and the demands and operations of a cluster, to the end of a text
+  unfoldable pub last_operation_read : List ℕ → Bool → List ℕ → Result Operation ℕ
+  last_operation_read name iter bytes = operation_read name iter bytes >>= λ op. end_at op.0 op.1
+
+  unfoldable pub last_form_read : List ℕ → Result Shape ℕ
+  last_form_read bytes = cluster_form_read bytes >>= λ shape. end_at shape.0 shape.1
+
+-- a routine's specification behind its parameters, to the end; types are nested so deep at most
+abbrev pub routine_over : List ℕ → Bool → List ParamKind → ℕ → List ℕ → Result Specification ℕ
+routine_over name iter kinds depth bytes =
+    operation_read (scope_of kinds) (type_read (scope_of kinds) depth) name iter bytes >>= λ op.
+    end_at (record { name = name; kinds = kinds; shape = routine op.0 }) op.1
+
+-- and behind its =
 unfoldable pub routine_read : List ℕ → ℕ → List ℕ → Result Specification ℕ
-routine_read name depth bytes =
-    routine_word_read bytes >>= λ iter. parameters_read iter.1 >>= λ kinds.
-    operation_read (scope_of kinds.0) (type_read (scope_of kinds.0) depth) name iter.0 kinds.1 >>= λ op.
-    end_at (record { name = name; kinds = kinds.0; shape = routine op.0 }) op.1
+routine_read name depth bytes = routine_word_read bytes >>= λ iter. parameters_read iter.1 >>= λ kinds. routine_over name iter.0 kinds.0 depth kinds.1
+
+abbrev pub cluster_over : List ℕ → List ParamKind → ℕ → List ℕ → Result Specification ℕ
+cluster_over name kinds depth bytes =
+    cluster_form_read (scope_of kinds) (type_read (scope_of kinds) depth) bytes >>= λ shape.
+    end_at (record { name = name; kinds = kinds; shape = shape.0 }) shape.1
 
 unfoldable pub cluster_read : List ℕ → ℕ → List ℕ → Result Specification ℕ
-cluster_read name depth bytes =
-    literal_at (codes "cluster") bytes >>= λ rest. parameters_read rest >>= λ kinds.
-    cluster_form_read (scope_of kinds.0) (type_read (scope_of kinds.0) depth) kinds.1 >>= λ shape.
-    end_at (record { name = name; kinds = kinds.0; shape = shape.0 }) shape.1
+cluster_read name depth bytes = literal_at (codes "cluster") bytes >>= λ rest. parameters_read rest >>= λ kinds. cluster_over name kinds.0 depth kinds.1
 
 -- a text that is a specification, and nothing more
 unfoldable pub whole_spec : List ℕ → Result Specification ℕ

@@ -8,6 +8,7 @@ mod keywords;
 mod marks;
 mod names;
 mod numbers;
+mod read_kinds;
 mod read_specs;
 mod read_types;
 mod read_uses;

@@ -6,15 +6,16 @@ ghost use Rattle.clu_types.specs.Arena.{types_of, Grows};
 ghost use Rattle.clu_specs.specs.Reading.{Gives};
 ghost use Rattle.clu_specs.specs.TypeReading.{type_read};
 ghost use Rattle.clu_specs.specs.Seen.{Specification, spec_text, seen, demand_seen, op_seen, form_seen};
-ghost use Rattle.clu_specs.specs.Offsets.{BeginsSpec, NoFurther};
+ghost use Rattle.clu_specs.specs.Offsets.{BeginsSpec, SoFar, NoFurther};
 ghost use Rattle.clu_specs.specs.Grammar.{IsSpecification};
-ghost use Rattle.clu_specs.specs.SpecReading.{routine_word_read, begin_alike, kind_in, kind_read, next_kind, kinds_read, parameters_read, least_behind, asked_read, next_demand, demand_read, demands_read, all_demands_read, operation_read, operation_word_read, next_operation, named_operation_read, operations_read, cluster_form_read, routine_read, cluster_read, whole_spec};
+ghost use Rattle.clu_specs.specs.SpecReading.{routine_word_read, least_behind, asked_read, next_demand, demand_read, demands_read, all_demands_read, operation_read, operation_word_read, next_operation, named_operation_read, operations_read, cluster_form_read, last_operation_read, last_form_read, routine_over, routine_read, cluster_over, cluster_read, whole_spec};
 ghost use Rattle.clu_specs.specs.Specifications.{DemandsBelow, OpBelow, OpsBelow, FormBelow, SpecHolds};
 
 use crate::marks::{at_offset, begins_with, behind, end, fault, literal};
 use crate::names::{LONGEST, has_later, name_after};
+use crate::read_kinds::parameters_at;
 use crate::read_types::{heading_at, type_at};
-use crate::scope::{LAST_NUMBER, Scope, Sort, scope_of};
+use crate::scope::{Scope, Sort, scope_of};
 use clu_base::{Bytes, FormatError, Sequence};
 use clu_types::{Demand, Form, OpSpec, ParamKind, Spec, TypeArena};
 use std::alloc::Global;
@@ -25,6 +26,7 @@ pub fn read_spec(alloc: Global, b: &[u8]) -> Result<Spec, FormatError>
     ensures spelled { IfOk result (λ spec. b.now ≡ spec_text (seen spec)) }
     ensures grammar { IfOk result (λ spec. IsSpecification (seen spec)) }
     ensures complete { (s : Specification) → IsSpecification s → b.now ≡ spec_text s → Gives seen result (Ok s) }
+    ensures so_far { IfErr result (SoFar BeginsSpec b.now) }
     ensures no_further { IfErr result (NoFurther BeginsSpec b.now) }
     ensures within { IfOk result SpecHolds }
 {
@@ -59,16 +61,50 @@ fn routine_at(alloc: Global, name: &[u8], bytes: &[u8], depth: usize) -> Result<
 {
     let (iter, rest) = routine_word(bytes)?;
     let (kinds, rest) = parameters_at(alloc, rest)?;
+    routine_over(alloc, name, iter, kinds, rest, depth)
+}
+
+/// The specification of a routine with these parameters, behind them, up to the end.
+fn routine_over(
+    alloc: Global,
+    name: &[u8],
+    iter: bool,
+    kinds: Vec<ParamKind>,
+    bytes: &[u8],
+    depth: usize,
+) -> Result<Spec, FormatError>
+    ensures reads { Gives seen result (routine_over name.now iter kinds.items depth bytes.now) }
+    ensures within { IfOk result SpecHolds }
+{
     let scope = scope_of(kinds);
+    let name_of_spec = Bytes::from_slice(alloc, name)?;
     let mut types = TypeArena::new(alloc);
-    let (op, rest) = operation_at(alloc, &mut types, &scope, name, iter, rest, depth)?;
-    end(rest)?;
+    let op = last_operation_at(alloc, &mut types, &scope, name, iter, bytes, depth)?;
     Ok(Spec {
-        name: Bytes::from_slice(alloc, name)?,
+        name: name_of_spec,
         kinds: scope.kinds,
         types,
         form: Form::Routine(op),
     })
+}
+
+/// A routine behind its parameters, up to the end.
+#[tactic(auto, unfolding(crate::specs::SpecReading::last_operation_read))]
+fn last_operation_at(
+    alloc: Global,
+    types: &mut TypeArena,
+    scope: &Scope,
+    name: &[u8],
+    iter: bool,
+    bytes: &[u8],
+    depth: usize,
+) -> Result<OpSpec, FormatError>
+    ensures reads { Gives (λ op. op_seen (types_of types.new) op) result (last_operation_read scope.now (type_read scope.now depth) name.now iter bytes.now) }
+    ensures within { IfOk result (λ op. OpBelow (length types.new) op) }
+{
+    let (op, rest) = operation_at(alloc, types, scope, name, iter, bytes, depth)?;
+    end(rest)?;
+    Ok(op)
 }
 
 /// The specification of a cluster, behind `=`, up to the end.
@@ -79,16 +115,47 @@ fn cluster_at(alloc: Global, name: &[u8], bytes: &[u8], depth: usize) -> Result<
 {
     let rest = literal(b"cluster", bytes)?;
     let (kinds, rest) = parameters_at(alloc, rest)?;
+    cluster_over(alloc, name, kinds, rest, depth)
+}
+
+/// The specification of a cluster with these parameters, behind them, up to the end.
+fn cluster_over(
+    alloc: Global,
+    name: &[u8],
+    kinds: Vec<ParamKind>,
+    bytes: &[u8],
+    depth: usize,
+) -> Result<Spec, FormatError>
+    ensures reads { Gives seen result (cluster_over name.now kinds.items depth bytes.now) }
+    ensures within { IfOk result SpecHolds }
+{
     let scope = scope_of(kinds);
+    let name = Bytes::from_slice(alloc, name)?;
     let mut types = TypeArena::new(alloc);
-    let (form, rest) = cluster_form_at(alloc, &mut types, &scope, rest, depth)?;
-    end(rest)?;
+    let form = last_form_at(alloc, &mut types, &scope, bytes, depth)?;
     Ok(Spec {
-        name: Bytes::from_slice(alloc, name)?,
+        name,
         kinds: scope.kinds,
         types,
         form,
     })
+}
+
+/// The demands and operations of a cluster, up to the end.
+#[tactic(auto, unfolding(crate::specs::SpecReading::last_form_read))]
+fn last_form_at(
+    alloc: Global,
+    types: &mut TypeArena,
+    scope: &Scope,
+    bytes: &[u8],
+    depth: usize,
+) -> Result<Form, FormatError>
+    ensures reads { Gives (λ form. form_seen (types_of types.new) form) result (last_form_read scope.now (type_read scope.now depth) bytes.now) }
+    ensures within { IfOk result (λ form. FormBelow (length types.new) form) }
+{
+    let (form, rest) = cluster_form_at(alloc, types, scope, bytes, depth)?;
+    end(rest)?;
+    Ok(form)
 }
 
 /// The demands and operations of a cluster.
@@ -119,93 +186,6 @@ fn routine_word(bytes: &[u8]) -> Result<(bool, &[u8]), FormatError>
         Ok((true, literal(b"iter", bytes)?))
     } else {
         Ok((false, literal(b"proc", bytes)?))
-    }
-}
-
-/// The kinds of the parameters in brackets, or none.
-#[tactic(auto, unfolding(crate::specs::SpecReading::parameters_by))]
-fn parameters_at(alloc: Global, bytes: &[u8]) -> Result<(Vec<ParamKind>, &[u8]), FormatError>
-    ensures { Gives (λ x. (x.0.items, x.1.now)) result (parameters_read bytes.now) }
-{
-    match behind(b'[', bytes) {
-        Some(rest) => {
-            let (kinds, rest) = kinds_at(alloc, rest)?;
-            Ok((kinds, literal(b"]", rest)?))
-        }
-        None => Ok((Vec::new(alloc), bytes)),
-    }
-}
-
-/// Kinds of parameters with commas between them.
-fn kinds_at(alloc: Global, bytes: &[u8]) -> Result<(Vec<ParamKind>, &[u8]), FormatError>
-    ensures { Gives (λ x. (x.0.items, x.1.now)) result (kinds_read bytes.now) }
-{
-    let mut made = Vec::new(alloc);
-    let mut rest = bytes;
-    for _ in 0..bytes.len() {
-        let (kind, after) = kind_at(rest)?;
-        made.push(kind)?;
-        match next_kind(made.len(), after) {
-            Some(next) => rest = next,
-            None => return Ok((made, after)),
-        }
-    }
-    Err(fault(rest))
-}
-
-/// What follows the comma, where another parameter may follow so many.
-fn next_kind(count: usize, bytes: &[u8]) -> Option<&[u8]>
-    ensures { option_copied result ≡ next_kind count bytes.now }
-{
-    if (count as u64) < LAST_NUMBER {
-        behind(b',', bytes)
-    } else {
-        None
-    }
-}
-
-const KINDS: [(&[u8], ParamKind); 6] = [
-    (b"type", ParamKind::OfType),
-    (b"null", ParamKind::Null),
-    (b"bool", ParamKind::Bool),
-    (b"int", ParamKind::Int),
-    (b"char", ParamKind::Char),
-    (b"string", ParamKind::Str),
-];
-
-/// The kind of a parameter; the first byte shows which.
-#[tactic(auto, unfolding(crate::specs::SpecReading::kind_read))]
-fn kind_at(bytes: &[u8]) -> Result<(ParamKind, &[u8]), FormatError>
-    ensures { Gives (λ x. (x.0, x.1.now)) result (kind_read bytes.now) }
-{
-    kind_in(&KINDS, bytes)
-}
-
-fn kind_in<'a>(
-    table: &[(&[u8], ParamKind)],
-    bytes: &'a [u8],
-) -> Result<(ParamKind, &'a [u8]), FormatError>
-    ensures { Gives (λ x. (x.0, x.1.now)) result (kind_in (map (λ entry. (entry.0.now, entry.1)) table.now) bytes.now) }
-{
-    match table {
-        [] => Err(fault(bytes)),
-        [(word, kind), others @ ..] => {
-            if begin_alike(word, bytes) {
-                Ok((*kind, literal(word, bytes)?))
-            } else {
-                kind_in(others, bytes)
-            }
-        }
-    }
-}
-
-/// Whether both have a first byte, the same.
-fn begin_alike(a: &[u8], b: &[u8]) -> bool
-    ensures { result ≡ begin_alike a.now b.now }
-{
-    match a {
-        [] => false,
-        [first, ..] => begins_with(*first, b),
     }
 }
 
@@ -249,8 +229,7 @@ fn demands_at<'a>(
     let mut previous: &[u8] = &[];
     let mut rest = bytes;
     for _ in 0..bytes.len() {
-        let (demand, name, after) =
-            demand_at(alloc, types, scope, param, previous, rest, depth)?;
+        let (demand, name, after) = demand_at(alloc, types, scope, param, previous, rest, depth)?;
         let asked = demand.param;
         made.push(demand)?;
         match next_demand(scope, asked, name, after) {

@@ -3,7 +3,7 @@
 
 ghost use Rattle.std.specs.Prelude.{◌≡◌, ◌<◌, [], ◌∷◌, length, IfOk};
 ghost use Rattle.clu_specs.specs.Reading.{Gives};
-ghost use Rattle.clu_specs.specs.TypeReading.{type_read, word_type_read, keyword_type_read, cluster_type_read, types_read, closed_types_read, field_read, fields_read, signal_read, signals_read, objects_read, arguments_read, results_read, all_signals_read, heading_read, all_actuals_read, actuals_read, actual_read, word_actual_read, one_type_read};
+ghost use Rattle.clu_specs.specs.TypeReading.{type_read, keyword_type_read, cluster_type_read, types_read, closed_types_read, field_read, fields_read, signal_read, signals_read, objects_read, arguments_read, results_read, all_signals_read, heading_read, all_actuals_read, actuals_read, actual_read, word_actual_read, one_type_read};
 ghost use Rattle.clu_types.specs.Arena.{type_at, types_at, fields_at, signals_at, actuals_at, types_of, AreBelow, FieldsBelow, SignalsBelow, ActualBelow, ActualsBelow, HeadingBelow, Grows};
 
 use crate::actuals::{is_marked, lead_of, marked_actual_at};
@@ -39,7 +39,7 @@ pub fn type_at<'a>(
 
 /// The type at the front. Its parts are nested `depth` deep.
 #[cycle(reading)]
-#[tactic(auto, unfolding(crate::specs::TypeReading::one_type_by))]
+#[tactic(auto, unfolding(crate::specs::TypeReading::one_type_by, crate::specs::TypeReading::word_type_by))]
 fn one_type_at<'a>(
     alloc: Global,
     types: &mut TypeArena,
@@ -56,28 +56,13 @@ fn one_type_at<'a>(
             let (n, rest) = scope.parameter_at(Sort::Type, bytes, behind_mark)?;
             Ok((types.intern(Term::Param(n))?, rest))
         }
-        None => word_type_at(alloc, types, scope, bytes, depth),
-    }
-}
-
-/// The type at the front that begins with a word. Its parts are nested `depth` deep.
-#[cycle(reading)]
-#[tactic(auto, unfolding(crate::specs::TypeReading::word_type_by))]
-fn word_type_at<'a>(
-    alloc: Global,
-    types: &mut TypeArena,
-    scope: &Scope,
-    bytes: &'a [u8],
-    depth: usize,
-) -> Result<(TypeId, &'a [u8]), FormatError>
-    ensures reads { Gives (λ x. (type_at (types_of types.new) x.0, x.1.now)) result (word_type_read scope.now (type_read scope.now depth) bytes.now) }
-    ensures within { IfOk result (λ x. x.0.0 < length types.new) }
-    ensures kept { Grows types.old types.new }
-{
-    let (word, rest) = split_word(bytes);
-    match keyword_of(word) {
-        Some(word) => keyword_type_at(alloc, types, scope, word, rest, depth),
-        None => cluster_type_at(alloc, types, scope, bytes, depth),
+        None => {
+            let (word, rest) = split_word(bytes);
+            match keyword_of(word) {
+                Some(word) => keyword_type_at(alloc, types, scope, word, rest, depth),
+                None => cluster_type_at(alloc, types, scope, bytes, depth),
+            }
+        }
     }
 }
 

@@ -4,7 +4,7 @@ ghost use Rattle.std.specs.Prelude.{◌≡◌, ◌+◌, ◌<◌, length, IfOk, I
 ghost use Rattle.clu_types.specs.Arena.{type_at, types_of, Grows};
 ghost use Rattle.clu_specs.specs.Reading.{Gives};
 ghost use Rattle.clu_specs.specs.Seen.{Used, use_text, target_seen};
-ghost use Rattle.clu_specs.specs.Offsets.{BeginsUse, NoFurther};
+ghost use Rattle.clu_specs.specs.Offsets.{BeginsUse, SoFar, NoFurther};
 ghost use Rattle.clu_specs.specs.Grammar.{IsUse};
 ghost use Rattle.clu_specs.specs.UseReading.{module_of, operation_read, whole_use};
 ghost use Rattle.clu_specs.specs.Uses.{TargetBelow};
@@ -19,7 +19,7 @@ use clu_types::{Actual, Term, TypeArena, TypeId};
 use std::alloc::Global;
 
 /// What a use names.
-#[derive(Debug, Drop, PartialEq, Eq)]
+#[derive(Debug, Drop)]
 pub enum Target {
     /// A module that is a routine, with its actual parameters.
     Module(Bytes, Sequence<Actual>),
@@ -37,6 +37,7 @@ pub fn read_use(alloc: Global, types: &mut TypeArena, b: &[u8]) -> Result<Target
     ensures spelled { IfOk result (λ target. b.now ≡ use_text (target_seen (types_of types.new) target)) }
     ensures grammar { IfOk result (λ target. IsUse (target_seen (types_of types.new) target)) }
     ensures complete { (u : Used) → IsUse u → b.now ≡ use_text u → Gives (λ target. target_seen (types_of types.new) target) result (Ok u) }
+    ensures so_far { IfErr result (SoFar BeginsUse b.now) }
     ensures no_further { IfErr result (NoFurther BeginsUse b.now) }
     ensures within { IfOk result (λ target. TargetBelow (length types.new) target) }
     ensures kept { Grows types.old types.new }

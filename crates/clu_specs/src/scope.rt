@@ -21,7 +21,7 @@ pub enum Sort {
 }
 
 /// The parameters that can be named.
-#[derive(Debug, Drop)]
+#[derive(Drop)]
 pub struct Scope {
     /// Whether any number may stand, as in a text read alone.
     pub alone: bool,

@@ -1,16 +1,11 @@
 //! Texts of types, uses and specifications: tables of rows, the longest names, and parts of what was read.
 
-ghost use Rattle.std.specs.Prelude.{ℕ, ◌<◌, IfOk};
-ghost use Rattle.clu_types.specs.Arena.{HeadingBelow};
-ghost use Rattle.clu_specs.specs.Specifications.{OpBelow, FormBelow, SpecHolds};
-
 use crate::texts::{SPECIFICATIONS, TALLY, TARGETS, TYPES, USES};
 use crate::{
-    Demand, Form, OpSpec, ParamKind, Spec, Target, read_spec, read_type, read_use, spec_text,
-    type_text, use_text,
+    Form, ParamKind, Target, read_spec, read_type, read_use, spec_text, type_text, use_text,
 };
-use clu_base::{Bytes, Const, FormatError, Sequence};
-use clu_types::{Actual, Heading, Term, TypeArena, TypeId};
+use clu_base::{Bytes, FormatError};
+use clu_types::TypeArena;
 use std::alloc::Global;
 use std::test::Fail;
 
@@ -181,122 +176,6 @@ fn what_uses_name(rt: HostRuntime) -> Result<(), Fail> {
     Ok(())
 }
 
-fn name(alloc: Global, text: &str) -> Result<Bytes, Fail> {
-    Ok(Bytes::from_slice(alloc, text.as_bytes())?)
-}
-
-/// A test's own step, where the arena may refuse a term that isn't its own.
-fn made(types: &mut TypeArena, term: Term) -> Result<TypeId, Fail> {
-    if types.holds(&term) {
-        Ok(types.intern(term)?)
-    } else {
-        Err("a part is not of the arena")?
-    }
-}
-
-#[test]
-fn actuals_of_a_use(rt: HostRuntime) -> Result<(), Fail> {
-    let alloc = rt.alloc();
-    let mut types = TypeArena::new(alloc);
-    let int = made(&mut types, Term::Int)?;
-    let target = read_use(alloc, &mut types, b"m[int,-7]")?;
-    match &target {
-        Target::Module(name, actuals) => {
-            let due = [Actual::Of(int), Actual::Const(Const::Int(-7))];
-            assert_eq!(rt; name.as_slice(), b"m".as_slice());
-            assert_eq!(rt; actuals.as_slice(), due.as_slice());
-        }
-        _ => Err("no module was read")?,
-    }
-    Ok(())
-}
-
-/// A heading of two arguments of one type and one result.
-fn binary(alloc: Global, of: TypeId, result_type: TypeId) -> Result<Heading, Fail>
-    ensures { IfOk result (λ h. (n : ℕ) → of.0 < n → result_type.0 < n → HeadingBelow n h) }
-{
-    let args = vec![in alloc; of, of]?;
-    let results = vec![in alloc; result_type]?;
-    Ok(Heading {
-        args: Sequence::from_vec(args),
-        results: Sequence::from_vec(results),
-        signals: Sequence::from_vec(Vec::new(alloc)),
-    })
-}
-
-/// `note:proc(#1,#1)returns(int)`, where these are the numbers of the two types.
-fn note(alloc: Global, parameter: TypeId, int: TypeId) -> Result<OpSpec, Fail>
-    ensures { IfOk result (λ op. (n : ℕ) → parameter.0 < n → int.0 < n → OpBelow n op) }
-{
-    let name = name(alloc, "note")?;
-    let heading = binary(alloc, parameter, int)?;
-    Ok(OpSpec {
-        name,
-        iter: false,
-        heading,
-        demands: Sequence::from_vec(Vec::new(alloc)),
-    })
-}
-
-/// The demands and operations of `TALLY`.
-fn tally_form(alloc: Global, wanted: TypeId, parameter: TypeId, int: TypeId) -> Result<Form, Fail>
-    ensures { IfOk result (λ form. (n : ℕ) → wanted.0 < n → parameter.0 < n → int.0 < n → FormBelow n form) }
-{
-    let op = name(alloc, "equal")?;
-    let demand = Demand {
-        param: 1,
-        op,
-        wanted,
-    };
-    let demands = vec![in alloc; demand]?;
-    let note = note(alloc, parameter, int)?;
-    let ops = vec![in alloc; note]?;
-    Ok(Form::Cluster(Sequence::from_vec(demands), Sequence::from_vec(ops)))
-}
-
-/// What `TALLY` says, over an arena that has these types.
-fn tally_over(
-    alloc: Global,
-    types: TypeArena,
-    wanted: TypeId,
-    parameter: TypeId,
-    int: TypeId,
-) -> Result<Spec, Fail>
-    ensures { IfOk result SpecHolds }
-{
-    if !types.contains(wanted) {
-        return Err("the wanted type is not of the arena")?;
-    }
-    if !types.contains(parameter) {
-        return Err("the parameter is not of the arena")?;
-    }
-    if !types.contains(int) {
-        return Err("int is not of the arena")?;
-    }
-    let form = tally_form(alloc, wanted, parameter, int)?;
-    let name = name(alloc, "tally")?;
-    let kinds = vec![in alloc; ParamKind::OfType]?;
-    Ok(Spec {
-        name,
-        kinds: Sequence::from_vec(kinds),
-        types,
-        form,
-    })
-}
-
-/// What `TALLY` says.
-fn tally_made(alloc: Global) -> Result<Spec, Fail>
-    ensures { IfOk result SpecHolds }
-{
-    let mut types = TypeArena::new(alloc);
-    let int = made(&mut types, Term::Int)?;
-    let bool = made(&mut types, Term::Bool)?;
-    let parameter = made(&mut types, Term::Param(1))?;
-    let equal = binary(alloc, parameter, bool)?;
-    let wanted = made(&mut types, Term::Proc(equal))?;
-    tally_over(alloc, types, wanted, parameter, int)
-}
-
 /// How many demands and operations a cluster has.
 fn counts(form: &Form) -> (usize, usize) {
     match form {
@@ -307,12 +186,9 @@ fn counts(form: &Form) -> (usize, usize) {
 
 #[test]
 fn tally(rt: HostRuntime) -> Result<(), Fail> {
-    let alloc = rt.alloc();
-    let spec = tally_made(alloc)?;
-    assert_eq!(rt; spec_text(alloc, &spec)?.as_slice(), TALLY.as_bytes());
-    let again = read_spec(alloc, TALLY.as_bytes())?;
-    assert_eq!(rt; again.name, spec.name);
-    assert_eq!(rt; again.kinds.as_slice(), [ParamKind::OfType].as_slice());
-    assert_eq!(rt; counts(&again.form), (1, 1));
+    let spec = read_spec(rt.alloc(), TALLY.as_bytes())?;
+    assert_eq!(rt; spec.name.as_slice(), b"tally".as_slice());
+    assert_eq!(rt; spec.kinds.as_slice(), [ParamKind::OfType].as_slice());
+    assert_eq!(rt; counts(&spec.form), (1, 1));
     Ok(())
 }

@@ -6,7 +6,7 @@ ghost use Rattle.clu_types.specs.Arena.{type_at, types_of, Grows};
 ghost use Rattle.clu_specs.specs.Scopes.{any_scope};
 ghost use Rattle.clu_specs.specs.Grammar.{IsType};
 ghost use Rattle.clu_specs.specs.Texts.{type_text};
-ghost use Rattle.clu_specs.specs.Offsets.{BeginsType, NoFurther};
+ghost use Rattle.clu_specs.specs.Offsets.{BeginsType, SoFar, NoFurther};
 ghost use Rattle.clu_specs.specs.Reading.{Gives};
 ghost use Rattle.clu_specs.specs.TypeReading.{whole_type};
 
@@ -24,6 +24,7 @@ pub fn read_type(alloc: Global, types: &mut TypeArena, b: &[u8]) -> Result<TypeI
     ensures spelled { IfOk result (λ id. b.now ≡ type_text (type_at (types_of types.new) id)) }
     ensures grammar { IfOk result (λ id. IsType any_scope (type_at (types_of types.new) id)) }
     ensures complete { (t : CluType) → IsType any_scope t → b.now ≡ type_text t → Gives (λ id. type_at (types_of types.new) id) result (Ok t) }
+    ensures so_far { IfErr result (SoFar BeginsType b.now) }
     ensures no_further { IfErr result (NoFurther BeginsType b.now) }
     ensures within { IfOk result (λ id. id.0 < length types.new) }
     ensures kept { Grows types.old types.new }

@@ -5,7 +5,7 @@ use Rattle.clu_types.proofs.Carrying.{grows_on}
 use Rattle.clu_specs.specs.Reading.{behind}
 use Rattle.clu_specs.specs.TypeReading.{type_read, types_step, fields_step, signals_step, actuals_step, next_after, types_read, fields_read, signals_read, actuals_read}
 use Rattle.clu_specs.proofs.Growing.{Makes, types_turn, fields_turn, signals_turn, actuals_turn, ids_grown}
-use Rattle.clu_specs.proofs.Rows.{row_on, row_end, row_fails, row_out, types_made, fields_made, signals_made, actuals_made, heading_made}
+use Rattle.clu_specs.proofs.Rows.{row_on, row_end, row_fails, fails_on, marked_fails, row_out, types_made, fields_made, signals_made, actuals_made, heading_made}
 use Rattle.clu_specs.proofs.read_types.+reading.Goals as goal
 
 pub types_at-loop-preserved : goal.types_at-loop-preserved
@@ -16,7 +16,7 @@ types_at-loop-preserved t c =
       so_far =
           rw c.in_ok-push.ensures.items
           (row_on (types_step part) (λ made rest. behind 44 rest) (length c.args.bytes.now) c.loop.counter (types_at (types_of c.loop.types) c.loop.made.items) _ c.loop.rest.now c.in_ok-id.after.now c.in-Some.next.now _ c.loop-test.true
-            (types_made c.loop.types c.type_at.new.types c.in_ok-id.ensures.kept part c.loop.made.items c.in_ok-id.id c.loop.rest.now c.in_ok-id.after.now c.loop.invariant.makes.within c.in_ok-id.ensures.reads) (sym c.in-Some.ensures) c.loop.invariant.so_far);
+          (types_made c.loop.types c.type_at.new.types c.in_ok-id.ensures.kept part c.loop.made.items c.in_ok-id.id c.loop.rest.now c.in_ok-id.after.now c.loop.invariant.makes.within c.in_ok-id.ensures.reads) (sym c.in-Some.ensures) c.loop.invariant.so_far);
     }
 
 pub types_at-returns-in-None-clause-within : goal.types_at-returns-in-None-clause-within
@@ -30,7 +30,7 @@ unfolding types_read
 types_at-returns-in-None-clause-reads t c =
     let part = type_read c.args.scope.now c.args.depth in
     let read = row_end (types_step part) (λ made rest. behind 44 rest) (length c.args.bytes.now) c.loop.counter (types_at (types_of c.loop.types) c.loop.made.items) _ c.loop.rest.now c.in_ok-id.after.now _ c.loop-test.true
-      (types_made c.loop.types c.type_at.new.types c.in_ok-id.ensures.kept part c.loop.made.items c.in_ok-id.id c.loop.rest.now c.in_ok-id.after.now c.loop.invariant.makes.within c.in_ok-id.ensures.reads) (sym c.in-None.ensures) c.loop.invariant.so_far in
+    (types_made c.loop.types c.type_at.new.types c.in_ok-id.ensures.kept part c.loop.made.items c.in_ok-id.id c.loop.rest.now c.in_ok-id.after.now c.loop.invariant.makes.within c.in_ok-id.ensures.reads) (sym c.in-None.ensures) c.loop.invariant.so_far in
     rw (c.from_vec.ensures, c.in_ok-push.ensures.items) read
 
 pub types_at-returns-clause-reads : goal.types_at-returns-clause-reads
@@ -45,7 +45,7 @@ unfolding types_read
 types_at-returns-in_err-id-clause-reads t c =
     let part = type_read c.args.scope.now c.args.depth in
     let p = err_from_is_err_and c.from_residual.result c.from_residual.ensures.1 in
-    rw (p.1, p.2) (row_fails (types_step part) (λ made rest. behind 44 rest) c.in_err-id.field-0.0 (length c.args.bytes.now) c.loop.counter (types_at (types_of c.loop.types) c.loop.made.items) c.loop.rest.now _ c.loop-test.true c.in_err-id.ensures.reads c.loop.invariant.so_far)
+    rw (p.1, p.2) (row_fails (types_step part) (λ made rest. behind 44 rest) c.in_err-id.field-0.0 (length c.args.bytes.now) c.loop.counter (types_at (types_of c.loop.types) c.loop.made.items) c.loop.rest.now _ c.loop-test.true (fails_on c.in_err-id.field-0.0 _ _ c.in_err-id.ensures.reads) c.loop.invariant.so_far)
 
 pub fields_at-loop-preserved : goal.fields_at-loop-preserved
 fields_at-loop-preserved t c =
@@ -55,7 +55,7 @@ fields_at-loop-preserved t c =
       so_far =
           rw c.in_ok-push.ensures.items
           (row_on (fields_step part) (λ made rest. next_after made.1 rest) (length c.args.bytes.now) c.loop.counter (fields_at (types_of c.loop.types) c.loop.made.items, c.loop.previous.now) _ c.loop.rest.now c.in_ok-field.after.now c.in-Some.next.now _ c.loop-test.true
-            (fields_made c.loop.types c.field_at.new.types c.in_ok-field.ensures.kept part c.loop.made.items c.in_ok-field.field c.loop.previous.now c.in_ok-field.name.now c.loop.rest.now c.in_ok-field.after.now c.in_ok-field.ensures.name c.loop.invariant.makes.within c.in_ok-field.ensures.reads) (sym c.in-Some.ensures) c.loop.invariant.so_far);
+          (fields_made c.loop.types c.field_at.new.types c.in_ok-field.ensures.kept part c.loop.made.items c.in_ok-field.field c.loop.previous.now c.in_ok-field.name.now c.loop.rest.now c.in_ok-field.after.now c.in_ok-field.ensures.name c.loop.invariant.makes.within c.in_ok-field.ensures.reads) (sym c.in-Some.ensures) c.loop.invariant.so_far);
     }
 
 pub fields_at-returns-in-None-clause-within : goal.fields_at-returns-in-None-clause-within
@@ -69,7 +69,7 @@ unfolding fields_read
 fields_at-returns-in-None-clause-reads t c =
     let part = type_read c.args.scope.now c.args.depth in
     let read = row_end (fields_step part) (λ made rest. next_after made.1 rest) (length c.args.bytes.now) c.loop.counter (fields_at (types_of c.loop.types) c.loop.made.items, c.loop.previous.now) _ c.loop.rest.now c.in_ok-field.after.now _ c.loop-test.true
-      (fields_made c.loop.types c.field_at.new.types c.in_ok-field.ensures.kept part c.loop.made.items c.in_ok-field.field c.loop.previous.now c.in_ok-field.name.now c.loop.rest.now c.in_ok-field.after.now c.in_ok-field.ensures.name c.loop.invariant.makes.within c.in_ok-field.ensures.reads) (sym c.in-None.ensures) c.loop.invariant.so_far in
+    (fields_made c.loop.types c.field_at.new.types c.in_ok-field.ensures.kept part c.loop.made.items c.in_ok-field.field c.loop.previous.now c.in_ok-field.name.now c.loop.rest.now c.in_ok-field.after.now c.in_ok-field.ensures.name c.loop.invariant.makes.within c.in_ok-field.ensures.reads) (sym c.in-None.ensures) c.loop.invariant.so_far in
     rw (c.from_vec.ensures, c.in_ok-push.ensures.items) (rw read refl)
 
 pub fields_at-returns-clause-reads : goal.fields_at-returns-clause-reads
@@ -84,7 +84,7 @@ unfolding fields_read
 fields_at-returns-in_err-field-clause-reads t c =
     let part = type_read c.args.scope.now c.args.depth in
     let p = err_from_is_err_and c.from_residual.result c.from_residual.ensures.1 in
-    rw (p.1, p.2) (row_fails (fields_step part) (λ made rest. next_after made.1 rest) c.in_err-field.field-0.0 (length c.args.bytes.now) c.loop.counter (fields_at (types_of c.loop.types) c.loop.made.items, c.loop.previous.now) c.loop.rest.now _ c.loop-test.true c.in_err-field.ensures.reads c.loop.invariant.so_far)
+    rw (p.1, p.2) (fails_on c.in_err-field.field-0.0 _ _ (row_fails (fields_step part) (λ made rest. next_after made.1 rest) c.in_err-field.field-0.0 (length c.args.bytes.now) c.loop.counter (fields_at (types_of c.loop.types) c.loop.made.items, c.loop.previous.now) c.loop.rest.now _ c.loop-test.true (fails_on c.in_err-field.field-0.0 _ _ c.in_err-field.ensures.reads) c.loop.invariant.so_far))
 
 pub signals_at-loop-preserved : goal.signals_at-loop-preserved
 signals_at-loop-preserved t c =
@@ -94,7 +94,7 @@ signals_at-loop-preserved t c =
       so_far =
           rw c.in_ok-push.ensures.items
           (row_on (signals_step part) (λ made rest. next_after made.1 rest) (length c.args.bytes.now) c.loop.counter (signals_at (types_of c.loop.types) c.loop.made.items, c.loop.previous.now) _ c.loop.rest.now c.in_ok-signal.after.now c.in-Some.next.now _ c.loop-test.true
-            (signals_made c.loop.types c.signal_at.new.types c.in_ok-signal.ensures.kept part c.loop.made.items c.in_ok-signal.signal c.loop.previous.now c.in_ok-signal.name.now c.loop.rest.now c.in_ok-signal.after.now c.in_ok-signal.ensures.name c.loop.invariant.makes.within c.in_ok-signal.ensures.reads) (sym c.in-Some.ensures) c.loop.invariant.so_far);
+          (signals_made c.loop.types c.signal_at.new.types c.in_ok-signal.ensures.kept part c.loop.made.items c.in_ok-signal.signal c.loop.previous.now c.in_ok-signal.name.now c.loop.rest.now c.in_ok-signal.after.now c.in_ok-signal.ensures.name c.loop.invariant.makes.within c.in_ok-signal.ensures.reads) (sym c.in-Some.ensures) c.loop.invariant.so_far);
     }
 
 pub signals_at-returns-in-None-clause-within : goal.signals_at-returns-in-None-clause-within
@@ -108,7 +108,7 @@ unfolding signals_read
 signals_at-returns-in-None-clause-reads t c =
     let part = type_read c.args.scope.now c.args.depth in
     let read = row_end (signals_step part) (λ made rest. next_after made.1 rest) (length c.args.bytes.now) c.loop.counter (signals_at (types_of c.loop.types) c.loop.made.items, c.loop.previous.now) _ c.loop.rest.now c.in_ok-signal.after.now _ c.loop-test.true
-      (signals_made c.loop.types c.signal_at.new.types c.in_ok-signal.ensures.kept part c.loop.made.items c.in_ok-signal.signal c.loop.previous.now c.in_ok-signal.name.now c.loop.rest.now c.in_ok-signal.after.now c.in_ok-signal.ensures.name c.loop.invariant.makes.within c.in_ok-signal.ensures.reads) (sym c.in-None.ensures) c.loop.invariant.so_far in
+    (signals_made c.loop.types c.signal_at.new.types c.in_ok-signal.ensures.kept part c.loop.made.items c.in_ok-signal.signal c.loop.previous.now c.in_ok-signal.name.now c.loop.rest.now c.in_ok-signal.after.now c.in_ok-signal.ensures.name c.loop.invariant.makes.within c.in_ok-signal.ensures.reads) (sym c.in-None.ensures) c.loop.invariant.so_far in
     rw (c.from_vec.ensures, c.in_ok-push.ensures.items) (rw read refl)
 
 pub signals_at-returns-clause-reads : goal.signals_at-returns-clause-reads
@@ -123,7 +123,7 @@ unfolding signals_read
 signals_at-returns-in_err-signal-clause-reads t c =
     let part = type_read c.args.scope.now c.args.depth in
     let p = err_from_is_err_and c.from_residual.result c.from_residual.ensures.1 in
-    rw (p.1, p.2) (row_fails (signals_step part) (λ made rest. next_after made.1 rest) c.in_err-signal.field-0.0 (length c.args.bytes.now) c.loop.counter (signals_at (types_of c.loop.types) c.loop.made.items, c.loop.previous.now) c.loop.rest.now _ c.loop-test.true c.in_err-signal.ensures.reads c.loop.invariant.so_far)
+    rw (p.1, p.2) (fails_on c.in_err-signal.field-0.0 _ _ (row_fails (signals_step part) (λ made rest. next_after made.1 rest) c.in_err-signal.field-0.0 (length c.args.bytes.now) c.loop.counter (signals_at (types_of c.loop.types) c.loop.made.items, c.loop.previous.now) c.loop.rest.now _ c.loop-test.true (fails_on c.in_err-signal.field-0.0 _ _ c.in_err-signal.ensures.reads) c.loop.invariant.so_far))
 
 pub actuals_at-loop-preserved : goal.actuals_at-loop-preserved
 actuals_at-loop-preserved t c =
@@ -133,7 +133,7 @@ actuals_at-loop-preserved t c =
       so_far =
           rw c.in_ok-push.ensures.items
           (row_on (actuals_step c.args.scope.now part) (λ made rest. behind 44 rest) (length c.args.bytes.now) c.loop.counter (actuals_at (types_of c.loop.types) c.loop.made.items) _ c.loop.rest.now c.in_ok-actual.after.now c.in-Some.next.now _ c.loop-test.true
-            (actuals_made c.loop.types c.actual_at.new.types c.in_ok-actual.ensures.kept c.args.scope.now part c.loop.made.items c.in_ok-actual.actual c.loop.rest.now c.in_ok-actual.after.now c.loop.invariant.makes.within c.in_ok-actual.ensures.reads) (sym c.in-Some.ensures) c.loop.invariant.so_far);
+          (actuals_made c.loop.types c.actual_at.new.types c.in_ok-actual.ensures.kept c.args.scope.now part c.loop.made.items c.in_ok-actual.actual c.loop.rest.now c.in_ok-actual.after.now c.loop.invariant.makes.within c.in_ok-actual.ensures.reads) (sym c.in-Some.ensures) c.loop.invariant.so_far);
     }
 
 pub actuals_at-returns-in-None-clause-within : goal.actuals_at-returns-in-None-clause-within
@@ -147,7 +147,7 @@ unfolding actuals_read
 actuals_at-returns-in-None-clause-reads t c =
     let part = type_read c.args.scope.now c.args.depth in
     let read = row_end (actuals_step c.args.scope.now part) (λ made rest. behind 44 rest) (length c.args.bytes.now) c.loop.counter (actuals_at (types_of c.loop.types) c.loop.made.items) _ c.loop.rest.now c.in_ok-actual.after.now _ c.loop-test.true
-      (actuals_made c.loop.types c.actual_at.new.types c.in_ok-actual.ensures.kept c.args.scope.now part c.loop.made.items c.in_ok-actual.actual c.loop.rest.now c.in_ok-actual.after.now c.loop.invariant.makes.within c.in_ok-actual.ensures.reads) (sym c.in-None.ensures) c.loop.invariant.so_far in
+    (actuals_made c.loop.types c.actual_at.new.types c.in_ok-actual.ensures.kept c.args.scope.now part c.loop.made.items c.in_ok-actual.actual c.loop.rest.now c.in_ok-actual.after.now c.loop.invariant.makes.within c.in_ok-actual.ensures.reads) (sym c.in-None.ensures) c.loop.invariant.so_far in
     rw (c.from_vec.ensures, c.in_ok-push.ensures.items) read
 
 pub actuals_at-returns-clause-reads : goal.actuals_at-returns-clause-reads
@@ -162,7 +162,7 @@ unfolding actuals_read
 actuals_at-returns-in_err-actual-clause-reads t c =
     let part = type_read c.args.scope.now c.args.depth in
     let p = err_from_is_err_and c.from_residual.result c.from_residual.ensures.1 in
-    rw (p.1, p.2) (row_fails (actuals_step c.args.scope.now part) (λ made rest. behind 44 rest) c.in_err-actual.field-0.0 (length c.args.bytes.now) c.loop.counter (actuals_at (types_of c.loop.types) c.loop.made.items) c.loop.rest.now _ c.loop-test.true c.in_err-actual.ensures.reads c.loop.invariant.so_far)
+    rw (p.1, p.2) (row_fails (actuals_step c.args.scope.now part) (λ made rest. behind 44 rest) c.in_err-actual.field-0.0 (length c.args.bytes.now) c.loop.counter (actuals_at (types_of c.loop.types) c.loop.made.items) c.loop.rest.now _ c.loop-test.true (fails_on c.in_err-actual.field-0.0 _ _ c.in_err-actual.ensures.reads) c.loop.invariant.so_far)
 
 pub heading_at-returns-clause-within : goal.heading_at-returns-clause-within
 heading_at-returns-clause-within t c = (
@@ -188,8 +188,10 @@ keyword_type_at-intern-requires-in-Selecting t c = c.selecting_term.ensures.part
 pub keyword_type_at-intern-requires-in-Routine : goal.keyword_type_at-intern-requires-in-Routine
 keyword_type_at-intern-requires-in-Routine t c = c.routine_term.ensures.parts _ c.in_ok-heading-in-Routine.ensures.within
 
-pub actual_at-returns-in_ok-actual-in_default : goal.actual_at-returns-in_ok-actual-in_default
-actual_at-returns-in_ok-actual-in_default t c = record {
-  within = c.in_ok-actual-in_default.ensures.within _;
-  kept = ([], sym (append-nil c.args.types.now));
-}
+pub actual_at-returns-in_err-actual-clause-reads : goal.actual_at-returns-in_err-actual-clause-reads
+actual_at-returns-in_err-actual-clause-reads t c =
+    let p = err_from_is_err_and c.from_residual.result c.from_residual.ensures.1 in
+    rw (p.1, p.2) (marked_fails c.args.scope.now (type_read c.args.scope.now c.args.depth) c.in_err-actual.field-0.0 _ _ (c.in_err-actual.ensures.reads []) (cc) (cc))
+
+pub actual_at-returns-then-is_marked-clause-within : goal.actual_at-returns-then-is_marked-clause-within
+actual_at-returns-then-is_marked-clause-within t c = c.in_ok-actual.ensures.within _

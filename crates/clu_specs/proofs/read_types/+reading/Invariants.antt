@@ -12,9 +12,6 @@ decreases-type_at l = 11 * l.depth
 abbrev pub decreases-one_type_at : goal.decreases-one_type_at
 decreases-one_type_at l = 11 * l.depth + 10
 
-abbrev pub decreases-word_type_at : goal.decreases-word_type_at
-decreases-word_type_at l = 11 * l.depth + 9
-
 abbrev pub decreases-keyword_type_at : goal.decreases-keyword_type_at
 decreases-keyword_type_at l = 11 * l.depth + 8
 

@@ -1,7 +1,7 @@
 use Rattle.std.proofs.Common.{◌≡◌, ◌-◌, [], length}
 use Rattle.clu_specs.specs.Reading.{several}
 use Rattle.clu_specs.specs.SpecReading.{kinds_step, kinds_next}
-use Rattle.clu_specs.proofs.read_specs.kinds_at.Given as goal
+use Rattle.clu_specs.proofs.read_kinds.kinds_at.Given as goal
 
 abbrev pub invariant-loop : goal.invariant-loop
 invariant-loop l =
