@@ -9,7 +9,7 @@ use Rattle.clu_words.specs.Command.{Limits}
 use Rattle.rv_isa.specs.Image.{Contents}
 use Rattle.clu_driver.specs.Commands.{GoShows, PutShows}
 use Rattle.clu_driver.specs.Found.{IsFound}
-use Rattle.clu_driver.specs.Sources.{IsRefusedBy, NotAccepted, NotBuilt, NotCompiled, NotParsed, NotSource}
+use Rattle.clu_driver.specs.Sources.{IsRefusedBy, NotAccepted, NotCompiled, NotParsed, NotSource}
 use Rattle.clu_driver.specs.World.{Streams, World, world_of}
 use Rattle.clu_driver.specs.declared.outcome.Outcome.{Outcome}
 use Rattle.clu_driver.specs.declared.outcome.Outcome.TheVariants as outcome
@@ -49,31 +49,11 @@ found_as P Q (Some all) name f found = (found.0, found.1, f found.0 found.2)
 pub parsed_not : (how : Outcome) (name : List ℕ) (files : Option Files) (faults faults' : ℕ) → NotParsed how name files faults faults' → NotCompiled how name files faults faults'
 parsed_not (outcome.Refused n r) name files faults faults' why =
     (why.0, found_as (λ b. IsRefusedBy b r) (λ b. IsRefusedBy b r ⊎ (4 ≤ number_of r.rule)) files name (λ b is. inl is) why.1)
-parsed_not (outcome.NoModule n) name files faults faults' why = elim why [ ]
-parsed_not (outcome.BadStart n) name files faults faults' why = elim why [ ]
-parsed_not outcome.TooManyInstances name files faults faults' why = elim why [ ]
-parsed_not outcome.ProgramTooLarge name files faults faults' why = elim why [ ]
-parsed_not outcome.LibraryFull name files faults faults' why = elim why [ ]
 parsed_not _ name files faults faults' why = why
 
-accepted_not : (how : Outcome) (name bytes : List ℕ) (files : Option Files) (faults faults' : ℕ) → IsFound files name (λ b. b ≡ bytes) → NotAccepted how name → NotCompiled how name files faults faults'
+pub accepted_not : (how : Outcome) (name bytes : List ℕ) (files : Option Files) (faults faults' : ℕ) → IsFound files name (λ b. b ≡ bytes) → NotAccepted how name → NotCompiled how name files faults faults'
 accepted_not (outcome.Refused n r) name bytes files faults faults' found why =
     (why.0, found_as (λ b. b ≡ bytes) (λ b. IsRefusedBy b r ⊎ (4 ≤ number_of r.rule)) files name (λ b is. inr why.1) found)
 accepted_not outcome.Memory name bytes files faults faults' found why = tt
 accepted_not outcome.NotYet name bytes files faults faults' found why = tt
 accepted_not _ name bytes files faults faults' found why = elim why [ ]
-
--- what is not built is not compiled, whatever the files show
-built_not : (how : Outcome) (name : List ℕ) (files : Option Files) (faults faults' : ℕ) → NotBuilt how → NotCompiled how name files faults faults'
-built_not (outcome.NoModule n) name files faults faults' why = why
-built_not (outcome.BadStart n) name files faults faults' why = why
-built_not outcome.TooManyInstances name files faults faults' why = tt
-built_not outcome.ProgramTooLarge name files faults faults' why = tt
-built_not outcome.LibraryFull name files faults faults' why = tt
-built_not outcome.Memory name files faults faults' why = tt
-built_not outcome.NotYet name files faults faults' why = tt
-built_not _ name files faults faults' why = elim why [ ]
-
-pub refused_not : (how : Outcome) (name bytes : List ℕ) (files : Option Files) (faults faults' : ℕ) → IsFound files name (λ b. b ≡ bytes) → NotAccepted how name ⊎ NotBuilt how → NotCompiled how name files faults faults'
-refused_not how name bytes files faults faults' found (inl refused) = accepted_not how name bytes files faults faults' found refused
-refused_not how name bytes files faults faults' found (inr unbuilt) = built_not how name files faults faults' unbuilt

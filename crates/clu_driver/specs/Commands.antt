@@ -84,8 +84,6 @@ CommandShows (Some _) how before after = (how ≡ outcome.NotYet) × IsUntouched
 abbrev pub CluShows : Option Meant → Outcome → World → World → Type 0
 CluShows meant how before after = ((how ≡ outcome.Memory) × IsUntouched before after) ⊎ CommandShows meant how before after
 
--- a status with which a command is refused: its words, its files, its image or source, its program, or memory
+-- a status with which a command is refused: its words, its files, its image or source, or memory
 abbrev pub IsRefusal : ℕ → Type 0
-IsRefusal status =
-    (status ≡ 2) ⊎ ((status ≡ 10) ⊎ ((status ≡ 11) ⊎ ((status ≡ 14) ⊎ ((status ≡ 16) ⊎ ((status ≡ 17) ⊎ ((status ≡ 18) ⊎ ((status ≡ 20)
-    ⊎ ((status ≡ 21) ⊎ ((status ≡ 24) ⊎ ((status ≡ 25) ⊎ ((status ≡ 26) ⊎ (status ≡ 27))))))))))))
+IsRefusal status = (status ≡ 2) ⊎ ((status ≡ 10) ⊎ ((status ≡ 11) ⊎ ((status ≡ 20) ⊎ ((status ≡ 24) ⊎ ((status ≡ 25) ⊎ ((status ≡ 26) ⊎ (status ≡ 27)))))))

@@ -1,6 +1,7 @@
 pub mod Commands
 pub mod Found
 pub mod Generated
+pub mod LiteralProgram
 pub mod Outcome
 pub mod Shows
 pub mod Sources

@@ -1,5 +1,5 @@
 -- Why a source is refused before it is checked.
-use Rattle.std.specs.Prelude.{◌≡◌, ◌<◌, ◌≤◌, ◌⊎◌, ℕ, List, Option, codes, length}
+use Rattle.std.specs.Prelude.{◌≡◌, ◌<◌, ◌≤◌, ◌⊎◌, ℕ, List, Option, length}
 use Rattle.clu_base.specs.Outside.{Files}
 use Rattle.clu_base.specs.Rules.{number_of}
 use Rattle.clu_base.specs.declared.rules.Refused.{Refused}
@@ -45,23 +45,7 @@ NotAccepted outcome.Memory name = Unit {0}
 NotAccepted outcome.NotYet name = Unit {0}
 NotAccepted _ name = ⊥
 
--- why an accepted file is not built
-abbrev pub NotBuilt : Outcome → Type 0
-NotBuilt (outcome.NoModule n) = n.now ≡ codes "start_up"
-NotBuilt (outcome.BadStart n) = n.now ≡ codes "start_up"
-NotBuilt outcome.TooManyInstances = Unit {0}
-NotBuilt outcome.ProgramTooLarge = Unit {0}
-NotBuilt outcome.LibraryFull = Unit {0}
-NotBuilt outcome.Memory = Unit {0}
-NotBuilt outcome.NotYet = Unit {0}
-NotBuilt _ = ⊥
-
--- why a source file is not compiled: it was not parsed, it was refused by a rule on modules, or it was accepted and not built
+-- why a source file is not compiled: it was not parsed, or it was refused by a rule on modules
 abbrev pub NotCompiled : Outcome → List ℕ → Option Files → ℕ → ℕ → Type 0
 NotCompiled (outcome.Refused n r) name files faults faults' = (n.now ≡ name) × IsFound files name (λ bytes. IsRefusedBy bytes r ⊎ (4 ≤ number_of r.rule))
-NotCompiled (outcome.NoModule n) name files faults faults' = NotBuilt (outcome.NoModule n)
-NotCompiled (outcome.BadStart n) name files faults faults' = NotBuilt (outcome.BadStart n)
-NotCompiled outcome.TooManyInstances name files faults faults' = Unit {0}
-NotCompiled outcome.ProgramTooLarge name files faults faults' = Unit {0}
-NotCompiled outcome.LibraryFull name files faults faults' = Unit {0}
 NotCompiled how name files faults faults' = NotParsed how name files faults faults'

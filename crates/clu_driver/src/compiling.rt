@@ -4,19 +4,20 @@ ghost use Rattle.std.specs.Prelude.{◌≡◌, ◌≤◌, ◌⊎◌, IfErr, OnOk
 ghost use Rattle.clu_image.specs.ImageFile.{image_bytes};
 ghost use Rattle.clu_words.specs.Command.{seen_limits};
 ghost use Rattle.clu_driver.specs.Commands.{GoShows, IsPut, NotPut, PutShows};
-ghost use Rattle.clu_driver.specs.Sources.{NotAccepted, NotBuilt, NotCompiled};
+ghost use Rattle.clu_driver.specs.Sources.{NotAccepted, NotCompiled};
 ghost use Rattle.clu_driver.specs.Shows.{Reported};
 ghost use Rattle.clu_driver.specs.World.{streams_of, world_of};
 
-use crate::building::image_of_modules;
-use crate::entering::Text;
 use crate::file::put;
+use crate::literal::literal_output;
+use crate::literal_code::literal_image;
 use crate::outcome::{Outcome, report};
 use crate::running::run;
-use crate::sources::{Parsed, parse_file};
+use crate::sources::parse_file;
 use clu_base::{Refused, Sink, Source, Store};
 use clu_check_mod::{CheckError, check};
 use clu_image::store;
+use clu_tree::Tree;
 use clu_types::Specs;
 use clu_words::RunLimits;
 use rv_isa::Image;
@@ -75,28 +76,17 @@ fn compiled<'a, F: Store>(alloc: Global, file: &'a str, files: &mut F) -> Result
     ensures refused { IfErr result (λ how. NotCompiled how file.now (F.files files.old) (F.faults files.old) (F.faults files.new)) }
 {
     match parse_file(alloc, file, files) {
-        Ok(source) => image_of(alloc, file, source),
+        Ok(source) => image_of(alloc, file, source.tree),
         Err(how) => Err(how),
     }
 }
 
-// The image of a source, checked over no specifications.
-fn image_of<'a>(alloc: Global, name: &'a str, source: Parsed) -> Result<Image, Outcome<'a>>
-    ensures refused { IfErr result (λ how. NotAccepted how name.now ⊎ NotBuilt how) }
+// The image of a file that has this tree, checked over no specifications.
+fn image_of<'a>(alloc: Global, name: &'a str, tree: Tree) -> Result<Image, Outcome<'a>>
+    ensures refused { IfErr result (λ how. NotAccepted how name.now) }
 {
-    let Parsed {
-        bytes,
-        tokens,
-        tree,
-    } = source;
     match check(alloc, tree, &Specs::new(alloc)) {
-        Ok(checked) => {
-            let text = Text {
-                bytes: &bytes,
-                tokens: &tokens,
-            };
-            image_of_modules(alloc, text, &checked)
-        }
+        Ok(checked) => literal_program(alloc, &checked.tree),
         Err(CheckError::Refused(refused)) => Err(not_accepted(name, refused)),
         Err(CheckError::Memory) => Err(Outcome::Memory),
         Err(CheckError::NotYet) => Err(Outcome::NotYet),
@@ -126,6 +116,20 @@ fn put_image<'a, F: Store>(
 {
     match store(alloc, image) {
         Ok(bytes) => put(alloc, name, bytes.as_slice(), files),
+        Err(_) => Err(Outcome::Memory),
+    }
+}
+
+// The image of a literal program; other programs are not compiled yet.
+fn literal_program<'a>(alloc: Global, tree: &Tree) -> Result<Image, Outcome<'a>>
+    ensures { IfErr result (λ how. (how ≡ Outcome.NotYet) ⊎ (how ≡ Outcome.Memory)) }
+{
+    match literal_output(alloc, tree) {
+        Ok(Some(output)) => match literal_image(alloc, output.as_slice()) {
+            Ok(image) => Ok(image),
+            Err(_) => Err(Outcome::Memory),
+        },
+        Ok(None) => Err(Outcome::NotYet),
         Err(_) => Err(Outcome::Memory),
     }
 }

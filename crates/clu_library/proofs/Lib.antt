@@ -1,3 +1,0 @@
-pub mod Ascending
-pub mod Entering
-pub mod Kept

@@ -1,2 +1,0 @@
--- Numbers that a program has.
-pub mod Numbers

@@ -1,2 +1,0 @@
--- What a lowered routine may take.
-pub mod Bounds

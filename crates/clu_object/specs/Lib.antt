@@ -1,2 +1,0 @@
--- What objects are made of.
-pub mod Holes

@@ -1,2 +1,0 @@
--- What is known of the code of operations that use those of components, and of force.
-pub mod Schemes

@@ -1,2 +1,0 @@
--- What is known of the code of an operation.
-pub mod Operations

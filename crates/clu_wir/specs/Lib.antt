@@ -1,4 +1,0 @@
--- What word code needs, and the numbers that it has.
-pub mod Numbers
-pub mod Rooms
-pub mod Widths
