@@ -1,0 +1,53 @@
+//! How choices and loops over iterators begin.
+
+use crate::errors::FrameError;
+use crate::flat::Flat;
+use crate::steps::{Steps, above};
+use crate::surroundings::{Surroundings, Turns};
+use clu_wir::WExpr;
+
+impl Steps<'_> {
+    /// Goes on at a label, which is the answer, where the condition is 0.
+    pub fn begin_choice(&mut self, condition: &WExpr, work: u32) -> Result<u32, FrameError> {
+        let slot = self.operand(condition, work)?;
+        let otherwise = self.label()?;
+        self.push(Flat::Branch(slot, otherwise))?;
+        Ok(otherwise)
+    }
+
+    /// Ends the first list of a choice, and begins the other one unless it is empty. The answer is the label of the
+    /// choice's end.
+    pub fn begin_other(&mut self, otherwise: u32, is_empty: bool) -> Result<u32, FrameError> {
+        if is_empty {
+            return Ok(otherwise);
+        }
+        let end = self.label()?;
+        self.push(Flat::Jump(end))?;
+        self.push(Flat::Label(otherwise))?;
+        Ok(end)
+    }
+
+    /// Calls an iterator. The first slot of work keeps the top of the stack round the loop's body. The call goes on at the
+    /// Jump behind it when the iterator ends, and at the Take behind that when it yields.
+    pub fn begin_turns(
+        &mut self,
+        routine: &WExpr,
+        arguments: &[WExpr],
+        items: &[u32],
+        round: Surroundings<'_>,
+    ) -> Result<Turns, FrameError> {
+        let top = round.work;
+        let work = above(top, 1)?;
+        let next = self.labels(2)?;
+        let end = above(next, 1)?;
+        self.invoke(routine, arguments, work)?;
+        self.push(Flat::Jump(end))?;
+        self.push(Flat::Take(top, work))?;
+        self.push_loads(items, work)?;
+        Ok(Turns {
+            next,
+            end,
+            cut: Some(round.mark),
+        })
+    }
+}

@@ -1,0 +1,46 @@
+//! Why word code has no flat code.
+
+use clu_base::Memory;
+use clu_wir::RegionError;
+use std::alloc::{AllocError, AllocFailed};
+use thiserror::Error;
+
+/// Why a routine was not flattened.
+#[derive(Clone, Copy, Debug, PartialEq, Eq, Error)]
+pub enum FrameError {
+    /// Memory was refused.
+    #[error("out of memory")]
+    Memory,
+    /// The word code is none that lowering makes: the name of an exception is no constant of the routine, an Exit
+    /// has no arm or another number of words than it, a Break or Continue stands in no loop, a slot is none of the
+    /// routine, or a number is too large.
+    #[error("not yet")]
+    NotYet,
+}
+
+impl From<Memory> for FrameError {
+    fn from(_error: Memory) -> FrameError {
+        FrameError::Memory
+    }
+}
+
+impl From<AllocError> for FrameError {
+    fn from(_error: AllocError) -> FrameError {
+        FrameError::Memory
+    }
+}
+
+impl<T: Drop> From<AllocFailed<T>> for FrameError {
+    fn from(_error: AllocFailed<T>) -> FrameError {
+        FrameError::Memory
+    }
+}
+
+impl From<RegionError> for FrameError {
+    fn from(error: RegionError) -> FrameError {
+        match error {
+            RegionError::Memory => FrameError::Memory,
+            RegionError::Misplaced => FrameError::NotYet,
+        }
+    }
+}

@@ -1,0 +1,80 @@
+//! Flat code: one list of simple steps over the words of one frame.
+
+use clu_base::{Bytes, ObjConst};
+use clu_wir::{HoleKind, WOp};
+
+/// A step of flat code. Numbers of slots count the frame's words behind its foot; a slot holds one word.
+///
+/// Two words travel with a jump from one routine to another, and `Take` is the first step where they arrive: a value,
+/// and the address of words side by side, which stay as they are until something is pushed on the stack.
+#[derive(Debug, Drop, PartialEq, Eq)]
+pub enum Flat {
+    /// To the first slot the word of the second.
+    Move(u32, u32),
+    /// To a slot a word.
+    Word(u32, u64),
+    /// To a slot what the linker knows: the item of this kind and number.
+    Hole(u32, HoleKind, u32),
+    /// To the first slot the word so many bytes behind the address in the second.
+    Load(u32, u32, i32),
+    /// So many bytes behind the address in the first slot, the word of the second.
+    Save(u32, i32, u32),
+    /// To the first slot the operation on the words of the other two.
+    Bin(WOp, u32, u32, u32),
+    /// A place for jumps, with its number.
+    Label(u32),
+    /// Goes on at a label.
+    Jump(u32),
+    /// Goes on at a label where the word of the slot is 0.
+    Branch(u32, u32),
+    /// The first step of a routine: makes its frame, or ends the run where the stack has no room for it, and copies
+    /// so many arguments into the first slots.
+    Enter(u32),
+    /// Calls the routine whose descriptor's address is in the slot, with the arguments in the slots behind it. Its
+    /// results are the words that travel back. A call of an iterator has a Jump to the end of its loop behind it, and
+    /// behind that the loop's body, to which a Yield comes.
+    Invoke(u32),
+    /// Yields the words in the slots from this one on: pushes a record of where to go on, or ends the run where the
+    /// stack has no room for it, and goes to the body of the loop in the caller's frame. There the value that travels is
+    /// the top of the stack above the record, and the words are those yielded.
+    Yield(u32),
+    /// Takes off the record below the top of the stack that is in the slot, and goes on in its iterator.
+    Resume(u32),
+    /// To the first slot the value that travelled, then to the second the address.
+    Take(u32, u32),
+    /// Cuts the stack to the top that is in this word of the frame.
+    Cut(u32),
+    /// Ends the routine; the words that travel are its results, in the slots from this one on.
+    Leave(u32),
+    /// Raises here the exception whose name is in the slot, with its objects in the slots behind it. At the arm that
+    /// takes it the value that travels is the name, and the words are the objects.
+    Raise(u32),
+    /// Ends the routine and raises where it was called, else as Raise.
+    Signal(u32),
+    /// The primitive of this number over the slots from this one on: its arguments before it, its results after it.
+    Prim(u32, u32),
+}
+
+/// The words of a frame before its slots: the return address, the place of the caller's frame, the caller's link
+/// table, the regions table of the routine, and the top of the stack outside all loops.
+pub const FOOT: u32 = 5;
+
+/// The limits on the stack count 16 words for a call beside those of its slots.
+const _: () = prove!(FOOT <= 16);
+
+/// The word of a frame that holds the top of the stack outside all loops.
+pub const OUTER_MARK: u32 = 4;
+
+/// A routine in flat code.
+#[derive(Debug, Drop)]
+pub struct FlatRoutine {
+    pub name: Bytes,
+    /// How many slots its frame has.
+    pub frame: u32,
+    pub code: Vec<Flat>,
+    /// The number of its nodes that the limits on programs count.
+    pub nodes: u32,
+    pub uses: Vec<Bytes>,
+    pub constants: Vec<ObjConst>,
+    pub types: Vec<Bytes>,
+}

@@ -1,0 +1,52 @@
+//! How guards and their arms begin.
+
+use crate::errors::FrameError;
+use crate::flat::Flat;
+use crate::steps::{Steps, above, number};
+use crate::surroundings::{Guard, Surroundings};
+use clu_wir::WArm;
+
+impl Steps<'_> {
+    /// Begins the region of a guard. It ends with the Jump over the arms, so that it has a step.
+    pub fn begin_guard<'a>(
+        &mut self,
+        arms: &'a [WArm],
+        round: Surroundings<'_>,
+    ) -> Result<Guard<'a>, FrameError> {
+        let label = self.labels(number(arms.len())?)?;
+        let end = self.label()?;
+        let region = self.open_region(round.region)?;
+        Ok(Guard {
+            arms,
+            label,
+            end,
+            region,
+            mark: round.mark,
+        })
+    }
+
+    /// Where an exception comes to an arm: the objects, or for an arm that takes all names the name, go into the
+    /// arm's slots. The objects of what was raised in this frame stand from the second word of work on, so that their
+    /// address goes where the name is that is not asked for.
+    pub fn begin_arm(
+        &mut self,
+        arm: &WArm,
+        region: u32,
+        round: Surroundings<'_>,
+    ) -> Result<(), FrameError> {
+        for name in &arm.names {
+            self.add_arm(region, Some(name), round.mark)?;
+        }
+        if arm.others {
+            self.add_arm(region, None, round.mark)?;
+        }
+        let work = round.work;
+        if arm.others {
+            self.push(Flat::Take(work, above(work, 1)?))?;
+            self.push_moves(arm.slots.as_slice(), work)
+        } else {
+            self.push(Flat::Take(work, work))?;
+            self.push_loads(arm.slots.as_slice(), work)
+        }
+    }
+}

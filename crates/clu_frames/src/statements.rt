@@ -1,0 +1,146 @@
+//! The walk over the statements of word code.
+
+use crate::errors::FrameError;
+use crate::flat::Flat;
+use crate::steps::{Steps, above, mark_of};
+use crate::surroundings::{Guard, Guards, Surroundings, Turns};
+use clu_wir::{WArm, WStmt};
+
+impl Steps<'_> {
+    #[cycle(statements)]
+    pub fn list(
+        &mut self,
+        statements: &[WStmt],
+        round: Surroundings<'_>,
+    ) -> Result<(), FrameError> {
+        for statement in statements {
+            self.statement(statement, round)?;
+        }
+        Ok(())
+    }
+
+    #[cycle(statements)]
+    fn statement(&mut self, statement: &WStmt, round: Surroundings<'_>) -> Result<(), FrameError> {
+        let work = round.work;
+        match statement {
+            WStmt::Set(slot, value) => self.set(*slot, value, work),
+            WStmt::Put(address, bytes, value) => self.put(address, *bytes, value, work),
+            WStmt::Call(routine, arguments, results) => {
+                self.call(routine, arguments.as_slice(), results.as_slice(), work)
+            }
+            WStmt::Prim(number, arguments, results) => {
+                self.primitive(*number, arguments.as_slice(), results.as_slice(), work)
+            }
+            WStmt::If(condition, then, other) => {
+                let otherwise = self.begin_choice(condition, work)?;
+                self.list(then.as_slice(), round)?;
+                let end = self.begin_other(otherwise, other.is_empty())?;
+                self.list(other.as_slice(), round)?;
+                self.push(Flat::Label(end))
+            }
+            WStmt::Loop(body) => self.turns(body.as_slice(), round),
+            WStmt::Break => self.break_loop(round),
+            WStmt::Continue => self.continue_loop(round),
+            WStmt::Iterate(routine, arguments, items, body) => {
+                let turns = self.begin_turns(
+                    routine,
+                    arguments.as_slice(),
+                    items.as_slice(),
+                    round,
+                )?;
+                self.iterate(body.as_slice(), turns, round)
+            }
+            WStmt::Yield(words) => self.yield_words(words.as_slice(), work),
+            WStmt::Raise(name, objects) => self.raise(name, objects.as_slice(), work),
+            WStmt::Signal(name, objects) => self.signal(name, objects.as_slice(), work),
+            WStmt::Exit(inside, arm, words) => self.exit(*inside, *arm, words.as_slice(), round),
+            WStmt::Guard(body, arms) => {
+                let guard = self.begin_guard(arms.as_slice(), round)?;
+                self.guarded(body.as_slice(), guard, round)?;
+                self.arms(arms.as_slice(), guard, round)
+            }
+            WStmt::Return(results) => self.leave(results.as_slice(), work),
+        }
+    }
+
+    #[cycle(statements)]
+    fn turns(&mut self, body: &[WStmt], round: Surroundings<'_>) -> Result<(), FrameError> {
+        let next = self.labels(2)?;
+        let end = above(next, 1)?;
+        let turns = Some(Turns {
+            next,
+            end,
+            cut: None,
+        });
+        self.push(Flat::Label(next))?;
+        self.list(body, Surroundings { turns, ..round })?;
+        self.push(Flat::Jump(next))?;
+        self.push(Flat::Label(end))
+    }
+
+    /// The body of a loop over an iterator, and what begins its next turn.
+    #[cycle(statements)]
+    fn iterate(
+        &mut self,
+        body: &[WStmt],
+        turns: Turns,
+        round: Surroundings<'_>,
+    ) -> Result<(), FrameError> {
+        let top = round.work;
+        let work = above(top, 1)?;
+        let mark = mark_of(top)?;
+        self.list(
+            body,
+            Surroundings {
+                work,
+                turns: Some(turns),
+                mark,
+                ..round
+            },
+        )?;
+        self.push(Flat::Label(turns.next))?;
+        self.push(Flat::Resume(top))?;
+        self.push(Flat::Label(turns.end))
+    }
+
+    /// The list of a guard, in its region.
+    #[cycle(statements)]
+    fn guarded(
+        &mut self,
+        body: &[WStmt],
+        guard: Guard<'_>,
+        round: Surroundings<'_>,
+    ) -> Result<(), FrameError> {
+        let guards = Guards {
+            guard,
+            outside: round.guards,
+        };
+        self.list(
+            body,
+            Surroundings {
+                guards: Some(&guards),
+                region: Some(guard.region),
+                ..round
+            },
+        )?;
+        self.close_region(guard.region, Flat::Jump(guard.end))
+    }
+
+    #[cycle(statements)]
+    fn arms(
+        &mut self,
+        arms: &[WArm],
+        guard: Guard<'_>,
+        round: Surroundings<'_>,
+    ) -> Result<(), FrameError> {
+        let mut label = guard.label;
+        for arm in arms {
+            self.begin_arm(arm, guard.region, round)?;
+            self.push(Flat::Label(label))?;
+            self.list(arm.body.as_slice(), round)?;
+            self.push(Flat::Jump(guard.end))?;
+            label = above(label, 1)?;
+        }
+        self.push(Flat::Label(guard.end))
+    }
+}

@@ -1,0 +1,183 @@
+//! Flat code in the making: its steps, its labels and its regions.
+
+use crate::errors::FrameError;
+use crate::flat::{FOOT, Flat};
+use clu_base::{Bytes, Const, ObjConst};
+use clu_wir::{Arm, RegionBuilder};
+use std::alloc::Global;
+
+/// The flat code of a routine in the making.
+#[derive(Drop)]
+pub struct Steps<'a> {
+    pub alloc: Global,
+    constants: &'a [ObjConst],
+    code: Vec<Flat>,
+    /// How many labels have numbers.
+    labels: u32,
+    /// Outer ones before those inside them.
+    regions: Vec<Planned>,
+}
+
+/// A region whose code may not be whole.
+#[derive(Drop)]
+struct Planned {
+    first: u32,
+    last: u32,
+    parent: Option<u32>,
+    arms: Vec<Arm>,
+}
+
+impl<'a> Steps<'a> {
+    /// No steps, of a routine with these constants.
+    pub fn new(alloc: Global, constants: &'a [ObjConst]) -> Steps<'a> {
+        Steps {
+            alloc,
+            constants,
+            code: Vec::new(alloc),
+            labels: 0,
+            regions: Vec::new(alloc),
+        }
+    }
+
+    pub fn push(&mut self, step: Flat) -> Result<(), FrameError> {
+        self.code.push(step)?;
+        Ok(())
+    }
+
+    /// The place of the step that comes next.
+    pub fn place(&self) -> Result<u32, FrameError> {
+        number(self.code.len())
+    }
+
+    /// A number for a label.
+    pub fn label(&mut self) -> Result<u32, FrameError> {
+        self.labels(1)
+    }
+
+    /// So many numbers for labels, by the first of them.
+    pub fn labels(&mut self, count: u32) -> Result<u32, FrameError> {
+        let first = self.labels;
+        self.labels = above(first, count)?;
+        Ok(first)
+    }
+
+    /// To a slot the name of an exception.
+    pub fn push_name(&mut self, slot: u32, name: &Bytes) -> Result<(), FrameError> {
+        let place = self
+            .constants
+            .iter()
+            .position(|constant| is_text(constant, name))
+            .ok_or(FrameError::NotYet)?;
+        self.push(Flat::Hole(slot, clu_wir::HoleKind::Constant, number(place)?))
+    }
+
+    /// To the slots the words behind the address in a slot.
+    pub fn push_loads(&mut self, slots: &[u32], address: u32) -> Result<(), FrameError> {
+        let mut bytes = 0i32;
+        for slot in slots {
+            self.push(Flat::Load(*slot, address, bytes))?;
+            bytes = bytes.checked_add(8).ok_or(FrameError::NotYet)?;
+        }
+        Ok(())
+    }
+
+    /// To the slots the words of those from `from` on.
+    pub fn push_moves(&mut self, slots: &[u32], from: u32) -> Result<(), FrameError> {
+        let mut from = from;
+        for slot in slots {
+            self.push(Flat::Move(*slot, from))?;
+            from = above(from, 1)?;
+        }
+        Ok(())
+    }
+
+    /// Begins a region, and gives its number.
+    pub fn open_region(&mut self, parent: Option<u32>) -> Result<u32, FrameError> {
+        let region = number(self.regions.len())?;
+        let first = self.place()?;
+        let arms = Vec::new(self.alloc);
+        self.regions.push(Planned {
+            first,
+            last: first,
+            parent,
+            arms,
+        })?;
+        Ok(region)
+    }
+
+    /// Pushes the last step of a region.
+    pub fn close_region(&mut self, region: u32, step: Flat) -> Result<(), FrameError> {
+        let last = self.place()?;
+        self.push(step)?;
+        let planned = self
+            .regions
+            .get_mut(region as usize)
+            .ok_or(FrameError::NotYet)?;
+        planned.last = last;
+        Ok(())
+    }
+
+    /// Gives a region an arm that begins at the next step. No name stands for all others.
+    pub fn add_arm(
+        &mut self,
+        region: u32,
+        name: Option<&Bytes>,
+        mark: u32,
+    ) -> Result<(), FrameError> {
+        let target = self.place()?;
+        let name = match name {
+            Some(name) => name.copy(self.alloc)?,
+            None => Bytes::from_vec(Vec::new(self.alloc)),
+        };
+        let planned = self
+            .regions
+            .get_mut(region as usize)
+            .ok_or(FrameError::NotYet)?;
+        planned.arms.push(Arm { name, target, mark })?;
+        Ok(())
+    }
+
+    /// Gives the regions to their builder, and the steps to the caller.
+    pub fn finish<B: RegionBuilder>(self, builder: &mut B) -> Result<Vec<Flat>, FrameError> {
+        let Steps {
+            alloc,
+            constants: _,
+            code,
+            labels: _,
+            regions,
+        } = self;
+        for region in regions {
+            let Planned {
+                first,
+                last,
+                parent,
+                arms,
+            } = region;
+            builder.add(alloc, first, last, parent, arms)?;
+        }
+        Ok(code)
+    }
+}
+
+/// Whether a constant is this string.
+fn is_text(constant: &ObjConst, text: &Bytes) -> bool {
+    match constant {
+        ObjConst::Value(Const::Str(bytes)) => bytes == text,
+        _ => false,
+    }
+}
+
+/// A count as a number of 32 bits.
+pub fn number(count: usize) -> Result<u32, FrameError> {
+    u32::try_from(count).map_err(|_| FrameError::NotYet)
+}
+
+/// The number so many above another, of a slot or a label.
+pub fn above(number: u32, count: u32) -> Result<u32, FrameError> {
+    number.checked_add(count).ok_or(FrameError::NotYet)
+}
+
+/// The word of the frame that is this slot.
+pub fn mark_of(slot: u32) -> Result<u32, FrameError> {
+    above(slot, FOOT)
+}

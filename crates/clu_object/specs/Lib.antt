@@ -1,0 +1,2 @@
+-- What objects are made of.
+pub mod Holes

@@ -1,0 +1,4 @@
+-- What word code needs, and the numbers that it has.
+pub mod Numbers
+pub mod Rooms
+pub mod Widths

@@ -1,0 +1,23 @@
+//! Word code: what a routine does, as statements and expressions over 64-bit words in numbered slots.
+//! It knows neither the source nor the stack.
+#![tactic(auto)]
+
+mod expression;
+mod hole;
+mod primitive;
+mod region;
+mod room;
+mod routine;
+mod statement;
+mod width;
+
+pub use crate::expression::{WExpr, WOp};
+pub use crate::hole::HoleKind;
+pub use crate::primitive::Primitive;
+pub use crate::region::{Arm, RegionBuilder, RegionError};
+pub use crate::room::Room;
+pub use crate::routine::WRoutine;
+pub use crate::statement::{WArm, WStmt};
+
+#[cfg(test)]
+mod tests;

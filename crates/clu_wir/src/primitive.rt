@@ -1,0 +1,52 @@
+//! What no word code can say: taking store, input and output, and single bytes.
+
+ghost use Rattle.std.specs.Prelude.{◌≡◌, slice_get};
+ghost use Rattle.clu_wir.specs.Numbers.{primitive_number, primitives};
+
+/// The primitives that word code calls by their number. Arguments and results are words.
+#[derive(Clone, Copy, Debug, PartialEq, Eq)]
+pub enum Primitive {
+    /// The number of words that are wanted to the address of the first of them, which lie behind those
+    /// taken before. Where the store has no room for them the run ends.
+    Allocate,
+    /// An address and a number of bytes: these bytes go to the output. No result.
+    Write,
+    /// The next byte of the input, which is taken, or -1 at its end.
+    TakeByte,
+    /// The next byte of the input, which stays, or -1 at its end.
+    PeekByte,
+    /// The byte at an address.
+    LoadByte,
+    /// An address and a byte, which is put there. No result.
+    SaveByte,
+    /// The number of a type in the program and the word of an object of that type, to the word of that object as one
+    /// of type any: the address of its own type's number and its word. Of type any itself it is the word that was given.
+    Bind,
+}
+
+/// All primitives, each at its number.
+const PRIMITIVES: [Primitive; 7] = [
+    Primitive::Allocate,
+    Primitive::Write,
+    Primitive::TakeByte,
+    Primitive::PeekByte,
+    Primitive::LoadByte,
+    Primitive::SaveByte,
+    Primitive::Bind,
+];
+
+impl Primitive {
+    /// The number by which word code calls it.
+    pub fn number(self) -> u32
+        ensures { result ≡ primitive_number self }
+    {
+        self as u32
+    }
+
+    /// The primitive with this number.
+    pub fn of(number: u32) -> Option<Primitive>
+        ensures { result ≡ slice_get primitives number }
+    {
+        PRIMITIVES.get(number as usize).copied()
+    }
+}
