@@ -3,7 +3,7 @@
 use crate::calls::ask_call;
 use crate::check::{Role, index_base, is_type_kind};
 use crate::constructors::{ask_elems, ask_field, ask_fields};
-use crate::literals::{ask_literal, ask_range};
+use crate::literals::ask_literal;
 use crate::names::{ask_force, ask_instance, ask_name, ask_oper_of, ask_parameterized};
 use crate::sugar::{ask_fetch, ask_get, ask_infix, ask_prefix};
 use crate::type_rules::{ask_constant, ask_type};
@@ -11,12 +11,10 @@ use crate::up_down::{ask_down, ask_up};
 use clu_base::{Bytes, Rule};
 use clu_core::Context;
 use clu_equates::{CheckError, Scope, Wanted, node_at, refuse};
+use clu_rules::{ask_lengths, ask_range};
 use clu_tree::{Node, NodeKind, Tree};
 use clu_types::TypeId;
 use indexmap::IndexSet;
-
-/// The longest name, in bytes.
-const NAME_BYTES: usize = 200;
 
 /// The rules at a node whose children were walked. Its siblings before it have these selectors or exceptions.
 pub fn ask(
@@ -39,16 +37,6 @@ pub fn ask(
         Role::Instance => ask_instance(scope, node),
         Role::Type => Err(CheckError::NotYet),
     }
-}
-
-/// V4 of the names of a node.
-pub fn ask_lengths(node: &Node) -> Result<(), CheckError> {
-    for name in node.names.as_slice() {
-        if name.as_slice().len() > NAME_BYTES {
-            return refuse(Rule::LiteralRange, node.place);
-        }
-    }
-    Ok(())
 }
 
 /// The rules at a type. Where an expression is wanted a type is V14.

@@ -1,9 +1,9 @@
 //! Type sets: the variable in scope, the demands on it, and the rules at Oper and TypeSet nodes.
 
-use crate::ask::ask_lengths;
 use clu_base::{Bytes, Rule, Sequence};
 use clu_core::Context;
 use clu_equates::{CheckError, Means, Scope, first_name, refuse, set_demands};
+use clu_rules::ask_lengths;
 use clu_tree::{Node, Tree};
 use clu_types::{Demand, TypeId};
 use std::alloc::Global;

@@ -7,7 +7,7 @@ use clu_equates::{
     CheckError, Means, Scope, Value, Wanted, first_name, intern, node_at, refuse, term, value_with,
 };
 use clu_tree::{Node, NodeKind, Tree};
-use clu_types::{Actual, ParamKind, Term, TypeId};
+use clu_types::{Actual, ParamKind, Term};
 use indexmap::IndexSet;
 
 /// The rules behind V4 at a node of a type, whose children were walked. Its siblings before it have these selectors

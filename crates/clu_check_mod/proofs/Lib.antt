@@ -1,2 +1,2 @@
 -- Lemmas on the modules of a file.
-pub mod OwnSpecs
+pub mod Closed

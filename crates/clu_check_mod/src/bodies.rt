@@ -2,12 +2,11 @@
 //! Cluster nodes.
 
 ghost use Rattle.std.specs.Prelude.{OnOk};
-ghost use Rattle.clu_check_mod.specs.Rules.{IsClosed};
+ghost use Rattle.clu_rules.specs.Rules.{IsClosed};
 
 use crate::entering::{Walk, enter_module, enter_routine};
 use crate::heading::{heading_of, type_in_heading};
-use crate::nodes::{Module, children_of, is_rep};
-use crate::rules::{ask, ask_end, ask_lengths, ask_owns_size, ask_size};
+use crate::nodes::{children_of, is_rep};
 use crate::specification::is_iter;
 use crate::units::{open_routine, open_unit};
 use clu_base::Rule;
@@ -15,6 +14,7 @@ use clu_check_expr::check_constant;
 use clu_check_stmt::{check_body, check_owns};
 use clu_core::{Context, RoutineUnit};
 use clu_equates::{CheckError, Means, Scope, first_name, node_at};
+use clu_rules::{Module, ask, ask_end, ask_lengths, ask_owns_size, ask_size};
 use clu_tree::{Node, NodeKind, Tree};
 use clu_types::{Spec, TypeId};
 

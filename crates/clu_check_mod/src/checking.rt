@@ -3,17 +3,17 @@
 
 ghost use Rattle.std.specs.Prelude.{◌≡◌, All, Some, IfOk, OnOk};
 ghost use Rattle.clu_tree.specs.Nodes.{modules};
-ghost use Rattle.clu_check_mod.specs.Modules.{name_of, AreOf, BeginWithOwn};
-ghost use Rattle.clu_check_mod.specs.Rules.{IsClosed, IsClosedAt};
+ghost use Rattle.clu_rules.specs.Modules.{name_of, AreOf, BeginWithOwn};
+ghost use Rattle.clu_rules.specs.Rules.{IsClosed, IsClosedAt};
 
 use crate::bodies::body;
 use crate::entering::enter_modules;
 use crate::headings::heading;
-use crate::nodes::{Module, module_at};
 use crate::specification::{exported, specification};
 use clu_base::Bytes;
 use clu_core::{Checked, Context};
 use clu_equates::{CheckError, Scope};
+use clu_rules::{Module, all_specs, module_at, names_before, own_specs};
 use clu_tree::Tree;
 use clu_types::{Spec, Specs};
 use indexmap::{IndexMap, IndexSet};
@@ -245,61 +245,4 @@ fn add_all(specs: &mut Specs, mut seen: IndexMap<Bytes, Spec>) -> Result<(), Che
         specs.with(spec)?;
     }
     Ok(())
-}
-
-// The specifications of the tree's modules, in the order of the text, and behind them those of all other modules.
-#[tactic(auto, using(crate::proofs::OwnSpecs::BeginWithOwn_behind))]
-fn all_specs(alloc: Global, tree: &Tree, specs: &Specs) -> Result<Vec<Spec>, CheckError>
-    ensures { IfOk result (λ all. BeginWithOwn tree.now all.items) }
-{
-    let mut all = own_specs(alloc, tree, specs)?;
-    let mut others = other_specs(alloc, tree, specs)?;
-    all.append(&mut others)?;
-    Ok(all)
-}
-
-// The specifications of the tree's modules, in the order of the text.
-fn own_specs(alloc: Global, tree: &Tree, specs: &Specs) -> Result<Vec<Spec>, CheckError>
-    ensures { IfOk result (λ own. AreOf tree.now (modules tree.now) own.items) }
-{
-    let mut own = Vec::new(alloc);
-    let numbers = tree.modules();
-    for n in numbers {
-        let module = module_at(tree, *n)?;
-        own.push(spec_named(alloc, specs, module.name)?)?;
-    }
-    Ok(own)
-}
-
-fn spec_named(alloc: Global, specs: &Specs, name: &Bytes) -> Result<Spec, CheckError>
-    ensures { IfOk result (λ spec. spec.name ≡ name.now) }
-{
-    match specs.get(name) {
-        Some(spec) => Ok(spec.copy(alloc)?),
-        None => Err(CheckError::NotYet),
-    }
-}
-
-// The specifications of the modules that the tree hasn't, ascending.
-fn other_specs(alloc: Global, tree: &Tree, specs: &Specs) -> Result<Vec<Spec>, CheckError> {
-    let names = names_before(alloc, tree, tree.modules().len())?;
-    let mut others = Vec::new(alloc);
-    for n in 0..u32::MAX {
-        let Some(spec) = specs.at(n) else {
-            break;
-        };
-        if !names.contains(&spec.name) {
-            others.push(spec.copy(alloc)?)?;
-        }
-    }
-    Ok(others)
-}
-
-// The names of the first modules of the tree.
-fn names_before(alloc: Global, tree: &Tree, place: usize) -> Result<IndexSet<Bytes>, CheckError> {
-    let mut names = IndexSet::new(alloc);
-    for n in tree.modules().iter().take(place) {
-        names.insert(module_at(tree, *n)?.name.copy(alloc)?)?;
-    }
-    Ok(names)
 }

@@ -1,12 +1,12 @@
 //! The names of a module, a cluster and a routine as they come into scope before their nodes are walked
 //! (CLU Reference Manual, sections 4.2 and 7.2).
 
-use crate::nodes::{Module, children_of, module_at};
-use crate::rules::is_stream;
+use crate::nodes::children_of;
 use crate::settling::settle;
 use clu_base::Bytes;
 use clu_core::Context;
 use clu_equates::{CheckError, Means, Scope, first_name, intern, node_at};
+use clu_rules::{Module, is_stream, module_at};
 use clu_tree::{Node, NodeKind, Tree};
 use clu_types::{Form, ParamKind, Specs, Term, TypeId};
 use std::alloc::Global;

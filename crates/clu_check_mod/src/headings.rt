@@ -2,8 +2,7 @@
 
 use crate::entering::{Walk, enter_definition, enter_own, enter_routine};
 use crate::heading::is_failure;
-use crate::nodes::{Module, children_of, is_cvt, is_rep};
-use crate::rules::{ask_lengths, define, define_all, is_stream};
+use crate::nodes::{children_of, is_cvt, is_rep};
 use crate::settling::settle;
 use crate::specification::{export_names, kind_of};
 use crate::units::{open_routine, open_unit};
@@ -12,6 +11,7 @@ use clu_base::{Bytes, Rule};
 use clu_check_expr::{check_constant, check_type};
 use clu_core::Context;
 use clu_equates::{CheckError, Scope, first_name, node_at, refuse, term};
+use clu_rules::{Module, ask_lengths, define, define_all, is_stream};
 use clu_tree::{Node, NodeKind, Tree};
 use clu_types::{Spec, Term, TypeId};
 use indexmap::IndexSet;

@@ -12,7 +12,6 @@ mod headings;
 mod locals;
 mod naming;
 mod nodes;
-mod rules;
 mod settling;
 mod specification;
 mod units;

@@ -2,11 +2,10 @@
 //! has defined for itself is none of them (CLU Reference Manual, sections 4.2 and 7.2).
 
 use crate::locals::Locals;
-use crate::nodes::module_at;
-use crate::rules::is_stream;
 use clu_base::{Bytes, Memory};
 use clu_core::Checked;
 use clu_equates::node_at;
+use clu_rules::{is_stream, module_at};
 use clu_tree::{Node, NodeKind, Tree};
 use indexmap::IndexSet;
 use std::alloc::Global;

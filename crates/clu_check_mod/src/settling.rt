@@ -2,7 +2,6 @@
 
 use crate::entering::Walk;
 use crate::specification::had;
-use clu_base::Sequence;
 use clu_check_expr::enter_equates;
 use clu_core::Context;
 use clu_equates::{CheckError, Scope, set_demands, settle_equates};

@@ -1,11 +1,11 @@
 //! The rules at where clauses (CLU Reference Manual, section 12.4).
 
 use crate::demands::{Asked, Clause, Demands, Wish, demands_of_set, set_of, type_parameter};
-use crate::rules::{ask_lengths, is_stream};
 use clu_base::{Bytes, Rule};
 use clu_check_expr::{check_constant, check_type};
 use clu_core::Context;
 use clu_equates::{Bound, CheckError, Scope, Settled, first_name, node_at, refuse};
+use clu_rules::{ask_lengths, is_stream};
 use clu_tree::{Node, NodeKind, Tree};
 use clu_types::TypeId;
 

@@ -1,10 +1,10 @@
 //! Assignments: Assign, SetField and SetIndex (CLU Reference Manual, sections 9 and 10).
 
-use crate::nodes::check_lengths;
 use clu_base::{Bytes, Rule};
 use clu_check_expr::{CallUse, check_call, check_expr, invoke};
 use clu_core::Context;
 use clu_equates::{CheckError, Means, Scope, included, node_at, refuse};
+use clu_rules::ask_lengths;
 use clu_tree::{Node, NodeKind, Tree};
 use clu_types::TypeId;
 
@@ -49,7 +49,7 @@ pub fn check_targets(
     node: &Node,
     given: &[TypeId],
 ) -> Result<(), CheckError> {
-    check_lengths(node)?;
+    ask_lengths(node)?;
     let names = node.names.as_slice();
     for name in names {
         if scope.find(name).is_none() {
@@ -91,7 +91,7 @@ pub fn check_set_field(
     };
     let of = check_expr(c, tree, scope, *object)?;
     let given = check_expr(c, tree, scope, *value)?;
-    check_lengths(node)?;
+    ask_lengths(node)?;
     let mut op = b"set_".to_vec(c.alloc)?;
     for selector in node.names.as_slice() {
         op.extend_from_slice(selector.as_slice())?;

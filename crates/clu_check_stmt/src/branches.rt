@@ -1,10 +1,10 @@
 //! Tagcase and its arms (CLU Reference Manual, section 11.6).
 
 use crate::frame::Frame;
-use crate::nodes::check_lengths;
 use clu_base::{Bytes, Rule};
 use clu_core::Context;
 use clu_equates::{CheckError, Scope, included, refuse, term};
+use clu_rules::ask_lengths;
 use clu_tree::Node;
 use clu_types::{Field, Term, TypeId};
 use std::cmp::Ordering;
@@ -39,7 +39,7 @@ pub fn check_tag_arm(
     variables: &[TypeId],
     frame: &mut Frame,
 ) -> Result<(), CheckError> {
-    check_lengths(arm)?;
+    ask_lengths(arm)?;
     let (names, of) = split_variable(scope, arm, variables)?;
     let Some(tags) = tags_of(c, frame)? else {
         return Ok(());

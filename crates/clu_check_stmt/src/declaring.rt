@@ -1,10 +1,10 @@
 //! Declarations of variables: Decl, Declare, Init and Own (CLU Reference Manual, section 8).
 
-use crate::nodes::check_lengths;
 use clu_base::{Bytes, Place, Rule};
 use clu_check_expr::{CallUse, check_call, check_expr, check_type};
 use clu_core::Context;
 use clu_equates::{CheckError, Means, Scope, included, node_at, only_child, refuse};
+use clu_rules::ask_lengths;
 use clu_tree::{Node, NodeKind, Tree};
 use clu_types::TypeId;
 use indexmap::IndexMap;
@@ -93,7 +93,7 @@ fn one_variable(
 ) -> Result<Variables, CheckError> {
     let of = check_type(c, tree, scope, of)?;
     let given = check_expr(c, tree, scope, value)?;
-    check_lengths(node)?;
+    ask_lengths(node)?;
     if scope.has_own(name) {
         return refuse(Rule::DefinedTwice, node.place);
     }
@@ -139,7 +139,7 @@ pub fn check_decl(
 ) -> Result<(), CheckError> {
     let node = node_at(tree, n)?;
     let of = check_type(c, tree, scope, only_child(node)?)?;
-    check_lengths(node)?;
+    ask_lengths(node)?;
     for name in node.names.as_slice() {
         if scope.has_own(name) || variables.insert(name.copy(c.alloc)?, of)?.is_some() {
             return refuse(Rule::DefinedTwice, node.place);

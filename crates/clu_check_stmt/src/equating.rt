@@ -1,10 +1,11 @@
 //! The Equate nodes of bodies, routines and clusters.
 
-use crate::nodes::{check_lengths, is_behind_value};
+use crate::nodes::is_behind_value;
 use clu_base::Rule;
 use clu_check_expr::check_constant;
 use clu_core::Context;
 use clu_equates::{CheckError, Scope, node_at, only_child, refuse};
+use clu_rules::ask_lengths;
 use clu_tree::{Node, NodeKind, Tree};
 
 /// Asks the rules at these Equate nodes and below them, in the order of the text: what the right side
@@ -31,7 +32,7 @@ pub fn check_equate(
 ) -> Result<(), CheckError> {
     let node = node_at(tree, n)?;
     check_constant(c, tree, scope, only_child(node)?)?;
-    check_lengths(node)?;
+    ask_lengths(node)?;
     for name in node.names.as_slice() {
         if scope.defined_before(name, n) {
             return refuse(Rule::DefinedTwice, node.place);

@@ -1,11 +1,11 @@
 //! Except and its arms, and Resignal (CLU Reference Manual, sections 12.2 to 12.4).
 
 use crate::frame::Frame;
-use crate::nodes::check_lengths;
 use crate::signals::{fit, fits_signal, is_listed};
 use clu_base::{Bytes, Rule};
 use clu_core::Context;
 use clu_equates::{CheckError, Scope, included, intern, refuse};
+use clu_rules::ask_lengths;
 use clu_tree::Node;
 use clu_types::{Term, TypeId};
 use indexmap::IndexSet;
@@ -17,7 +17,7 @@ pub fn check_when(
     variables: &[TypeId],
     frame: &mut Frame,
 ) -> Result<(), CheckError> {
-    check_lengths(when)?;
+    ask_lengths(when)?;
     let names = distinct(c, when)?;
     if when.value_token.is_none() {
         for name in names.as_slice() {
@@ -68,7 +68,7 @@ pub fn check_others(
     others: &Node,
     variables: &[TypeId],
 ) -> Result<(), CheckError> {
-    check_lengths(others)?;
+    ask_lengths(others)?;
     for name in others.names.as_slice() {
         if scope.has_own(name) {
             return refuse(Rule::DefinedTwice, others.place);
@@ -94,7 +94,7 @@ pub fn end_except(c: &mut Context, frame: &mut Frame) -> Result<(), CheckError> 
 /// The rules at a Resignal behind its statement: V4, V25 and V26. What it doesn't name goes on.
 pub fn end_resignal(c: &mut Context, node: &Node, frame: &mut Frame) -> Result<(), CheckError> {
     frame.raised.exchange(c);
-    check_lengths(node)?;
+    ask_lengths(node)?;
     let names = distinct(c, node)?;
     for name in names.as_slice() {
         if !is_listed(c, name)? {

@@ -5,11 +5,11 @@ ghost use Rattle.std.specs.Prelude.{◌≡◌, ◌<◌, OnErr, OnOk};
 
 use crate::arms::Arms;
 use crate::assigning::check_exprs;
-use crate::nodes::check_lengths;
 use crate::signals::{fit, fits_signal, is_listed};
-use clu_base::{Bytes, Refused, Rule};
+use clu_base::{Bytes, Rule};
 use clu_core::{Context, RoutineUnit};
 use clu_equates::{CheckError, Scope, refuse};
+use clu_rules::{ask_in_loop, ask_lengths};
 use clu_tree::{Node, Tree};
 
 /// The routine round the node.
@@ -80,7 +80,7 @@ pub fn check_signal(
 ) -> Result<(), CheckError> {
     let given = check_exprs(c, tree, scope, node.children.as_slice())?;
     let name = name_of(node)?;
-    check_lengths(node)?;
+    ask_lengths(node)?;
     if !is_listed(c, name)? {
         return refuse(Rule::SignalNotListed, node.place);
     }
@@ -100,7 +100,7 @@ pub fn check_exit(
 ) -> Result<(), CheckError> {
     let given = check_exprs(c, tree, scope, node.children.as_slice())?;
     let name = name_of(node)?;
-    check_lengths(node)?;
+    ask_lengths(node)?;
     let Some(arm) = arms.find(name) else {
         return refuse(Rule::ExitNoArm, node.place);
     };
@@ -115,11 +115,5 @@ pub fn check_loop_exit(c: &Context, node: &Node) -> Result<(), CheckError>
     ensures inside { OnOk result (0 < c.now.loops) }
     ensures outside { OnErr result (c.now.loops ≡ 0) }
 {
-    if c.loops == 0 {
-        return Err(CheckError::Refused(Refused {
-            rule: Rule::NotInLoop,
-            place: node.place,
-        }));
-    }
-    Ok(())
+    ask_in_loop(c.loops, node)
 }

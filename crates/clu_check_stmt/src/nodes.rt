@@ -1,21 +1,6 @@
 //! Nodes of a tree by number, and what they are to the statement round them.
 
-use clu_base::Rule;
-use clu_equates::{CheckError, refuse};
 use clu_tree::{Node, NodeKind};
-
-/// An identifier has at most so many bytes.
-const LONGEST_NAME: usize = 200;
-
-/// V4 of the identifiers that stand directly in the node.
-pub fn check_lengths(node: &Node) -> Result<(), CheckError> {
-    for name in node.names.as_slice() {
-        if name.as_slice().len() > LONGEST_NAME {
-            return refuse(Rule::LiteralRange, node.place);
-        }
-    }
-    Ok(())
-}
 
 /// Whether nodes of this kind are types.
 pub fn is_type(kind: NodeKind) -> bool {

@@ -3,6 +3,8 @@
 #![tactic(auto)]
 
 #[cfg(test)]
+mod arena_tests;
+#[cfg(test)]
 mod refusals;
 #[cfg(test)]
 mod rules_actuals;
@@ -14,6 +16,8 @@ mod rules_clusters;
 mod rules_constants;
 #[cfg(test)]
 mod rules_definitions;
+#[cfg(test)]
+mod rules_equates;
 #[cfg(test)]
 mod rules_examples;
 #[cfg(test)]

@@ -4,9 +4,9 @@
 ghost use Rattle.std.specs.Prelude.{◌≤◌, length};
 
 use crate::{
-    rules_actuals, rules_arms, rules_clusters, rules_constants, rules_definitions, rules_examples,
-    rules_expressions, rules_instances, rules_leaving, rules_limits, rules_names, rules_operations,
-    rules_order, rules_results, rules_selectors, rules_signals, rules_statements,
+    rules_actuals, rules_arms, rules_clusters, rules_constants, rules_definitions, rules_equates,
+    rules_examples, rules_expressions, rules_instances, rules_leaving, rules_limits, rules_names,
+    rules_operations, rules_order, rules_results, rules_selectors, rules_signals, rules_statements,
 };
 use clu_base::{Place, Rule};
 use clu_check_mod::check;
@@ -189,5 +189,35 @@ fn keeps_the_limits(rt: HostRuntime) -> Result<(), Fail> {
         let found = difference(rt.alloc(), rows, unit, times)?;
         assert_eq!(rt; found, None, "{times} of {unit}");
     }
+    Ok(())
+}
+
+#[test]
+fn unfolds_equates(rt: HostRuntime) -> Result<(), Fail> {
+    for (unit, times, rows) in rules_equates::GROUPS {
+        let found = difference(rt.alloc(), rows, unit, times)?;
+        assert_eq!(rt; found, None, "{times} of {unit}");
+    }
+    Ok(())
+}
+
+/// What comes of the equates `a0 = a1`, `a1 = a2` and so on, where `a1000` has the given right side.
+fn chained(alloc: Global, last: &str) -> Result<String, Fail> {
+    let mut source = String::from_str(alloc, "p = proc () ")?;
+    for k in 0..1000u32 {
+        let next = k + 1;
+        source.push_str(format!(in alloc; "a{k} = a{next} ")?.as_str())?;
+    }
+    source.push_str(format!(in alloc; "a1000 = {last} end p")?.as_str())?;
+    refusal_of(alloc, source.as_bytes())
+}
+
+#[test]
+fn unfolds_long_chains(rt: HostRuntime) -> Result<(), Fail> {
+    let alloc = rt.alloc();
+    assert_eq!(rt; chained(alloc, "7")?.as_str(), "ok");
+    assert_eq!(rt; chained(alloc, "a900")?.as_str(), "1:18:V7");
+    assert_eq!(rt; chained(alloc, "a1000")?.as_str(), "1:18:V7");
+    assert_eq!(rt; chained(alloc, "zork")?.as_str(), "1:18:V8");
     Ok(())
 }

@@ -1,7 +1,7 @@
 //! The calls of the type arena for callers that keep no count of its types: a number that is none of
 //! the arena is `NotYet`.
 
-use crate::errors::CheckError;
+use clu_rules::CheckError;
 use clu_types::{Actual, Term, TypeArena, TypeId};
 use std::alloc::Global;
 

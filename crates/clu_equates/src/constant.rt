@@ -1,13 +1,12 @@
 //! Constant expressions: literals, names of constants, and operators over them.
 
-use crate::errors::CheckError;
 use crate::evaluation::Asked;
-use crate::folding::{fold, fold_prefix, infix_operator, prefix_operator};
 use crate::literals::literal;
 use crate::named::{Named, meaning_of};
-use crate::nodes::{first_name, node_at, only_child};
 use crate::value::{Value, Wanted};
 use clu_base::Const;
+use clu_fold::{fold, fold_prefix, infix_operator, prefix_operator};
+use clu_rules::{CheckError, first_name, node_at, only_child};
 use clu_tree::{Node, NodeKind};
 use clu_types::TypeArena;
 

@@ -1,10 +1,9 @@
 //! Which equates of a group the right side of an equate names. The nodes below a node are those from
 //! its first leaf on, since each node comes behind its children in the order of the text.
 
-use crate::errors::CheckError;
-use crate::nodes::node_at;
 use crate::scope::Scope;
 use clu_base::Bytes;
+use clu_rules::{CheckError, node_at};
 use clu_tree::{Node, NodeKind, Tree};
 use indexmap::IndexSet;
 use std::alloc::Global;

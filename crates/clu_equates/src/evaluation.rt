@@ -2,12 +2,11 @@
 
 use crate::arena::intern;
 use crate::constant::constant;
-use crate::errors::{CheckError, refuse};
 use crate::named::{Named, meaning_of};
-use crate::nodes::{first_name, node_at, only_child};
 use crate::scope::Scope;
 use crate::value::{Value, Wanted};
 use clu_base::{Bytes, Place, Rule, Sequence};
+use clu_rules::{CheckError, first_name, node_at, only_child, refuse};
 use clu_tree::{Node, NodeKind, Tree};
 use clu_types::{Actual, Exception, Field, Heading, Term, TypeArena, TypeId};
 use std::alloc::Global;

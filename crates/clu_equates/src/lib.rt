@@ -5,12 +5,9 @@
 mod arena;
 mod constant;
 mod dependencies;
-mod errors;
 mod evaluation;
-mod folding;
 mod literals;
 mod named;
-mod nodes;
 mod scope;
 mod sets;
 mod settling;
@@ -18,26 +15,8 @@ mod text_length;
 mod value;
 
 pub use crate::arena::{carry, included, intern, subst, term};
-pub use crate::errors::{CheckError, refuse};
-pub use crate::nodes::{first_name, node_at, only_child};
 pub use crate::scope::{Bound, Means, Scope, Settled};
 pub use crate::sets::{inner_equates, set_demands};
 pub use crate::settling::{settle_equates, wanted_of};
 pub use crate::value::{Value, Wanted, value_of, value_with};
-
-#[cfg(test)]
-mod call_tests;
-#[cfg(test)]
-mod equated_constants;
-#[cfg(test)]
-mod equated_types;
-#[cfg(test)]
-mod fixtures;
-#[cfg(test)]
-mod refused_equates;
-#[cfg(test)]
-mod shown;
-#[cfg(test)]
-mod tests;
-#[cfg(test)]
-mod type_texts;
+pub use clu_rules::{CheckError, first_name, node_at, only_child, refuse};

@@ -1,10 +1,10 @@
 //! What names stand for where a type or a constant is wanted.
 
 use crate::arena::intern;
-use crate::errors::{CheckError, refuse};
 use crate::scope::{Bound, Means, Scope, Settled};
 use crate::value::{Value, Wanted};
-use clu_base::{Bytes, Place, Rule, Sequence};
+use clu_base::{Bytes, Place, Rule};
+use clu_rules::{CheckError, refuse};
 use clu_types::{Term, TypeArena};
 use std::alloc::Global;
 

@@ -3,10 +3,10 @@
 ghost use Rattle.std.specs.Prelude.{IfOk};
 ghost use Rattle.clu_equates.specs.TextLength.{IsTooLong};
 
-use crate::errors::CheckError;
 use crate::text_length::TextLengths;
 use crate::value::Value;
 use clu_base::{Bytes, Memory, Sequence};
+use clu_rules::CheckError;
 use clu_types::{Demand, TypeArena, TypeId};
 use indexmap::IndexMap;
 use std::alloc::Global;

@@ -1,11 +1,10 @@
 //! What type sets ask of their variables.
 
-use crate::errors::CheckError;
-use crate::nodes::{first_name, node_at, only_child};
 use crate::scope::{Means, Scope};
 use crate::settling::settle_equates;
 use crate::value::{Value, Wanted, value_of};
 use clu_base::{Bytes, Sequence};
+use clu_rules::{CheckError, first_name, node_at, only_child};
 use clu_tree::{Node, NodeKind, Tree};
 use clu_types::{Demand, TypeArena, TypeId};
 use std::alloc::Global;

@@ -2,10 +2,9 @@
 //! names, on a stack of our own, since chains of equates are as long as a file allows.
 
 use crate::dependencies::note_named;
-use crate::errors::CheckError;
-use crate::nodes::{equate_name, node_at, only_child};
 use crate::scope::{Means, Scope, Settled};
 use crate::value::{Value, Wanted, value_of};
+use clu_rules::{CheckError, equate_name, node_at, only_child};
 use clu_tree::Tree;
 use clu_types::TypeArena;
 use std::alloc::Global;

@@ -1,18 +1,15 @@
 //! How long the text of a value is in a specification. Parts of types have smaller numbers, so each
 //! type's length is reckoned once, from those of its parts.
 
-ghost use Rattle.std.specs.Prelude.{◌≡◌, ◌≤◌, ◌+◌, ◌*◌, IfOk, length, nat_lt};
-ghost use Rattle.clu_equates.specs.TextLength.{is_long, IsTooLong};
+ghost use Rattle.std.specs.Prelude.{IfOk};
+ghost use Rattle.clu_equates.specs.TextLength.{IsTooLong};
 
 use crate::arena::term;
-use crate::errors::CheckError;
 use crate::value::Value;
-use clu_base::{Bytes, Const};
+use clu_fold::{LONGEST_TEXT, decimal_length, is_long, text_length};
+use clu_rules::CheckError;
 use clu_types::{Actual, Exception, Field, Heading, Term, TypeArena, TypeId};
 use std::alloc::Global;
-
-/// The longest text that an equated value may have, in bytes.
-pub const LONGEST_TEXT: u64 = 65_536;
 
 /// The lengths of the texts of an arena's types, in bytes, for the types that were asked for so far
 /// and those before them.
@@ -35,7 +32,7 @@ impl TextLengths {
     {
         match value {
             Value::Of(id) => Ok(self.of_type(types, *id)? > LONGEST_TEXT),
-            Value::Const(constant) => Ok(of_constant(constant) > LONGEST_TEXT),
+            Value::Const(constant) => Ok(is_long(constant)),
             Value::Set(_) => Ok(false),
             Value::ConstParam(_, _) => Ok(false),
         }
@@ -153,49 +150,8 @@ impl TextLengths {
     fn of_actual(&self, actual: &Actual) -> u64 {
         match actual {
             Actual::Of(id) => self.known(*id),
-            Actual::Const(constant) => of_constant(constant),
+            Actual::Const(constant) => text_length(constant),
             Actual::ConstParam(n) => decimal_length(u64::from(*n)).saturating_add(1),
         }
     }
-}
-
-/// The length of the text of a constant: `nil`, a bool's word, an int in decimal, `'` and two digits for
-/// a character.
-pub fn of_constant(constant: &Const) -> u64
-    ensures { nat_lt 65536 result ≡ is_long constant.now }
-{
-    match constant {
-        Const::Null => 3,
-        Const::Bool(b) => { if *b { 4 } else { 5 } }
-        Const::Int(n) => of_int(*n),
-        Const::Char(_) => 3,
-        Const::Str(bytes) => of_string(bytes),
-    }
-}
-
-fn of_int(n: i64) -> u64
-    ensures { result ≤ 21 }
-{
-    let digits = decimal_length(n.unsigned_abs());
-    if n < 0 {
-        digits.saturating_add(1)
-    } else {
-        digits
-    }
-}
-
-/// A string's bytes are two digits each, between two marks.
-fn of_string(bytes: &Bytes) -> u64
-    ensures { nat_lt 65536 result ≡ nat_lt 65536 (2 * length bytes.now + 2) }
-{
-    (bytes.as_slice().len() as u64)
-        .saturating_mul(2)
-        .saturating_add(2)
-}
-
-/// How many decimal digits a number has.
-fn decimal_length(n: u64) -> u64
-    ensures { result ≤ 20 }
-{
-    u64::from(n.checked_ilog10().unwrap_or(0)).saturating_add(1)
 }

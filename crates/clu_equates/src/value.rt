@@ -1,9 +1,9 @@
 //! What a type, a type set or a constant expression denotes, and the public calls that find it.
 
-use crate::errors::CheckError;
 use crate::evaluation::{Asked, evaluate};
 use crate::scope::Scope;
 use clu_base::{Const, Memory, Rule};
+use clu_rules::CheckError;
 use clu_tree::Tree;
 use clu_types::{TypeArena, TypeId};
 use std::alloc::Global;

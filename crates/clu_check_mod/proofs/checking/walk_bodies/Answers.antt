@@ -1,4 +1,4 @@
-use Rattle.clu_check_mod.proofs.OwnSpecs.{closed_step, closed_all}
+use Rattle.clu_check_mod.proofs.Closed.{closed_step, closed_all}
 use Rattle.clu_check_mod.proofs.checking.walk_bodies.Goals as goal
 
 pub loop-place-preserved : goal.loop-place-preserved

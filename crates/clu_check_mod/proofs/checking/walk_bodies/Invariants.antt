@@ -1,5 +1,5 @@
 use Rattle.std.proofs.Common.{All, take}
-use Rattle.clu_check_mod.specs.Rules.{IsClosedAt}
+use Rattle.clu_rules.specs.Rules.{IsClosedAt}
 use Rattle.clu_check_mod.proofs.checking.walk_bodies.Given as goal
 
 abbrev pub invariant-loop-place : goal.invariant-loop-place

@@ -1,7 +1,0 @@
-use Rattle.std.proofs.Common.{ap, ◌∙◌, sym}
-use Rattle.clu_types.specs.declared.spec.Spec.{Spec}
-use Rattle.clu_check_mod.proofs.OwnSpecs.{found_name}
-use Rattle.clu_check_mod.proofs.checking.spec_named.Goals as goal
-
-pub returns-in_ok-copy-in-Some : goal.returns-in_ok-copy-in-Some
-returns-in_ok-copy-in-Some c = ap (λ (s : Spec). s.name) c.in_ok-copy-in-Some.ensures ∙ found_name c.args.name.now c.args.specs.now c.in-Some.spec.now (sym c.in-Some.ensures)
