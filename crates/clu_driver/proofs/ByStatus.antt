@@ -22,7 +22,7 @@ usage_of _ is = cc
 usage_shown : (meant : Option Meant) (before after : World) → CommandShows meant outcome.Usage before after → meant ≡ None
 usage_shown None before after shown = refl
 usage_shown (Some (command.go file image limits peep trace)) before after (inl refused) = elim refused.0 [ ]
-usage_shown (Some (command.go file image limits peep trace)) before after (inr put) = elim put.3 [ inl notput ↦ elim notput.0 [ ] | inr ran ↦ elim ran.1.ends [ ] ]
+usage_shown (Some (command.go file image limits peep trace)) before after (inr put) = elim put.1.3 [ inl notput ↦ elim notput.0 [ ] | inr ran ↦ elim ran.1.ends [ ] ]
 usage_shown (Some (command.exec image limits)) before after (inl refused) = elim refused.0 [ ]
 usage_shown (Some (command.exec image limits)) before after (inr ran) = elim ran.1.2.ends [ ]
 usage_shown (Some (command.gen procedures)) before after shown = elim shown.2 [ ]

@@ -9,7 +9,7 @@ use Rattle.rv_isa.specs.Image.{Contents}
 use Rattle.clu_driver.specs.Found.{IsFound, NotRead}
 use Rattle.clu_driver.specs.Generated.{generated_text}
 use Rattle.clu_driver.specs.Shows.{RunShows}
-use Rattle.clu_driver.specs.Sources.{NotCompiled, NotParsed}
+use Rattle.clu_driver.specs.Sources.{IsAccepted, NotCompiled, NotParsed}
 use Rattle.clu_driver.specs.World.{IsUnrun, IsUntouched, World, world_of}
 use Rattle.clu_driver.specs.declared.outcome.Outcome.{Outcome}
 use Rattle.clu_driver.specs.declared.outcome.Outcome.TheVariants as outcome
@@ -42,11 +42,12 @@ PutShows how name image limits before after =
     (NotPut how name (image_bytes image) before.files after.files before.store_faults after.store_faults × IsUnrun before.streams after.streams)
     ⊎ (IsPut name (image_bytes image) before.files after.files × RunShows how image limits before.streams after.streams)
 
--- go: the source was refused and nothing changed, or its image was put and run
+-- go: the source was refused and nothing changed, or it was accepted and an image was put and run
 abbrev pub GoShows : Outcome → List ℕ → List ℕ → Limits → World → World → Type 0
 GoShows how file name limits before after =
     (NotCompiled how file before.files before.store_faults after.store_faults × IsUntouched before after)
-    ⊎ ((image : Contents) × (faults : ℕ) × (before.store_faults ≤ faults) × PutShows how name image limits (world_of before.files faults before.streams) after)
+    ⊎ (IsFound before.files file IsAccepted
+    × ((image : Contents) × (faults : ℕ) × (before.store_faults ≤ faults) × PutShows how name image limits (world_of before.files faults before.streams) after))
 
 -- gen: the source was written, or some first bytes of it
 abbrev pub GenShows : Outcome → ℕ → Option (List ℕ) → Option (List ℕ) → ℕ → ℕ → Type 0
@@ -84,6 +85,8 @@ CommandShows (Some _) how before after = (how ≡ outcome.NotYet) × IsUntouched
 abbrev pub CluShows : Option Meant → Outcome → World → World → Type 0
 CluShows meant how before after = ((how ≡ outcome.Memory) × IsUntouched before after) ⊎ CommandShows meant how before after
 
--- a status with which a command is refused: its words, its files, its image or source, or memory
+-- a status with which a command is refused: its words, its files, its image or source, its program, or memory
 abbrev pub IsRefusal : ℕ → Type 0
-IsRefusal status = (status ≡ 2) ⊎ ((status ≡ 10) ⊎ ((status ≡ 11) ⊎ ((status ≡ 20) ⊎ ((status ≡ 24) ⊎ ((status ≡ 25) ⊎ ((status ≡ 26) ⊎ (status ≡ 27)))))))
+IsRefusal status =
+    (status ≡ 2) ⊎ ((status ≡ 10) ⊎ ((status ≡ 11) ⊎ ((status ≡ 14) ⊎ ((status ≡ 16) ⊎ ((status ≡ 17) ⊎ ((status ≡ 18) ⊎ ((status ≡ 20)
+    ⊎ ((status ≡ 21) ⊎ ((status ≡ 24) ⊎ ((status ≡ 25) ⊎ ((status ≡ 26) ⊎ (status ≡ 27))))))))))))

@@ -1,8 +1,8 @@
 pub mod Commands
 pub mod Found
 pub mod Generated
-pub mod LiteralProgram
 pub mod Outcome
 pub mod Shows
 pub mod Sources
+pub mod Unbuilt
 pub mod World

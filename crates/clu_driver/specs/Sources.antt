@@ -1,18 +1,29 @@
--- Why a source is refused before it is checked.
-use Rattle.std.specs.Prelude.{◌≡◌, ◌<◌, ◌≤◌, ◌⊎◌, ℕ, List, Option, length}
+-- Which sources are accepted, and why one is not or is not compiled.
+use Rattle.std.specs.Prelude.{◌≡◌, ◌<◌, ◌≤◌, ◌⊎◌, ℕ, List, All, Option, codes, length}
 use Rattle.clu_base.specs.Outside.{Files}
 use Rattle.clu_base.specs.Rules.{number_of}
 use Rattle.clu_base.specs.declared.rules.Refused.{Refused}
 use Rattle.clu_base.specs.declared.rules.Rule.TheVariants as rule
 use Rattle.clu_base.specs.declared.tokens.Token.{Token}
+use Rattle.clu_rules.specs.Rules.{IsClosedAt}
 use Rattle.clu_lexer.specs.Tokens.{Tokens}
 use Rattle.clu_lexer.specs.Tokens as lexer
 use Rattle.clu_lexer.specs.declared.tokens.LexError.TheVariants as lex
 use Rattle.clu_parser.specs.Parsing as parser
 use Rattle.clu_parser.specs.declared.errors.ParseError.TheVariants as parse
+use Rattle.clu_tree.specs.Nodes.{modules}
+use Rattle.clu_tree.specs.declared.node.Node.{Node}
 use Rattle.clu_driver.specs.Found.{IsFound, NotRead}
 use Rattle.clu_driver.specs.declared.outcome.Outcome.{Outcome}
 use Rattle.clu_driver.specs.declared.outcome.Outcome.TheVariants as outcome
+
+-- the bytes are a file of the grammar, and these nodes are its tree
+abbrev pub IsParsed : List ℕ → List Node → Type 0
+IsParsed bytes nodes = (tokens : List Token) × Tokens bytes tokens × parser.IsTreeOf bytes tokens nodes
+
+-- the bytes are a file of the grammar, and at the routine or cluster of none of its modules V4 or V34 is violated
+abbrev pub IsAccepted : List ℕ → Type 0
+IsAccepted bytes = (nodes : List Node) × IsParsed bytes nodes × All (IsClosedAt nodes) (modules nodes)
 
 -- the rule at this place is the first that the bytes break: no token begins there, the tokens begin
 -- no file of the grammar with the one there, or the source is too deep there
@@ -34,7 +45,6 @@ NotSource _ name bytes = ⊥
 abbrev pub NotParsed : Outcome → List ℕ → Option Files → ℕ → ℕ → Type 0
 NotParsed (outcome.Refused n r) name files faults faults' = (n.now ≡ name) × IsFound files name (λ bytes. IsRefusedBy bytes r)
 NotParsed (outcome.SourceTooLarge n) name files faults faults' = (n.now ≡ name) × IsFound files name (λ bytes. 1048576 < length bytes)
-NotParsed outcome.NotYet name files faults faults' = Unit {0}
 NotParsed how name files faults faults' = NotRead how name files faults faults'
 
 -- a tree of which the check gave a refusal. That it is one of the rules on modules is all that is known of it: no definition
@@ -45,7 +55,24 @@ NotAccepted outcome.Memory name = Unit {0}
 NotAccepted outcome.NotYet name = Unit {0}
 NotAccepted _ name = ⊥
 
--- why a source file is not compiled: it was not parsed, or it was refused by a rule on modules
+-- why an accepted file is not built
+abbrev pub NotBuilt : Outcome → Type 0
+NotBuilt (outcome.NoModule n) = n.now ≡ codes "start_up"
+NotBuilt (outcome.BadStart n) = n.now ≡ codes "start_up"
+NotBuilt outcome.TooManyInstances = Unit {0}
+NotBuilt outcome.ProgramTooLarge = Unit {0}
+NotBuilt outcome.LibraryFull = Unit {0}
+NotBuilt outcome.Memory = Unit {0}
+NotBuilt outcome.NotYet = Unit {0}
+NotBuilt _ = ⊥
+
+-- why a source file is not compiled: it was not parsed, it was refused by a rule on modules, or it was accepted and not built
 abbrev pub NotCompiled : Outcome → List ℕ → Option Files → ℕ → ℕ → Type 0
 NotCompiled (outcome.Refused n r) name files faults faults' = (n.now ≡ name) × IsFound files name (λ bytes. IsRefusedBy bytes r ⊎ (4 ≤ number_of r.rule))
+NotCompiled (outcome.NoModule n) name files faults faults' = NotBuilt (outcome.NoModule n) × IsFound files name IsAccepted
+NotCompiled (outcome.BadStart n) name files faults faults' = NotBuilt (outcome.BadStart n) × IsFound files name IsAccepted
+NotCompiled outcome.TooManyInstances name files faults faults' = IsFound files name IsAccepted
+NotCompiled outcome.ProgramTooLarge name files faults faults' = IsFound files name IsAccepted
+NotCompiled outcome.LibraryFull name files faults faults' = IsFound files name IsAccepted
+NotCompiled outcome.NotYet name files faults faults' = Unit {0}
 NotCompiled how name files faults faults' = NotParsed how name files faults faults'

@@ -1,23 +1,25 @@
 //! The command `go`: checks a source, links it, puts its image and runs it.
 
-ghost use Rattle.std.specs.Prelude.{◌≡◌, ◌≤◌, ◌⊎◌, IfErr, OnOk};
+ghost use Rattle.std.specs.Prelude.{◌≡◌, ◌≤◌, ◌⊎◌, All, IfErr, OnOk};
+ghost use Rattle.clu_rules.specs.Rules.{IsClosedAt};
 ghost use Rattle.clu_image.specs.ImageFile.{image_bytes};
+ghost use Rattle.clu_tree.specs.Nodes.{modules};
 ghost use Rattle.clu_words.specs.Command.{seen_limits};
 ghost use Rattle.clu_driver.specs.Commands.{GoShows, IsPut, NotPut, PutShows};
-ghost use Rattle.clu_driver.specs.Sources.{NotAccepted, NotCompiled};
+ghost use Rattle.clu_driver.specs.Sources.{IsAccepted, NotAccepted, NotBuilt, NotCompiled};
+ghost use Rattle.clu_driver.specs.Found.{IsFound};
 ghost use Rattle.clu_driver.specs.Shows.{Reported};
 ghost use Rattle.clu_driver.specs.World.{streams_of, world_of};
 
+use crate::building::image_of_modules;
+use crate::entering::Text;
 use crate::file::put;
-use crate::literal::literal_output;
-use crate::literal_code::literal_image;
 use crate::outcome::{Outcome, report};
 use crate::running::run;
-use crate::sources::parse_file;
+use crate::sources::{Parsed, parse_file};
 use clu_base::{Refused, Sink, Source, Store};
 use clu_check_mod::{CheckError, check};
 use clu_image::store;
-use clu_tree::Tree;
 use clu_types::Specs;
 use clu_words::RunLimits;
 use rv_isa::Image;
@@ -73,20 +75,39 @@ fn put_and_run<S: Source, K: Sink, E: Sink, F: Store>(
 fn compiled<'a, F: Store>(alloc: Global, file: &'a str, files: &mut F) -> Result<Image, Outcome<'a>>
     ensures counts { F.faults files.old ≤ F.faults files.new }
     ensures kept { F.files files.new ≡ F.files files.old }
+    ensures accepted { OnOk result (IsFound (F.files files.old) file.now IsAccepted) }
     ensures refused { IfErr result (λ how. NotCompiled how file.now (F.files files.old) (F.faults files.old) (F.faults files.new)) }
 {
     match parse_file(alloc, file, files) {
-        Ok(source) => image_of(alloc, file, source.tree),
+        Ok(source) => match image_of(alloc, file, source) {
+            Ok(image) => Ok(image),
+            Err(how) => Err(how),
+        },
         Err(how) => Err(how),
     }
 }
 
-// The image of a file that has this tree, checked over no specifications.
-fn image_of<'a>(alloc: Global, name: &'a str, tree: Tree) -> Result<Image, Outcome<'a>>
-    ensures refused { IfErr result (λ how. NotAccepted how name.now) }
+// The image of a source, checked over no specifications.
+fn image_of<'a>(alloc: Global, name: &'a str, source: Parsed) -> Result<Image, Outcome<'a>>
+    ensures accepted { OnOk result (All (IsClosedAt source.tree) (modules source.tree)) }
+    ensures refused { IfErr result (λ how. NotAccepted how name.now ⊎ (NotBuilt how × All (IsClosedAt source.tree) (modules source.tree))) }
 {
+    let Parsed {
+        bytes,
+        tokens,
+        tree,
+    } = source;
     match check(alloc, tree, &Specs::new(alloc)) {
-        Ok(checked) => literal_program(alloc, &checked.tree),
+        Ok(checked) => {
+            let text = Text {
+                bytes: &bytes,
+                tokens: &tokens,
+            };
+            match image_of_modules(alloc, text, &checked) {
+                Ok(image) => Ok(image),
+                Err(how) => Err(how),
+            }
+        }
         Err(CheckError::Refused(refused)) => Err(not_accepted(name, refused)),
         Err(CheckError::Memory) => Err(Outcome::Memory),
         Err(CheckError::NotYet) => Err(Outcome::NotYet),
@@ -116,20 +137,6 @@ fn put_image<'a, F: Store>(
 {
     match store(alloc, image) {
         Ok(bytes) => put(alloc, name, bytes.as_slice(), files),
-        Err(_) => Err(Outcome::Memory),
-    }
-}
-
-// The image of a literal program; other programs are not compiled yet.
-fn literal_program<'a>(alloc: Global, tree: &Tree) -> Result<Image, Outcome<'a>>
-    ensures { IfErr result (λ how. (how ≡ Outcome.NotYet) ⊎ (how ≡ Outcome.Memory)) }
-{
-    match literal_output(alloc, tree) {
-        Ok(Some(output)) => match literal_image(alloc, output.as_slice()) {
-            Ok(image) => Ok(image),
-            Err(_) => Err(Outcome::Memory),
-        },
-        Ok(None) => Err(Outcome::NotYet),
         Err(_) => Err(Outcome::Memory),
     }
 }

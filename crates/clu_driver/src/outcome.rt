@@ -36,8 +36,18 @@ pub enum Outcome<'a> {
     NoFile(&'a str),
     /// The source breaks this rule at this place, the first that it breaks.
     Refused(&'a str, Refused),
+    /// No module of this name, at which a program is to start.
+    NoModule(&'a str),
+    /// A module of this name, at which no program starts.
+    BadStart(&'a str),
+    /// A program of more than 4,096 instances.
+    TooManyInstances,
+    /// A program that weighs more than 262,144.
+    ProgramTooLarge,
     /// The file is no image; the number is the offset of the fault.
     ImageBad(u64),
+    /// More than 4,096 modules or programs of a library.
+    LibraryFull,
     /// A read of the input failed.
     ReadFault,
     /// A write of the output or of the errors failed.
@@ -70,7 +80,12 @@ impl Outcome<'_> {
             Outcome::BadEcall(_) => 9,
             Outcome::NoFile(_) => 10,
             Outcome::Refused(_, _) => 11,
+            Outcome::NoModule(_) => 14,
+            Outcome::BadStart(_) => 16,
+            Outcome::TooManyInstances => 17,
+            Outcome::ProgramTooLarge => 18,
             Outcome::ImageBad(_) => 20,
+            Outcome::LibraryFull => 21,
             Outcome::ReadFault => 22,
             Outcome::WriteFault => 23,
             Outcome::FileFault(_) => 24,
@@ -97,7 +112,12 @@ impl Outcome<'_> {
             Outcome::BadJump(_) => "bad jump to ",
             Outcome::BadEcall(_) => "bad ecall ",
             Outcome::NoFile(_) => "no file: ",
+            Outcome::NoModule(_) => "no module: ",
+            Outcome::BadStart(_) => "bad start: ",
+            Outcome::TooManyInstances => "too many instances",
+            Outcome::ProgramTooLarge => "program too large",
             Outcome::ImageBad(_) => "image bad at ",
+            Outcome::LibraryFull => "library full",
             Outcome::ReadFault => "read fault",
             Outcome::WriteFault => "write fault",
             Outcome::FileFault(_) => "file fault: ",
@@ -238,9 +258,11 @@ fn write_detail<E: Sink>(errors: &mut E, outcome: &Outcome<'_>) -> Result<(), Fa
 {
     match outcome {
         Outcome::Failure(text) => write_all(errors, text),
-        Outcome::NoFile(name) | Outcome::FileFault(name) | Outcome::SourceTooLarge(name) => {
-            write_all(errors, name.as_bytes())
-        }
+        Outcome::NoFile(name)
+        | Outcome::NoModule(name)
+        | Outcome::BadStart(name)
+        | Outcome::FileFault(name)
+        | Outcome::SourceTooLarge(name) => write_all(errors, name.as_bytes()),
         Outcome::Refused(name, refused) => write_refused(errors, name, refused),
         Outcome::BadInstruction(at) | Outcome::BadAccess(at) | Outcome::BadJump(at) => {
             write_hexadecimal(errors, *at)
@@ -251,6 +273,9 @@ fn write_detail<E: Sink>(errors: &mut E, outcome: &Outcome<'_>) -> Result<(), Fa
         | Outcome::StoreFull
         | Outcome::StackFull
         | Outcome::StepsSpent
+        | Outcome::TooManyInstances
+        | Outcome::ProgramTooLarge
+        | Outcome::LibraryFull
         | Outcome::ReadFault
         | Outcome::WriteFault
         | Outcome::Memory

@@ -2,7 +2,7 @@
 
 ghost use Rattle.std.specs.Prelude.{◌≡◌, ◌≤◌, IfErr, IfOk};
 ghost use Rattle.clu_driver.specs.Found.{IsFound};
-ghost use Rattle.clu_driver.specs.Sources.{NotParsed, NotSource};
+ghost use Rattle.clu_driver.specs.Sources.{IsParsed, NotParsed, NotSource};
 
 use crate::file::content;
 use crate::outcome::Outcome;
@@ -33,6 +33,7 @@ pub fn parse_file<'a, F: Store>(
     ensures counts { F.faults files.old ≤ F.faults files.new }
     ensures kept { F.files files.new ≡ F.files files.old }
     ensures found { IfOk result (λ source. IsFound (F.files files.old) name.now (λ bytes. bytes ≡ source.bytes.items)) }
+    ensures parsed { IfOk result (λ source. IsParsed source.bytes.items source.tree) }
     ensures refused { IfErr result (λ how. NotParsed how name.now (F.files files.old) (F.faults files.old) (F.faults files.new)) }
 {
     let bytes = content(alloc, name, files)?;
@@ -42,6 +43,7 @@ pub fn parse_file<'a, F: Store>(
 // The source of these bytes.
 fn source<'a>(alloc: Global, name: &'a str, bytes: Vec<u8>) -> Result<Parsed, Outcome<'a>>
     ensures same { IfOk result (λ source. source.bytes.items ≡ bytes.items) }
+    ensures parsed { IfOk result (λ source. IsParsed source.bytes.items source.tree) }
     ensures refused { IfErr result (λ how. NotSource how name.now bytes.items) }
 {
     if bytes.len() > SOURCE_LIMIT {

@@ -1,0 +1,47 @@
+//! What is kept of a module beside its specification.
+
+use crate::by_name::Named;
+use clu_base::{Bytes, Sequence};
+use clu_object::Object;
+
+/// The text of a module, and what was made of it.
+#[derive(Debug, Drop)]
+pub struct Body {
+    /// The slice of the source file from the module's first token to its last.
+    pub text: Bytes,
+    /// The other modules that names of the text denote, ascending. None stands for all of the library.
+    pub names: Option<Sequence<Bytes>>,
+    /// The revision of the library when the text was checked.
+    pub checked: u32,
+    pub object: Object,
+}
+
+/// A body with the name of its module.
+#[derive(Debug, Drop)]
+pub struct ModuleBody {
+    pub name: Bytes,
+    pub body: Body,
+}
+
+impl Named for ModuleBody {
+    ghost name_of = { λ b. b.name };
+
+    fn name(&self) -> &Bytes {
+        &self.name
+    }
+}
+
+/// The revision at which the specification of a module was replaced last.
+#[derive(Debug, Drop)]
+pub struct Change {
+    pub name: Bytes,
+    pub revision: u32,
+}
+
+impl Named for Change {
+    ghost name_of = { λ c. c.name };
+
+    fn name(&self) -> &Bytes {
+        &self.name
+    }
+}

@@ -1,0 +1,83 @@
+-- What an instance of a routine takes of a program. A number above 64 bits counts as the greatest of 64 bits.
+use Rattle.std.specs.Prelude.{ℕ, ◌+◌, ◌/◌, ◌==◌, ◌&&◌, ◌||◌, nat_le, nat_lt, not, max, Bool, if◌then◌else◌, List, fold, length, Option, Some, None}
+use Rattle.std.specs.Option.{is_some}
+use Rattle.std.specs.List.{list_all}
+use Rattle.clu_base.specs.declared.constants.Const.{Const}
+use Rattle.clu_base.specs.declared.constants.Const.TheVariants as constant
+use Rattle.clu_types.specs.declared.term.Actual.{Actual}
+use Rattle.clu_wir.specs.Rooms.{plus, times}
+use Rattle.clu_object.specs.declared.object.Hole.{Hole}
+use Rattle.clu_object.specs.declared.object.ObjRoutine.{ObjRoutine}
+use Rattle.clu_object.specs.declared.object.Region.{Region}
+use Rattle.clu_link.specs.Numbers.{string_bytes}
+use Rattle.clu_link.specs.Parameters.{constant_of}
+
+-- how many items of a kind there are that holes name: one more than the greatest number
+abbrev pub named_step : ℕ → ℕ → Hole → ℕ
+named_step kind count hole = if hole.kind == kind then max count (hole.number + 1) else count
+
+abbrev pub named_by : ℕ → List Hole → ℕ
+named_by kind holes = fold (named_step kind) 0 holes
+
+-- own variables of the routine, and of the cluster round it
+abbrev pub own_variables : ObjRoutine → ℕ
+own_variables routine = named_by 3 routine.holes
+
+abbrev pub cluster_variables : ObjRoutine → ℕ
+cluster_variables routine = named_by 4 routine.holes
+
+-- the cells of the link table: two for each use, one for each constant, own variable and type
+abbrev pub cells : ObjRoutine → ℕ
+cells routine =
+    plus (times (length routine.uses) 2)
+    (plus (plus (plus (length routine.constants) (own_variables routine)) (cluster_variables routine)) (length routine.types))
+
+-- how many bytes a constant has that is a string
+abbrev pub length_of : Const → Option ℕ
+length_of constant.Null = None
+length_of (constant.Bool b) = None
+length_of (constant.Int n) = None
+length_of (constant.Char c) = None
+length_of (constant.Str text) = Some (length text)
+
+abbrev pub text_length : Option Const → Option ℕ
+text_length (Some c) = length_of c
+text_length None = None
+
+abbrev pub length_or_0 : Option ℕ → ℕ
+length_or_0 (Some n) = n
+length_or_0 None = 0
+
+-- the nodes that an instance counts: those of the routine, and one for each 64 bytes of a string
+abbrev pub weight : List Actual → ObjRoutine → ℕ
+weight actuals routine = fold (λ n c. plus n (length_or_0 (text_length (constant_of actuals c)) / 64)) routine.nodes routine.constants
+
+-- the most bytes of a table of regions: its size, two words for each of its cuts, of which there are no more than twice
+-- the regions and one, and three for each region and arm
+abbrev pub region_step : ℕ → Region → ℕ
+region_step words region = plus words (plus (times (length region.arms) 3) 7)
+
+abbrev pub region_bound : List Region → ℕ
+region_bound regions = times (fold region_step 3 regions) 8
+
+-- the bytes of the fixed part and the data: a descriptor, cells, own variables, regions, strings
+abbrev pub with_text : ℕ → Option ℕ → ℕ
+with_text bytes (Some length) = plus bytes (string_bytes length)
+with_text bytes None = bytes
+
+abbrev pub bytes_of : List Actual → ObjRoutine → ℕ
+bytes_of actuals routine =
+    fold (λ n c. with_text n (text_length (constant_of actuals c)))
+    (plus (plus (plus 24 (times (cells routine) 8)) (times (own_variables routine) 16)) (region_bound routine.regions))
+    routine.constants
+
+-- a hole for a part of the runtime names one of the three
+abbrev pub is_filled : Hole → Bool
+is_filled hole = not (hole.kind == 7) || nat_lt hole.number 3
+
+-- all constants are known, all parts of the runtime are there, and neither code nor bytes are more than the nodes allow
+abbrev pub fits : ObjRoutine → List Actual → ℕ → Bool
+fits routine actuals shared =
+    list_all (λ c. is_some (constant_of actuals c)) routine.constants && list_all is_filled routine.holes
+    && nat_le (length routine.code) (times 64 routine.nodes)
+    && nat_le (plus (bytes_of actuals routine) (times shared 16)) (times 256 (weight actuals routine))

@@ -1,0 +1,248 @@
+//! The code of all that a program reaches: that of routines as the library keeps it, and that of operations and of the
+//! runtime, which is made here.
+
+use crate::bounds::RUNTIME_PARTS;
+use crate::errors::LinkError;
+use crate::member::Member;
+use crate::operation_codes::{Chosen, CodeName, Family, choose};
+use crate::operations::{code_of, type_of_force, type_of_operation};
+use crate::program::{Callable, Code, Program};
+use crate::reach::{Callee, Instance, Reached, RoutineName};
+use crate::runtime::runtime_parts;
+use clu_base::{Bytes, Const};
+use clu_object::ObjRoutine;
+use clu_rt_data::force_code;
+use clu_rt_text::{Operation, routine};
+use clu_types::{Actual, TypeArena, TypeId};
+use indexmap::{IndexMap, IndexSet};
+use std::alloc::Global;
+
+/// The program of what was reached.
+pub fn collect<'a>(alloc: Global, reached: Reached<'a>) -> Result<Program<'a>, LinkError> {
+    let Reached {
+        types,
+        members,
+        instances,
+        routines,
+        operations,
+        clusters,
+    } = reached;
+    let mut program = Program {
+        types,
+        codes: codes_of(alloc, routines)?,
+        callables: Vec::new(alloc),
+        clusters: clusters.into_values().collect(alloc)?,
+    };
+    match add_callables(alloc, &mut program, &members, instances, &operations) {
+        Ok(()) => Ok(program),
+        Err(error) => Err(error),
+    }
+}
+
+/// The parts of the runtime, and behind them the routines.
+fn codes_of<'a>(
+    alloc: Global,
+    routines: IndexMap<RoutineName, Code<'a>>,
+) -> Result<Vec<Code<'a>>, LinkError> {
+    let mut codes = Vec::new(alloc);
+    for part in runtime_parts(alloc)? {
+        codes.push(Code::Made(part))?;
+    }
+    for code in routines.into_values() {
+        codes.push(code)?;
+    }
+    Ok(codes)
+}
+
+/// Adds the instances, and behind them the operations.
+fn add_callables(
+    alloc: Global,
+    program: &mut Program<'_>,
+    members: &IndexSet<Member>,
+    instances: Vec<Instance>,
+    operations: &IndexSet<Member>,
+) -> Result<(), LinkError> {
+    let count = instances.len();
+    for instance in instances {
+        add_instance(alloc, program, members, instance, count)?;
+    }
+    let mut placed = IndexMap::new(alloc);
+    add_operations(alloc, program, operations, &mut placed)
+}
+
+/// Adds an instance, which is the next callable.
+fn add_instance(
+    alloc: Global,
+    program: &mut Program<'_>,
+    members: &IndexSet<Member>,
+    instance: Instance,
+    count: usize,
+) -> Result<(), LinkError> {
+    let Some(member) = members.get_index(program.callables.len()) else {
+        return Err(LinkError::NotYet);
+    };
+    let Instance {
+        routine,
+        actuals,
+        uses,
+        types,
+        cluster,
+    } = instance;
+    let own = own_type(alloc, &mut program.types, member, types.as_slice())?;
+    program.callables.push(Callable {
+        code: (RUNTIME_PARTS as usize).saturating_add(routine),
+        own,
+        uses: callables_of(alloc, uses.as_slice(), count)?,
+        types,
+        actuals,
+        cluster,
+    })?;
+    Ok(())
+}
+
+/// The own type of an instance: the first of its types, or that of the operation that it is.
+fn own_type(
+    alloc: Global,
+    types: &mut TypeArena,
+    member: &Member,
+    named: &[TypeId],
+) -> Result<TypeId, LinkError> {
+    match named.first() {
+        Some(own) => Ok(*own),
+        None => match member {
+            Member::Op(of, op) => type_of_operation(alloc, types, *of, op),
+            _ => Err(LinkError::NotYet),
+        },
+    }
+}
+
+/// The numbers of the callables that uses come to: operations follow the instances.
+fn callables_of(alloc: Global, uses: &[Callee], instances: usize) -> Result<Vec<usize>, LinkError> {
+    let mut callables = Vec::new(alloc);
+    for callee in uses {
+        callables.push(match callee {
+            Callee::Instance(n) => *n,
+            Callee::Operation(n) => instances.saturating_add(*n),
+        })?;
+    }
+    Ok(callables)
+}
+
+/// Adds the operations, and each code that serves them once.
+fn add_operations(
+    alloc: Global,
+    program: &mut Program<'_>,
+    operations: &IndexSet<Member>,
+    placed: &mut IndexMap<CodeName, usize>,
+) -> Result<(), LinkError> {
+    for member in operations {
+        match member {
+            Member::Op(of, name) => add_operation(alloc, program, placed, *of, name)?,
+            Member::ForceOf(of) => add_force(alloc, program, placed, *of)?,
+            _ => return Err(LinkError::NotYet),
+        }
+    }
+    Ok(())
+}
+
+fn add_operation(
+    alloc: Global,
+    program: &mut Program<'_>,
+    placed: &mut IndexMap<CodeName, usize>,
+    of: TypeId,
+    name: &Bytes,
+) -> Result<(), LinkError> {
+    let Chosen {
+        code,
+        operation,
+        known,
+    } = choose(alloc, &program.types, of, name)?;
+    let number = number_of(alloc, program, placed, code, operation)?;
+    let own = type_of_operation(alloc, &mut program.types, of, name)?;
+    program.callables.push(Callable {
+        code: number,
+        own,
+        uses: Vec::new(alloc),
+        types: Vec::new(alloc),
+        actuals: as_actuals(alloc, known)?,
+        cluster: None,
+    })?;
+    Ok(())
+}
+
+/// The number of an operation's code, which is added if it is new.
+fn number_of(
+    alloc: Global,
+    program: &mut Program<'_>,
+    placed: &mut IndexMap<CodeName, usize>,
+    name: CodeName,
+    operation: &Operation,
+) -> Result<usize, LinkError> {
+    match placed.get(&name).copied() {
+        Some(number) => Ok(number),
+        None => {
+            let made = code_of(alloc, &routine(alloc, operation)?)?;
+            add_code(program, placed, name, made)
+        }
+    }
+}
+
+/// Adds a code; the answer is its number.
+fn add_code(
+    program: &mut Program<'_>,
+    placed: &mut IndexMap<CodeName, usize>,
+    name: CodeName,
+    made: ObjRoutine,
+) -> Result<usize, LinkError> {
+    let number = program.codes.len();
+    program.codes.push(Code::Made(made))?;
+    placed.insert(name, number)?;
+    Ok(number)
+}
+
+/// Constants as actual parameters.
+fn as_actuals(alloc: Global, constants: Vec<Const>) -> Result<Vec<Actual>, LinkError> {
+    let mut actuals = Vec::new(alloc);
+    for constant in constants {
+        actuals.push(Actual::Const(constant))?;
+    }
+    Ok(actuals)
+}
+
+fn add_force(
+    alloc: Global,
+    program: &mut Program<'_>,
+    placed: &mut IndexMap<CodeName, usize>,
+    of: TypeId,
+) -> Result<(), LinkError> {
+    let code = force_number(alloc, program, placed)?;
+    let own = type_of_force(alloc, &mut program.types, of)?;
+    program.callables.push(Callable {
+        code,
+        own,
+        uses: Vec::new(alloc),
+        types: vec![in alloc; of]?,
+        actuals: Vec::new(alloc),
+        cluster: None,
+    })?;
+    Ok(())
+}
+
+/// The number of the code of `force`, which is added if it is new.
+fn force_number(
+    alloc: Global,
+    program: &mut Program<'_>,
+    placed: &mut IndexMap<CodeName, usize>,
+) -> Result<usize, LinkError> {
+    let name = CodeName {
+        family: Family::Force,
+        name: Bytes::from_slice(alloc, b"force")?,
+    };
+    match placed.get(&name).copied() {
+        Some(number) => Ok(number),
+        None => {
+            let made = code_of(alloc, &force_code(alloc)?)?;
+            add_code(program, placed, name, made)
+        }
+    }
+}

@@ -1,0 +1,205 @@
+//! What the uses of a routine denote, among what is kept.
+
+ghost use Rattle.std.specs.Prelude.{◌≡◌, IfOk};
+ghost use Rattle.clu_types.specs.Arena.{type_at, types_of};
+ghost use Rattle.clu_builtin.specs.Table.{operation};
+ghost use Rattle.clu_link.specs.Uses.{IsSortOf, kind_of, kind_of_constant, sort_of_built};
+
+use crate::errors::LinkError;
+use crate::member::Member;
+use crate::parameters::member_of;
+use clu_base::{Bytes, Const};
+use clu_builtin::{Builtin, Need, heading};
+use clu_check_expr::meets;
+use clu_equates::term;
+use clu_library::Library;
+use clu_specs::Form;
+use clu_types::{Actual, ParamKind, Term, TypeArena, TypeId};
+use std::alloc::Global;
+
+/// A use that denotes something.
+#[derive(Debug, Drop)]
+pub enum Use {
+    /// A routine of a module, the setting up of a cluster's own variables, or an operation that uses others: one that is
+    /// defined by a text, or uses those of its type's components.
+    Instance(Member),
+    /// An operation that is code of the linker's own.
+    Operation(Member),
+}
+
+/// Which of the two a use is.
+#[derive(Clone, Copy, Debug, PartialEq, Eq)]
+enum Sort {
+    Instance,
+    Operation,
+}
+
+/// What the uses of these texts denote, with actual parameters put in; None where one of them denotes nothing.
+pub fn uses_of(
+    alloc: Global,
+    lib: &Library,
+    types: &mut TypeArena,
+    texts: &[Bytes],
+    actuals: &[Actual],
+) -> Result<Option<Vec<Use>>, LinkError> {
+    let mut uses = Vec::new(alloc);
+    for text in texts {
+        let Some(member) = member_of(alloc, types, text, actuals)? else {
+            return Ok(None);
+        };
+        match sort_of(alloc, lib, types, &member)? {
+            Some(Sort::Instance) => uses.push(Use::Instance(member))?,
+            Some(Sort::Operation) => uses.push(Use::Operation(member))?,
+            None => return Ok(None),
+        }
+    }
+    Ok(Some(uses))
+}
+
+/// What a member is, if it denotes something.
+fn sort_of(
+    alloc: Global,
+    lib: &Library,
+    types: &mut TypeArena,
+    member: &Member,
+) -> Result<Option<Sort>, LinkError> {
+    match member {
+        Member::Module(name, actuals) => {
+            Ok(instance_if(is_given(lib, name, actuals.as_slice(), false)))
+        }
+        Member::OwnSetUp(of) => match is_cluster(lib, types, *of)? {
+            Some(is_kept) => Ok(instance_if(is_kept)),
+            None => Ok(None),
+        },
+        Member::Op(of, op) => match is_cluster(lib, types, *of)? {
+            Some(is_kept) => Ok(instance_if(is_kept)),
+            None => sort_of_operation(alloc, lib, types, *of, op),
+        },
+        Member::ForceOf(_) => Ok(Some(Sort::Operation)),
+    }
+}
+
+fn instance_if(is_kept: bool) -> Option<Sort> {
+    if is_kept { Some(Sort::Instance) } else { None }
+}
+
+/// Whether a module of this name is kept that is a cluster, or else a routine, and has parameters of the actuals' kinds.
+fn is_given(lib: &Library, name: &Bytes, actuals: &[Actual], is_cluster: bool) -> bool {
+    let Some(spec) = lib.spec(name) else {
+        return false;
+    };
+    let is_form = match &spec.form {
+        Form::Cluster(_, _) => is_cluster,
+        Form::Routine(_) => !is_cluster,
+    };
+    is_form && are_of_kinds(actuals, spec.kinds.as_slice())
+}
+
+fn are_of_kinds(actuals: &[Actual], kinds: &[ParamKind]) -> bool {
+    if actuals.len() != kinds.len() {
+        return false;
+    }
+    for (actual, kind) in actuals.iter().zip(kinds) {
+        if !is_of_kind(actual, *kind) {
+            return false;
+        }
+    }
+    true
+}
+
+fn is_of_kind(actual: &Actual, kind: ParamKind) -> bool {
+    match kind_of(actual) {
+        Some(known) => known == kind,
+        None => false,
+    }
+}
+
+/// The kind of the parameter that an actual one may stand for.
+fn kind_of(actual: &Actual) -> Option<ParamKind>
+    ensures { result ≡ kind_of actual.now }
+{
+    match actual {
+        Actual::Of(_) => Some(ParamKind::OfType),
+        Actual::Const(value) => Some(kind_of_constant(value)),
+        Actual::ConstParam(_) => None,
+    }
+}
+
+fn kind_of_constant(value: &Const) -> ParamKind
+    ensures { result ≡ kind_of_constant value.now }
+{
+    match value {
+        Const::Null => ParamKind::Null,
+        Const::Bool(_) => ParamKind::Bool,
+        Const::Int(_) => ParamKind::Int,
+        Const::Char(_) => ParamKind::Char,
+        Const::Str(_) => ParamKind::Str,
+    }
+}
+
+/// Whether a cluster's type is one of a kept cluster; None for all other types.
+fn is_cluster(lib: &Library, types: &TypeArena, of: TypeId) -> Result<Option<bool>, LinkError> {
+    match term(types, of)? {
+        Term::Cluster(name, actuals) => Ok(Some(is_given(lib, name, actuals.as_slice(), true))),
+        _ => Ok(None),
+    }
+}
+
+/// What an operation is that a built-in type has and whose needs are met.
+#[tactic(auto, using(crate::proofs::Sorts::sort_found))]
+fn sort_of_operation(
+    alloc: Global,
+    lib: &Library,
+    types: &mut TypeArena,
+    of: TypeId,
+    op: &Bytes,
+) -> Result<Option<Sort>, LinkError>
+    ensures { IfOk result (IsSortOf (operation (type_at (types_of types.old) of) op.now)) }
+{
+    if !types.contains(of) {
+        return Err(LinkError::NotYet);
+    }
+    let Some(built) = heading(alloc, types, of, op)? else {
+        return Ok(None);
+    };
+    if are_met(alloc, lib, types, built.needs.as_slice())? {
+        Ok(Some(sort_of_built(&built)))
+    } else {
+        Ok(None)
+    }
+}
+
+/// What a built-in operation is. One that iterates or needs others uses others.
+fn sort_of_built(built: &Builtin) -> Sort
+    ensures { result ≡ sort_of_built built.now.iter built.now.needs }
+{
+    if built.iter {
+        return Sort::Instance;
+    }
+    match built.needs.as_slice() {
+        [] => Sort::Operation,
+        [_, ..] => Sort::Instance,
+    }
+}
+
+fn are_met(
+    alloc: Global,
+    lib: &Library,
+    types: &mut TypeArena,
+    needs: &[Need],
+) -> Result<bool, LinkError> {
+    for need in needs {
+        if !meets(
+            alloc,
+            need.of,
+            &need.op,
+            need.wanted,
+            &[],
+            lib.specs(),
+            types,
+        )? {
+            return Ok(false);
+        }
+    }
+    Ok(true)
+}

@@ -1,0 +1,28 @@
+//! The linker: finds what a program reaches from its start, puts the code of each routine and operation once, lays out
+//! what the code needs beside it, and fills in the holes. Each step is a function from plain data to plain data.
+#![tactic(auto)]
+
+mod bounds;
+mod collecting;
+mod denoting;
+mod errors;
+mod filling;
+mod linking;
+mod member;
+mod operation_codes;
+mod operations;
+mod origins;
+mod parameters;
+mod places;
+mod program;
+mod reach;
+mod runtime;
+mod tables;
+mod texts;
+mod type_words;
+
+pub use crate::errors::LinkError;
+pub use crate::linking::{Linked, link};
+
+#[cfg(test)]
+mod tests;

@@ -1,0 +1,92 @@
+//! Linking: from a library and a start to an image.
+
+ghost use Rattle.std.specs.Prelude.{◌≡◌, IfOk, OnOk};
+ghost use Rattle.clu_library.specs.Contents.{spec_of};
+ghost use Rattle.clu_link.specs.Starts.{AreUnset, MayStart};
+
+use crate::collecting::collect;
+use crate::errors::LinkError;
+use crate::filling::code_words;
+use crate::places::{Places, lay_out};
+use crate::program::{Code, Program};
+use crate::reach::{RoutineName, reach};
+use crate::tables::fixed_part;
+use crate::texts::{Texts, collect_texts};
+use clu_base::Bytes;
+use clu_library::Library;
+use indexmap::IndexMap;
+use rv_isa::Image;
+use std::alloc::Global;
+
+/// A program that was linked.
+#[derive(Debug, Drop)]
+pub struct Linked {
+    pub image: Image,
+    /// The modules whose bodies it has, ascending.
+    pub modules: Vec<Bytes>,
+}
+
+/// Links the program that starts with the procedure `start`.
+pub fn link(alloc: Global, lib: &Library, start: &Bytes) -> Result<Linked, LinkError>
+    ensures started { OnOk result (MayStart (spec_of lib.now start.now)) }
+    ensures entry { IfOk result (λ linked. linked.image.entry ≡ 0) }
+    ensures unset { IfOk result (λ linked. AreUnset linked.image.area) }
+{
+    let reached = reach(alloc, lib, start)?;
+    let modules = modules_of(alloc, &reached.routines)?;
+    let program = collect(alloc, reached)?;
+    let texts = collect_texts(alloc, &program)?;
+    let places = lay_out(alloc, &program, &texts)?;
+    let image = image_of(alloc, &program, &texts, &places)?;
+    Ok(Linked { image, modules })
+}
+
+/// The modules of routines, ascending, each once.
+fn modules_of(
+    alloc: Global,
+    routines: &IndexMap<RoutineName, Code<'_>>,
+) -> Result<Vec<Bytes>, LinkError> {
+    let mut modules = Vec::new(alloc);
+    for routine in routines.keys() {
+        if let RoutineName::Kept(module, _) = routine {
+            modules.push(module.copy(alloc)?)?;
+        }
+    }
+    modules.sort()?;
+    modules.dedup();
+    Ok(modules)
+}
+
+/// The image of a program: its entry is the first word of the start part.
+fn image_of(
+    alloc: Global,
+    program: &Program<'_>,
+    texts: &Texts,
+    places: &Places,
+) -> Result<Image, LinkError>
+    ensures entry { IfOk result (λ image. image.entry ≡ 0) }
+    ensures unset { IfOk result (λ image. AreUnset image.area) }
+{
+    let code = code_words(alloc, program, places)?;
+    let fixed = fixed_part(alloc, program, texts, places)?;
+    let area = data_part(alloc, places)?;
+    if fixed.len() as u64 != places.data.saturating_sub(places.fixed) {
+        return Err(LinkError::NotYet);
+    }
+    match Image::new(0, code, fixed, area) {
+        Some(image) => Ok(image),
+        None => Err(LinkError::NotYet),
+    }
+}
+
+/// The data: no own variable names an object when the program starts.
+#[tactic(auto, using(crate::proofs::Zeros::are_zeros))]
+fn data_part(alloc: Global, places: &Places) -> Result<Vec<u8>, LinkError>
+    ensures { IfOk result (λ bytes. AreUnset bytes.items) }
+{
+    let bytes = places.end.saturating_sub(places.data);
+    if bytes > Image::MAX_BYTES as u64 {
+        return Err(LinkError::NotYet);
+    }
+    Ok(vec![in alloc; 0; bytes as usize]?)
+}

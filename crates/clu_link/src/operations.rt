@@ -1,0 +1,75 @@
+//! The code of operations of built-in types, made by the same steps as that of modules, and the types that operations
+//! have as objects.
+
+use crate::errors::LinkError;
+use clu_base::{Bytes, Sequence};
+use clu_builtin::{Builtin, heading};
+use clu_frames::flatten;
+use clu_handlers::Regions;
+use clu_object::ObjRoutine;
+use clu_types::{Exception, Heading, Term, TypeArena, TypeId};
+use clu_wir::WRoutine;
+use rv_select::select;
+use std::alloc::Global;
+
+/// The type of an operation of a built-in type as an object.
+pub fn type_of_operation(
+    alloc: Global,
+    types: &mut TypeArena,
+    of: TypeId,
+    name: &Bytes,
+) -> Result<TypeId, LinkError> {
+    if !types.contains(of) {
+        return Err(LinkError::NotYet);
+    }
+    match heading(alloc, types, of, name)? {
+        Some(
+            Builtin {
+                iter,
+                heading,
+                needs: _,
+            },
+        ) => {
+            if iter {
+                Ok(types.intern(Term::Iter(heading))?)
+            } else {
+                Ok(types.intern(Term::Proc(heading))?)
+            }
+        }
+        None => Err(LinkError::NotYet),
+    }
+}
+
+/// The type of `force` of a type: `proctype (any) returns (t) signals (wrong_type)`.
+pub fn type_of_force(
+    alloc: Global,
+    types: &mut TypeArena,
+    of: TypeId,
+) -> Result<TypeId, LinkError> {
+    if !types.contains(of) {
+        return Err(LinkError::NotYet);
+    }
+    let any = types.intern(Term::Any)?;
+    let signal = Exception {
+        name: Bytes::from_slice(alloc, b"wrong_type")?,
+        objects: Sequence::from_vec(Vec::new(alloc)),
+    };
+    let heading = Heading {
+        args: Sequence::from_vec(vec![in alloc; any]?),
+        results: Sequence::from_vec(vec![in alloc; of]?),
+        signals: Sequence::from_vec(vec![in alloc; signal]?),
+    };
+    let term = Term::Proc(heading);
+    if types.holds(&term) {
+        Ok(types.intern(term)?)
+    } else {
+        Err(LinkError::NotYet)
+    }
+}
+
+/// The words of a routine in word code.
+pub fn code_of(alloc: Global, routine: &WRoutine) -> Result<ObjRoutine, LinkError> {
+    let mut regions = Regions::new(alloc);
+    let flat = flatten(alloc, routine, &mut regions)?;
+    Ok(select(alloc, &flat, &regions)?)
+}

@@ -1,0 +1,430 @@
+//! Which routines a program reaches from its start: breadth first, in the order of their uses, each once.
+
+ghost use Rattle.std.specs.Prelude.{◌≡◌, ◌≤◌, IfErr, IfOk, IfSome, OnOk};
+ghost use Rattle.indexmap.specs.IndexSet.{index_set_len};
+ghost use Rattle.clu_library.specs.Contents.{spec_of};
+ghost use Rattle.clu_link.specs.Starts.{IsRefusal, MayStart, is_start, is_start_form};
+
+use crate::bounds::{cluster_variables, fits, weight};
+use crate::denoting::{Use, uses_of};
+use crate::errors::LinkError;
+use crate::member::Member;
+use crate::operation_codes::{Family, family_of};
+use crate::operations::code_of;
+use crate::origins::{Kept, Origin, SET_UP, origin_of};
+use crate::parameters::types_of;
+use crate::program::Code;
+use clu_base::{Bytes, Memory, Sequence};
+use clu_library::Library;
+use clu_object::{ObjRoutine, Object};
+use clu_rt_data::{derived, scheme};
+use clu_specs::Form;
+use clu_types::{Actual, Spec, TypeArena, TypeId};
+use clu_wir::WRoutine;
+use indexmap::{IndexMap, IndexSet};
+use std::alloc::Global;
+
+/// The most instances of a program.
+const MAX_INSTANCES: usize = 4096;
+
+/// The most that the instances of a program may weigh.
+const MAX_WEIGHT: u64 = 262_144;
+
+/// A routine whose code stands once in a program, whatever its instances.
+#[derive(Debug, Drop, PartialEq, Eq, Hash)]
+pub enum RoutineName {
+    /// A routine of a module.
+    Kept(Bytes, Bytes),
+    /// An operation of a type that uses those of the type's components.
+    Scheme(TypeId, Bytes),
+    /// An operation of the types of a kind that is defined by a text.
+    Derived(Family, Bytes),
+}
+
+/// What a use comes to.
+#[derive(Clone, Copy, Debug, PartialEq, Eq)]
+pub enum Callee {
+    /// The instance of this number.
+    Instance(usize),
+    /// The operation of this number.
+    Operation(usize),
+}
+
+/// A routine with its actual parameters.
+#[derive(Debug, Drop)]
+pub struct Instance {
+    /// The number of its routine.
+    pub routine: usize,
+    pub actuals: Vec<Actual>,
+    pub uses: Vec<Callee>,
+    /// The types that its routine names, with the actuals put in.
+    pub types: Vec<TypeId>,
+    /// The number of the cluster instance whose routine it is.
+    pub cluster: Option<usize>,
+}
+
+/// What a program consists of.
+#[derive(Debug, Drop)]
+pub struct Reached<'a> {
+    /// The types that uses name.
+    pub types: TypeArena,
+    /// What the instances are, in the order in which they are reached.
+    pub members: IndexSet<Member>,
+    pub instances: Vec<Instance>,
+    /// The routines of the instances.
+    pub routines: IndexMap<RoutineName, Code<'a>>,
+    /// The operations that are used and that no module has.
+    pub operations: IndexSet<Member>,
+    /// The cluster instances whose routines are reached, and how many own variables each has.
+    pub clusters: IndexMap<TypeId, u64>,
+}
+
+/// What is reached so far, and what was found wrong with it.
+#[derive(Drop)]
+struct Work<'a> {
+    lib: &'a Library,
+    reached: Reached<'a>,
+    no_body: Option<Bytes>,
+    misfit: Option<Bytes>,
+    weight: u64,
+}
+
+/// What an instance uses and the types that it names, with its actual parameters put in.
+#[derive(Drop)]
+struct Parts {
+    uses: Vec<Use>,
+    types: Vec<TypeId>,
+}
+
+/// What the program from this start reaches. The refusals are all those of `LinkError`.
+pub fn reach<'a>(alloc: Global, lib: &'a Library, start: &Bytes) -> Result<Reached<'a>, LinkError>
+    ensures started { OnOk result (MayStart (spec_of lib.now start.now)) }
+    ensures few { IfOk result (λ reached. index_set_len reached.members ≤ 4096) }
+{
+    let first = start_of(alloc, lib, start)?;
+    let mut work = Work::new(alloc, lib);
+    match work.visit_all(alloc, first) {
+        Ok(()) => work.finish(),
+        Err(error) => Err(error),
+    }
+}
+
+/// The instance with which a program starts.
+fn start_of(alloc: Global, lib: &Library, start: &Bytes) -> Result<Member, LinkError>
+    ensures started { OnOk result (MayStart (spec_of lib.now start.now)) }
+    ensures refused { IfErr result (λ e. IsRefusal e start.now (spec_of lib.now start.now)) }
+{
+    let name = start.copy(alloc)?;
+    match lib.spec(start) {
+        None => Err(LinkError::NoModule(name)),
+        Some(spec) if is_start(spec) => Ok(Member::Module(
+            name,
+            Sequence::from_vec(Vec::new(alloc)),
+        )),
+        Some(_) => Err(LinkError::BadStart(name)),
+    }
+}
+
+/// Whether it is a procedure without parameters, arguments and results.
+fn is_start(spec: &Spec) -> bool
+    ensures { result ≡ is_start spec.now }
+{
+    spec.kinds.as_slice().is_empty() && is_start_form(&spec.form)
+}
+
+fn is_start_form(form: &Form) -> bool
+    ensures { result ≡ is_start_form form.now }
+{
+    match form {
+        Form::Routine(op) => {
+            !op.iter
+                && op.heading.args.as_slice().is_empty()
+                && op.heading.results.as_slice().is_empty()
+        }
+        Form::Cluster(_, _) => false,
+    }
+}
+
+/// The routine of this name.
+fn routine_named<'a>(object: &'a Object, name: &Bytes) -> Option<&'a ObjRoutine>
+    ensures { IfSome result (λ routine. routine.now.name ≡ name.now) }
+{
+    for routine in object.routines.as_slice() {
+        if routine.name == *name {
+            return Some(routine);
+        }
+    }
+    None
+}
+
+/// How many own variables a cluster has: those that its routines name.
+fn variables_of(object: &Object) -> u64 {
+    let mut count = 0u64;
+    for routine in object.routines.as_slice() {
+        count = count.max(cluster_variables(routine));
+    }
+    count
+}
+
+/// What a routine uses and names with these actual parameters; None where it names what is not there.
+fn parts_of(
+    alloc: Global,
+    lib: &Library,
+    types: &mut TypeArena,
+    routine: &ObjRoutine,
+    actuals: &[Actual],
+) -> Result<Option<Parts>, LinkError> {
+    let Some(named) = types_of(alloc, types, routine.types.as_slice(), actuals)? else {
+        return Ok(None);
+    };
+    match uses_of(alloc, lib, types, routine.uses.as_slice(), actuals)? {
+        Some(uses) => Ok(Some(Parts { uses, types: named })),
+        None => Ok(None),
+    }
+}
+
+impl<'a> Work<'a> {
+    fn new(alloc: Global, lib: &'a Library) -> Work<'a> {
+        Work {
+            lib,
+            reached: Reached {
+                types: TypeArena::new(alloc),
+                members: IndexSet::new(alloc),
+                instances: Vec::new(alloc),
+                routines: IndexMap::new(alloc),
+                operations: IndexSet::new(alloc),
+                clusters: IndexMap::new(alloc),
+            },
+            no_body: None,
+            misfit: None,
+            weight: 0,
+        }
+    }
+
+    /// Visits the first instance and, in the order in which they are reached, all others.
+    fn visit_all(&mut self, alloc: Global, first: Member) -> Result<(), LinkError> {
+        self.reached.members.insert(first)?;
+        for n in 0..MAX_INSTANCES {
+            if !self.visit_next(alloc, n)? {
+                break;
+            }
+        }
+        Ok(())
+    }
+
+    /// Visits the n-th instance; whether the one behind it is still to be visited. Where there are too many already,
+    /// nothing that is found later changes the answer.
+    fn visit_next(&mut self, alloc: Global, n: usize) -> Result<bool, LinkError> {
+        match self.origin(alloc, n)? {
+            Some(origin) => {
+                self.visit(alloc, origin)?;
+                Ok(self.reached.members.len() <= MAX_INSTANCES)
+            }
+            None => Ok(false),
+        }
+    }
+
+    /// Where the code of the n-th instance comes from.
+    fn origin(&self, alloc: Global, n: usize) -> Result<Option<Origin>, LinkError> {
+        match self.reached.members.get_index(n) {
+            Some(member) => Ok(Some(origin_of(alloc, &self.reached.types, member)?)),
+            None => Ok(None),
+        }
+    }
+
+    /// Adds what an instance uses.
+    fn visit(&mut self, alloc: Global, origin: Origin) -> Result<(), LinkError> {
+        match origin {
+            Origin::Module(kept) => self.visit_module(alloc, kept),
+            Origin::Builtin(of, op, actuals) => self.visit_builtin(alloc, of, op, actuals),
+        }
+    }
+
+    fn visit_module(&mut self, alloc: Global, kept: Kept) -> Result<(), LinkError> {
+        let lib = self.lib;
+        match lib.body(&kept.module) {
+            None => {
+                self.no_body.get_or_insert(kept.module);
+                Ok(())
+            }
+            // Whether a specification that was replaced since is one that the body rests on is not asked yet.
+            Some(body) if body.checked < lib.revision() => Err(LinkError::NotYet),
+            Some(body) => self.visit_object(alloc, kept, &body.object),
+        }
+    }
+
+    fn visit_object(
+        &mut self,
+        alloc: Global,
+        kept: Kept,
+        object: &'a Object,
+    ) -> Result<(), LinkError> {
+        let shared = if kept.routine.as_slice() == SET_UP {
+            variables_of(object)
+        } else {
+            0
+        };
+        match routine_named(object, &kept.routine) {
+            Some(routine) if fits(routine, kept.actuals.as_slice(), shared) => {
+                let cluster = self.cluster_number(kept.cluster, object)?;
+                self.visit_routine(alloc, kept, routine, cluster)
+            }
+            _ => {
+                self.misfit.get_or_insert(kept.module);
+                Ok(())
+            }
+        }
+    }
+
+    /// The number of a cluster instance.
+    fn cluster_number(
+        &mut self,
+        cluster: Option<TypeId>,
+        object: &Object,
+    ) -> Result<Option<usize>, LinkError> {
+        let Some(of) = cluster else {
+            return Ok(None);
+        };
+        match self.reached.clusters.get_index_of(&of) {
+            Some(number) => Ok(Some(number)),
+            None => {
+                let (number, _) = self.reached.clusters.insert_full(of, variables_of(object))?;
+                Ok(Some(number))
+            }
+        }
+    }
+
+    fn visit_routine(
+        &mut self,
+        alloc: Global,
+        kept: Kept,
+        routine: &'a ObjRoutine,
+        cluster: Option<usize>,
+    ) -> Result<(), LinkError> {
+        let Kept {
+            module,
+            routine: name,
+            cluster: _,
+            actuals,
+        } = kept;
+        let types = &mut self.reached.types;
+        match parts_of(alloc, self.lib, types, routine, actuals.as_slice())? {
+            Some(parts) => {
+                let heavier = weight(routine, actuals.as_slice());
+                self.weight = self.weight.saturating_add(heavier);
+                let name = RoutineName::Kept(module, name);
+                let code = Code::Kept(routine);
+                Ok(
+                    self.reached
+                        .add(alloc, name, code, actuals, parts, cluster)?,
+                )
+            }
+            None => {
+                self.misfit.get_or_insert(module);
+                Ok(())
+            }
+        }
+    }
+
+    /// An operation of a type that is defined by a text or uses those of the components, which are there.
+    fn visit_builtin(
+        &mut self,
+        alloc: Global,
+        of: TypeId,
+        op: Bytes,
+        actuals: Vec<Actual>,
+    ) -> Result<(), LinkError> {
+        if let Some(made) = derived(alloc, &self.reached.types, of, &op)? {
+            let family = family_of(&self.reached.types, of)?;
+            return self.visit_made(alloc, made, RoutineName::Derived(family, op), actuals);
+        }
+        match scheme(alloc, &self.reached.types, of, &op)? {
+            Some(made) => self.visit_made(alloc, made, RoutineName::Scheme(of, op), actuals),
+            None => Err(LinkError::NotYet),
+        }
+    }
+
+    /// A routine that is made here, with its actual parameters.
+    fn visit_made(
+        &mut self,
+        alloc: Global,
+        made: WRoutine,
+        name: RoutineName,
+        actuals: Vec<Actual>,
+    ) -> Result<(), LinkError> {
+        let routine = code_of(alloc, &made)?;
+        let types = &mut self.reached.types;
+        match parts_of(alloc, self.lib, types, &routine, actuals.as_slice())? {
+            Some(parts) => {
+                let heavier = weight(&routine, actuals.as_slice());
+                self.weight = self.weight.saturating_add(heavier);
+                let code = Code::Made(routine);
+                Ok(self.reached.add(alloc, name, code, actuals, parts, None)?)
+            }
+            None => Err(LinkError::NotYet),
+        }
+    }
+
+    /// What was reached, if nothing is wrong with it.
+    fn finish(self) -> Result<Reached<'a>, LinkError>
+        ensures { IfOk result (λ reached. index_set_len reached.members ≤ 4096) }
+    {
+        let Work {
+            lib: _,
+            reached,
+            no_body,
+            misfit,
+            weight,
+        } = self;
+        if reached.members.len() > MAX_INSTANCES {
+            return Err(LinkError::TooManyInstances);
+        }
+        match (no_body, misfit) {
+            (Some(name), _) => Err(LinkError::NoBody(name)),
+            (None, Some(name)) => Err(LinkError::Misfit(name)),
+            (None, None) if weight > MAX_WEIGHT => Err(LinkError::ProgramTooLarge),
+            (None, None) => Ok(reached),
+        }
+    }
+}
+
+impl<'a> Reached<'a> {
+    /// Adds an instance that was reached, and what it uses.
+    fn add(
+        &mut self,
+        alloc: Global,
+        name: RoutineName,
+        code: Code<'a>,
+        actuals: Vec<Actual>,
+        parts: Parts,
+        cluster: Option<usize>,
+    ) -> Result<(), Memory> {
+        let (number, _) = self.routines.insert_full(name, code)?;
+        let mut callees = Vec::new(alloc);
+        for denoted in parts.uses {
+            callees.push(self.callee(denoted)?)?;
+        }
+        self.instances.push(Instance {
+            routine: number,
+            actuals,
+            uses: callees,
+            types: parts.types,
+            cluster,
+        })?;
+        Ok(())
+    }
+
+    /// The number of what is used.
+    fn callee(&mut self, denoted: Use) -> Result<Callee, Memory> {
+        match denoted {
+            Use::Instance(member) => {
+                let (number, _) = self.members.insert_full(member)?;
+                Ok(Callee::Instance(number))
+            }
+            Use::Operation(member) => {
+                let (number, _) = self.operations.insert_full(member)?;
+                Ok(Callee::Operation(number))
+            }
+        }
+    }
+}

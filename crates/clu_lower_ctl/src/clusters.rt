@@ -1,0 +1,200 @@
+//! Clusters (CLU Reference Manual, section 13.3): their routines, and the setting up of their own variables, which is a
+//! routine of its own. Sealing and opening an object leave its word as it is.
+
+ghost use Rattle.std.specs.Prelude.{All, IfOk};
+ghost use Rattle.clu_lower_expr.specs.Bounds.{IsBounded};
+
+use crate::declaring::formals;
+use crate::given::{Member, give_cluster, give_member, own_actuals};
+use crate::headings::note_heading;
+use crate::own_type::heading_text;
+use crate::own_variables::{children_of, declare_owns, set_up};
+use crate::routines::{body, count, is_procedure, own_name, specification};
+use clu_base::{Bytes, Sequence};
+use clu_core::Checked;
+use clu_equates::{first_name, intern, node_at};
+use clu_lower_expr::{LowerError, Lowering, Sealed, lower_own_set_up, written_heading};
+use clu_specs::{Target, use_text};
+use clu_tree::{Node, NodeKind};
+use clu_types::{Spec, Term, TypeArena, TypeId};
+use clu_wir::{HoleKind, WRoutine, WStmt};
+use std::alloc::Global;
+
+/// The name of the routine that sets up a cluster's own variables.
+const SET_UP: &[u8] = b"own";
+
+/// A cluster in the making.
+#[derive(Clone, Copy)]
+struct Cluster<'a> {
+    module: &'a Node,
+    node: &'a Node,
+    spec: &'a Spec,
+    /// The type that its `rep` denotes.
+    rep: Option<TypeId>,
+    owns: &'a [u32],
+}
+
+/// The routines of a cluster, by the nodes of its module and its own, behind that which sets up its own variables, if it
+/// has any.
+pub fn cluster_routines(
+    alloc: Global,
+    c: &Checked,
+    module: &Node,
+    node: &Node,
+) -> Result<Vec<WRoutine>, LowerError>
+    ensures { IfOk result (λ routines. All IsBounded routines.items) }
+{
+    let owns = children_of(alloc, c, node, NodeKind::Own)?;
+    let routines = children_of(alloc, c, node, NodeKind::Routine)?;
+    let cluster = Cluster {
+        module,
+        node,
+        spec: specification(c, first_name(node)?)?,
+        rep: representation(c, node)?,
+        owns: owns.as_slice(),
+    };
+    cluster.all_routines(alloc, c, routines.as_slice())
+}
+
+/// The type that the equate of `rep` denotes, which is the one without a name.
+fn representation(c: &Checked, node: &Node) -> Result<Option<TypeId>, LowerError> {
+    for child in node.children.as_slice() {
+        let equate = node_at(&c.tree, *child)?;
+        if equate.kind == NodeKind::Equate && equate.names.as_slice().is_empty() {
+            return match equate.children.as_slice() {
+                [value] => Ok(c.denoted.get(*value as usize).copied().flatten()),
+                _ => Err(LowerError::NotYet),
+            };
+        }
+    }
+    Ok(None)
+}
+
+impl Cluster<'_> {
+    /// Adds the cluster's own variables and what its where clause gives to a routine in the making.
+    fn begin(&self, out: &mut Lowering, c: &Checked) -> Result<(), LowerError> {
+        out.body.rep = self.rep;
+        give_cluster(out, self.spec)?;
+        declare_owns(out, c, self.owns, HoleKind::ClusterOwn)
+    }
+
+    /// The routines of these nodes, behind that which sets up the own variables.
+    fn all_routines(
+        &self,
+        alloc: Global,
+        c: &Checked,
+        nodes: &[u32],
+    ) -> Result<Vec<WRoutine>, LowerError>
+        ensures { IfOk result (λ routines. All IsBounded routines.items) }
+    {
+        let mut routines = self.set_ups(alloc, c)?;
+        for n in nodes {
+            let node = node_at(&c.tree, *n)?;
+            routines.push(self.routine(alloc, c, *n, node)?)?;
+        }
+        Ok(routines)
+    }
+
+    /// The routine that sets up the own variables, if there are any.
+    fn set_ups(&self, alloc: Global, c: &Checked) -> Result<Vec<WRoutine>, LowerError>
+        ensures { IfOk result (λ routines. All IsBounded routines.items) }
+    {
+        if self.owns.is_empty() {
+            return Ok(Vec::new(alloc));
+        }
+        Ok(vec![in alloc; self.set_up(alloc, c)?]?)
+    }
+
+    /// The routine that sets up the own variables. Its nodes are those of their declarations.
+    fn set_up(&self, alloc: Global, c: &Checked) -> Result<WRoutine, LowerError>
+        ensures { IfOk result IsBounded }
+    {
+        let name = Bytes::from_slice(alloc, SET_UP)?;
+        let mut out = Lowering::new(alloc);
+        self.fill_set_up(&mut out, c)?;
+        out.finish(name, 0, self.own_nodes(c))
+    }
+
+    fn fill_set_up(&self, out: &mut Lowering, c: &Checked) -> Result<(), LowerError> {
+        self.begin(out, c)?;
+        out.add_type(Bytes::from_slice(out.alloc, b"proctype()")?)?;
+        set_up(out, c, self.owns, HoleKind::ClusterOwn)?;
+        out.push(WStmt::Return(Vec::new(out.alloc)))
+    }
+
+    /// The nodes of the declarations of own variables.
+    fn own_nodes(&self, c: &Checked) -> u32 {
+        let mut nodes = 0u32;
+        for own in self.owns {
+            nodes = nodes.saturating_add(count(c, *own));
+        }
+        nodes
+    }
+
+    fn routine(
+        &self,
+        alloc: Global,
+        c: &Checked,
+        n: u32,
+        node: &Node,
+    ) -> Result<WRoutine, LowerError>
+        ensures { IfOk result IsBounded }
+    {
+        let name = own_name(alloc, node)?;
+        let mut out = Lowering::new(alloc);
+        let args = self.fill(&mut out, c, node)?;
+        out.finish(name, args, count(c, n))
+    }
+
+    /// Adds all that stands in a routine; the answer is how many arguments it takes.
+    fn fill(&self, out: &mut Lowering, c: &Checked, node: &Node) -> Result<u32, LowerError> {
+        let member = Member {
+            module: self.module,
+            cluster: self.node,
+            routine: node,
+            spec: self.spec,
+        };
+        give_member(out, c, member)?;
+        self.begin(out, c)?;
+        out.add_type(self.own_type(out.alloc, c, node)?)?;
+        let args = formals(out, c, node)?;
+        if !self.owns.is_empty() {
+            let text = self.set_up_text(out.alloc)?;
+            lower_own_set_up(out, text)?;
+        }
+        note_heading(out, c, node)?;
+        body(out, c, node)?;
+        Ok(args)
+    }
+
+    /// The text of the use of the setting up of the own variables.
+    fn set_up_text(&self, alloc: Global) -> Result<Bytes, LowerError> {
+        let mut types = TypeArena::new(alloc);
+        let own = self.cluster_type(alloc, &mut types)?;
+        if !types.contains(own) {
+            return Err(LowerError::NotYet);
+        }
+        Ok(use_text(alloc, &types, &Target::OwnSetUp(own))?)
+    }
+
+    /// The cluster's type, with its own parameters as actuals.
+    fn cluster_type(&self, alloc: Global, types: &mut TypeArena) -> Result<TypeId, LowerError> {
+        let actuals = own_actuals(alloc, types, self.spec.kinds.as_slice())?;
+        let name = self.spec.name.copy(alloc)?;
+        Ok(intern(types, Term::Cluster(name, Sequence::from_vec(actuals)))?)
+    }
+
+    /// The text of a routine's own type, which is that of its heading as callers see it.
+    fn own_type(&self, alloc: Global, c: &Checked, node: &Node) -> Result<Bytes, LowerError> {
+        let mut types = TypeArena::new(alloc);
+        let of = self.cluster_type(alloc, &mut types)?;
+        let sealed = Sealed {
+            types,
+            of,
+            name: self.spec.name.copy(alloc)?,
+            actuals: Vec::new(alloc),
+        };
+        let seen = written_heading(alloc, c, node, sealed)?;
+        heading_text(alloc, seen, !is_procedure(node))
+    }
+}

@@ -1,0 +1,2 @@
+-- What a lowered routine may take.
+pub mod Bounds

@@ -1,0 +1,117 @@
+//! Binding of objects to names, results, components and objects of exceptions: where the declared type is any, an object
+//! of another type goes into a pair with the number of its type.
+
+use crate::errors::LowerError;
+use crate::lowering::Lowering;
+use clu_core::Checked;
+use clu_equates::{node_at, term};
+use clu_specs::type_text;
+use clu_tree::{Node, NodeKind};
+use clu_types::{Term, TypeArena, TypeId};
+use clu_wir::{Primitive, WExpr, WStmt};
+
+/// Whether a type is any.
+pub fn is_any(types: &TypeArena, of: TypeId) -> bool {
+    matches!(term(types, of), Ok(Term::Any))
+}
+
+/// The type of an expression's node.
+pub fn type_of(c: &Checked, n: u32) -> Result<TypeId, LowerError> {
+    match c.type_of.get(n as usize) {
+        Some(Some(of)) => Ok(*of),
+        _ => Err(LowerError::NotYet),
+    }
+}
+
+/// The type that a type's node denotes; `cvt` is the representation of the cluster round it.
+pub fn denoted_type(out: &Lowering, c: &Checked, n: u32) -> Result<TypeId, LowerError> {
+    match c.denoted.get(n as usize) {
+        Some(Some(of)) => Ok(*of),
+        _ if is_cvt(node_at(&c.tree, n)?) => out.body.rep.ok_or(LowerError::NotYet),
+        _ => Err(LowerError::NotYet),
+    }
+}
+
+/// Whether the node of a type is the word `cvt`.
+pub fn is_cvt(node: &Node) -> bool {
+    node.kind == NodeKind::Simple && node.value.as_slice() == b"cvt".as_slice()
+}
+
+/// Whether a type's node denotes any.
+pub fn denotes_any(out: &Lowering, c: &Checked, n: u32) -> Result<bool, LowerError> {
+    Ok(is_any(&c.types, denoted_type(out, c, n)?))
+}
+
+/// The word of an object of the type `of` where it is bound to type any if `to_any`, else to a type that includes its
+/// own. A slot from `free` on may change.
+pub fn bind(
+    out: &mut Lowering,
+    types: &TypeArena,
+    value: WExpr,
+    of: TypeId,
+    to_any: bool,
+    free: u32,
+) -> Result<WExpr, LowerError> {
+    if !to_any || is_any(types, of) {
+        return Ok(value);
+    }
+    let slot = match &value {
+        WExpr::Slot(slot) if *slot >= free => *slot,
+        _ => out.take()?,
+    };
+    let number = type_number(out, types, of)?;
+    let operands = vec![in out.alloc; number, value]?;
+    let results = vec![in out.alloc; slot]?;
+    out.push(WStmt::Prim(Primitive::Bind.number(), operands, results))?;
+    Ok(WExpr::Slot(slot))
+}
+
+/// Values of expressions, each bound as `any` says, once all of them are evaluated. What `any` doesn't speak of is not
+/// bound to any.
+pub fn bind_all(
+    out: &mut Lowering,
+    c: &Checked,
+    values: Vec<WExpr>,
+    expressions: &[u32],
+    any: &[bool],
+    free: u32,
+) -> Result<Vec<WExpr>, LowerError> {
+    let mut bound = Vec::new(out.alloc);
+    let mut place = 0usize;
+    for value in values {
+        let to_any = any.get(place).copied().unwrap_or(false);
+        if to_any {
+            let of = match expressions.get(place) {
+                Some(n) => type_of(c, *n)?,
+                None => return Err(LowerError::NotYet),
+            };
+            bound.push(bind(out, &c.types, value, of, true, free)?)?;
+        } else {
+            bound.push(value)?;
+        }
+        place = place.saturating_add(1);
+    }
+    Ok(bound)
+}
+
+/// The number of a type in the program.
+pub fn type_number(out: &mut Lowering, types: &TypeArena, of: TypeId) -> Result<WExpr, LowerError> {
+    if !types.contains(of) {
+        return Err(LowerError::NotYet);
+    }
+    let text = type_text(out.alloc, types, of)?;
+    out.type_number(text)
+}
+
+/// For each of these types whether it is any.
+pub fn which_are_any(
+    out: &Lowering,
+    types: &TypeArena,
+    listed: &[TypeId],
+) -> Result<Vec<bool>, LowerError> {
+    let mut any = Vec::new(out.alloc);
+    for of in listed {
+        any.push(is_any(types, *of))?;
+    }
+    Ok(any)
+}

@@ -1,0 +1,41 @@
+//! Why a routine was not lowered.
+
+use clu_base::Memory;
+use clu_equates::CheckError;
+use std::alloc::{AllocError, AllocFailed};
+
+/// Why a routine was not lowered.
+#[derive(Clone, Copy, Debug, PartialEq, Eq)]
+pub enum LowerError {
+    /// Memory was refused.
+    Memory,
+    /// A construct for which no code is made yet, or what no checked file brings about, but no contract rules out yet.
+    NotYet,
+}
+
+impl From<Memory> for LowerError {
+    fn from(_error: Memory) -> LowerError {
+        LowerError::Memory
+    }
+}
+
+impl From<AllocError> for LowerError {
+    fn from(_error: AllocError) -> LowerError {
+        LowerError::Memory
+    }
+}
+
+impl<T: Drop> From<AllocFailed<T>> for LowerError {
+    fn from(_error: AllocFailed<T>) -> LowerError {
+        LowerError::Memory
+    }
+}
+
+impl From<CheckError> for LowerError {
+    fn from(error: CheckError) -> LowerError {
+        match error {
+            CheckError::Memory => LowerError::Memory,
+            _ => LowerError::NotYet,
+        }
+    }
+}

@@ -1,0 +1,37 @@
+//! Expressions of checked routines as word code, and the routine in the making to which they are added.
+#![tactic(auto)]
+
+mod binding;
+mod body;
+mod bounds;
+mod calls;
+mod constructors;
+mod errors;
+mod headings;
+mod invoking;
+mod iterating;
+mod literals;
+mod lowering;
+mod names;
+mod owns;
+mod seen;
+mod sugar;
+mod uses;
+mod variables;
+mod walk;
+mod written;
+
+pub use crate::binding::{bind, bind_all, denoted_type, denotes_any, is_any, is_cvt, type_of};
+pub use crate::body::{ArmPlace, Body, OpenArm, OwnVariable, copied_names};
+pub use crate::constructors::{again, binary, place_of};
+pub use crate::errors::LowerError;
+pub use crate::headings::heading_of;
+pub use crate::invoking::results_of;
+pub use crate::iterating::{IteratorCall, begin_iteration, end_iteration};
+pub use crate::lowering::Lowering;
+pub use crate::owns::{FLAG, assign_named, lower_own_set_up};
+pub use crate::seen::{Sealed, Seen, carried};
+pub use crate::sugar::sugar_statement;
+pub use crate::variables::Variable;
+pub use crate::walk::{lower_call, lower_expr};
+pub use crate::written::written_heading;

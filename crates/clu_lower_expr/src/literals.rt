@@ -1,0 +1,50 @@
+//! The words of literals and of constants (CLU Reference Manual, section 5).
+
+use crate::errors::LowerError;
+use crate::lowering::Lowering;
+use clu_base::{Const, ObjConst};
+use clu_literal::{char_byte, string_bytes};
+use clu_wir::WExpr;
+
+/// The word of the literal of this spelling.
+pub fn literal(out: &mut Lowering, spelling: &[u8]) -> Result<WExpr, LowerError> {
+    match spelling {
+        [b'"', ..] => match string_bytes(out.alloc, spelling)? {
+            Some(bytes) => out.string(bytes.as_slice()),
+            None => Err(LowerError::NotYet),
+        },
+        [b'\'', ..] => match char_byte(spelling) {
+            Some(byte) => Ok(WExpr::Word(byte as u64)),
+            None => Err(LowerError::NotYet),
+        },
+        [b'n' | b'N', ..] => Ok(WExpr::Word(0)),
+        [b't' | b'T', ..] => Ok(WExpr::Word(1)),
+        [b'f' | b'F', ..] => Ok(WExpr::Word(0)),
+        _ => int_literal(spelling),
+    }
+}
+
+fn int_literal(digits: &[u8]) -> Result<WExpr, LowerError> {
+    match std::str::from_utf8(digits) {
+        Ok(text) => match text.parse::<i64>() {
+            Ok(number) => Ok(WExpr::Word(number.cast_unsigned())),
+            Err(_) => Err(LowerError::NotYet),
+        },
+        Err(_) => Err(LowerError::NotYet),
+    }
+}
+
+/// The word of a constant: a small one is in the code, a string and a parameter are the linker's.
+pub fn constant(out: &mut Lowering, constant: &ObjConst) -> Result<WExpr, LowerError> {
+    match constant {
+        ObjConst::Param(n) => out.constant(ObjConst::Param(*n)),
+        ObjConst::Value(value) => match value {
+            Const::Null => Ok(WExpr::Word(0)),
+            Const::Bool(true) => Ok(WExpr::Word(1)),
+            Const::Bool(false) => Ok(WExpr::Word(0)),
+            Const::Int(n) => Ok(WExpr::Word(n.cast_unsigned())),
+            Const::Char(byte) => Ok(WExpr::Word(*byte as u64)),
+            Const::Str(bytes) => out.string(bytes.as_slice()),
+        },
+    }
+}

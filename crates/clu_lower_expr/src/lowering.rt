@@ -1,0 +1,182 @@
+//! A routine in the making: the statements so far, what they use, and the slots that are taken.
+
+ghost use Rattle.std.specs.Prelude.{IfOk};
+ghost use Rattle.clu_lower_expr.specs.Bounds.{IsBounded, IsNamed};
+
+use crate::body::Body;
+use crate::bounds::is_bounded;
+use crate::errors::LowerError;
+use crate::variables::Variable;
+use clu_base::{Bytes, Const, ObjConst};
+use clu_wir::{HoleKind, WExpr, WRoutine, WStmt};
+use indexmap::{IndexMap, IndexSet};
+use std::alloc::Global;
+use std::hash::Hash;
+use std::mem;
+
+/// A routine in the making. Slots are taken and given back like a stack: a statement's own slots stand behind those of
+/// the variables in scope.
+#[derive(Drop)]
+pub struct Lowering {
+    pub alloc: Global,
+    /// What stands round the statements.
+    pub body: Body,
+    /// The list of statements to which is added.
+    statements: Vec<WStmt>,
+    /// Texts of uses and types, and constants, each once, in the order in which they are met.
+    uses: IndexSet<Bytes>,
+    constants: IndexSet<ObjConst>,
+    types: IndexSet<Bytes>,
+    variables: IndexMap<Bytes, Variable>,
+    /// How many slots are taken, and how many were taken at most.
+    taken: u32,
+    most: u32,
+}
+
+impl Lowering {
+    /// A routine without statements.
+    pub fn new(alloc: Global) -> Lowering {
+        Lowering {
+            alloc,
+            body: Body::new(alloc),
+            statements: Vec::new(alloc),
+            uses: IndexSet::new(alloc),
+            constants: IndexSet::new(alloc),
+            types: IndexSet::new(alloc),
+            variables: IndexMap::new(alloc),
+            taken: 0,
+            most: 0,
+        }
+    }
+
+    /// The routine. What it takes comes in its first slots. No contract shows yet that it takes no more than its nodes
+    /// allow: it is tested.
+    pub fn finish(self, name: Bytes, args: u32, nodes: u32) -> Result<WRoutine, LowerError>
+        ensures named { IfOk result (IsNamed name args nodes) }
+        ensures bounded { IfOk result IsBounded }
+    {
+        let routine = self.made(name, args, nodes)?;
+        if !is_bounded(&routine) {
+            return Err(LowerError::NotYet);
+        }
+        Ok(routine)
+    }
+
+    fn made(self, name: Bytes, args: u32, nodes: u32) -> Result<WRoutine, LowerError>
+        ensures { IfOk result (IsNamed name args nodes) }
+    {
+        let alloc = self.alloc;
+        Ok(WRoutine {
+            name,
+            args,
+            slots: self.most,
+            body: self.statements,
+            nodes,
+            uses: listed(alloc, self.uses)?,
+            constants: listed(alloc, self.constants)?,
+            types: listed(alloc, self.types)?,
+        })
+    }
+
+    /// Adds a statement.
+    pub fn push(&mut self, statement: WStmt) -> Result<(), LowerError> {
+        self.statements.push(statement)?;
+        Ok(())
+    }
+
+    /// Begins a list of statements inside the current one, which is handed out.
+    pub fn open(&mut self) -> Vec<WStmt> {
+        mem::replace(&mut self.statements, Vec::new(self.alloc))
+    }
+
+    /// Ends a list of statements, which is handed out; the one round it goes on.
+    pub fn close(&mut self, outer: Vec<WStmt>) -> Vec<WStmt> {
+        mem::replace(&mut self.statements, outer)
+    }
+
+    /// How many slots are taken.
+    pub fn taken(&self) -> u32 {
+        self.taken
+    }
+
+    /// Takes a slot.
+    pub fn take(&mut self) -> Result<u32, LowerError> {
+        let slot = self.taken;
+        self.taken = slot.checked_add(1).ok_or(LowerError::NotYet)?;
+        self.most = self.most.max(self.taken);
+        Ok(slot)
+    }
+
+    /// Gives back all slots but the first `taken`.
+    pub fn release(&mut self, taken: u32) {
+        self.taken = self.taken.min(taken);
+    }
+
+    /// The descriptor of what a use names, by its text.
+    pub fn descriptor(&mut self, text: Bytes) -> Result<WExpr, LowerError> {
+        let (number, _) = self.uses.insert_full(text)?;
+        Ok(WExpr::Hole(HoleKind::Descriptor, place(number)?))
+    }
+
+    /// The word of a constant that only the linker knows.
+    pub fn constant(&mut self, constant: ObjConst) -> Result<WExpr, LowerError> {
+        let (number, _) = self.constants.insert_full(constant)?;
+        Ok(WExpr::Hole(HoleKind::Constant, place(number)?))
+    }
+
+    /// The word of a string.
+    pub fn string(&mut self, bytes: &[u8]) -> Result<WExpr, LowerError> {
+        let bytes = Bytes::from_slice(self.alloc, bytes)?;
+        self.constant(ObjConst::Value(Const::Str(bytes)))
+    }
+
+    /// Adds a type, by its text.
+    pub fn add_type(&mut self, text: Bytes) -> Result<(), LowerError> {
+        self.types.insert(text)?;
+        Ok(())
+    }
+
+    /// The number that a type, by its text, has in the program.
+    pub fn type_number(&mut self, text: Bytes) -> Result<WExpr, LowerError> {
+        let (number, _) = self.types.insert_full(text)?;
+        Ok(WExpr::Hole(HoleKind::TypeWord, place(number)?))
+    }
+
+    /// The variable of this name.
+    pub fn variable(&self, name: &Bytes) -> Result<Variable, LowerError> {
+        self.variables.get(name).copied().ok_or(LowerError::NotYet)
+    }
+
+    /// Brings a variable into scope.
+    pub fn declare(&mut self, name: &Bytes, variable: Variable) -> Result<(), LowerError> {
+        self.variables.insert(name.copy(self.alloc)?, variable)?;
+        Ok(())
+    }
+
+    /// How many variables are in scope.
+    pub fn in_scope(&self) -> usize {
+        self.variables.len()
+    }
+
+    /// Takes all variables out of scope but the first `count`.
+    pub fn leave(&mut self, count: usize) {
+        self.variables.truncate(count);
+    }
+}
+
+/// A number in a table of a routine.
+fn place(number: usize) -> Result<u32, LowerError> {
+    u32::try_from(number).or(Err(LowerError::NotYet))
+}
+
+/// The items of a set, in their order.
+fn listed<T: Eq + Hash + Drop>(
+    alloc: Global,
+    mut items: IndexSet<T>,
+) -> Result<Vec<T>, LowerError> {
+    let mut list = Vec::new(alloc);
+    for item in items.drain(..) {
+        list.push(item)?;
+    }
+    Ok(list)
+}

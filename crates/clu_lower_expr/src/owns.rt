@@ -1,0 +1,87 @@
+//! Own variables: two words of the data each, the object's and whether the variable names one.
+
+use crate::binding::bind;
+use crate::body::OwnVariable;
+use crate::errors::LowerError;
+use crate::lowering::Lowering;
+use clu_base::Bytes;
+use clu_core::Checked;
+use clu_types::TypeId;
+use clu_wir::{HoleKind, WExpr, WStmt};
+use std::boxed::Box;
+
+/// The distance of the word that says whether an own variable names an object.
+const NAMED: u32 = 8;
+
+/// The number of the own variable whose first word says whether the others were set up.
+pub const FLAG: u32 = 0;
+
+impl Lowering {
+    /// A word of an own variable.
+    pub fn own_word(
+        &self,
+        kind: HoleKind,
+        number: u32,
+        distance: u32,
+    ) -> Result<WExpr, LowerError> {
+        let address = WExpr::Hole(kind, number);
+        Ok(WExpr::Load(Box::new(self.alloc, address)?, distance))
+    }
+
+    /// The word of the object that the variable of this name names, own or not. Where it names none the code raises a
+    /// failure. The word of an own variable is kept in a slot, since a call may change it.
+    pub fn object_named(&mut self, name: &Bytes) -> Result<WExpr, LowerError> {
+        let Some(own) = self.body.owns.get(name).copied() else {
+            return self.object_of(name);
+        };
+        let outer = self.open();
+        self.raise_failure(b"uninitialized variable")?;
+        let absent = self.close(outer);
+        let named = self.own_word(own.kind, own.number, NAMED)?;
+        self.push(WStmt::If(named, Vec::new(self.alloc), absent))?;
+        let slot = self.take()?;
+        let word = self.own_word(own.kind, own.number, 0)?;
+        self.push(WStmt::Set(slot, word))?;
+        Ok(WExpr::Slot(slot))
+    }
+
+    /// Lets an own variable name the object of a word.
+    pub fn assign_own(&mut self, own: OwnVariable, value: WExpr) -> Result<(), LowerError> {
+        let address = WExpr::Hole(own.kind, own.number);
+        self.push(WStmt::Put(address, 0, value))?;
+        let address = WExpr::Hole(own.kind, own.number);
+        self.push(WStmt::Put(address, NAMED, WExpr::Word(1)))
+    }
+}
+
+/// Lets the variable of this name, own or not, name an object of the type `of`. A slot from `free` on may change.
+pub fn assign_named(
+    out: &mut Lowering,
+    c: &Checked,
+    name: &Bytes,
+    value: WExpr,
+    of: TypeId,
+    free: u32,
+) -> Result<(), LowerError> {
+    match out.body.owns.get(name).copied() {
+        Some(own) => {
+            let value = bind(out, &c.types, value, of, own.is_any, free)?;
+            out.assign_own(own, value)
+        }
+        None => {
+            let variable = out.variable(name)?;
+            let value = bind(out, &c.types, value, of, variable.is_any, free)?;
+            out.assign(variable, value)
+        }
+    }
+}
+
+/// Adds the call that sets up the own variables of the cluster round the routine, by the text of its use, where they were
+/// not set up.
+pub fn lower_own_set_up(out: &mut Lowering, text: Bytes) -> Result<(), LowerError> {
+    let routine = out.descriptor(text)?;
+    let call = WStmt::Call(routine, Vec::new(out.alloc), Vec::new(out.alloc));
+    let setting = vec![in out.alloc; call]?;
+    let flag = out.own_word(HoleKind::ClusterOwn, FLAG, 0)?;
+    out.push(WStmt::If(flag, Vec::new(out.alloc), setting))
+}

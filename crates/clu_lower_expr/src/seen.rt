@@ -1,0 +1,168 @@
+//! Headings of operations as those see them who invoke them by sugar: of a cluster's operation, and of one that a where
+//! clause gives of a type parameter. Each stands in an arena of its own, with the cluster's actual parameters put in.
+
+use crate::errors::LowerError;
+use crate::headings::{exported_operation, routine_of};
+use crate::lowering::Lowering;
+use crate::uses::operation_of;
+use crate::written::written_heading;
+use clu_base::{Bytes, Sequence};
+use clu_core::{Checked, OpRef};
+use clu_equates::{carry, term};
+use clu_types::{Actual, Exception, Heading, Term, TypeArena, TypeId};
+use std::alloc::Global;
+
+/// A heading with the arena of its types.
+#[derive(Drop)]
+pub struct Seen {
+    pub types: TypeArena,
+    pub heading: Heading,
+}
+
+/// The heading of the operation that the sugar at a node invokes; None for one of a built-in type.
+pub fn seen_at(out: &Lowering, c: &Checked, n: u32) -> Result<Option<Seen>, LowerError> {
+    match operation_of(c, n) {
+        Some(OpRef::Builtin(_, _)) => Ok(None),
+        Some(OpRef::Cluster(of, op)) => Ok(Some(of_cluster(out.alloc, c, &c.types, *of, op)?)),
+        Some(OpRef::Param(param, op)) => Ok(Some(given(out, *param, op)?)),
+        _ => Err(LowerError::NotYet),
+    }
+}
+
+/// The heading of the operation of this name of a type of the arena; None for one of a built-in type.
+pub fn seen_of(
+    out: &Lowering,
+    c: &Checked,
+    types: &TypeArena,
+    of: TypeId,
+    op: &Bytes,
+) -> Result<Option<Seen>, LowerError> {
+    match term(types, of)? {
+        Term::Cluster(_, _) => Ok(Some(of_cluster(out.alloc, c, types, of, op)?)),
+        Term::Param(param) => Ok(Some(given(out, *param, op)?)),
+        _ => Ok(None),
+    }
+}
+
+/// What a where clause gives, with the parameters as they are.
+fn given(out: &Lowering, param: u32, op: &Bytes) -> Result<Seen, LowerError> {
+    let mut types = TypeArena::new(out.alloc);
+    let wanted = out.body.given(param, op).ok_or(LowerError::NotYet)?;
+    let of = carry(out.alloc, &mut types, &out.body.given_types, wanted, &[])?;
+    let heading = match term(&types, of)? {
+        Term::Proc(heading) => heading.copy(out.alloc)?,
+        Term::Iter(heading) => heading.copy(out.alloc)?,
+        _ => return Err(LowerError::NotYet),
+    };
+    Ok(Seen { types, heading })
+}
+
+/// An operation that is exported is in the cluster's specification, any other in the cluster's text.
+fn of_cluster(
+    alloc: Global,
+    c: &Checked,
+    from: &TypeArena,
+    of: TypeId,
+    op: &Bytes,
+) -> Result<Seen, LowerError> {
+    let sealed = sealed_type(alloc, from, of)?;
+    match exported_operation(c, &sealed.name, op) {
+        Some((from, heading)) => sealed.put_into(alloc, from, heading),
+        None => {
+            let routine = routine_of(c, &sealed.name, op)?;
+            written_heading(alloc, c, routine, sealed)
+        }
+    }
+}
+
+/// The type of a cluster in an arena of its own.
+#[derive(Drop)]
+pub struct Sealed {
+    pub types: TypeArena,
+    pub of: TypeId,
+    pub name: Bytes,
+    pub actuals: Vec<Actual>,
+}
+
+fn sealed_type(alloc: Global, from: &TypeArena, of: TypeId) -> Result<Sealed, LowerError> {
+    let mut types = TypeArena::new(alloc);
+    let of = carry(alloc, &mut types, from, of, &[])?;
+    let (name, actuals) = match term(&types, of)? {
+        Term::Cluster(name, actuals) => (
+            name.copy(alloc)?,
+            copied_actuals(alloc, actuals.as_slice())?,
+        ),
+        _ => return Err(LowerError::NotYet),
+    };
+    Ok(Sealed {
+        types,
+        of,
+        name,
+        actuals,
+    })
+}
+
+impl Sealed {
+    /// A heading of the cluster's specification with the actuals put in.
+    fn put_into(
+        self,
+        alloc: Global,
+        from: &TypeArena,
+        heading: &Heading,
+    ) -> Result<Seen, LowerError> {
+        let Sealed {
+            mut types,
+            actuals,
+            ..
+        } = self;
+        let heading = carried(alloc, &mut types, from, heading, actuals.as_slice())?;
+        Ok(Seen { types, heading })
+    }
+}
+
+fn copied_actuals(alloc: Global, actuals: &[Actual]) -> Result<Vec<Actual>, LowerError> {
+    let mut copied = Vec::new(alloc);
+    for actual in actuals {
+        copied.push(actual.copy(alloc)?)?;
+    }
+    Ok(copied)
+}
+
+/// A heading of another arena with actuals of this one put in; without actuals the parameters stay.
+pub fn carried(
+    alloc: Global,
+    types: &mut TypeArena,
+    from: &TypeArena,
+    heading: &Heading,
+    actuals: &[Actual],
+) -> Result<Heading, LowerError> {
+    let args = carried_types(alloc, types, from, heading.args.as_slice(), actuals)?;
+    let results = carried_types(alloc, types, from, heading.results.as_slice(), actuals)?;
+    let mut signals = Vec::new(alloc);
+    for signal in heading.signals.as_slice() {
+        let objects = carried_types(alloc, types, from, signal.objects.as_slice(), actuals)?;
+        signals.push(Exception {
+            name: signal.name.copy(alloc)?,
+            objects,
+        })?;
+    }
+    Ok(Heading {
+        args,
+        results,
+        signals: Sequence::from_vec(signals),
+    })
+}
+
+fn carried_types(
+    alloc: Global,
+    types: &mut TypeArena,
+    from: &TypeArena,
+    ids: &[TypeId],
+    actuals: &[Actual],
+) -> Result<Sequence<TypeId>, LowerError> {
+    let mut made = Vec::new(alloc);
+    for id in ids {
+        made.push(carry(alloc, types, from, *id, actuals)?)?;
+    }
+    Ok(Sequence::from_vec(made))
+}

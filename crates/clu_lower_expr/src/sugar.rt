@@ -1,0 +1,184 @@
+//! Sugar: operators, selections and fetches, each of which invokes an operation (CLU Reference Manual, section 10.13).
+
+use crate::binding::{bind, is_any, type_of};
+use crate::calls::call_for_one;
+use crate::errors::LowerError;
+use crate::invoking::{bind_operands, push_sugar, sugar_result};
+use crate::lowering::Lowering;
+use crate::seen::{Seen, seen_at, seen_of};
+use crate::uses::{node_operation, type_operation};
+use crate::walk::lower_expr;
+use clu_base::Bytes;
+use clu_core::Checked;
+use clu_equates::node_at;
+use clu_tree::{Node, NodeKind};
+use clu_types::TypeId;
+use clu_wir::{WExpr, WStmt};
+
+/// Whether an infix operator evaluates its right side only where it is needed.
+pub fn is_condition(node: &Node) -> bool {
+    let operator = node.value.as_slice();
+    node.kind == NodeKind::Infix
+        && (operator == b"cand".as_slice() || operator == b"cor".as_slice())
+}
+
+/// Before the k-th operand: notes the uses of an operator, which stand in the order of the places in the text.
+pub fn note_operator(
+    out: &mut Lowering,
+    c: &Checked,
+    n: u32,
+    node: &Node,
+    k: usize,
+) -> Result<(), LowerError> {
+    let is_place = match node.kind {
+        NodeKind::Infix => k == 1 && !is_condition(node),
+        NodeKind::Index => k == 1,
+        NodeKind::Prefix => k == 0,
+        _ => false,
+    };
+    if is_place {
+        let _operation = node_operation(out, c, n)?;
+        if is_negated(node) {
+            let seen = seen_at(out, c, n)?;
+            let _negation = not_operation(out, c, n, seen.as_ref())?;
+        }
+    }
+    Ok(())
+}
+
+/// The result of the operation that sugar stands for.
+pub fn sugar(
+    out: &mut Lowering,
+    c: &Checked,
+    n: u32,
+    node: &Node,
+    operands: Vec<WExpr>,
+    taken: u32,
+) -> Result<WExpr, LowerError> {
+    let seen = seen_at(out, c, n)?;
+    let given = invoked(out, c, n, node, seen.as_ref(), operands, taken)?;
+    if !is_negated(node) {
+        return Ok(given);
+    }
+    match seen {
+        Some(comparison) => negated(out, c, &comparison, given, taken),
+        None => negated_bool(out, c, n, given, taken),
+    }
+}
+
+/// The result of the operation of a node, whose heading is `seen`.
+fn invoked(
+    out: &mut Lowering,
+    c: &Checked,
+    n: u32,
+    node: &Node,
+    seen: Option<&Seen>,
+    operands: Vec<WExpr>,
+    taken: u32,
+) -> Result<WExpr, LowerError> {
+    let operation = node_operation(out, c, n)?;
+    let operands = bind_operands(out, c, n, node, seen, operands, taken)?;
+    sugar_result(out, seen, operation, operands, taken)
+}
+
+/// Whether an operator negates the result of a comparison.
+fn is_negated(node: &Node) -> bool {
+    match node.value.as_slice() {
+        [b'~', _, ..] => node.kind == NodeKind::Infix,
+        _ => false,
+    }
+}
+
+/// The negation of the result of a built-in comparison.
+fn negated_bool(
+    out: &mut Lowering,
+    c: &Checked,
+    n: u32,
+    given: WExpr,
+    taken: u32,
+) -> Result<WExpr, LowerError> {
+    let operation = not_operation(out, c, n, None)?;
+    let operand = vec![in out.alloc; given]?;
+    call_for_one(out, operation, operand, taken)
+}
+
+/// The result of the operation `not` of what a comparison gave, which is in a slot.
+fn negated(
+    out: &mut Lowering,
+    c: &Checked,
+    comparison: &Seen,
+    given: WExpr,
+    taken: u32,
+) -> Result<WExpr, LowerError> {
+    let compared = only_result(comparison)?;
+    let name = Bytes::from_slice(out.alloc, NOT)?;
+    let seen = seen_of(out, c, &comparison.types, compared, &name)?;
+    negation(out, comparison, compared, seen.as_ref(), given, taken)
+}
+
+/// The result of the operation `not` of the type `compared`, whose heading is `seen` if the type is no built-in one.
+fn negation(
+    out: &mut Lowering,
+    comparison: &Seen,
+    compared: TypeId,
+    seen: Option<&Seen>,
+    given: WExpr,
+    taken: u32,
+) -> Result<WExpr, LowerError> {
+    let types = &comparison.types;
+    let operand = bind(out, types, given, compared, takes_any(seen), taken)?;
+    let operands = vec![in out.alloc; operand]?;
+    let operation = type_operation(out, types, compared, NOT)?;
+    sugar_result(out, seen, operation, operands, taken)
+}
+
+/// The operation that negates.
+const NOT: &[u8] = b"not";
+
+/// Whether the first formal of a routine is of type any. One that is not seen is of a built-in type.
+fn takes_any(seen: Option<&Seen>) -> bool {
+    match seen {
+        Some(seen) => match seen.heading.args.as_slice() {
+            [of, ..] => is_any(&seen.types, *of),
+            [] => false,
+        },
+        None => false,
+    }
+}
+
+fn only_result(seen: &Seen) -> Result<TypeId, LowerError> {
+    match seen.heading.results.as_slice().first() {
+        Some(of) => Ok(*of),
+        None => Err(LowerError::NotYet),
+    }
+}
+
+/// The operation `not` of the result of the comparison at a node, whose type is that of its negation for a built-in one.
+fn not_operation(
+    out: &mut Lowering,
+    c: &Checked,
+    n: u32,
+    seen: Option<&Seen>,
+) -> Result<WExpr, LowerError> {
+    match seen {
+        Some(comparison) => {
+            type_operation(out, &comparison.types, only_result(comparison)?, NOT)
+        }
+        None => type_operation(out, &c.types, type_of(c, n)?, NOT),
+    }
+}
+
+/// `r.s := e` and `a[i] := e`: the operation of the statement's node over its children.
+pub fn sugar_statement(out: &mut Lowering, c: &Checked, n: u32) -> Result<(), LowerError> {
+    let operation = node_operation(out, c, n)?;
+    let seen = seen_at(out, c, n)?;
+    let free = out.taken();
+    let node = node_at(&c.tree, n)?;
+    let mut operands = Vec::new(out.alloc);
+    for child in node.children.as_slice() {
+        operands.push(lower_expr(out, c, *child)?)?;
+    }
+    let operands = bind_operands(out, c, n, node, seen.as_ref(), operands, free)?;
+    let call = WStmt::Call(operation, operands, Vec::new(out.alloc));
+    push_sugar(out, seen.as_ref(), call)
+}

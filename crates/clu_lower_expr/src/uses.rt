@@ -1,0 +1,87 @@
+//! What a routine uses of other modules and of types, as texts.
+
+ghost use Rattle.std.specs.Prelude.{◌↔◌, IsTrue, length};
+ghost use Rattle.clu_specs.specs.Uses.{TargetBelow};
+
+use crate::errors::LowerError;
+use crate::lowering::Lowering;
+use clu_base::Bytes;
+use clu_core::{Checked, OpRef};
+use clu_equates::intern;
+use clu_specs::{Target, use_text};
+use clu_types::{Term, TypeArena, TypeId};
+use clu_wir::WExpr;
+use std::alloc::Global;
+
+/// The descriptor of the operation that was found for a node.
+pub fn node_operation(out: &mut Lowering, c: &Checked, n: u32) -> Result<WExpr, LowerError> {
+    match operation_of(c, n) {
+        Some(OpRef::Param(param, op)) => given_operation(out, *param, op),
+        Some(op) => {
+            let target = target_of(out.alloc, op)?;
+            used(out, &c.types, &target)
+        }
+        None => Err(LowerError::NotYet),
+    }
+}
+
+/// The descriptor of the operation of this name that a where clause gives of a type parameter.
+fn given_operation(out: &mut Lowering, param: u32, op: &Bytes) -> Result<WExpr, LowerError> {
+    let mut types = TypeArena::new(out.alloc);
+    let of = intern(&mut types, Term::Param(param))?;
+    type_operation(out, &types, of, op.as_slice())
+}
+
+/// The operation that was found for a node.
+pub fn operation_of(c: &Checked, n: u32) -> Option<&OpRef> {
+    match c.op_of.get(n as usize) {
+        Some(Some(op)) => Some(op),
+        _ => None,
+    }
+}
+
+/// The descriptor of the operation of this name that a type has.
+pub fn type_operation(
+    out: &mut Lowering,
+    types: &TypeArena,
+    of: TypeId,
+    op: &[u8],
+) -> Result<WExpr, LowerError> {
+    let target = Target::Op(of, Bytes::from_slice(out.alloc, op)?);
+    used(out, types, &target)
+}
+
+/// What a use of an operation names that is none of a type parameter. A routine object is no use.
+fn target_of(alloc: Global, op: &OpRef) -> Result<Target, LowerError> {
+    match op.copy(alloc)? {
+        OpRef::Builtin(of, op) => Ok(Target::Op(of, op)),
+        OpRef::Cluster(of, op) => Ok(Target::Op(of, op)),
+        OpRef::Module(name, actuals) => Ok(Target::Module(name, actuals)),
+        OpRef::Param(_, _) | OpRef::Stored => Err(LowerError::NotYet),
+    }
+}
+
+/// The descriptor of `force` of a type.
+pub fn force_of(out: &mut Lowering, types: &TypeArena, of: TypeId) -> Result<WExpr, LowerError> {
+    used(out, types, &Target::ForceOf(of))
+}
+
+fn used(out: &mut Lowering, types: &TypeArena, target: &Target) -> Result<WExpr, LowerError> {
+    if !is_known(types, target) {
+        return Err(LowerError::NotYet);
+    }
+    let text = use_text(out.alloc, types, target)?;
+    out.descriptor(text)
+}
+
+/// Whether the types that a use names are numbers of the arena.
+fn is_known(types: &TypeArena, target: &Target) -> bool
+    ensures { IsTrue result ↔ TargetBelow (length types.now) target.now }
+{
+    match target {
+        Target::Module(_, actuals) => types.holds_actuals(actuals.as_slice()),
+        Target::Op(of, _) => types.contains(*of),
+        Target::OwnSetUp(of) => types.contains(*of),
+        Target::ForceOf(of) => types.contains(*of),
+    }
+}

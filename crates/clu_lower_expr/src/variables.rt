@@ -1,0 +1,95 @@
+//! Variables of a routine: the slots that hold them.
+
+use crate::errors::LowerError;
+use crate::lowering::Lowering;
+use clu_base::Bytes;
+use clu_wir::{WExpr, WStmt};
+
+/// Where a variable is.
+#[derive(Clone, Copy, Debug, PartialEq, Eq)]
+pub struct Variable {
+    /// The slot of its object's word.
+    pub slot: u32,
+    /// Of a variable that may name no object: the slot that is 1 where it names one, else 0. No word could say that,
+    /// since each is one of an int.
+    pub named: Option<u32>,
+    /// Whether its type is any.
+    pub is_any: bool,
+}
+
+impl Lowering {
+    /// A new variable that names an object from the first on.
+    pub fn named_variable(&mut self) -> Result<Variable, LowerError> {
+        Ok(Variable {
+            slot: self.take()?,
+            named: None,
+            is_any: false,
+        })
+    }
+
+    /// A new variable that names no object yet.
+    pub fn bare_variable(&mut self) -> Result<Variable, LowerError> {
+        let slot = self.take()?;
+        let named = self.take()?;
+        self.push(WStmt::Set(named, WExpr::Word(0)))?;
+        Ok(Variable {
+            slot,
+            named: Some(named),
+            is_any: false,
+        })
+    }
+
+    /// Lets a variable name the object of a word.
+    pub fn assign(&mut self, variable: Variable, value: WExpr) -> Result<(), LowerError> {
+        self.push(WStmt::Set(variable.slot, value))?;
+        self.note_named(variable)
+    }
+
+    /// Notes that a variable names the object whose word was put into its slot.
+    pub fn note_named(&mut self, variable: Variable) -> Result<(), LowerError> {
+        match variable.named {
+            Some(named) => self.push(WStmt::Set(named, WExpr::Word(1))),
+            None => Ok(()),
+        }
+    }
+
+    /// The word of the object that the variable of this name names. Where it names none the code raises a failure.
+    pub fn object_of(&mut self, name: &Bytes) -> Result<WExpr, LowerError> {
+        let variable = self.variable(name)?;
+        if let Some(named) = variable.named {
+            let outer = self.open();
+            self.raise_failure(b"uninitialized variable")?;
+            let absent = self.close(outer);
+            let present = Vec::new(self.alloc);
+            self.push(WStmt::If(WExpr::Slot(named), present, absent))?;
+        }
+        Ok(WExpr::Slot(variable.slot))
+    }
+
+    /// Raises a failure of this text.
+    pub fn raise_failure(&mut self, text: &[u8]) -> Result<(), LowerError> {
+        let (name, objects) = self.failure(text)?;
+        self.push(WStmt::Raise(name, objects))
+    }
+
+    /// Ends the routine with a failure of this text.
+    pub fn signal_failure(&mut self, text: &[u8]) -> Result<(), LowerError> {
+        let (name, objects) = self.failure(text)?;
+        self.push(WStmt::Signal(name, objects))
+    }
+
+    /// The name of a failure and its string.
+    fn failure(&mut self, text: &[u8]) -> Result<(Bytes, Vec<WExpr>), LowerError> {
+        let mut objects = Vec::new(self.alloc);
+        objects.push(self.string(text)?)?;
+        let name = Bytes::from_slice(self.alloc, b"failure")?;
+        self.exception(&name)?;
+        Ok((name, objects))
+    }
+
+    /// The name of an exception is one of the routine's constants.
+    pub fn exception(&mut self, name: &Bytes) -> Result<(), LowerError> {
+        let _word = self.string(name.as_slice())?;
+        Ok(())
+    }
+}

@@ -1,0 +1,50 @@
+//! Commands and whole programs, asked of the top call over inputs, outputs and stores in memory: tables of what comes of
+//! them. It has tests alone, so that no crate below is proved twice.
+#![tactic(auto)]
+
+#[cfg(test)]
+mod command_rows;
+#[cfg(test)]
+mod command_tests;
+#[cfg(test)]
+mod derived_tests;
+#[cfg(test)]
+mod derived_texts;
+#[cfg(test)]
+mod example_rows;
+#[cfg(test)]
+mod go_bound_rows;
+#[cfg(test)]
+mod go_data_rows;
+#[cfg(test)]
+mod go_iter_rows;
+#[cfg(test)]
+mod go_rows;
+#[cfg(test)]
+mod limit_tests;
+#[cfg(test)]
+mod op_costs;
+#[cfg(test)]
+mod op_helpers;
+#[cfg(test)]
+mod op_rows_data;
+#[cfg(test)]
+mod op_rows_text;
+#[cfg(test)]
+mod op_tests;
+#[cfg(test)]
+mod outside;
+#[cfg(test)]
+mod parameter_rows;
+#[cfg(test)]
+mod print_tests;
+#[cfg(test)]
+mod program_tests;
+#[cfg(test)]
+mod rows;
+#[cfg(test)]
+mod syntax_rows;
+#[cfg(test)]
+mod syntax_tests;
+#[cfg(test)]
+mod text_rows;

@@ -1,0 +1,145 @@
+//! The operations of arrays that are defined by texts of CLU. What a text does with operations that are no texts stands
+//! here as word code, where these can't signal; what it does with others is a call.
+
+ghost use Rattle.std.specs.Prelude.{◌≡◌, IfSome};
+
+use crate::arrays::{ELEMENT, FIND, FROM_FIRST, HIGH, LOW, PLACE, SIZE, TAKE_PLACE, WRAP};
+use clu_rt_text::{Derived, Expr, Operation, Step, X, Y, Z, derived_named};
+use clu_wir::WOp;
+
+const END: Step = Step::Return(&[]);
+
+const FALSE: Step = Step::Return(&[Expr::Word(0)]);
+
+const TRUE: Step = Step::Return(&[Expr::Word(1)]);
+
+/// The indexes in slot 1.
+const INDEXES: &[Step] = &[Step::Iterate(0, &[LOW, HIGH], 1, &[Step::Yield(&[Y])]), END];
+
+/// The indexes in slot 1. It ends where one lies outside the bounds by then.
+const ELEMENTS: &[Step] = &[
+    Step::Iterate(
+        0,
+        &[X],
+        1,
+        &[
+            TAKE_PLACE,
+            Step::Unless(Expr::Op(WOp::Sltu, &PLACE, &SIZE), &[END]),
+            FROM_FIRST,
+            WRAP,
+            FIND,
+            Step::Yield(&[ELEMENT]),
+        ],
+    ),
+    END,
+];
+
+const Y_LOW: Expr = Expr::Load(&Y, 0);
+
+const Y_SIZE: Expr = Expr::Load(&Y, 8);
+
+/// The elements of both arrays, which may be others by then.
+const LEFT: Expr = Expr::Slot(3);
+
+const RIGHT: Expr = Expr::Slot(4);
+
+/// The indexes in slot 2. The elements are fetched by calls, as there may be none by then.
+const SIMILAR: &[Step] = &[
+    Step::When(Expr::Op(WOp::Xor, &LOW, &Y_LOW), &[FALSE]),
+    Step::When(Expr::Op(WOp::Xor, &SIZE, &Y_SIZE), &[FALSE]),
+    Step::Iterate(
+        0,
+        &[X],
+        2,
+        &[
+            Step::Call(2, &[X, Z], &[3]),
+            Step::Call(2, &[Y, Z], &[4]),
+            Step::Call(1, &[LEFT, RIGHT], &[3]),
+            Step::Unless(LEFT, &[FALSE]),
+        ],
+    ),
+    TRUE,
+];
+
+/// The new array in slot 1, the elements and then their copies in slot 2.
+const COPY: &[Step] = &[
+    Step::Call(0, &[LOW], &[1]),
+    Step::Iterate(
+        1,
+        &[X],
+        2,
+        &[Step::Call(3, &[Z], &[2]), Step::Call(2, &[Y, Z], &[])],
+    ),
+    Step::Return(&[Y]),
+];
+
+/// The operation of arrays of this name that is a text.
+pub fn derived_of_arrays(name: &[u8]) -> Option<&'static Derived>
+    ensures { IfSome result (λ derived. derived.now.operation.name.now ≡ name.now) }
+{
+    match derived_named(ITERATORS, name) {
+        Some(derived) => Some(derived),
+        None => derived_named(PROCEDURES, name),
+    }
+}
+
+const ITERATORS: &[Derived] = &[
+    Derived {
+        operation: Operation {
+            name: b"elements",
+            args: 1,
+            slots: 5,
+            steps: ELEMENTS,
+        },
+        uses: &[b"array[#1]$indexes"],
+        nodes: 36,
+    },
+    Derived {
+        operation: Operation {
+            name: b"indexes",
+            args: 1,
+            slots: 2,
+            steps: INDEXES,
+        },
+        uses: &[b"int$from_to"],
+        nodes: 25,
+    },
+];
+
+const PROCEDURES: &[Derived] = &[
+    Derived {
+        operation: Operation {
+            name: b"similar",
+            args: 2,
+            slots: 5,
+            steps: SIMILAR,
+        },
+        uses: &[b"array[#1]$indexes", b"#1$similar", b"array[#1]$fetch"],
+        nodes: 57,
+    },
+    Derived {
+        operation: Operation {
+            name: b"similar1",
+            args: 2,
+            slots: 5,
+            steps: SIMILAR,
+        },
+        uses: &[b"array[#1]$indexes", b"#1$equal", b"array[#1]$fetch"],
+        nodes: 57,
+    },
+    Derived {
+        operation: Operation {
+            name: b"copy",
+            args: 1,
+            slots: 3,
+            steps: COPY,
+        },
+        uses: &[
+            b"array[#1]$create",
+            b"array[#1]$elements",
+            b"array[#1]$addh",
+            b"#1$copy",
+        ],
+        nodes: 40,
+    },
+];

@@ -1,0 +1,133 @@
+//! The operations of sequences that are defined by texts of CLU. What a text does with operations that are no texts stands
+//! here as word code, where these can't signal; what it does with others is a call.
+
+ghost use Rattle.std.specs.Prelude.{◌≡◌, IfSome};
+
+use crate::sequences::{AT_Y, SIZE, Y_SIZE};
+use clu_rt_text::{Derived, Expr, Operation, Step, X, Y, Z, derived_named};
+use clu_wir::WOp;
+
+const END: Step = Step::Return(&[]);
+
+const FALSE: Step = Step::Return(&[Expr::Word(0)]);
+
+const TRUE: Step = Step::Return(&[Expr::Word(1)]);
+
+/// The places in slot 1.
+const INDEXES: &[Step] = &[
+    Step::Iterate(0, &[Expr::Word(1), SIZE], 1, &[Step::Yield(&[Y])]),
+    END,
+];
+
+/// The places in slot 1.
+const ELEMENTS: &[Step] = &[
+    Step::Iterate(0, &[X], 1, &[Step::Yield(&[Expr::Load(&AT_Y, 0)])]),
+    END,
+];
+
+/// In slot 2 a place, in slot 3 how far behind the size its element is.
+const DISTANCE: Expr = Expr::Slot(3);
+
+const LEFT: Expr = Expr::Load(&Expr::Op(WOp::Add, &X, &DISTANCE), 0);
+
+const RIGHT: Expr = Expr::Load(&Expr::Op(WOp::Add, &Y, &DISTANCE), 0);
+
+const COMPARED: &[Step] = &[
+    Step::When(Expr::Op(WOp::Xor, &SIZE, &Y_SIZE), &[FALSE]),
+    Step::Iterate(
+        0,
+        &[X],
+        2,
+        &[
+            Step::Set(3, Expr::Op(WOp::Sll, &Z, &Expr::Word(3))),
+            Step::Call(1, &[LEFT, RIGHT], &[3]),
+            Step::Unless(DISTANCE, &[FALSE]),
+        ],
+    ),
+    TRUE,
+];
+
+/// The array of the copies in slot 1, the elements and then their copies in slot 2.
+const COPY: &[Step] = &[
+    Step::Call(0, &[], &[1]),
+    Step::Iterate(
+        1,
+        &[X],
+        2,
+        &[Step::Call(3, &[Z], &[2]), Step::Call(2, &[Y, Z], &[])],
+    ),
+    Step::Call(4, &[Y], &[1]),
+    Step::Return(&[Y]),
+];
+
+/// The operation of sequences of this name that is a text.
+pub fn derived_of_sequences(name: &[u8]) -> Option<&'static Derived>
+    ensures { IfSome result (λ derived. derived.now.operation.name.now ≡ name.now) }
+{
+    match derived_named(ITERATORS, name) {
+        Some(derived) => Some(derived),
+        None => derived_named(PROCEDURES, name),
+    }
+}
+
+const ITERATORS: &[Derived] = &[
+    Derived {
+        operation: Operation {
+            name: b"elements",
+            args: 1,
+            slots: 2,
+            steps: ELEMENTS,
+        },
+        uses: &[b"sequence[#1]$indexes"],
+        nodes: 19,
+    },
+    Derived {
+        operation: Operation {
+            name: b"indexes",
+            args: 1,
+            slots: 2,
+            steps: INDEXES,
+        },
+        uses: &[b"int$from_to"],
+        nodes: 21,
+    },
+];
+
+const PROCEDURES: &[Derived] = &[
+    Derived {
+        operation: Operation {
+            name: b"equal",
+            args: 2,
+            slots: 4,
+            steps: COMPARED,
+        },
+        uses: &[b"sequence[#1]$indexes", b"#1$equal"],
+        nodes: 45,
+    },
+    Derived {
+        operation: Operation {
+            name: b"similar",
+            args: 2,
+            slots: 4,
+            steps: COMPARED,
+        },
+        uses: &[b"sequence[#1]$indexes", b"#1$similar"],
+        nodes: 45,
+    },
+    Derived {
+        operation: Operation {
+            name: b"copy",
+            args: 1,
+            slots: 3,
+            steps: COPY,
+        },
+        uses: &[
+            b"array[#1]$new",
+            b"sequence[#1]$elements",
+            b"array[#1]$addh",
+            b"#1$copy",
+            b"sequence[#1]$a2s",
+        ],
+        nodes: 39,
+    },
+];

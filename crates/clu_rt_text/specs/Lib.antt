@@ -1,0 +1,2 @@
+-- What is known of the code of an operation.
+pub mod Operations

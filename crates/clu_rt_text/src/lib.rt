@@ -1,0 +1,24 @@
+//! What the operations of null, bool, int, char, string and stream do, as word code. Each is data (`code`), one
+//! operation in one place; docs/operations.md says what they mean.
+#![tactic(auto)]
+
+mod assembly;
+mod booleans;
+mod characters;
+mod code;
+mod derived;
+mod finding;
+mod integers;
+mod operations;
+mod parsing;
+mod streams;
+mod strings;
+
+pub use crate::assembly::routine;
+pub use crate::code::{COPY, Derived, EQUAL, Expr, Operation, Step, X, Y, Z};
+pub use crate::derived::{derived_named, derived_of_int, derived_of_string};
+pub use crate::finding::named;
+pub use crate::operations::{operation_of, word_code};
+
+#[cfg(test)]
+mod tests;

@@ -1,0 +1,33 @@
+-- What a routine of flat code hands on to its object, and what the parts of the runtime are.
+use Rattle.std.specs.Prelude.{◌≡◌, ◌≤◌, ℕ, List, [], length, IsTrue}
+use Rattle.clu_frames.specs.Steps.{code_words}
+use Rattle.clu_frames.specs.declared.flat.FlatRoutine.{FlatRoutine}
+use Rattle.clu_object.specs.Holes.{has_holes}
+use Rattle.clu_object.specs.declared.object.ObjRoutine.{ObjRoutine}
+use Rattle.rv_select.specs.Instructions.{AreInstructions}
+
+-- all but its steps: the name, the number of nodes, and what holes name
+pub record HandsOn (flat : FlatRoutine) (object : ObjRoutine) : Type 0 where
+  pub name : object.name ≡ flat.name
+  pub nodes : object.nodes ≡ flat.nodes
+  pub uses : object.uses ≡ flat.uses.items
+  pub constants : object.constants ≡ flat.constants.items
+  pub types : object.types ≡ flat.types.items
+
+-- its words are those of instructions, no more than are counted for its steps, and each hole is where the linker fills in
+-- what it names
+pub record IsSelected (flat : FlatRoutine) (object : ObjRoutine) : Type 0 where
+  pub words : length object.code ≤ code_words flat.code.items
+  pub instructions : AreInstructions object.code
+  pub holes : IsTrue (has_holes object)
+
+-- a part has a name and the words of instructions with holes, and nothing else
+pub record IsPart (name : List ℕ) (object : ObjRoutine) : Type 0 where
+  pub named : object.name ≡ name
+  pub nodes : object.nodes ≡ 0
+  pub uses : object.uses ≡ []
+  pub constants : object.constants ≡ []
+  pub types : object.types ≡ []
+  pub regions : object.regions ≡ []
+  pub instructions : AreInstructions object.code
+  pub holes : IsTrue (has_holes object)

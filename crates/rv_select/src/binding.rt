@@ -1,0 +1,79 @@
+//! Objects of type any: the address of two words, the number of the object's own type and its word.
+//!
+//! The number of type any is 0, and the number of a routine type is odd: an object of type any is one already, and the
+//! own type of a routine object is in its descriptor, since its static type may list more exceptions.
+
+ghost use Rattle.std.specs.Prelude.{IfOk, codes};
+ghost use Rattle.rv_select.specs.Selected.{IsPart};
+
+use crate::calls::STORE_FULL;
+use crate::error::SelectError;
+use crate::parts::{Part, make_part};
+use crate::register::Register::{
+    A2, First, Second, Store, StoreEnd, T3, Value, Words as Travelling, Zero,
+};
+use crate::slots::{load_slot, save_slot};
+use crate::words::Words;
+use clu_object::ObjRoutine;
+use clu_wir::HoleKind;
+use rv_isa::Op;
+use std::alloc::Global;
+
+/// The labels of the part.
+#[derive(Clone, Copy, Debug)]
+enum Goal {
+    Bound,
+    Known,
+}
+
+/// How many labels there are.
+const GOALS: usize = 2;
+
+/// The bytes of an object of type any.
+const PAIR: i32 = 16;
+
+/// Gives the part the number of the static type and the word, which are in slots side by side, and puts the word that
+/// it answers into the first.
+pub(crate) fn bind(words: &mut Words, slot: u32) -> Result<(), SelectError> {
+    load_slot(words, Value, slot)?;
+    load_slot(words, Travelling, slot.saturating_add(1))?;
+    words.hole(First, HoleKind::Runtime, Part::Bind.number())?;
+    words.jalr(Second, First, 0)?;
+    save_slot(words, Value, slot)
+}
+
+/// The part that makes an object of type any. It is called with the link in the second scratch register, takes the
+/// number of the static type and the word in the two registers that travel, and answers in the first of them.
+pub fn bind_part(alloc: Global) -> Result<ObjRoutine, SelectError>
+    ensures { IfOk result (IsPart (codes "bind")) }
+{
+    let mut words = Words::new(alloc, GOALS)?;
+    own_type(&mut words)?;
+    pair(&mut words)?;
+    make_part(alloc, b"bind", words)
+}
+
+/// From the number of the static type to that of the own one.
+fn own_type(words: &mut Words) -> Result<(), SelectError> {
+    words.go_unless(Op::Beq, Value, Zero, Goal::Bound as u32)?;
+    words.copy(Value, Travelling)?;
+    words.jalr(Zero, Second, 0)?;
+    words.label(Goal::Bound as u32)?;
+    words.imm(Op::Andi, A2, Value, 1)?;
+    words.go_unless(Op::Bne, A2, Zero, Goal::Known as u32)?;
+    words.ld(Value, Travelling, 8)?;
+    words.label(Goal::Known as u32)
+}
+
+/// The pair of the number and the word, at the end of the store.
+fn pair(words: &mut Words) -> Result<(), SelectError> {
+    words.addi(T3, Zero, PAIR)?;
+    words.three(Op::Sub, A2, StoreEnd, Store)?;
+    words.skip(Op::Bgeu, A2, T3, 2)?;
+    words.service(STORE_FULL)?;
+    words.sd(Value, Store, 0)?;
+    words.sd(Travelling, Store, 8)?;
+    words.copy(Value, Store)?;
+    words.addi(Store, Store, PAIR)?;
+    words.jalr(Zero, Second, 0)
+}

@@ -1,0 +1,51 @@
+//! Iterators: a yield leaves its frame on the stack with a record above it, and the loop's body runs above both.
+//!
+//! A record is where the iterator goes on, the place of its frame, and its link table.
+
+use crate::calls::{caller_frame, test_room};
+use crate::error::SelectError;
+use crate::register::Register::{
+    First, Frame, Second, Table, Top, Value, Words as Travelling, Zero,
+};
+use crate::slots::{load_slot, slot_address};
+use crate::words::Words;
+use rv_isa::Op;
+
+/// The bytes of a record.
+const RECORD: i32 = 24;
+
+/// The limits on the stack count 16 words for a suspended loop.
+const _: () = prove!(RECORD <= 16 * 8);
+
+/// The bytes from the AUIPC of a yield to the step behind it.
+const BEHIND_YIELD: i32 = 44;
+
+/// The return address of an iterator leads to the one word that ends its loop; the loop's body is behind that.
+const BODY: i32 = 4;
+
+/// Yields the words from this slot on.
+pub(crate) fn yield_words(words: &mut Words, slot: u32) -> Result<(), SelectError> {
+    words.addi(Second, Top, RECORD)?;
+    test_room(words)?;
+    slot_address(words, Travelling, slot)?;
+    words.upper(Op::Auipc, First, 0)?;
+    words.addi(First, First, BEHIND_YIELD)?;
+    words.sd(First, Top, 0)?;
+    words.sd(Frame, Top, 8)?;
+    words.sd(Table, Top, 16)?;
+    words.copy(Value, Second)?;
+    words.copy(Top, Second)?;
+    words.ld(First, Frame, 0)?;
+    caller_frame(words)?;
+    words.jalr(Zero, First, BODY)
+}
+
+/// Takes off the record below the top that is in the slot, and goes on in its iterator.
+pub(crate) fn resume(words: &mut Words, slot: u32) -> Result<(), SelectError> {
+    load_slot(words, First, slot)?;
+    words.addi(Top, First, -RECORD)?;
+    words.ld(Second, Top, 0)?;
+    words.ld(Frame, Top, 8)?;
+    words.ld(Table, Top, 16)?;
+    words.jalr(Zero, Second, 0)
+}

@@ -1,0 +1,66 @@
+//! What no other step can say: taking store, input and output, and single bytes.
+
+use crate::binding::bind;
+use crate::calls::STORE_FULL;
+use crate::error::SelectError;
+use crate::register::Register::{First, Second, Store, StoreEnd, Value, Words as Travelling};
+use crate::slots::{load_slot, save_slot};
+use crate::words::Words;
+use clu_wir::Primitive;
+use rv_isa::Op;
+
+/// The environment's calls for output and input.
+const WRITE: i32 = 4;
+
+const TAKE: i32 = 5;
+
+const PEEK: i32 = 6;
+
+/// The primitive of this number over the slots from this one on.
+pub(crate) fn primitive(words: &mut Words, number: u32, slot: u32) -> Result<(), SelectError> {
+    match Primitive::of(number) {
+        Some(Primitive::Allocate) => allocate(words, slot),
+        Some(Primitive::Write) => write(words, slot),
+        Some(Primitive::TakeByte) => read(words, TAKE, slot),
+        Some(Primitive::PeekByte) => read(words, PEEK, slot),
+        Some(Primitive::LoadByte) => load_byte(words, slot),
+        Some(Primitive::SaveByte) => save_byte(words, slot),
+        Some(Primitive::Bind) => bind(words, slot),
+        None => Err(SelectError::NotYet),
+    }
+}
+
+/// So many words of the store, or the end of the run where it has fewer.
+fn allocate(words: &mut Words, slot: u32) -> Result<(), SelectError> {
+    load_slot(words, First, slot)?;
+    words.three(Op::Sub, Second, StoreEnd, Store)?;
+    words.imm(Op::Srli, Second, Second, 3)?;
+    words.skip(Op::Bgeu, Second, First, 2)?;
+    words.service(STORE_FULL)?;
+    save_slot(words, Store, slot)?;
+    words.imm(Op::Slli, First, First, 3)?;
+    words.three(Op::Add, Store, Store, First)
+}
+
+fn write(words: &mut Words, slot: u32) -> Result<(), SelectError> {
+    load_slot(words, Value, slot)?;
+    load_slot(words, Travelling, slot.saturating_add(1))?;
+    words.service(WRITE)
+}
+
+fn read(words: &mut Words, service: i32, slot: u32) -> Result<(), SelectError> {
+    words.service(service)?;
+    save_slot(words, Value, slot)
+}
+
+fn load_byte(words: &mut Words, slot: u32) -> Result<(), SelectError> {
+    load_slot(words, First, slot)?;
+    words.lbu(First, First, 0)?;
+    save_slot(words, First, slot)
+}
+
+fn save_byte(words: &mut Words, slot: u32) -> Result<(), SelectError> {
+    load_slot(words, First, slot)?;
+    load_slot(words, Second, slot.saturating_add(1))?;
+    words.sb(Second, First, 0)
+}

@@ -1,0 +1,60 @@
+//! The registers of the code by what they hold.
+
+ghost use Rattle.std.specs.Prelude.{◌<◌};
+
+use rv_isa::Reg;
+
+/// A register. From one flat step to the next the first group keeps what it holds, the two words that travel go with a
+/// jump from one routine to another, and the others hold nothing.
+#[derive(Clone, Copy, Debug, PartialEq, Eq)]
+pub(crate) enum Register {
+    Zero = 0,
+    /// The top of the stack, which grows up.
+    Top = 2,
+    /// The next free word of the store.
+    Store = 3,
+    StoreEnd = 4,
+    StackEnd = 8,
+    /// The link table of the running instance.
+    Table = 9,
+    /// The place of the running frame.
+    Frame = 18,
+
+    /// The return address of a call.
+    Back = 1,
+    /// The caller's link table at a call.
+    Caller = 7,
+    /// The value that travels; the number or address that a call of the environment takes or gives.
+    Value = 10,
+    /// The address of the words that travel; the count that a call of the environment takes.
+    Words = 11,
+
+    /// The number of a call of the environment.
+    Service = 17,
+    First = 5,
+    Second = 6,
+    /// The address near a place that no immediate reaches.
+    Far = 31,
+
+    // More of these, for the parts of the runtime.
+    A2 = 12,
+    A3 = 13,
+    A4 = 14,
+    A5 = 15,
+    T3 = 28,
+    T4 = 29,
+    T5 = 30,
+}
+
+impl Register {
+    /// The register of the machine.
+    pub fn reg(self) -> Reg {
+        Reg::new(self.number()).unwrap()
+    }
+
+    fn number(self) -> u8
+        ensures { result < 32 }
+    {
+        self as u8
+    }
+}

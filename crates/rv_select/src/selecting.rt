@@ -1,0 +1,79 @@
+//! A routine of flat code as an object's routine.
+
+ghost use Rattle.std.specs.Prelude.{IfOk};
+ghost use Rattle.rv_select.specs.Instructions.{AreInstructions};
+ghost use Rattle.rv_select.specs.Selected.{HandsOn, IsSelected};
+
+use crate::error::SelectError;
+use crate::regions::map_regions;
+use crate::step::select_step;
+use crate::words::{Finished, Words};
+use clu_base::{Memory, Sequence};
+use clu_frames::{Flat, FlatRoutine};
+use clu_handlers::Regions;
+use clu_object::{ObjRoutine, Region, copy_constants, copy_texts};
+use std::alloc::Global;
+
+/// The words of each step, one after the other, and the number of the word at which each begins, and behind them all
+/// the number of words.
+#[derive(Debug, Drop)]
+struct Selected {
+    finished: Finished,
+    starts: Vec<u32>,
+}
+
+/// The code of a routine, with its regions in words. The answer is `NotYet` only where the flat code or its regions
+/// are none of a source.
+///
+/// The steps of a region are its words, and so the word of a call is in the region of its step. No contract shows yet
+/// that each step takes no more words than are counted for it: it is tested of all together.
+pub fn select(alloc: Global, f: &FlatRoutine, r: &Regions) -> Result<ObjRoutine, SelectError>
+    ensures handed { IfOk result (HandsOn f.now) }
+    ensures selected { IfOk result (IsSelected f.now) }
+{
+    let Selected { finished, starts } = select_steps(alloc, f.code.as_slice(), f.frame)?;
+    let regions = map_regions(alloc, r, starts.as_slice())?;
+    let routine = make_routine(alloc, f, finished, regions)?;
+    if routine.code.as_slice().len() as u64 > f.words() {
+        return Err(SelectError::NotYet);
+    }
+    if !routine.has_holes() {
+        return Err(SelectError::NotYet);
+    }
+    Ok(routine)
+}
+
+fn make_routine(
+    alloc: Global,
+    f: &FlatRoutine,
+    finished: Finished,
+    regions: Sequence<Region>,
+) -> Result<ObjRoutine, Memory>
+    ensures handed { IfOk result (HandsOn f.now) }
+    ensures instructions { IfOk result (λ object. AreInstructions object.code) }
+{
+    let Finished { code, holes } = finished;
+    Ok(ObjRoutine {
+        name: f.name.copy(alloc)?,
+        nodes: f.nodes,
+        code: Sequence::from_vec(code),
+        holes: Sequence::from_vec(holes),
+        uses: copy_texts(alloc, f.uses.as_slice())?,
+        constants: copy_constants(alloc, f.constants.as_slice())?,
+        types: copy_texts(alloc, f.types.as_slice())?,
+        regions,
+    })
+}
+
+fn select_steps(alloc: Global, steps: &[Flat], frame: u32) -> Result<Selected, SelectError> {
+    // Each label is a step, and labels are numbered from 0.
+    let mut words = Words::new(alloc, steps.len())?;
+    let mut starts = Vec::new(alloc);
+    for step in steps {
+        starts.push(words.here()?)?;
+        select_step(&mut words, step, frame)?;
+    }
+    starts.push(words.here()?)?;
+    let finished = words.finish()?;
+    Ok(Selected { finished, starts })
+}
