@@ -11,6 +11,3 @@ mod tables;
 
 pub use lookup::{Builtin, heading};
 pub use needs::Need;
-
-#[cfg(test)]
-mod tests;

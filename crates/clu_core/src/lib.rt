@@ -11,6 +11,3 @@ pub use crate::checked::{Checked, CoreError};
 pub use crate::context::{Context, SetDemand};
 pub use crate::op_ref::OpRef;
 pub use crate::unit::{ClusterUnit, RoutineUnit, Unit};
-
-#[cfg(test)]
-mod tests;

@@ -16,14 +16,18 @@ step_words (flat.Label label) = 0
 step_words (flat.Jump label) = 1
 step_words (flat.Branch slot label) = 5
 step_words (flat.Enter arguments) = plus 15 (times 6 arguments)
+step_words (flat.Bind number value to) = 12
+step_words (flat.Need slot) = 7
 step_words (flat.Invoke slot) = 10
 step_words (flat.Yield slot) = 18
 step_words (flat.Resume slot) = 8
 step_words (flat.Take value address) = 6
+step_words (flat.Result to bytes) = 6
 step_words (flat.Cut mark) = 3
 step_words (flat.Leave slot) = 8
 step_words (flat.Raise slot) = 9
 step_words (flat.Signal slot) = 12
+step_words flat.Pass = 6
 step_words (flat.Prim number slot) = 13
 
 abbrev pub code_words : List Flat → ℕ

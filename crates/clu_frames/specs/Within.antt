@@ -21,14 +21,18 @@ is_within frame (flat.Label label) = true
 is_within frame (flat.Jump label) = true
 is_within frame (flat.Branch slot label) = nat_lt slot frame
 is_within frame (flat.Enter arguments) = nat_le arguments frame
+is_within frame (flat.Bind number value to) = nat_lt number frame && nat_lt value frame && nat_lt to frame
+is_within frame (flat.Need slot) = nat_lt slot frame
 is_within frame (flat.Invoke slot) = nat_lt slot frame
 is_within frame (flat.Yield slot) = nat_le slot frame
 is_within frame (flat.Resume slot) = nat_lt slot frame
 is_within frame (flat.Take value address) = nat_lt value frame && nat_lt address frame
+is_within frame (flat.Result to bytes) = nat_lt to frame
 is_within frame (flat.Cut mark) = mark_within frame mark
 is_within frame (flat.Leave slot) = nat_le slot frame
 is_within frame (flat.Raise slot) = nat_lt slot frame
 is_within frame (flat.Signal slot) = nat_lt slot frame
+is_within frame flat.Pass = true
 is_within frame (flat.Prim number slot) = nat_le slot frame
 
 abbrev pub are_within : ℕ → List Flat → Bool

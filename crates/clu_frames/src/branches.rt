@@ -43,7 +43,7 @@ impl Steps<'_> {
         self.invoke(routine, arguments, work)?;
         self.push(Flat::Jump(end))?;
         self.push(Flat::Take(top, work))?;
-        self.push_loads(items, work)?;
+        self.push_results(items)?;
         Ok(Turns {
             next,
             end,

@@ -5,8 +5,9 @@ use clu_wir::{HoleKind, WOp};
 
 /// A step of flat code. Numbers of slots count the frame's words behind its foot; a slot holds one word.
 ///
-/// Two words travel with a jump from one routine to another, and `Take` is the first step where they arrive: a value,
-/// and the address of words side by side, which stay as they are until something is pushed on the stack.
+/// Two words travel with a jump from one routine to another, and `Take`, `Pass` or some `Result` are the first steps where
+/// they arrive: a value, and the address of words side by side, which stay as they are until something is pushed on the
+/// stack.
 #[derive(Debug, Drop, PartialEq, Eq)]
 pub enum Flat {
     /// To the first slot the word of the second.
@@ -30,6 +31,11 @@ pub enum Flat {
     /// The first step of a routine: makes its frame, or ends the run where the stack has no room for it, and copies
     /// so many arguments into the first slots.
     Enter(u32),
+    /// To the third slot, as an object of type any, that of which the first holds the number of its type and the second
+    /// the word.
+    Bind(u32, u32, u32),
+    /// Raises here the failure of a variable that names no object, where the word of the slot is 0.
+    Need(u32),
     /// Calls the routine whose descriptor's address is in the slot, with the arguments in the slots behind it. Its
     /// results are the words that travel back. A call of an iterator has a Jump to the end of its loop behind it, and
     /// behind that the loop's body, to which a Yield comes.
@@ -42,6 +48,8 @@ pub enum Flat {
     Resume(u32),
     /// To the first slot the value that travelled, then to the second the address.
     Take(u32, u32),
+    /// To a slot the word so many bytes behind the address that travelled, which goes on travelling.
+    Result(u32, i32),
     /// Cuts the stack to the top that is in this word of the frame.
     Cut(u32),
     /// Ends the routine; the words that travel are its results, in the slots from this one on.
@@ -51,6 +59,9 @@ pub enum Flat {
     Raise(u32),
     /// Ends the routine and raises where it was called, else as Raise.
     Signal(u32),
+    /// The first step where an exception arrives: ends the routine and raises it where that was called, with the words
+    /// that travel as they are.
+    Pass,
     /// The primitive of this number over the slots from this one on: its arguments before it, its results after it.
     Prim(u32, u32),
 }

@@ -4,6 +4,7 @@ use crate::errors::FrameError;
 use crate::flat::Flat;
 use crate::steps::{Steps, above, number};
 use crate::surroundings::{Guard, Surroundings};
+use clu_base::Bytes;
 use clu_wir::WArm;
 
 impl Steps<'_> {
@@ -25,9 +26,16 @@ impl Steps<'_> {
         })
     }
 
+    /// Where exceptions of these names come that are signalled on.
+    pub fn pass_on(&mut self, names: &[Bytes], region: u32, mark: u32) -> Result<(), FrameError> {
+        for name in names {
+            self.add_arm(region, Some(name), mark)?;
+        }
+        self.push(Flat::Pass)
+    }
+
     /// Where an exception comes to an arm: the objects, or for an arm that takes all names the name, go into the
-    /// arm's slots. The objects of what was raised in this frame stand from the second word of work on, so that their
-    /// address goes where the name is that is not asked for.
+    /// arm's slots.
     pub fn begin_arm(
         &mut self,
         arm: &WArm,
@@ -40,13 +48,12 @@ impl Steps<'_> {
         if arm.others {
             self.add_arm(region, None, round.mark)?;
         }
-        let work = round.work;
         if arm.others {
+            let work = round.work;
             self.push(Flat::Take(work, above(work, 1)?))?;
             self.push_moves(arm.slots.as_slice(), work)
         } else {
-            self.push(Flat::Take(work, work))?;
-            self.push_loads(arm.slots.as_slice(), work)
+            self.push_results(arm.slots.as_slice())
         }
     }
 }

@@ -3,8 +3,6 @@
 #![tactic(auto)]
 
 mod branches;
-#[cfg(test)]
-mod counting;
 mod errors;
 mod expressions;
 mod flat;
@@ -16,8 +14,6 @@ mod simple;
 mod statements;
 mod steps;
 mod surroundings;
-#[cfg(test)]
-mod tests;
 mod within;
 
 pub use crate::errors::FrameError;

@@ -39,8 +39,25 @@ impl Steps<'_> {
         work: u32,
     ) -> Result<(), FrameError> {
         self.invoke(routine, arguments, work)?;
-        self.push(Flat::Take(work, work))?;
-        self.push_loads(results, work)
+        self.push_results(results)
+    }
+
+    /// Puts an object, by the number of its type and its word, into a slot as one of type any.
+    pub fn bind(
+        &mut self,
+        number: &WExpr,
+        value: &WExpr,
+        to: u32,
+        work: u32,
+    ) -> Result<(), FrameError> {
+        let known = self.operand(number, work)?;
+        let word = self.operand(value, behind(number, work)?)?;
+        self.push(Flat::Bind(known, word, to))
+    }
+
+    pub fn need(&mut self, value: &WExpr, work: u32) -> Result<(), FrameError> {
+        let slot = self.operand(value, work)?;
+        self.push(Flat::Need(slot))
     }
 
     pub fn primitive(

@@ -4,6 +4,7 @@ use crate::errors::FrameError;
 use crate::flat::Flat;
 use crate::steps::{Steps, above, mark_of};
 use crate::surroundings::{Guard, Guards, Surroundings, Turns};
+use clu_base::Bytes;
 use clu_wir::{WArm, WStmt};
 
 impl Steps<'_> {
@@ -31,6 +32,8 @@ impl Steps<'_> {
             WStmt::Prim(number, arguments, results) => {
                 self.primitive(*number, arguments.as_slice(), results.as_slice(), work)
             }
+            WStmt::Bind(number, value, to) => self.bind(number, value, *to, work),
+            WStmt::Need(value) => self.need(value, work),
             WStmt::If(condition, then, other) => {
                 let otherwise = self.begin_choice(condition, work)?;
                 self.list(then.as_slice(), round)?;
@@ -58,6 +61,9 @@ impl Steps<'_> {
                 let guard = self.begin_guard(arms.as_slice(), round)?;
                 self.guarded(body.as_slice(), guard, round)?;
                 self.arms(arms.as_slice(), guard, round)
+            }
+            WStmt::Resignal(body, names) => {
+                self.resignalled(body.as_slice(), names.as_slice(), round)
             }
             WStmt::Return(results) => self.leave(results.as_slice(), work),
         }
@@ -124,6 +130,28 @@ impl Steps<'_> {
             },
         )?;
         self.close_region(guard.region, Flat::Jump(guard.end))
+    }
+
+    /// The list whose exceptions of these names are signalled on, in its region.
+    #[cycle(statements)]
+    fn resignalled(
+        &mut self,
+        body: &[WStmt],
+        names: &[Bytes],
+        round: Surroundings<'_>,
+    ) -> Result<(), FrameError> {
+        let end = self.label()?;
+        let region = self.open_region(round.region)?;
+        self.list(
+            body,
+            Surroundings {
+                region: Some(region),
+                ..round
+            },
+        )?;
+        self.close_region(region, Flat::Jump(end))?;
+        self.pass_on(names, region, round.mark)?;
+        self.push(Flat::Label(end))
     }
 
     #[cycle(statements)]

@@ -71,11 +71,11 @@ impl<'a> Steps<'a> {
         self.push(Flat::Hole(slot, clu_wir::HoleKind::Constant, number(place)?))
     }
 
-    /// To the slots the words behind the address in a slot.
-    pub fn push_loads(&mut self, slots: &[u32], address: u32) -> Result<(), FrameError> {
+    /// To the slots the words at the address that travelled.
+    pub fn push_results(&mut self, slots: &[u32]) -> Result<(), FrameError> {
         let mut bytes = 0i32;
         for slot in slots {
-            self.push(Flat::Load(*slot, address, bytes))?;
+            self.push(Flat::Result(*slot, bytes))?;
             bytes = bytes.checked_add(8).ok_or(FrameError::NotYet)?;
         }
         Ok(())

@@ -29,14 +29,18 @@ impl Flat {
             Flat::Jump(_) => true,
             Flat::Branch(slot, _) => *slot < frame,
             Flat::Enter(arguments) => *arguments <= frame,
+            Flat::Bind(number, value, to) => *number < frame && *value < frame && *to < frame,
+            Flat::Need(slot) => *slot < frame,
             Flat::Invoke(slot) => *slot < frame,
             Flat::Yield(slot) => *slot <= frame,
             Flat::Resume(slot) => *slot < frame,
             Flat::Take(value, address) => *value < frame && *address < frame,
+            Flat::Result(to, _) => *to < frame,
             Flat::Cut(mark) => is_word(*mark, frame),
             Flat::Leave(slot) => *slot <= frame,
             Flat::Raise(slot) => *slot < frame,
             Flat::Signal(slot) => *slot < frame,
+            Flat::Pass => true,
             Flat::Prim(_, slot) => *slot <= frame,
         }
     }

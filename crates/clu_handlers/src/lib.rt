@@ -6,8 +6,6 @@ mod arms;
 mod cuts;
 mod region;
 mod regions;
-#[cfg(test)]
-mod tests;
 
 pub use crate::region::{Cut, Found, NO_REGION, Region};
 pub use crate::regions::Regions;

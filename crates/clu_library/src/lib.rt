@@ -14,6 +14,3 @@ pub use crate::errors::EnterError;
 pub use crate::library::Library;
 pub use crate::program::Program;
 pub use crate::whole::is_whole;
-
-#[cfg(test)]
-mod tests;

@@ -71,9 +71,9 @@ bytes_of actuals routine =
     (plus (plus (plus 24 (times (cells routine) 8)) (times (own_variables routine) 16)) (region_bound routine.regions))
     routine.constants
 
--- a hole for a part of the runtime names one of the three
+-- a hole for a part of the runtime names one of the four
 abbrev pub is_filled : Hole → Bool
-is_filled hole = not (hole.kind == 7) || nat_lt hole.number 3
+is_filled hole = not (hole.kind == 7) || nat_lt hole.number 4
 
 -- all constants are known, all parts of the runtime are there, and neither code nor bytes are more than the nodes allow
 abbrev pub fits : ObjRoutine → List Actual → ℕ → Bool

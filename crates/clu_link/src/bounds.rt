@@ -32,7 +32,7 @@ pub const DESCRIPTOR: u64 = 24;
 pub const OWN_VARIABLE: u64 = 16;
 
 /// The parts of the runtime that code may name.
-pub const RUNTIME_PARTS: u32 = 3;
+pub const RUNTIME_PARTS: u32 = 4;
 
 /// Whether the constants of the routine name no parameter that is not there or is of a type, its code no part of the
 /// runtime that is not there, and an instance with these actual parameters takes no more of the image than the nodes

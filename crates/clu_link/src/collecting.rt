@@ -6,6 +6,7 @@ use crate::errors::LinkError;
 use crate::member::Member;
 use crate::operation_codes::{Chosen, CodeName, Family, choose};
 use crate::operations::{code_of, type_of_force, type_of_operation};
+use crate::parameters::types_of;
 use crate::program::{Callable, Code, Program};
 use crate::reach::{Callee, Instance, Reached, RoutineName};
 use crate::runtime::runtime_parts;
@@ -158,16 +159,31 @@ fn add_operation(
         known,
     } = choose(alloc, &program.types, of, name)?;
     let number = number_of(alloc, program, placed, code, operation)?;
+    let types = types_of_code(alloc, &mut program.types, program.codes.as_slice(), number)?;
     let own = type_of_operation(alloc, &mut program.types, of, name)?;
     program.callables.push(Callable {
         code: number,
         own,
         uses: Vec::new(alloc),
-        types: Vec::new(alloc),
+        types,
         actuals: as_actuals(alloc, known)?,
         cluster: None,
     })?;
     Ok(())
+}
+
+/// What the types of an operation's code are, in which no parameter stands.
+fn types_of_code(
+    alloc: Global,
+    types: &mut TypeArena,
+    codes: &[Code<'_>],
+    number: usize,
+) -> Result<Vec<TypeId>, LinkError> {
+    let Some(code) = codes.get(number) else {
+        return Err(LinkError::NotYet);
+    };
+    let texts = code.routine().types.as_slice();
+    types_of(alloc, types, texts, &[])?.ok_or(LinkError::NotYet)
 }
 
 /// The number of an operation's code, which is added if it is new.

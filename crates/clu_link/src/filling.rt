@@ -95,7 +95,7 @@ impl Filling {
             Some(HoleKind::Constant) => Ok(cell(self.constants, number)),
             Some(HoleKind::RoutineOwn) => Ok(cell(self.own, number)),
             Some(HoleKind::ClusterOwn) => Ok(cell(self.cluster, number)),
-            Some(HoleKind::TypeWord) => Ok(cell(self.types, number)),
+            Some(HoleKind::TypeWord | HoleKind::TypeCell) => Ok(cell(self.types, number)),
             Some(HoleKind::Regions) => Ok(self.regions),
             Some(HoleKind::Runtime) => places.entry(hole.number as usize),
             Some(HoleKind::Code) => Ok(self.first.saturating_add(number.saturating_mul(4))),

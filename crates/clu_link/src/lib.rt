@@ -23,6 +23,3 @@ mod type_words;
 
 pub use crate::errors::LinkError;
 pub use crate::linking::{Linked, link};
-
-#[cfg(test)]
-mod tests;

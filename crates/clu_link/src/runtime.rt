@@ -7,16 +7,21 @@ use crate::program::Program;
 use crate::texts::Texts;
 use clu_base::u64_add;
 use clu_object::{ObjRoutine, Region};
-use rv_select::{bind_part, regions_table, search_part, start_part};
+use rv_select::{bind_part, regions_table, search_part, start_part, unnamed_part};
 use std::alloc::Global;
 
-/// The bytes of the runtime's table: the addresses of the strings `failure` and `unhandled exception: `, and that of the
-/// start's descriptor.
-pub const RUNTIME_TABLE: u64 = 24;
+/// The bytes of the runtime's table: the addresses of the strings `failure` and `unhandled exception: `, of the start's
+/// descriptor, and of the string `uninitialized variable`.
+pub const RUNTIME_TABLE: u64 = 32;
 
 /// The parts of the runtime, each at its number.
 pub fn runtime_parts(alloc: Global) -> Result<Vec<ObjRoutine>, LinkError> {
-    Ok(vec![in alloc; start_part(alloc)?, search_part(alloc)?, bind_part(alloc)?]?)
+    Ok(vec![in alloc;
+        start_part(alloc)?,
+        search_part(alloc)?,
+        bind_part(alloc)?,
+        unnamed_part(alloc)?,
+    ]?)
 }
 
 /// The bytes of the table of regions.

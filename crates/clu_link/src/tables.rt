@@ -169,5 +169,6 @@ fn add_runtime_table(out: &mut Vec<u8>, texts: &Texts, places: &Places) -> Resul
     u64_add(out, places.string(texts.failure)?)?;
     u64_add(out, places.string(texts.unhandled)?)?;
     u64_add(out, places.descriptor(0))?;
+    u64_add(out, places.string(texts.uninitialized)?)?;
     Ok(())
 }

@@ -15,6 +15,9 @@ pub const FAILURE: &[u8] = b"failure";
 /// What stands before the name of an exception that was not handled.
 pub const UNHANDLED: &[u8] = b"unhandled exception: ";
 
+/// The text of the failure of a variable that names no object.
+pub const UNINITIALIZED: &[u8] = b"uninitialized variable";
+
 /// The word of a constant.
 #[derive(Clone, Copy, Debug, PartialEq, Eq)]
 pub enum Cell {
@@ -35,6 +38,8 @@ pub struct Texts {
     pub failure: usize,
     /// The string `unhandled exception: `.
     pub unhandled: usize,
+    /// The string `uninitialized variable`.
+    pub uninitialized: usize,
 }
 
 /// The strings and constants of a program.
@@ -44,6 +49,7 @@ pub fn collect_texts(alloc: Global, program: &Program<'_>) -> Result<Texts, Link
         constants: Vec::new(alloc),
         failure: 0,
         unhandled: 0,
+        uninitialized: 0,
     };
     match texts.add_all(alloc, program) {
         Ok(()) => Ok(texts),
@@ -55,6 +61,7 @@ impl Texts {
     fn add_all(&mut self, alloc: Global, program: &Program<'_>) -> Result<(), LinkError> {
         self.failure = number(alloc, &mut self.strings, FAILURE)?;
         self.unhandled = number(alloc, &mut self.strings, UNHANDLED)?;
+        self.uninitialized = number(alloc, &mut self.strings, UNINITIALIZED)?;
         for callable in program.callables.as_slice() {
             let routine = program.routine(callable.code)?;
             self.add(alloc, routine, callable.actuals.as_slice())?;

@@ -7,13 +7,13 @@ ghost use Rattle.clu_lower_expr.specs.Bounds.{IsBounded};
 use crate::declaring::formals;
 use crate::given::{Member, give_cluster, give_member, own_actuals};
 use crate::headings::note_heading;
-use crate::own_type::heading_text;
+use crate::own_type::note_types;
 use crate::own_variables::{children_of, declare_owns, set_up};
 use crate::routines::{body, count, is_procedure, own_name, specification};
 use clu_base::{Bytes, Sequence};
 use clu_core::Checked;
 use clu_equates::{first_name, intern, node_at};
-use clu_lower_expr::{LowerError, Lowering, Sealed, lower_own_set_up, written_heading};
+use clu_lower_expr::{LowerError, Lowering, Sealed, Seen, lower_own_set_up, written_heading};
 use clu_specs::{Target, use_text};
 use clu_tree::{Node, NodeKind};
 use clu_types::{Spec, Term, TypeArena, TypeId};
@@ -117,7 +117,7 @@ impl Cluster<'_> {
 
     fn fill_set_up(&self, out: &mut Lowering, c: &Checked) -> Result<(), LowerError> {
         self.begin(out, c)?;
-        out.add_type(Bytes::from_slice(out.alloc, b"proctype()")?)?;
+        let _own = out.add_type(Bytes::from_slice(out.alloc, b"proctype()")?)?;
         set_up(out, c, self.owns, HoleKind::ClusterOwn)?;
         out.push(WStmt::Return(Vec::new(out.alloc)))
     }
@@ -156,7 +156,7 @@ impl Cluster<'_> {
         };
         give_member(out, c, member)?;
         self.begin(out, c)?;
-        out.add_type(self.own_type(out.alloc, c, node)?)?;
+        note_types(out, self.seen(out.alloc, c, node)?, !is_procedure(node))?;
         let args = formals(out, c, node)?;
         if !self.owns.is_empty() {
             let text = self.set_up_text(out.alloc)?;
@@ -184,8 +184,8 @@ impl Cluster<'_> {
         Ok(intern(types, Term::Cluster(name, Sequence::from_vec(actuals)))?)
     }
 
-    /// The text of a routine's own type, which is that of its heading as callers see it.
-    fn own_type(&self, alloc: Global, c: &Checked, node: &Node) -> Result<Bytes, LowerError> {
+    /// The heading of a routine as callers see it.
+    fn seen(&self, alloc: Global, c: &Checked, node: &Node) -> Result<Seen, LowerError> {
         let mut types = TypeArena::new(alloc);
         let of = self.cluster_type(alloc, &mut types)?;
         let sealed = Sealed {
@@ -194,7 +194,6 @@ impl Cluster<'_> {
             name: self.spec.name.copy(alloc)?,
             actuals: Vec::new(alloc),
         };
-        let seen = written_heading(alloc, c, node, sealed)?;
-        heading_text(alloc, seen, !is_procedure(node))
+        written_heading(alloc, c, node, sealed)
     }
 }

@@ -2,7 +2,6 @@
 //! outside it.
 
 use crate::declaring::{declare_formals, is_any_decl};
-use crate::leaving::resignal;
 use crate::nest::Nest;
 use crate::walk::Frame;
 use clu_base::Bytes;
@@ -12,53 +11,39 @@ use clu_lower_expr::{LowerError, Lowering, OpenArm, bind, copied_names, denotes_
 use clu_tree::{Node, NodeKind};
 use clu_types::{Term, TypeArena};
 use clu_wir::{WArm, WExpr, WStmt};
+use std::boxed::Box;
 use std::mem;
 
-/// Begins the guard of an Except or a Resignal, whose statement comes next.
+/// Begins the list that an Except or a Resignal stands round.
 pub fn open_guard(
     out: &mut Lowering,
     c: &Checked,
     node: &Node,
     frame: &mut Frame,
 ) -> Result<(), LowerError> {
-    let arms = if node.kind == NodeKind::Resignal {
-        resignal_arms(out, node)?
-    } else {
-        except_arms(out, c, node)?
-    };
-    frame.nest.failure_arm = any_failure(arms.as_slice());
-    out.body.guards.push(arms)?;
-    if frame.nest.failure_arm.is_some() {
-        let inner = vec![in out.alloc; failure_arm(out)?]?;
-        out.body.guards.push(inner)?;
+    if node.kind == NodeKind::Except {
+        open_arms(out, c, node, frame)?;
     }
     frame.nest.outer = Some(out.open());
     out.body.direct = true;
     Ok(())
 }
 
-/// For each name of a Resignal an arm, whose objects are those of the heading.
-fn resignal_arms(out: &Lowering, node: &Node) -> Result<Vec<OpenArm>, LowerError> {
-    let mut arms = Vec::new(out.alloc);
-    for name in node.names.as_slice() {
-        arms.push(OpenArm {
-            names: vec![in out.alloc; name.copy(out.alloc)?]?,
-            others: false,
-            is_when: false,
-            drops: false,
-            any: signalled(out, name)?,
-        })?;
+/// The arms of an Except stand round its statement. Where one binds failures to type any, a guard inside takes these first.
+fn open_arms(
+    out: &mut Lowering,
+    c: &Checked,
+    node: &Node,
+    frame: &mut Frame,
+) -> Result<(), LowerError> {
+    let arms = except_arms(out, c, node)?;
+    frame.nest.failure_arm = binding_failures(arms.as_slice());
+    out.body.guards.push(arms)?;
+    if frame.nest.failure_arm.is_some() {
+        let inner = vec![in out.alloc; nameless_arm(out)]?;
+        out.body.guards.push(inner)?;
     }
-    Ok(arms)
-}
-
-/// For each object of an exception that the routine signals whether its type is any. That of a failure is a string.
-fn signalled(out: &Lowering, name: &Bytes) -> Result<Vec<bool>, LowerError> {
-    if name.as_slice() == FAILURE {
-        Ok(vec![in out.alloc; false]?)
-    } else {
-        Ok(out.body.signal(name).to_vec(out.alloc)?)
-    }
+    Ok(())
 }
 
 /// The name of the exception that every routine may signal.
@@ -70,13 +55,7 @@ fn except_arms(out: &Lowering, c: &Checked, node: &Node) -> Result<Vec<OpenArm>,
         let arm = node_at(&c.tree, *child)?;
         match arm.kind {
             NodeKind::When => arms.push(when_arm(out, c, arm)?)?,
-            NodeKind::Others => arms.push(OpenArm {
-                names: Vec::new(out.alloc),
-                others: true,
-                is_when: false,
-                drops: false,
-                any: Vec::new(out.alloc),
-            })?,
+            NodeKind::Others => arms.push(nameless_arm(out))?,
             _ => {}
         }
     }
@@ -84,34 +63,39 @@ fn except_arms(out: &Lowering, c: &Checked, node: &Node) -> Result<Vec<OpenArm>,
 }
 
 fn when_arm(out: &Lowering, c: &Checked, when: &Node) -> Result<OpenArm, LowerError> {
-    let mut any = Vec::new(out.alloc);
-    for child in when.children.as_slice() {
-        let decl = node_at(&c.tree, *child)?;
-        if decl.kind == NodeKind::Decl {
-            let is_any = is_any_decl(out, c, decl)?;
-            for _ in decl.names.as_slice() {
-                any.push(is_any)?;
-            }
-        }
-    }
     Ok(OpenArm {
         names: copied_names(out.alloc, when.names.as_slice())?,
-        others: false,
-        is_when: true,
         drops: when.value_token.is_some(),
-        any,
+        binds: binds_any(out, c, when)?,
     })
 }
 
-/// The number of the arm that takes failures into a variable of type any.
-fn any_failure(arms: &[OpenArm]) -> Option<u32> {
+/// Whether one of the variables of an arm is of type any.
+fn binds_any(out: &Lowering, c: &Checked, arm: &Node) -> Result<bool, LowerError> {
+    for child in arm.children.as_slice() {
+        let decl = node_at(&c.tree, *child)?;
+        if decl.kind == NodeKind::Decl && is_any_decl(out, c, decl)? {
+            return Ok(true);
+        }
+    }
+    Ok(false)
+}
+
+/// An arm to which no exit goes.
+fn nameless_arm(out: &Lowering) -> OpenArm {
+    OpenArm {
+        names: Vec::new(out.alloc),
+        drops: false,
+        binds: false,
+    }
+}
+
+/// The number of the arm that binds failures to a variable of type any.
+fn binding_failures(arms: &[OpenArm]) -> Option<u32> {
     let mut number = 0u32;
     for arm in arms {
         if takes_failures(arm) {
-            return match arm.any.first() {
-                Some(true) => Some(number),
-                _ => None,
-            };
+            return if arm.binds { Some(number) } else { None };
         }
         number = number.saturating_add(1);
     }
@@ -128,25 +112,13 @@ fn takes_failures(arm: &OpenArm) -> bool {
     false
 }
 
-/// The arm of the inner guard that takes failures, whose object is a string, before they come to one of type any.
-fn failure_arm(out: &Lowering) -> Result<OpenArm, LowerError> {
-    let name = Bytes::from_slice(out.alloc, FAILURE)?;
-    Ok(OpenArm {
-        names: vec![in out.alloc; name]?,
-        others: false,
-        is_when: false,
-        drops: false,
-        any: Vec::new(out.alloc),
-    })
-}
-
 /// Behind the statement: what it declares stays in scope behind the whole.
 pub fn keep_declared(out: &Lowering, frame: &mut Frame) {
     frame.in_scope = out.in_scope();
     frame.taken = out.taken();
 }
 
-/// Ends the list that is guarded, if that was not done.
+/// Ends the list that is guarded by an Except, if that was not done.
 fn close_guarded(out: &mut Lowering, frame: &mut Frame) -> Result<(), LowerError> {
     if frame.nest.guarded.is_some() {
         return Ok(());
@@ -156,7 +128,7 @@ fn close_guarded(out: &mut Lowering, frame: &mut Frame) -> Result<(), LowerError
     };
     let body = out.close(outer);
     let guarded = match frame.nest.failure_arm {
-        Some(arm) => convert_failures(out, body, arm)?,
+        Some(arm) => type_failures(out, body, arm)?,
         None => body,
     };
     let _ = out.body.guards.pop();
@@ -164,30 +136,29 @@ fn close_guarded(out: &mut Lowering, frame: &mut Frame) -> Result<(), LowerError
     Ok(())
 }
 
-/// Ends the inner guard, whose arm binds the string of a failure to type any and goes to the arm of this number outside.
-fn convert_failures(
-    out: &mut Lowering,
-    body: Vec<WStmt>,
-    arm: u32,
-) -> Result<Vec<WStmt>, LowerError> {
+/// Ends the inner guard, whose arm takes the string of a failure and goes with its type to the arm of this number outside.
+fn type_failures(out: &mut Lowering, body: Vec<WStmt>, arm: u32) -> Result<Vec<WStmt>, LowerError> {
     let _ = out.body.guards.pop();
     let taken = out.taken();
     let slot = out.take()?;
-    let outer = out.open();
-    let text = bind_string(out, slot)?;
-    let words = vec![in out.alloc; text]?;
-    out.push(WStmt::Exit(0, arm, words))?;
-    let converting = out.close(outer);
     out.release(taken);
+    let string = vec![in out.alloc; Bytes::from_slice(out.alloc, b"string")?]?;
+    let types = out.type_cells(string)?;
+    let words = vec![in out.alloc; WExpr::Slot(slot), types]?;
+    let exit = vec![in out.alloc; WStmt::Exit(0, arm, words)]?;
+    let arms = vec![in out.alloc; failure_arm(out, slot, exit)?]?;
+    Ok(vec![in out.alloc; WStmt::Guard(body, arms)]?)
+}
+
+/// An arm that takes failures, whose string goes into the slot.
+fn failure_arm(out: &Lowering, slot: u32, body: Vec<WStmt>) -> Result<WArm, LowerError> {
     let name = Bytes::from_slice(out.alloc, FAILURE)?;
-    let arm = WArm {
+    Ok(WArm {
         names: vec![in out.alloc; name]?,
         others: false,
         slots: vec![in out.alloc; slot]?,
-        body: converting,
-    };
-    let arms = vec![in out.alloc; arm]?;
-    Ok(vec![in out.alloc; WStmt::Guard(body, arms)]?)
+        body,
+    })
 }
 
 /// The string in a slot as an object of type any, in the same slot.
@@ -208,17 +179,60 @@ pub fn open_arm(
     frame.nest.outer = Some(out.open());
     frame.nest.slots = Vec::new(out.alloc);
     if arm.kind == NodeKind::Others {
-        return open_others(out, c, arm, frame);
+        open_others(out, c, arm, frame)
+    } else {
+        open_when(out, c, arm, frame)
     }
+}
+
+/// The variables of a When name the objects that come. Those of type any are bound with the types that come behind them.
+fn open_when(
+    out: &mut Lowering,
+    c: &Checked,
+    arm: &Node,
+    frame: &mut Frame,
+) -> Result<(), LowerError> {
+    let mut any = Vec::new(out.alloc);
     for child in arm.children.as_slice() {
         let decl = node_at(&c.tree, *child)?;
         if decl.kind == NodeKind::Decl {
+            let is_any = is_any_decl(out, c, decl)?;
             for slot in declare_formals(out, c, decl)? {
                 frame.nest.slots.push(slot)?;
+                any.push(is_any)?;
             }
         }
     }
+    if binds_any(out, c, arm)? {
+        bind_objects(out, any.as_slice(), frame)?;
+    }
     Ok(())
+}
+
+/// Binds the objects in an arm's slots to type any where `any` says so. The address of the numbers of their types comes
+/// into one more slot, which is free behind this.
+fn bind_objects(out: &mut Lowering, any: &[bool], frame: &mut Frame) -> Result<(), LowerError> {
+    let types = out.take()?;
+    out.release(types);
+    let mut distance = 0u32;
+    for (slot, to_any) in frame.nest.slots.as_slice().iter().zip(any) {
+        if *to_any {
+            bind_object(out, *slot, types, distance)?;
+        }
+        distance = distance.checked_add(WORD).ok_or(LowerError::NotYet)?;
+    }
+    frame.nest.slots.push(types)?;
+    Ok(())
+}
+
+/// The bytes of a word.
+const WORD: u32 = 8;
+
+/// Binds the object in a slot, the number of whose type is so many bytes behind the address in another, to type any.
+fn bind_object(out: &mut Lowering, slot: u32, types: u32, distance: u32) -> Result<(), LowerError> {
+    let address = Box::new(out.alloc, WExpr::Slot(types))?;
+    let number = WExpr::Load(address, distance);
+    out.push(WStmt::Bind(number, WExpr::Slot(slot), slot))
 }
 
 /// The variable of an Others names a string, the name of the exception.
@@ -268,19 +282,18 @@ pub fn close_arm(out: &mut Lowering, arm: &Node, frame: &mut Frame) -> Result<()
 }
 
 /// Ends an Except or a Resignal.
-pub fn close_guard(out: &mut Lowering, node: &Node, mut frame: Frame) -> Result<(), LowerError> {
+pub fn close_guard(out: &mut Lowering, node: &Node, frame: Frame) -> Result<(), LowerError> {
+    if node.kind == NodeKind::Resignal {
+        close_resignal(out, node, frame)
+    } else {
+        close_except(out, frame)
+    }
+}
+
+fn close_except(out: &mut Lowering, mut frame: Frame) -> Result<(), LowerError> {
     close_guarded(out, &mut frame)?;
     let Frame { taken, nest, .. } = frame;
-    let Nest {
-        guarded,
-        mut arms,
-        ..
-    } = nest;
-    if node.kind == NodeKind::Resignal {
-        for name in node.names.as_slice() {
-            arms.push(resignal_arm(out, name)?)?;
-        }
-    }
+    let Nest { guarded, arms, .. } = nest;
     out.release(taken);
     match guarded {
         Some(body) => out.push(WStmt::Guard(body, arms)),
@@ -288,22 +301,18 @@ pub fn close_guard(out: &mut Lowering, node: &Node, mut frame: Frame) -> Result<
     }
 }
 
-/// The arm that signals an exception on.
-fn resignal_arm(out: &mut Lowering, name: &Bytes) -> Result<WArm, LowerError> {
-    let taken = out.taken();
-    let objects = signalled(out, name)?;
-    let mut slots = Vec::new(out.alloc);
-    for _ in objects.as_slice() {
-        slots.push(out.take()?)?;
-    }
-    let outer = out.open();
-    resignal(out, name, slots.as_slice())?;
+/// What the list raises by the names of a Resignal is signalled on, with its objects and the types that came with them.
+fn close_resignal(out: &mut Lowering, node: &Node, frame: Frame) -> Result<(), LowerError> {
+    let Frame { taken, nest, .. } = frame;
+    let Nest { outer, .. } = nest;
+    let Some(outer) = outer else {
+        return Err(LowerError::NotYet);
+    };
     let body = out.close(outer);
     out.release(taken);
-    Ok(WArm {
-        names: vec![in out.alloc; name.copy(out.alloc)?]?,
-        others: false,
-        slots,
-        body,
-    })
+    let names = node.names.as_slice();
+    for name in names {
+        out.exception(name)?;
+    }
+    out.push(WStmt::Resignal(body, copied_names(out.alloc, names)?))
 }

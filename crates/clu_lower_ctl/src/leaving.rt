@@ -4,11 +4,20 @@
 use clu_base::Bytes;
 use clu_core::Checked;
 use clu_equates::first_name;
-use clu_lower_expr::{LowerError, Lowering, bind_all, lower_expr};
+use clu_lower_expr::{LowerError, Lowering, bind_all, lower_expr, text_of, type_of};
 use clu_tree::Node;
-use clu_wir::{WExpr, WStmt};
+use clu_wir::{HoleKind, WExpr, WStmt};
 
-/// The values of a node's expressions, evaluated from left to right, and then bound to any where `any` says so.
+/// The values of expressions, evaluated from left to right.
+fn values(out: &mut Lowering, c: &Checked, expressions: &[u32]) -> Result<Vec<WExpr>, LowerError> {
+    let mut values = Vec::new(out.alloc);
+    for n in expressions {
+        values.push(lower_expr(out, c, *n)?)?;
+    }
+    Ok(values)
+}
+
+/// The values of a node's expressions, bound to any where `any` says so once all of them are evaluated.
 fn bound_values(
     out: &mut Lowering,
     c: &Checked,
@@ -17,10 +26,7 @@ fn bound_values(
 ) -> Result<Vec<WExpr>, LowerError> {
     let free = out.taken();
     let expressions = node.children.as_slice();
-    let mut values = Vec::new(out.alloc);
-    for n in expressions {
-        values.push(lower_expr(out, c, *n)?)?;
-    }
+    let values = values(out, c, expressions)?;
     bind_all(out, c, values, expressions, any, free)
 }
 
@@ -48,29 +54,47 @@ pub fn signal(out: &mut Lowering, c: &Checked, node: &Node) -> Result<(), LowerE
     let name = first_name(node)?.copy(out.alloc)?;
     let any = copied(out, out.body.signal(&name))?;
     let objects = bound_values(out, c, node, any.as_slice())?;
+    let objects = with_types(out, &name, objects)?;
     out.exception(&name)?;
     out.push(WStmt::Signal(name, objects))
 }
 
+/// The objects of an exception of the heading, and behind them the address of the numbers of their types. A failure, which
+/// may come from anywhere, has its string alone.
+fn with_types(
+    out: &Lowering,
+    name: &Bytes,
+    mut objects: Vec<WExpr>,
+) -> Result<Vec<WExpr>, LowerError> {
+    match out.body.object_types.get(name) {
+        Some(first) => objects.push(WExpr::Hole(HoleKind::TypeCell, *first))?,
+        None => {}
+    }
+    Ok(objects)
+}
+
 /// `exit e (a, b)`
 pub fn exit(out: &mut Lowering, c: &Checked, node: &Node) -> Result<(), LowerError> {
-    let name = first_name(node)?.copy(out.alloc)?;
-    let place = out.body.exit_target(&name)?;
-    let (any, drops) = match out.body.arm(place) {
-        Some(arm) => (copied(out, arm.any.as_slice())?, arm.drops),
+    let place = out.body.exit_target(first_name(node)?)?;
+    let (drops, binds) = match out.body.arm(place) {
+        Some(arm) => (arm.drops, arm.binds),
         None => return Err(LowerError::NotYet),
     };
-    let objects = bound_values(out, c, node, any.as_slice())?;
-    let words = if drops { Vec::new(out.alloc) } else { objects };
+    let expressions = node.children.as_slice();
+    let mut words = values(out, c, expressions)?;
+    if drops {
+        words = Vec::new(out.alloc);
+    } else if binds {
+        words.push(types_of(out, c, expressions)?)?;
+    }
     out.push(WStmt::Exit(place.inside, place.arm, words))
 }
 
-/// Signals an exception that came to these slots.
-pub fn resignal(out: &mut Lowering, name: &Bytes, slots: &[u32]) -> Result<(), LowerError> {
-    let mut objects = Vec::new(out.alloc);
-    for slot in slots {
-        objects.push(WExpr::Slot(*slot))?;
+/// The address of the numbers of the types of expressions.
+fn types_of(out: &mut Lowering, c: &Checked, expressions: &[u32]) -> Result<WExpr, LowerError> {
+    let mut texts = Vec::new(out.alloc);
+    for n in expressions {
+        texts.push(text_of(out.alloc, &c.types, type_of(c, *n)?)?)?;
     }
-    out.exception(name)?;
-    out.push(WStmt::Signal(name.copy(out.alloc)?, objects))
+    out.type_cells(texts)
 }

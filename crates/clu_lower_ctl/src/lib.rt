@@ -22,6 +22,3 @@ mod walk;
 
 pub use crate::routines::lower;
 pub use clu_lower_expr::LowerError;
-
-#[cfg(test)]
-mod tests;

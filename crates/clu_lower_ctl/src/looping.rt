@@ -124,15 +124,11 @@ fn assign_items(
 }
 
 /// Ends a For.
-pub fn close_turns(
-    out: &mut Lowering,
-    c: &Checked,
-    turns: Option<Turns>,
-) -> Result<(), LowerError> {
+pub fn close_turns(out: &mut Lowering, turns: Option<Turns>) -> Result<(), LowerError> {
     let Some(turns) = turns else {
         return Err(LowerError::NotYet);
     };
     let Turns { call, items, outer } = turns;
     let body = out.close(outer);
-    end_iteration(out, c, call, items, body)
+    end_iteration(out, call, items, body)
 }

@@ -1,28 +1,68 @@
-//! The text of a routine's own type, which is the type of its heading as callers see it.
+//! The types of a routine's heading as callers see it: its own type, and those of its exceptions' objects.
 
 use clu_base::Bytes;
 use clu_equates::intern;
-use clu_lower_expr::{LowerError, Seen, carried};
-use clu_specs::type_text;
-use clu_types::{Form, OpSpec, Spec, Term, TypeArena, TypeId};
+use clu_lower_expr::{LowerError, Lowering, Seen, carried, text_of, texts_of};
+use clu_types::{Exception, Form, OpSpec, Spec, Term, TypeArena};
 use std::alloc::Global;
 
-/// The text of the own type of the routine that a specification is of.
-pub fn own_type(alloc: Global, spec: &Spec) -> Result<Bytes, LowerError> {
+/// Notes the types of the routine that a specification is of.
+pub fn note_routine(out: &mut Lowering, spec: &Spec) -> Result<(), LowerError> {
     match &spec.form {
-        Form::Routine(op) => type_of(alloc, &spec.types, op),
+        Form::Routine(op) => note_operation(out, &spec.types, op),
         Form::Cluster(_, _) => Err(LowerError::NotYet),
     }
 }
 
-fn type_of(alloc: Global, from: &TypeArena, op: &OpSpec) -> Result<Bytes, LowerError> {
-    let mut types = TypeArena::new(alloc);
-    let heading = carried(alloc, &mut types, from, &op.heading, &[])?;
-    heading_text(alloc, Seen { types, heading }, op.iter)
+fn note_operation(out: &mut Lowering, from: &TypeArena, op: &OpSpec) -> Result<(), LowerError> {
+    let mut types = TypeArena::new(out.alloc);
+    let heading = carried(out.alloc, &mut types, from, &op.heading, &[])?;
+    note_types(out, Seen { types, heading }, op.iter)
+}
+
+/// Notes the types of a routine with this heading. Its own type is the first of its table.
+pub fn note_types(out: &mut Lowering, seen: Seen, iter: bool) -> Result<(), LowerError> {
+    let exceptions = typed_exceptions(out.alloc, &seen)?;
+    let _own = out.add_type(heading_text(out.alloc, seen, iter)?)?;
+    for exception in exceptions {
+        let TypedException { name, texts } = exception;
+        let first = out.add_types(texts)?;
+        out.body.object_types.insert(name, first)?;
+    }
+    Ok(())
+}
+
+/// An exception that has objects, with the texts of their types.
+#[derive(Drop)]
+struct TypedException {
+    name: Bytes,
+    texts: Vec<Bytes>,
+}
+
+/// The exceptions of a heading that have objects.
+fn typed_exceptions(alloc: Global, seen: &Seen) -> Result<Vec<TypedException>, LowerError> {
+    let mut exceptions = Vec::new(alloc);
+    for signal in seen.heading.signals.as_slice() {
+        if !signal.objects.as_slice().is_empty() {
+            exceptions.push(typed_exception(alloc, &seen.types, signal)?)?;
+        }
+    }
+    Ok(exceptions)
+}
+
+fn typed_exception(
+    alloc: Global,
+    types: &TypeArena,
+    signal: &Exception,
+) -> Result<TypedException, LowerError> {
+    Ok(TypedException {
+        name: signal.name.copy(alloc)?,
+        texts: texts_of(alloc, types, signal.objects.as_slice())?,
+    })
 }
 
 /// The text of the type of a routine with this heading.
-pub fn heading_text(alloc: Global, seen: Seen, iter: bool) -> Result<Bytes, LowerError> {
+fn heading_text(alloc: Global, seen: Seen, iter: bool) -> Result<Bytes, LowerError> {
     let Seen { mut types, heading } = seen;
     let own = if iter {
         intern(&mut types, Term::Iter(heading))?
@@ -30,13 +70,4 @@ pub fn heading_text(alloc: Global, seen: Seen, iter: bool) -> Result<Bytes, Lowe
         intern(&mut types, Term::Proc(heading))?
     };
     text_of(alloc, &types, own)
-}
-
-/// The text of a type.
-fn text_of(alloc: Global, types: &TypeArena, own: TypeId) -> Result<Bytes, LowerError> {
-    if types.contains(own) {
-        Ok(type_text(alloc, types, own)?)
-    } else {
-        Err(LowerError::NotYet)
-    }
 }

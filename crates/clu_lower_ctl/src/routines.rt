@@ -8,7 +8,7 @@ use crate::declaring::formals;
 use crate::given::give_routine;
 use crate::headings::note_heading;
 use crate::kinds::is_statement;
-use crate::own_type::own_type;
+use crate::own_type::note_routine;
 use crate::own_variables::{children_of, declare_owns, set_up_once};
 use crate::walk::statement;
 use clu_base::Bytes;
@@ -65,7 +65,7 @@ pub fn own_name(alloc: Global, node: &Node) -> Result<Bytes, LowerError> {
 fn fill(out: &mut Lowering, c: &Checked, node: &Node) -> Result<u32, LowerError> {
     let spec = specification(c, first_name(node)?)?;
     give_routine(out, spec)?;
-    out.add_type(own_type(out.alloc, spec)?)?;
+    note_routine(out, spec)?;
     let args = formals(out, c, node)?;
     note_heading(out, c, node)?;
     body(out, c, node)?;

@@ -204,7 +204,7 @@ fn end(out: &mut Lowering, c: &Checked, node: &Node, frame: Frame) -> Result<(),
     match node.kind {
         NodeKind::If => close_branches(out, branches),
         NodeKind::While => close_loop(out, outer),
-        NodeKind::For => close_turns(out, c, turns),
+        NodeKind::For => close_turns(out, turns),
         _ => Ok(()),
     }
 }

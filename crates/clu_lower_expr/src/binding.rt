@@ -3,12 +3,14 @@
 
 use crate::errors::LowerError;
 use crate::lowering::Lowering;
+use clu_base::Bytes;
 use clu_core::Checked;
 use clu_equates::{node_at, term};
 use clu_specs::type_text;
 use clu_tree::{Node, NodeKind};
 use clu_types::{Term, TypeArena, TypeId};
-use clu_wir::{Primitive, WExpr, WStmt};
+use clu_wir::{WExpr, WStmt};
+use std::alloc::Global;
 
 /// Whether a type is any.
 pub fn is_any(types: &TypeArena, of: TypeId) -> bool {
@@ -60,9 +62,7 @@ pub fn bind(
         _ => out.take()?,
     };
     let number = type_number(out, types, of)?;
-    let operands = vec![in out.alloc; number, value]?;
-    let results = vec![in out.alloc; slot]?;
-    out.push(WStmt::Prim(Primitive::Bind.number(), operands, results))?;
+    out.push(WStmt::Bind(number, value, slot))?;
     Ok(WExpr::Slot(slot))
 }
 
@@ -96,11 +96,30 @@ pub fn bind_all(
 
 /// The number of a type in the program.
 pub fn type_number(out: &mut Lowering, types: &TypeArena, of: TypeId) -> Result<WExpr, LowerError> {
-    if !types.contains(of) {
-        return Err(LowerError::NotYet);
-    }
-    let text = type_text(out.alloc, types, of)?;
+    let text = text_of(out.alloc, types, of)?;
     out.type_number(text)
+}
+
+/// The text of a type.
+pub fn text_of(alloc: Global, types: &TypeArena, of: TypeId) -> Result<Bytes, LowerError> {
+    if types.contains(of) {
+        Ok(type_text(alloc, types, of)?)
+    } else {
+        Err(LowerError::NotYet)
+    }
+}
+
+/// The texts of types.
+pub fn texts_of(
+    alloc: Global,
+    types: &TypeArena,
+    listed: &[TypeId],
+) -> Result<Vec<Bytes>, LowerError> {
+    let mut texts = Vec::new(alloc);
+    for of in listed {
+        texts.push(text_of(alloc, types, *of)?)?;
+    }
+    Ok(texts)
 }
 
 /// For each of these types whether it is any.

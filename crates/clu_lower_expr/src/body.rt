@@ -18,18 +18,15 @@ pub struct OwnVariable {
     pub is_any: bool,
 }
 
-/// An arm round a statement.
+/// An arm round a statement, as an exit sees it.
 #[derive(Debug, Drop)]
 pub struct OpenArm {
+    /// The names by which an exit goes to it.
     pub names: Vec<Bytes>,
-    /// Whether it takes all names.
-    pub others: bool,
-    /// Whether an exit may go to it.
-    pub is_when: bool,
     /// Whether it drops the objects.
     pub drops: bool,
-    /// For each of its objects whether it is bound to type any.
-    pub any: Vec<bool>,
+    /// Whether it binds objects to type any, and takes behind them the address of the numbers of their types.
+    pub binds: bool,
 }
 
 /// Where an arm is: how many guards are inside of its own, and its number in that guard.
@@ -52,6 +49,9 @@ pub struct Body {
     pub results: Vec<bool>,
     /// For each exception of the heading, and for each of its objects, whether that one's type is any.
     pub signals: IndexMap<Bytes, Vec<bool>>,
+    /// For each exception of the heading that has objects the place of the first of their types, as callers see them,
+    /// in the routine's table.
+    pub object_types: IndexMap<Bytes, u32>,
     pub owns: IndexMap<Bytes, OwnVariable>,
     /// The arms of the guards round the statement, those of the innermost guard last.
     pub guards: Vec<Vec<OpenArm>>,
@@ -68,6 +68,7 @@ impl Body {
             given_types: TypeArena::new(alloc),
             results: Vec::new(alloc),
             signals: IndexMap::new(alloc),
+            object_types: IndexMap::new(alloc),
             owns: IndexMap::new(alloc),
             guards: Vec::new(alloc),
             direct: false,
@@ -112,25 +113,11 @@ impl Body {
         }
     }
 
-    /// The arm that takes an exception by its name; None where an arm of all names or none does.
-    pub fn taker(&self, name: &Bytes) -> Option<ArmPlace> {
-        let mut inside = 0u32;
-        for arms in self.guards.as_slice().iter().rev() {
-            match arm_named(arms.as_slice(), name, false) {
-                Some(arm) => return Some(ArmPlace { inside, arm }),
-                None if take_all(arms.as_slice()) => return None,
-                None => {}
-            }
-            inside = inside.saturating_add(1);
-        }
-        None
-    }
-
     /// The arm to which an exit of this name goes.
     pub fn exit_target(&self, name: &Bytes) -> Result<ArmPlace, LowerError> {
         let mut inside = 0u32;
         for arms in self.guards.as_slice().iter().rev() {
-            match arm_named(arms.as_slice(), name, true) {
+            match arm_named(arms.as_slice(), name) {
                 Some(arm) => return Ok(ArmPlace { inside, arm }),
                 None => {}
             }
@@ -147,26 +134,16 @@ impl Body {
     }
 }
 
-/// The number of the first arm with this name, among all or those to which an exit may go.
-fn arm_named(arms: &[OpenArm], name: &Bytes, exits: bool) -> Option<u32> {
+/// The number of the first arm with this name.
+fn arm_named(arms: &[OpenArm], name: &Bytes) -> Option<u32> {
     let mut number = 0u32;
     for arm in arms {
-        if (arm.is_when || !exits) && arm.names.as_slice().contains(name) {
+        if arm.names.as_slice().contains(name) {
             return Some(number);
         }
         number = number.saturating_add(1);
     }
     None
-}
-
-/// Whether one of the arms takes all names.
-fn take_all(arms: &[OpenArm]) -> bool {
-    for arm in arms {
-        if arm.others {
-            return true;
-        }
-    }
-    false
 }
 
 /// Copies of names.

@@ -21,7 +21,9 @@ mod variables;
 mod walk;
 mod written;
 
-pub use crate::binding::{bind, bind_all, denoted_type, denotes_any, is_any, is_cvt, type_of};
+pub use crate::binding::{
+    bind, bind_all, denoted_type, denotes_any, is_any, is_cvt, text_of, texts_of, type_of,
+};
 pub use crate::body::{ArmPlace, Body, OpenArm, OwnVariable, copied_names};
 pub use crate::constructors::{again, binary, place_of};
 pub use crate::errors::LowerError;

@@ -23,10 +23,12 @@ pub struct Lowering {
     pub body: Body,
     /// The list of statements to which is added.
     statements: Vec<WStmt>,
-    /// Texts of uses and types, and constants, each once, in the order in which they are met.
+    /// Texts of uses, and constants, each once, in the order in which they are met.
     uses: IndexSet<Bytes>,
     constants: IndexSet<ObjConst>,
-    types: IndexSet<Bytes>,
+    /// Texts of types, and the place of each that is asked for alone.
+    types: Vec<Bytes>,
+    type_places: IndexMap<Bytes, u32>,
     variables: IndexMap<Bytes, Variable>,
     /// How many slots are taken, and how many were taken at most.
     taken: u32,
@@ -42,7 +44,8 @@ impl Lowering {
             statements: Vec::new(alloc),
             uses: IndexSet::new(alloc),
             constants: IndexSet::new(alloc),
-            types: IndexSet::new(alloc),
+            types: Vec::new(alloc),
+            type_places: IndexMap::new(alloc),
             variables: IndexMap::new(alloc),
             taken: 0,
             most: 0,
@@ -74,7 +77,7 @@ impl Lowering {
             nodes,
             uses: listed(alloc, self.uses)?,
             constants: listed(alloc, self.constants)?,
-            types: listed(alloc, self.types)?,
+            types: self.types,
         })
     }
 
@@ -130,16 +133,40 @@ impl Lowering {
         self.constant(ObjConst::Value(Const::Str(bytes)))
     }
 
-    /// Adds a type, by its text.
-    pub fn add_type(&mut self, text: Bytes) -> Result<(), LowerError> {
-        self.types.insert(text)?;
-        Ok(())
+    /// Adds a type, by its text, behind all others; the answer is its place.
+    pub fn add_type(&mut self, text: Bytes) -> Result<u32, LowerError> {
+        let number = place(self.types.len())?;
+        self.types.push(text)?;
+        Ok(number)
+    }
+
+    /// Adds types, by their texts, one behind the other; the answer is the place of the first.
+    pub fn add_types(&mut self, texts: Vec<Bytes>) -> Result<u32, LowerError> {
+        let first = place(self.types.len())?;
+        for text in texts {
+            self.types.push(text)?;
+        }
+        Ok(first)
+    }
+
+    /// The address of cells with the numbers of types, by their texts, one behind the other.
+    pub fn type_cells(&mut self, texts: Vec<Bytes>) -> Result<WExpr, LowerError> {
+        Ok(WExpr::Hole(HoleKind::TypeCell, self.add_types(texts)?))
     }
 
     /// The number that a type, by its text, has in the program.
     pub fn type_number(&mut self, text: Bytes) -> Result<WExpr, LowerError> {
-        let (number, _) = self.types.insert_full(text)?;
-        Ok(WExpr::Hole(HoleKind::TypeWord, place(number)?))
+        Ok(WExpr::Hole(HoleKind::TypeWord, self.type_place(text)?))
+    }
+
+    /// The place of a type that was asked for before, or is added now.
+    fn type_place(&mut self, text: Bytes) -> Result<u32, LowerError> {
+        if let Some(known) = self.type_places.get(&text) {
+            return Ok(*known);
+        }
+        let number = self.add_type(text.copy(self.alloc)?)?;
+        self.type_places.insert(text, number)?;
+        Ok(number)
     }
 
     /// The variable of this name.

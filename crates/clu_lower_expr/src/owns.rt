@@ -34,23 +34,29 @@ impl Lowering {
         let Some(own) = self.body.owns.get(name).copied() else {
             return self.object_of(name);
         };
-        let outer = self.open();
-        self.raise_failure(b"uninitialized variable")?;
-        let absent = self.close(outer);
-        let named = self.own_word(own.kind, own.number, NAMED)?;
-        self.push(WStmt::If(named, Vec::new(self.alloc), absent))?;
         let slot = self.take()?;
-        let word = self.own_word(own.kind, own.number, 0)?;
+        self.push(WStmt::Set(slot, WExpr::Hole(own.kind, own.number)))?;
+        let named = self.word_behind(slot, NAMED)?;
+        self.push(WStmt::Need(named))?;
+        let word = self.word_behind(slot, 0)?;
         self.push(WStmt::Set(slot, word))?;
         Ok(WExpr::Slot(slot))
     }
 
+    /// The word so many bytes behind the address in a slot.
+    fn word_behind(&self, slot: u32, distance: u32) -> Result<WExpr, LowerError> {
+        Ok(WExpr::Load(Box::new(self.alloc, WExpr::Slot(slot))?, distance))
+    }
+
     /// Lets an own variable name the object of a word.
     pub fn assign_own(&mut self, own: OwnVariable, value: WExpr) -> Result<(), LowerError> {
-        let address = WExpr::Hole(own.kind, own.number);
-        self.push(WStmt::Put(address, 0, value))?;
-        let address = WExpr::Hole(own.kind, own.number);
-        self.push(WStmt::Put(address, NAMED, WExpr::Word(1)))
+        let taken = self.taken();
+        let slot = self.take()?;
+        self.push(WStmt::Set(slot, WExpr::Hole(own.kind, own.number)))?;
+        self.push(WStmt::Put(WExpr::Slot(slot), 0, value))?;
+        self.push(WStmt::Put(WExpr::Slot(slot), NAMED, WExpr::Word(1)))?;
+        self.release(taken);
+        Ok(())
     }
 }
 

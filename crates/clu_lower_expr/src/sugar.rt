@@ -3,7 +3,7 @@
 use crate::binding::{bind, is_any, type_of};
 use crate::calls::call_for_one;
 use crate::errors::LowerError;
-use crate::invoking::{bind_operands, push_sugar, sugar_result};
+use crate::invoking::bind_operands;
 use crate::lowering::Lowering;
 use crate::seen::{Seen, seen_at, seen_of};
 use crate::uses::{node_operation, type_operation};
@@ -78,7 +78,7 @@ fn invoked(
 ) -> Result<WExpr, LowerError> {
     let operation = node_operation(out, c, n)?;
     let operands = bind_operands(out, c, n, node, seen, operands, taken)?;
-    sugar_result(out, seen, operation, operands, taken)
+    call_for_one(out, operation, operands, taken)
 }
 
 /// Whether an operator negates the result of a comparison.
@@ -129,7 +129,7 @@ fn negation(
     let operand = bind(out, types, given, compared, takes_any(seen), taken)?;
     let operands = vec![in out.alloc; operand]?;
     let operation = type_operation(out, types, compared, NOT)?;
-    sugar_result(out, seen, operation, operands, taken)
+    call_for_one(out, operation, operands, taken)
 }
 
 /// The operation that negates.
@@ -180,5 +180,5 @@ pub fn sugar_statement(out: &mut Lowering, c: &Checked, n: u32) -> Result<(), Lo
     }
     let operands = bind_operands(out, c, n, node, seen.as_ref(), operands, free)?;
     let call = WStmt::Call(operation, operands, Vec::new(out.alloc));
-    push_sugar(out, seen.as_ref(), call)
+    out.push(call)
 }

@@ -57,11 +57,7 @@ impl Lowering {
     pub fn object_of(&mut self, name: &Bytes) -> Result<WExpr, LowerError> {
         let variable = self.variable(name)?;
         if let Some(named) = variable.named {
-            let outer = self.open();
-            self.raise_failure(b"uninitialized variable")?;
-            let absent = self.close(outer);
-            let present = Vec::new(self.alloc);
-            self.push(WStmt::If(WExpr::Slot(named), present, absent))?;
+            self.push(WStmt::Need(WExpr::Slot(named)))?;
         }
         Ok(WExpr::Slot(variable.slot))
     }

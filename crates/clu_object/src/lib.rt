@@ -5,8 +5,6 @@
 mod copy;
 mod holes;
 mod object;
-#[cfg(test)]
-mod tests;
 
 pub use clu_base::{Const, ObjConst};
 pub use clu_wir::{Arm, HoleKind};

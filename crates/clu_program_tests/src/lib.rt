@@ -13,6 +13,8 @@ mod derived_texts;
 #[cfg(test)]
 mod example_rows;
 #[cfg(test)]
+mod go_arm_rows;
+#[cfg(test)]
 mod go_bound_rows;
 #[cfg(test)]
 mod go_data_rows;

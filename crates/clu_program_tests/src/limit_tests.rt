@@ -174,8 +174,103 @@ fn the_outermost_of_many_arms(rt: HostRuntime) -> Result<(), Fail> {
     Ok(())
 }
 
+/// A procedure whose exceptions bring objects of ten types.
+const TEN_TYPES: &str =
+    "p = proc () signals (e0(int), e1(bool), e2(char), e3(string), e4(null), e5(array[int]), \
+    e6(array[bool]), e7(array[char]), e8(sequence[int]), e9(sequence[bool])) signal e9(sequence[bool]$[true]) end p ";
+
+/// So many invocations of it under one arm with a variable of type any.
+fn under_one_arm(alloc: Global, invocations: u32) -> Result<String, Fail> {
+    let mut source = String::new(alloc);
+    source.push_str(TEN_TYPES)?;
+    source.push_str("start_up = proc () begin ")?;
+    for _ in 0..invocations {
+        source.push_str("p() ")?;
+    }
+    source.push_str(
+        "end except when e0, e1, e2, e3, e4, e5, e6, e7, e8, e9 (x: any): \
+        if force[sequence[bool]](x)[1] then @\"bound\") end end end start_up",
+    )?;
+    Ok(source)
+}
+
+#[test]
+fn many_types_come_to_one_arm(rt: HostRuntime) -> Result<(), Fail> {
+    let alloc = rt.alloc();
+    let source = spelled(alloc, under_one_arm(alloc, 100)?.as_str())?;
+    assert_eq!(rt;
+        written(&rt, alloc, "go a b", &source)?.as_slice(),
+        b"bound\n".as_slice()
+    );
+    Ok(())
+}
+
+/// An exception of so many objects, which is signalled on as often with objects of type any.
+fn signalled_on(alloc: Global, count: u32) -> Result<String, Fail> {
+    let mut source = String::new(alloc);
+    source.push_str("q = proc () signals (e(int")?;
+    for _ in 1..count {
+        source.push_str(", int")?;
+    }
+    source.push_str(")) signal e(0")?;
+    for n in 1..count {
+        source.push_str(format!(in alloc; ", {n}")?.as_str())?;
+    }
+    source.push_str(") end q r = proc () signals (e(any")?;
+    for _ in 1..count {
+        source.push_str(", any")?;
+    }
+    source.push_str(")) ")?;
+    for _ in 0..count {
+        source.push_str("q() resignal e ")?;
+    }
+    source.push_str("end r start_up = proc () r() except when e (x0")?;
+    for n in 1..count {
+        source.push_str(format!(in alloc; ", x{n}")?.as_str())?;
+    }
+    source.push_str(": any): @#force[int](x1))) end end start_up")?;
+    Ok(source)
+}
+
+#[test]
+fn many_objects_are_signalled_on(rt: HostRuntime) -> Result<(), Fail> {
+    let alloc = rt.alloc();
+    let source = spelled(alloc, signalled_on(alloc, 60)?.as_str())?;
+    assert_eq!(rt;
+        written(&rt, alloc, "go a b", &source)?.as_slice(),
+        b"1\n".as_slice()
+    );
+    Ok(())
+}
+
+/// An array of type any of so many elements, each a use of one variable that is declared so.
+fn uses_of_one(alloc: Global, declared: &str, count: u32) -> Result<String, Fail> {
+    let mut source = String::new(alloc);
+    source.push_str("start_up = proc () ")?;
+    source.push_str(declared)?;
+    source.push_str(" a: array[any] := array[any]$[x")?;
+    for _ in 1..count {
+        source.push_str(", x")?;
+    }
+    source.push_str("] @#force[int](a[2]))) end start_up")?;
+    Ok(source)
+}
+
+#[test]
+fn many_uses_of_own_and_of_bare_variables(rt: HostRuntime) -> Result<(), Fail> {
+    let alloc = rt.alloc();
+    for declared in ["own x: int := 7", "own x: any := 7", "x: int x := 7"] {
+        let source = spelled(alloc, uses_of_one(alloc, declared, 1000)?.as_str())?;
+        assert_eq!(rt;
+            written(&rt, alloc, "go a b", &source)?.as_slice(),
+            b"7\n".as_slice()
+        );
+    }
+    Ok(())
+}
+
 /// A loop whose body ends an inner loop at each turn, in a stack that has no room for what some of them would leave.
-const MANY_TURNS: &str = "start_up = proc () n: int := 0 for i: int in int$from_to(1, 1000) do \
+const MANY_TURNS: &str = "start_up = proc () n: int := 0 for i: int in int$from_to(1, 100000) do \
     for j: int in int$from_to(1, 3) do n := n + j if j = 2 then break end end end @#n)) end start_up";
 
 #[test]
@@ -184,7 +279,7 @@ fn many_turns(rt: HostRuntime) -> Result<(), Fail> {
     let source = spelled(alloc, MANY_TURNS)?;
     assert_eq!(rt;
         written(&rt, alloc, "go --stack 4096 a b", &source)?.as_slice(),
-        b"3000\n".as_slice()
+        b"300000\n".as_slice()
     );
     Ok(())
 }

@@ -1,6 +1,7 @@
 //! Tests of whole files, and of what their programs do.
 
 use crate::example_rows::EXAMPLES;
+use crate::go_arm_rows::ARM_FILES;
 use crate::go_bound_rows::BOUNDED;
 use crate::go_data_rows::DATA_FILES;
 use crate::go_iter_rows::ITERATOR_FILES;
@@ -40,6 +41,21 @@ fn files_with_data_second(rt: HostRuntime) -> Result<(), Fail> {
 #[test]
 fn files_with_data_third(rt: HostRuntime) -> Result<(), Fail> {
     keep(&rt, rt.alloc(), DATA_FILES, 2)
+}
+
+#[test]
+fn files_with_arms_first(rt: HostRuntime) -> Result<(), Fail> {
+    keep(&rt, rt.alloc(), ARM_FILES, 0)
+}
+
+#[test]
+fn files_with_arms_second(rt: HostRuntime) -> Result<(), Fail> {
+    keep(&rt, rt.alloc(), ARM_FILES, 1)
+}
+
+#[test]
+fn files_with_arms_third(rt: HostRuntime) -> Result<(), Fail> {
+    keep(&rt, rt.alloc(), ARM_FILES, 2)
 }
 
 #[test]

@@ -1,5 +1,5 @@
-//! What the operations of arrays and sequences do, as word code, one operation in one place; docs/operations.md says
-//! what they mean.
+//! What the operations of arrays, sequences, records, structs, oneofs, variants, routines and any do, as word code, one
+//! operation in one place; docs/operations.md says what they mean.
 #![tactic(auto)]
 
 mod array_texts;
@@ -20,6 +20,3 @@ pub use crate::operations::word_code;
 pub use crate::schemes::scheme;
 pub use crate::selected::{Selected, select_operation};
 pub use crate::texts::derived;
-
-#[cfg(test)]
-mod tests;

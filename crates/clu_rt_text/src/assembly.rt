@@ -1,7 +1,7 @@
 //! Routines from their constant data.
 
 ghost use Rattle.std.specs.Prelude.{◌≡◌, IfOk};
-ghost use Rattle.clu_rt_text.specs.Operations.{IsCode};
+ghost use Rattle.clu_rt_text.specs.Operations.{IsCode, NamesStringAtMost};
 
 use crate::code::{Expr, Operation, Step};
 use clu_base::{Bytes, Const, Memory, ObjConst};
@@ -18,6 +18,7 @@ pub fn routine(alloc: Global, operation: &Operation) -> Result<WRoutine, Memory>
     let mut assembly = Assembly {
         alloc,
         constants: Vec::new(alloc),
+        signals_text: false,
     };
     let body = assembly.steps(operation.steps)?;
     Ok(WRoutine {
@@ -28,15 +29,28 @@ pub fn routine(alloc: Global, operation: &Operation) -> Result<WRoutine, Memory>
         nodes: 0,
         uses: Vec::new(alloc),
         constants: assembly.constants,
-        types: Vec::new(alloc),
+        types: object_types(alloc, assembly.signals_text)?,
     })
 }
 
-/// A routine in the making: its constants so far, each once.
+/// The types that a routine names: that of a string, if it signals one.
+fn object_types(alloc: Global, signals_text: bool) -> Result<Vec<Bytes>, Memory>
+    ensures { IfOk result (λ types. NamesStringAtMost types.items) }
+{
+    let mut types = Vec::new(alloc);
+    if signals_text {
+        types.push(Bytes::from_slice(alloc, b"string")?)?;
+    }
+    Ok(types)
+}
+
+/// A routine in the making: its constants so far, each once, and whether it signals an exception with an object, which
+/// is a string.
 #[derive(Drop)]
 struct Assembly {
     alloc: Global,
     constants: Vec<ObjConst>,
+    signals_text: bool,
 }
 
 impl Assembly {
@@ -115,9 +129,14 @@ impl Assembly {
         Ok(WStmt::Prim(primitive.number(), values, results))
     }
 
-    /// The name of an exception is one of the routine's constants.
+    /// The name of an exception is one of the routine's constants. Behind its object comes the address of the number of
+    /// that one's type; a failure, which may come from anywhere, has its string alone.
     fn signal(&mut self, name: &[u8], objects: &[Expr]) -> Result<WStmt, Memory> {
-        let objects = self.expressions(objects)?;
+        let mut objects = self.expressions(objects)?;
+        if !objects.is_empty() && name != b"failure".as_slice() {
+            self.signals_text = true;
+            objects.push(WExpr::Hole(HoleKind::TypeCell, 0))?;
+        }
         let _place = self.text(name)?;
         Ok(WStmt::Signal(Bytes::from_slice(self.alloc, name)?, objects))
     }

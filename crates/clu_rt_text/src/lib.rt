@@ -19,6 +19,3 @@ pub use crate::code::{COPY, Derived, EQUAL, Expr, Operation, Step, X, Y, Z};
 pub use crate::derived::{derived_named, derived_of_int, derived_of_string};
 pub use crate::finding::named;
 pub use crate::operations::{operation_of, word_code};
-
-#[cfg(test)]
-mod tests;

@@ -26,8 +26,3 @@ pub use whole_types::read_type;
 pub use write_specs::spec_text;
 pub use write_types::type_text;
 pub use write_uses::use_text;
-
-#[cfg(test)]
-mod tests;
-#[cfg(test)]
-mod texts;

@@ -16,6 +16,3 @@ pub use clu_base::{Const, ObjConst};
 pub use spec::{Demand, Form, OpSpec, ParamKind, Spec};
 pub use specs::Specs;
 pub use term::{Actual, Exception, Field, Heading, Term, TypeId};
-
-#[cfg(test)]
-mod tests;

@@ -16,6 +16,7 @@ kind_number kind.TypeWord = 5
 kind_number kind.Regions = 6
 kind_number kind.Runtime = 7
 kind_number kind.Code = 8
+kind_number kind.TypeCell = 5
 
 -- the number by which word code calls a primitive
 abbrev pub primitive_number : Primitive → ℕ
@@ -25,9 +26,8 @@ primitive_number primitive.TakeByte = 2
 primitive_number primitive.PeekByte = 3
 primitive_number primitive.LoadByte = 4
 primitive_number primitive.SaveByte = 5
-primitive_number primitive.Bind = 6
 
 -- the primitives, each at its number
 abbrev pub primitives : List Primitive
 primitives =
-    primitive.Allocate ∷ primitive.Write ∷ primitive.TakeByte ∷ primitive.PeekByte ∷ primitive.LoadByte ∷ primitive.SaveByte ∷ primitive.Bind ∷ []
+    primitive.Allocate ∷ primitive.Write ∷ primitive.TakeByte ∷ primitive.PeekByte ∷ primitive.LoadByte ∷ primitive.SaveByte ∷ []

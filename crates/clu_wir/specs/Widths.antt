@@ -58,6 +58,8 @@ width_step (WStmt-F.Set slot value) = scratch_of value
 width_step (WStmt-F.Put address bytes value) = pair (operand_of address) (operand_of value)
 width_step (WStmt-F.Call routine values results) = call_of routine values.items
 width_step (WStmt-F.Prim number values results) = max (row_of values.items) (min (length results.items) (2 ^ 32 - 1))
+width_step (WStmt-F.Bind number value slot) = pair (operand_of number) (operand_of value)
+width_step (WStmt-F.Need value) = operand_of value
 width_step (WStmt-F.If condition then other) = max (max (operand_of condition) (greatest then.items)) (greatest other.items)
 width_step (WStmt-F.Loop body) = greatest body.items
 width_step WStmt-F.Break = 0
@@ -68,6 +70,7 @@ width_step (WStmt-F.Raise name objects) = plus (row_of objects.items) 1
 width_step (WStmt-F.Signal name objects) = plus (row_of objects.items) 1
 width_step (WStmt-F.Exit inside arm words) = row_of words.items
 width_step (WStmt-F.Guard body arms) = max (max (greatest body.items) (greatest arms.items)) 2
+width_step (WStmt-F.Resignal body names) = greatest body.items
 width_step (WStmt-F.Return results) = row_of results.items
 
 abbrev pub arm_width_step : WArm-F ℕ ℕ → ℕ

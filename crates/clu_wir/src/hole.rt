@@ -4,7 +4,7 @@ ghost use Rattle.std.specs.Prelude.{◌≡◌};
 ghost use Rattle.clu_wir.specs.Numbers.{kind_number};
 
 /// What the word at a hole is. The first six kinds are read from the cells of the running instance's link
-/// table; the other three stand in the code itself.
+/// table; the others stand in the code itself.
 #[derive(Clone, Copy, Debug, PartialEq, Eq)]
 pub enum HoleKind {
     /// The entry address of a use.
@@ -25,13 +25,18 @@ pub enum HoleKind {
     Runtime,
     /// The address of a word of the routine's code.
     Code,
+    /// The address of the cell that holds the number of a type. The cells of the types behind it lie behind it.
+    TypeCell,
 }
 
 impl HoleKind {
-    /// The number of the kind in an object file.
+    /// The number of the kind in an object file. A hole gives the same number whether its cell is read or not.
     pub fn number(self) -> u8
         ensures { result ≡ kind_number self }
     {
-        self as u8
+        match self {
+            HoleKind::TypeCell => HoleKind::TypeWord as u8,
+            other => other as u8,
+        }
     }
 }

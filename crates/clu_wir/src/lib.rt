@@ -18,6 +18,3 @@ pub use crate::region::{Arm, RegionBuilder, RegionError};
 pub use crate::room::Room;
 pub use crate::routine::WRoutine;
 pub use crate::statement::{WArm, WStmt};
-
-#[cfg(test)]
-mod tests;

@@ -19,20 +19,16 @@ pub enum Primitive {
     LoadByte,
     /// An address and a byte, which is put there. No result.
     SaveByte,
-    /// The number of a type in the program and the word of an object of that type, to the word of that object as one
-    /// of type any: the address of its own type's number and its word. Of type any itself it is the word that was given.
-    Bind,
 }
 
 /// All primitives, each at its number.
-const PRIMITIVES: [Primitive; 7] = [
+const PRIMITIVES: [Primitive; 6] = [
     Primitive::Allocate,
     Primitive::Write,
     Primitive::TakeByte,
     Primitive::PeekByte,
     Primitive::LoadByte,
     Primitive::SaveByte,
-    Primitive::Bind,
 ];
 
 impl Primitive {

@@ -2,7 +2,7 @@
 //! size, and what the tables take that go with them.
 
 ghost use Rattle.std.specs.Prelude.{◌≡◌, length, map};
-ghost use Rattle.clu_wir.specs.Rooms.{all_of, arm_room, arm_room_of, both, call_room, code_room, constant_bytes, data_room, plus, room_of, routine_room, row_room, table_bytes, times as times_of, words_of};
+ghost use Rattle.clu_wir.specs.Rooms.{all_of, arm_room, arm_room_of, both, call_room, code_room, constant_bytes, data_room, operand_with, operand_words, operands_room, plus, room_of, routine_room, row_room, table_bytes, times as times_of, words_of};
 
 use crate::expression::WExpr;
 use crate::routine::WRoutine;
@@ -24,16 +24,24 @@ const MOVE: u64 = 6;
 /// The words that a value takes on its way from an address to a slot.
 const LOAD: u64 = 9;
 
-/// The words of a call behind its arguments, and of the step that takes what comes back.
+/// The words of a call behind its arguments, and of the step that takes the two words that come.
 const CALL: u64 = 10;
 
 const TAKE: u64 = 6;
+
+/// The words of a test that a variable names an object, and of a binding to type any.
+const NEED: u64 = 7;
+
+const BIND: u64 = 12;
 
 /// The bytes of an arm: a row.
 const ARM: u64 = 24;
 
 /// The jump over the arms of a guard, and its region: two cuts and a row.
 const GUARD: Room = Room { code: 1, data: 56 };
+
+/// The jump over the step that signals on, that step, and its region: two cuts and a row.
+const RESIGNAL: Room = Room { code: 7, data: 56 };
 
 /// The bytes of a use: two cells and a descriptor.
 const USE: u64 = 40;
@@ -72,13 +80,28 @@ impl WExpr {
             WExpr::Slot(_) => MOVE,
             WExpr::Word(_) => 9,
             WExpr::Hole(_, _) => 7,
-            WExpr::Load(address, _) => address.words().saturating_add(LOAD),
-            WExpr::Binary(_, left, right) => {
-                left.words()
-                    .saturating_add(right.words())
-                    .saturating_add(11)
-            }
+            WExpr::Load(address, _) => operand(address, address.words()).saturating_add(LOAD),
+            WExpr::Binary(_, left, right) => operand(left, left.words())
+                .saturating_add(operand(right, right.words()))
+                .saturating_add(11),
         }
+    }
+
+    /// The words that it takes at most as an operand. A slot takes none: it is used where it stands.
+    fn operand_words(&self) -> u64
+        ensures { result ≡ operand_words self.now }
+    {
+        operand(self, self.words())
+    }
+}
+
+/// The words of an operand whose evaluation takes so many.
+fn operand(expression: &WExpr, words: u64) -> u64
+    ensures { result ≡ operand_with expression.now words }
+{
+    match expression {
+        WExpr::Slot(_) => 0,
+        _ => words,
     }
 }
 
@@ -162,8 +185,18 @@ fn before_arm(slots: usize, names: usize) -> Room
     ensures { result ≡ arm_room slots names }
 {
     Room {
-        code: times(LOAD, slots).saturating_add(TAKE + 1),
+        code: times(MOVE, slots).saturating_add(TAKE + 1),
         data: times(ARM, names).saturating_add(ARM),
+    }
+}
+
+/// The rows of so many names.
+fn rows(names: usize) -> Room
+    ensures { result ≡ data_room (times_of 24 names) }
+{
+    Room {
+        code: 0,
+        data: times(ARM, names),
     }
 }
 
@@ -173,25 +206,25 @@ fn statement(statement: &WStmt) -> Room
 {
     match statement {
         WStmt::Set(_, value) => Room::words(value.words()),
-        WStmt::Put(address, _, value) => put(address, value),
+        WStmt::Put(address, _, value) => operands(address, value, 9),
         WStmt::Call(routine, values, results) => {
-            call(routine, values.as_slice(), results.as_slice())
+            call(routine, values.as_slice()).and(Room::words(times(MOVE, results.len())))
         }
         WStmt::Prim(_, values, results) => {
             values_and(values.as_slice(), moves_and(results.len(), 13))
         }
-        WStmt::If(condition, then, other) => Room::words(condition.words())
+        WStmt::Bind(number, value, _) => operands(number, value, BIND),
+        WStmt::Need(value) => Room::words(value.operand_words()).and(Room::words(NEED)),
+        WStmt::If(condition, then, other) => Room::words(condition.operand_words())
             .and(Room::words(6))
             .and(list(then.as_slice()))
             .and(list(other.as_slice())),
         WStmt::Loop(body) => Room::words(1).and(list(body.as_slice())),
         WStmt::Break => Room::words(4),
         WStmt::Continue => Room::words(1),
-        WStmt::Iterate(routine, values, items, body) => {
-            call(routine, values.as_slice(), items.as_slice())
-                .and(Room::words(9))
-                .and(list(body.as_slice()))
-        }
+        WStmt::Iterate(routine, values, items, body) => call(routine, values.as_slice())
+            .and(Room::words(times(MOVE, items.len()).saturating_add(TAKE + 9)))
+            .and(list(body.as_slice())),
         WStmt::Yield(words) => values_and(words.as_slice(), 18),
         WStmt::Raise(_, objects) => values_and(objects.as_slice(), 16),
         WStmt::Signal(_, objects) => values_and(objects.as_slice(), 19),
@@ -199,16 +232,18 @@ fn statement(statement: &WStmt) -> Room
         WStmt::Guard(body, handlers) => GUARD
             .and(list(body.as_slice()))
             .and(arms(handlers.as_slice())),
+        WStmt::Resignal(body, names) => RESIGNAL.and(list(body.as_slice())).and(rows(names.len())),
         WStmt::Return(results) => values_and(results.as_slice(), 8),
     }
 }
 
-fn put(address: &WExpr, value: &WExpr) -> Room
-    ensures { result ≡ both (both (code_room (words_of address.now)) (code_room (words_of value.now))) (code_room 9) }
+/// Two operands, and so many words behind them.
+fn operands(first: &WExpr, second: &WExpr, code: u64) -> Room
+    ensures { result ≡ operands_room first.now second.now code }
 {
-    Room::words(address.words())
-        .and(Room::words(value.words()))
-        .and(Room::words(9))
+    Room::words(first.operand_words())
+        .and(Room::words(second.operand_words()))
+        .and(Room::words(code))
 }
 
 /// Values side by side, and so many words behind them.
@@ -225,11 +260,10 @@ fn moves_and(moves: usize, others: u64) -> u64
     times(MOVE, moves).saturating_add(others)
 }
 
-fn call(routine: &WExpr, values: &[WExpr], results: &[u32]) -> Room
-    ensures { result ≡ call_room routine.now values.now results.now }
+fn call(routine: &WExpr, values: &[WExpr]) -> Room
+    ensures { result ≡ call_room routine.now values.now }
 {
-    Room::words(routine.words()).and(row(values)).and(Room::words(times(
-        LOAD,
-        results.len(),
-    ).saturating_add(CALL + TAKE)))
+    Room::words(routine.words())
+        .and(row(values))
+        .and(Room::words(CALL))
 }

@@ -15,6 +15,11 @@ pub enum WStmt {
     Call(WExpr, Vec<WExpr>, Vec<u32>),
     /// Calls the primitive of this number, with arguments; its results go into the slots.
     Prim(u32, Vec<WExpr>, Vec<u32>),
+    /// Puts into a slot an object as one of type any: of the number of its type in the program and its word the address
+    /// of its own type's number and its word. Of type any itself it is the word that was given.
+    Bind(WExpr, WExpr, u32),
+    /// Raises here the failure of a variable that names no object, where the word is 0.
+    Need(WExpr),
     /// The first list where the word isn't 0, else the second.
     If(WExpr, Vec<WStmt>, Vec<WStmt>),
     /// The list again and again, until a Break.
@@ -37,6 +42,9 @@ pub enum WStmt {
     Exit(u32, u32, Vec<WExpr>),
     /// The list; the arms handle what is raised in it.
     Guard(Vec<WStmt>, Vec<WArm>),
+    /// The list; an exception of one of these names that is raised in it ends the routine, and is raised with its
+    /// objects where that was called.
+    Resignal(Vec<WStmt>, Vec<Bytes>),
     /// Ends the routine with results.
     Return(Vec<WExpr>),
 }

@@ -108,11 +108,13 @@ fn width(statement: &WStmt) -> u32
         WStmt::Put(address, _, value) => pair(address.operand(), value.operand()),
         WStmt::Call(routine, values, _) => call(routine, values.as_slice()),
         WStmt::Prim(_, values, results) => row(values.as_slice()).max(count(results.len())),
+        WStmt::Bind(number, value, _) => pair(number.operand(), value.operand()),
+        WStmt::Need(value) => value.operand(),
         WStmt::If(condition, then, other) => condition
             .operand()
             .max(list(then.as_slice()))
             .max(list(other.as_slice())),
-        WStmt::Loop(body) => list(body.as_slice()),
+        WStmt::Loop(body) | WStmt::Resignal(body, _) => list(body.as_slice()),
         WStmt::Break | WStmt::Continue => 0,
         // The first word holds the top of the stack round the body.
         WStmt::Iterate(routine, values, _, body) => call(routine, values.as_slice())

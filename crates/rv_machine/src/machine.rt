@@ -12,10 +12,6 @@ use crate::hart::Hart;
 use crate::intake::Intake;
 use crate::limits::Limits;
 use crate::trap::Trap;
-
-#[cfg(test)]
-mod tests;
-
 use clu_base::{Memory, Sink, Source, write_all};
 use rv_isa::{Image, Reg};
 use std::alloc::Global;

@@ -32,14 +32,14 @@ const GOALS: usize = 2;
 /// The bytes of an object of type any.
 const PAIR: i32 = 16;
 
-/// Gives the part the number of the static type and the word, which are in slots side by side, and puts the word that
-/// it answers into the first.
-pub(crate) fn bind(words: &mut Words, slot: u32) -> Result<(), SelectError> {
-    load_slot(words, Value, slot)?;
-    load_slot(words, Travelling, slot.saturating_add(1))?;
+/// Gives the part the number of the static type and the word, which are in slots, and puts the word that it answers into
+/// a third.
+pub(crate) fn bind(words: &mut Words, number: u32, value: u32, to: u32) -> Result<(), SelectError> {
+    load_slot(words, Value, number)?;
+    load_slot(words, Travelling, value)?;
     words.hole(First, HoleKind::Runtime, Part::Bind.number())?;
     words.jalr(Second, First, 0)?;
-    save_slot(words, Value, slot)
+    save_slot(words, Value, to)
 }
 
 /// The part that makes an object of type any. It is called with the link in the second scratch register, takes the

@@ -8,6 +8,7 @@ use crate::register::Register::{Back, First, Frame, Top, Value, Words as Travell
 use crate::slots::{load_at, load_slot, save_slot, slot_address, word_distance};
 use crate::words::Words;
 use clu_wir::HoleKind;
+use rv_isa::Op;
 
 /// The name is in the slot, the objects behind it.
 fn exception(words: &mut Words, slot: u32) -> Result<(), SelectError> {
@@ -22,9 +23,22 @@ pub(crate) fn raise(words: &mut Words, slot: u32) -> Result<(), SelectError> {
     words.jalr(Back, First, 0)
 }
 
+/// Raises here the failure of a variable that names no object, where the word of the slot is 0. The jump is the last word.
+pub(crate) fn need(words: &mut Words, slot: u32) -> Result<(), SelectError> {
+    load_slot(words, First, slot)?;
+    words.skip(Op::Bne, First, Zero, 3)?;
+    words.hole(First, HoleKind::Runtime, Part::Unnamed.number())?;
+    words.jalr(Back, First, 0)
+}
+
 /// Ends the routine and raises where it was called.
 pub(crate) fn signal(words: &mut Words, slot: u32) -> Result<(), SelectError> {
     exception(words, slot)?;
+    pass(words)
+}
+
+/// Ends the routine and raises the exception that travels where it was called.
+pub(crate) fn pass(words: &mut Words) -> Result<(), SelectError> {
     words.hole(First, HoleKind::Runtime, Part::Search.number())?;
     words.ld(Back, Frame, 0)?;
     caller_frame(words)?;

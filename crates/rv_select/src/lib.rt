@@ -19,13 +19,11 @@ mod selecting;
 mod slots;
 mod step;
 mod tables;
-#[cfg(test)]
-mod tests;
 mod words;
 
 pub use crate::binding::bind_part;
 pub use crate::error::SelectError;
-pub use crate::parts::{Part, start_part};
+pub use crate::parts::{Part, start_part, unnamed_part};
 pub use crate::searching::search_part;
 pub use crate::selecting::select;
 pub use crate::tables::regions_table;

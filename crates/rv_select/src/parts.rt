@@ -1,15 +1,17 @@
 //! The parts of the runtime that no flat code can say, and how a program starts.
 //!
-//! The hole of a part's regions table is the address of the runtime's own table, of three words: the addresses of the
-//! strings `failure` and `unhandled exception: `, and the address of the descriptor of the procedure at which the program
-//! starts.
+//! The hole of a part's regions table is the address of the runtime's own table, of four words: the addresses of the
+//! strings `failure` and `unhandled exception: `, the address of the descriptor of the procedure at which the program
+//! starts, and the address of the string `uninitialized variable`.
 
 ghost use Rattle.std.specs.Prelude.{◌≡◌, IfOk, codes};
 ghost use Rattle.rv_select.specs.Parts.{part_number};
 ghost use Rattle.rv_select.specs.Selected.{IsPart};
 
 use crate::error::SelectError;
-use crate::register::Register::{Back, Caller, First, Frame, Table, Top, Value, Zero};
+use crate::register::Register::{
+    Back, Caller, First, Frame, Table, Top, Value, Words as Objects, Zero,
+};
 use crate::words::{Finished, Words};
 use clu_base::{Bytes, Sequence};
 use clu_object::ObjRoutine;
@@ -25,6 +27,8 @@ pub enum Part {
     Search,
     /// Where an object becomes one of type any.
     Bind,
+    /// Where the failure of a variable that names no object is raised.
+    Unnamed,
 }
 
 impl Part {
@@ -42,6 +46,8 @@ pub(crate) const FAILURE: i32 = 0;
 pub(crate) const UNHANDLED: i32 = 8;
 
 const START: i32 = 16;
+
+const UNINITIALIZED: i32 = 24;
 
 /// The environment's call that ends a run as it should.
 const RETURNED: i32 = 0;
@@ -65,6 +71,24 @@ fn start(words: &mut Words) -> Result<(), SelectError> {
     words.ld(First, First, 0)?;
     words.jalr(Back, First, 0)?;
     words.service(RETURNED)
+}
+
+/// The part that raises the failure of a variable that names no object, with the return address behind the place of the
+/// variable. The word of the runtime's table is the failure's object.
+pub fn unnamed_part(alloc: Global) -> Result<ObjRoutine, SelectError>
+    ensures { IfOk result (IsPart (codes "unnamed")) }
+{
+    let mut words = Words::new(alloc, 0)?;
+    unnamed(&mut words)?;
+    make_part(alloc, b"unnamed", words)
+}
+
+fn unnamed(words: &mut Words) -> Result<(), SelectError> {
+    words.hole(First, HoleKind::Regions, 0)?;
+    words.ld(Value, First, FAILURE)?;
+    words.addi(Objects, First, UNINITIALIZED)?;
+    words.hole(First, HoleKind::Runtime, Part::Search.number())?;
+    words.jalr(Zero, First, 0)
 }
 
 /// The routine of a part's words. It has no nodes, and names nothing.

@@ -1,6 +1,5 @@
 //! What no other step can say: taking store, input and output, and single bytes.
 
-use crate::binding::bind;
 use crate::calls::STORE_FULL;
 use crate::error::SelectError;
 use crate::register::Register::{First, Second, Store, StoreEnd, Value, Words as Travelling};
@@ -25,7 +24,6 @@ pub(crate) fn primitive(words: &mut Words, number: u32, slot: u32) -> Result<(),
         Some(Primitive::PeekByte) => read(words, PEEK, slot),
         Some(Primitive::LoadByte) => load_byte(words, slot),
         Some(Primitive::SaveByte) => save_byte(words, slot),
-        Some(Primitive::Bind) => bind(words, slot),
         None => Err(SelectError::NotYet),
     }
 }

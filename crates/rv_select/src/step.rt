@@ -1,8 +1,9 @@
 //! The words of each step of flat code.
 
-use crate::calls::{enter, invoke, leave};
+use crate::binding::bind;
+use crate::calls::{enter, invoke, leave, result};
 use crate::error::SelectError;
-use crate::exceptions::{cut, raise, signal, take};
+use crate::exceptions::{cut, need, pass, raise, signal, take};
 use crate::iterators::{resume, yield_words};
 use crate::number::known;
 use crate::operation::instruction;
@@ -27,14 +28,18 @@ pub(crate) fn select_step(words: &mut Words, step: &Flat, frame: u32) -> Result<
         Flat::Jump(label) => words.go(*label),
         Flat::Branch(slot, label) => branch(words, *slot, *label),
         Flat::Enter(arguments) => enter(words, *arguments, frame),
+        Flat::Bind(number, value, to) => bind(words, *number, *value, *to),
+        Flat::Need(slot) => need(words, *slot),
         Flat::Invoke(slot) => invoke(words, *slot),
         Flat::Yield(slot) => yield_words(words, *slot),
         Flat::Resume(slot) => resume(words, *slot),
         Flat::Take(value, address) => take(words, *value, *address),
+        Flat::Result(to, distance) => result(words, *to, *distance),
         Flat::Cut(mark) => cut(words, *mark),
         Flat::Leave(slot) => leave(words, *slot),
         Flat::Raise(slot) => raise(words, *slot),
         Flat::Signal(slot) => signal(words, *slot),
+        Flat::Pass => pass(words),
         Flat::Prim(number, slot) => primitive(words, *number, *slot),
     }
 }
@@ -49,11 +54,12 @@ fn set_word(words: &mut Words, to: u32, word: u64) -> Result<(), SelectError> {
     save_slot(words, First, to)
 }
 
-/// What the linker knows is in a cell of the link table, or is the number of the hole itself.
+/// What the linker knows is in a cell of the link table, is the address of one, or is the number of the hole itself.
 fn set_hole(words: &mut Words, to: u32, kind: HoleKind, number: u32) -> Result<(), SelectError> {
     words.hole(First, kind, number)?;
     match kind {
         HoleKind::Regions | HoleKind::Runtime | HoleKind::Code => {}
+        HoleKind::TypeCell => words.three(Op::Add, First, First, Table)?,
         _ => {
             words.three(Op::Add, First, First, Table)?;
             words.ld(First, First, 0)?;

@@ -296,7 +296,7 @@ fn replace(code: &mut [u32], at: usize, word: u32) -> Result<(), SelectError>
 }
 
 /// The jump from one word to another.
-pub(crate) fn jump_word(link: Register, from: u32, to: u32) -> Result<u32, SelectError>
+fn jump_word(link: Register, from: u32, to: u32) -> Result<u32, SelectError>
     ensures { IfOk result IsInstruction }
 {
     match i32::try_from((i64::from(to) - i64::from(from)) * 4) {

@@ -1,0 +1,163 @@
+//! Small routines and their flat code, reckoned by hand. Each has one argument and three slots, so its work begins
+//! at slot 3, and its constants are a number, `e` and `f`.
+
+use crate::frames_rows::ROWS;
+use crate::regions::put_region;
+use crate::word_code::Made;
+use clu_base::{Bytes, Const, ObjConst};
+use clu_frames::{FlatRoutine, FrameError, flatten};
+use clu_wir::{Arm, RegionBuilder, RegionError, WRoutine, WStmt};
+use std::alloc::Global;
+use std::fmt::Write;
+use std::test::Fail;
+
+/// Regions as text.
+#[derive(Drop)]
+struct Listed {
+    text: String,
+    count: u32,
+}
+
+impl RegionBuilder for Listed {
+    fn add(
+        &mut self,
+        _alloc: Global,
+        first: u32,
+        last: u32,
+        parent: Option<u32>,
+        arms: Vec<Arm>,
+    ) -> Result<u32, RegionError> {
+        let number = self.count;
+        put_region(&mut self.text, first, last, parent, arms.as_slice())?;
+        self.count = number.saturating_add(1);
+        Ok(number)
+    }
+
+    fn clear(&mut self) {
+        self.text.clear();
+        self.count = 0;
+    }
+}
+
+/// A routine with this body, without names and constants.
+fn empty(alloc: Global, body: Vec<WStmt>) -> WRoutine {
+    WRoutine {
+        name: Bytes::from_vec(Vec::new(alloc)),
+        args: 1,
+        slots: 3,
+        body,
+        nodes: 10,
+        uses: Vec::new(alloc),
+        constants: Vec::new(alloc),
+        types: Vec::new(alloc),
+    }
+}
+
+fn constant(alloc: Global, text: &str) -> Result<ObjConst, Fail> {
+    let bytes = Bytes::from_slice(alloc, text.as_bytes())?;
+    Ok(ObjConst::Value(Const::Str(bytes)))
+}
+
+/// Gives a routine its name and constants.
+fn name(alloc: Global, routine: &mut WRoutine) -> Result<(), Fail> {
+    routine.name = Bytes::from_slice(alloc, b"p")?;
+    routine.constants.push(ObjConst::Value(Const::Int(7)))?;
+    routine.constants.push(constant(alloc, "e")?)?;
+    routine.constants.push(constant(alloc, "f")?)?;
+    Ok(())
+}
+
+fn put_steps(text: &mut String, routine: &FlatRoutine) -> Result<(), Fail> {
+    for step in &routine.code {
+        write!(text, " {step:?}")?;
+    }
+    Ok(())
+}
+
+/// Writes the steps of a routine. They have room, and are no more than four for each of its parts, and two.
+fn put_flat(
+    text: &mut String,
+    routine: &WRoutine,
+    flat: &FlatRoutine,
+    parts: usize,
+) -> Result<(), Fail> {
+    if flat.words() > routine.room().code {
+        return Err("the steps have no room")?;
+    }
+    if flat.code.len() > parts.saturating_mul(4).saturating_add(2) {
+        return Err("too many steps")?;
+    }
+    put_steps(text, flat)
+}
+
+/// Writes the steps of a routine and behind them its regions, or that it is refused without a region.
+fn put_flattened(
+    alloc: Global,
+    text: &mut String,
+    routine: &WRoutine,
+    parts: usize,
+) -> Result<(), Fail> {
+    let mut regions = Listed {
+        text: String::new(alloc),
+        count: 0,
+    };
+    match flatten(alloc, routine, &mut regions) {
+        Ok(flat) => put_flat(text, routine, &flat, parts)?,
+        Err(FrameError::NotYet) => text.push_str(" refused")?,
+        Err(FrameError::Memory) => return Err("out of memory")?,
+    }
+    text.push_str(regions.text.as_str())?;
+    Ok(())
+}
+
+/// Writes what comes of the routine with the body of a text.
+fn put_row(alloc: Global, text: &mut String, body: &str) -> Result<(), Fail> {
+    let mut made = Made::new(alloc);
+    made.read(body)?;
+    let parts = made.parts;
+    let mut routine = empty(alloc, made.statements);
+    name(alloc, &mut routine)?;
+    put_flattened(alloc, text, &routine, parts)
+}
+
+#[test]
+fn rows(rt: HostRuntime) -> Result<(), Fail> {
+    let alloc = rt.alloc();
+    let mut rows = 0u32;
+    for row in ROWS.split('=').skip(1) {
+        let (due, body) = row.split_once('\n').unwrap_or((row, ""));
+        let mut text = String::new(alloc);
+        put_row(alloc, &mut text, body.trim())?;
+        assert_eq!(rt; text.as_str(), due, "{body}");
+        rows = rows.saturating_add(1);
+    }
+    assert_eq!(rt; rows, 28);
+    Ok(())
+}
+
+/// Gives a routine a use and a type.
+fn name_others(alloc: Global, routine: &mut WRoutine) -> Result<(), Fail> {
+    routine.uses.push(Bytes::from_slice(alloc, b"f")?)?;
+    routine.types.push(Bytes::from_slice(alloc, b"null")?)?;
+    Ok(())
+}
+
+#[test]
+fn what_a_routine_keeps(rt: HostRuntime) -> Result<(), Fail> {
+    let alloc = rt.alloc();
+    let mut word = empty(alloc, Vec::new(alloc));
+    name(alloc, &mut word)?;
+    name_others(alloc, &mut word)?;
+    let mut regions = Listed {
+        text: String::new(alloc),
+        count: 0,
+    };
+    let made = flatten(alloc, &word, &mut regions)?;
+    assert_eq!(rt; made.name, word.name);
+    assert_eq!(rt; made.frame, 3);
+    assert_eq!(rt; made.nodes, 10);
+    assert_eq!(rt; made.uses, word.uses);
+    assert_eq!(rt; made.constants, word.constants);
+    assert_eq!(rt; made.types, word.types);
+    Ok(())
+}

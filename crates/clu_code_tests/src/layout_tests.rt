@@ -1,0 +1,269 @@
+//! What `select` and `regions_table` give besides words, and what they refuse.
+
+use crate::program::Program;
+use crate::regions::{arm, put_region};
+use clu_base::Sequence;
+use clu_frames::OUTER_MARK;
+use clu_object::{ObjRoutine, Region};
+use clu_wir::{Arm, HoleKind};
+use rv_select::{
+    Part, SelectError, bind_part, regions_table, search_part, start_part, unnamed_part,
+};
+use std::alloc::Global;
+use std::fmt::Write;
+use std::test::Fail;
+
+/// Enter has 13 words, labels have none, Word and Move two each, and Leave has six. The second region has labels alone.
+const REGIONS: &str = "is p 1
+does enter 0; label 0; label 1; word 0 1; move 0 0; leave 0
+region 0 5 - e/5/4
+region 1 2 0
+region 3 3 0";
+
+/// Its words, its regions, and its hole for the regions table.
+const IN_WORDS: &str =
+    " 23 words [0 to 22 in None, 'e' at 17 mark 4] [13 to 14 in Some(0)] hole 7 of 6 0";
+
+fn put_layout(text: &mut String, routine: &ObjRoutine) -> Result<(), Fail> {
+    let count = routine.code.as_slice().len();
+    write!(text, " {count} words")?;
+    for region in routine.regions.as_slice() {
+        let arms = region.arms.as_slice();
+        put_region(text, region.first, region.last, region.parent, arms)?;
+    }
+    for hole in routine.holes.as_slice() {
+        let at = hole.at;
+        let kind = hole.kind;
+        let number = hole.number;
+        write!(text, " hole {at} of {kind} {number}")?;
+    }
+    Ok(())
+}
+
+fn layouts(alloc: Global, lines: &str) -> Result<String, Fail> {
+    let mut text = String::new(alloc);
+    let mut program = Program::new(alloc);
+    program.lines(lines)?;
+    for routine in program.objects.as_slice() {
+        put_layout(&mut text, routine)?;
+    }
+    Ok(text)
+}
+
+#[test]
+fn regions_of_words(rt: HostRuntime) -> Result<(), Fail> {
+    assert_eq!(rt; layouts(rt.alloc(), REGIONS)?.as_str(), IN_WORDS);
+    Ok(())
+}
+
+/// Adds a region with these arms.
+fn add(
+    regions: &mut Vec<Region>,
+    first: u32,
+    last: u32,
+    parent: Option<u32>,
+    arms: Vec<Arm>,
+) -> Result<(), Fail> {
+    regions.push(Region {
+        first,
+        last,
+        parent,
+        arms: Sequence::from_vec(arms),
+    })?;
+    Ok(())
+}
+
+/// Two regions, the second inside the first, and arms of which the one for all names is to be put last.
+fn add_two(alloc: Global, regions: &mut Vec<Region>) -> Result<(), Fail> {
+    let arms = vec![in alloc; arm(alloc, "/20/4")?, arm(alloc, "e/10/5")?]?;
+    add(regions, 2, 9, None, arms)?;
+    add(regions, 4, 5, Some(0), Vec::new(alloc))
+}
+
+const TABLE: [u64; 23] = [
+    5, 0x10000, 0, 0x10008, 0x20058, 0x10010, 0x20070, 0x10018, 0x20058, 0x10028, 0, // the cuts
+    0, 0x20088, 0x200b8, 0x20058, 0x200b8, 0x200b8, // the regions
+    0x30000, 0x10028, 40, 0, 0x10050, 32, // the arms
+];
+
+/// Whether the table of regions with arms of these names is this one.
+fn has_table(alloc: Global, regions: &[Region], names: &[u64], due: &[u64]) -> bool {
+    match regions_table(alloc, regions, 0x10000, 0x20000, names) {
+        Ok(table) => table.as_slice() == due,
+        Err(_) => false,
+    }
+}
+
+#[test]
+fn a_table(rt: HostRuntime) -> Result<(), Fail> {
+    let alloc = rt.alloc();
+    let mut regions = Vec::new(alloc);
+    add_two(alloc, &mut regions)?;
+    assert_eq!(rt; OUTER_MARK, 4);
+    assert!(rt; has_table(alloc, regions.as_slice(), &[0, 0x30000], &TABLE));
+    assert!(rt; has_table(alloc, &[], &[], &[1, 0x10000, 0]));
+    let table = regions_table(alloc, regions.as_slice(), 0x10000, 0x20000, &[0]);
+    assert!(rt; matches!(table, Err(SelectError::NotYet)));
+    Ok(())
+}
+
+/// Begins a routine of these steps, whose frame is large, and which uses itself and a type.
+fn begin(program: &mut Program, steps: &str) -> Result<(), Fail> {
+    program.line("is", "p 1000")?;
+    program.line("uses", "p")?;
+    program.line("types", "int")?;
+    program.line("does", steps)
+}
+
+/// Each step where its words are the most: all slots are far.
+const STEPS: &str = "move 900 901\0\
+word 900 0x123456789abcdef0\0\
+descriptor 900 0\0\
+type_cell 900 0\0\
+load 900 901 4096\0\
+save 900 4096 901\0\
+equal 900 901 902\0\
+label 0\0\
+jump 1\0\
+branch 900 1\0\
+enter 0\0\
+invoke 900\0\
+yield 900\0\
+resume 900\0\
+take 900 901\0\
+result 900 4096\0\
+cut 900\0\
+leave 900\0\
+raise 900\0\
+signal 900\0\
+pass\0\
+need 900\0\
+allocate 900\0\
+write 900\0\
+save_byte 900\0\
+bind 900 901 902";
+
+/// Whether a step has no more words than are counted of it; behind it stands a label.
+fn is_counted(alloc: Global, step: &str) -> Result<bool, Fail> {
+    let mut program = Program::new(alloc);
+    begin(&mut program, step)?;
+    let most = match program.flat.code.first() {
+        Some(step) => step.words(),
+        None => 0,
+    };
+    program.line("does", "label 1")?;
+    program.select()?;
+    match program.objects.first() {
+        Some(routine) => Ok(routine.code.as_slice().len() as u64 <= most),
+        None => Ok(false),
+    }
+}
+
+#[test]
+fn no_step_takes_more_words_than_are_counted(rt: HostRuntime) -> Result<(), Fail> {
+    for step in STEPS.split('\0') {
+        assert!(rt; is_counted(rt.alloc(), step)?, "{step}");
+    }
+    Ok(())
+}
+
+/// Steps that no source gives.
+const REFUSED: &str = "jump 0\0\
+branch 0 1\0\
+label 1\0\
+prim 6 0\0\
+prim 7 0\0\
+word 268435456 0\0\
+load 0 0 2147483647\0\
+constant 0 0\0\
+entry 0 1";
+
+fn is_refused(alloc: Global, steps: &str) -> Result<bool, Fail> {
+    let mut program = Program::new(alloc);
+    begin(&mut program, steps)?;
+    program.select()?;
+    Ok(program.is_refused)
+}
+
+#[test]
+fn what_no_source_gives(rt: HostRuntime) -> Result<(), Fail> {
+    for steps in REFUSED.split('\0') {
+        assert!(rt; is_refused(rt.alloc(), steps)?, "{steps}");
+    }
+    Ok(())
+}
+
+/// Writes the first and the last word of a routine of these steps, or that it is refused.
+fn put_ends(alloc: Global, text: &mut String, steps: &str) -> Result<(), Fail> {
+    let mut program = Program::new(alloc);
+    program.line("is", "p 250")?;
+    program.line("does", steps)?;
+    program.select()?;
+    match program.objects.first() {
+        Some(routine) => put_ends_of(text, routine.code.as_slice()),
+        None => Ok(text.push_str(" refused")?),
+    }
+}
+
+fn put_ends_of(text: &mut String, code: &[u32]) -> Result<(), Fail> {
+    let first = code.first().copied().unwrap_or(0);
+    let last = code.last().copied().unwrap_or(0);
+    write!(text, " {first:x} {last:x}")?;
+    Ok(())
+}
+
+/// Jumps reach 2^18 - 1 words on and 2^18 words back. A move has two words, and to enter with 200 arguments takes 13
+/// words and two for each: behind the first jump stand 634 * 413 + 150 * 2 = 2^18 - 2 words, and the last one is at
+/// word 2^18. Then another word stands before label 0, and another jump back behind that one.
+const FAR: &str = "\
+label 1; jump 0; 634*enter 200; 150*move 0 0; label 0; jump 1; jump 1 gives 7fdff06f 8000006f\0\
+label 1; jump 0; 634*enter 200; 150*move 0 0; jump 1; label 0 gives refused\0\
+label 1; jump 0; 634*enter 200; 150*move 0 0; label 0; jump 1; jump 1; jump 1 gives refused";
+
+#[test]
+fn jumps_that_are_far(rt: HostRuntime) -> Result<(), Fail> {
+    for row in FAR.split('\0') {
+        let (steps, due) = row.split_once(" gives").unwrap_or((row, ""));
+        let mut text = String::new(rt.alloc());
+        put_ends(rt.alloc(), &mut text, steps)?;
+        assert_eq!(rt; text.as_str(), due, "{steps}");
+    }
+    Ok(())
+}
+
+/// How many holes of this kind a part has, and how many others.
+fn holes(part: Result<ObjRoutine, SelectError>, kind: HoleKind) -> (u32, u32) {
+    match part {
+        Ok(part) => holes_of(&part, kind.number()),
+        Err(_) => (0, 0),
+    }
+}
+
+fn holes_of(part: &ObjRoutine, kind: u8) -> (u32, u32) {
+    let mut of_kind = 0u32;
+    let mut others = 0u32;
+    for hole in part.holes.as_slice() {
+        if hole.kind == kind {
+            of_kind = of_kind.saturating_add(1);
+        } else {
+            others = others.saturating_add(1);
+        }
+    }
+    (of_kind, others)
+}
+
+/// The holes of the parts are for the runtime's table, and one is for the search.
+#[test]
+fn parts_have_their_numbers(rt: HostRuntime) -> Result<(), Fail> {
+    let alloc = rt.alloc();
+    assert_eq!(rt; Part::Start.number(), 0);
+    assert_eq!(rt; Part::Search.number(), 1);
+    assert_eq!(rt; Part::Bind.number(), 2);
+    assert_eq!(rt; Part::Unnamed.number(), 3);
+    assert_eq!(rt; holes(start_part(alloc), HoleKind::Regions), (1, 0));
+    assert_eq!(rt; holes(search_part(alloc), HoleKind::Regions).1, 0);
+    assert_eq!(rt; holes(bind_part(alloc), HoleKind::Regions).1, 0);
+    assert_eq!(rt; holes(unnamed_part(alloc), HoleKind::Regions), (1, 1));
+    assert_eq!(rt; holes(unnamed_part(alloc), HoleKind::Runtime), (1, 1));
+    Ok(())
+}

@@ -1,0 +1,187 @@
+//! Programs of flat code as text. A line begins with its name:
+//!
+//! - `is NAME SLOTS` begins a routine; the program starts at the first one.
+//! - `uses NAME ..` are the routines that it names, `names TEXT,..` its constants, and `types NAME ..` its types.
+//! - `does STEP; ..` are its next steps. `3*STEP` stands for three, and `show SLOT WORK` for those that write the
+//!   word of a slot, which work in another one and in the next.
+//! - `region ..` is a region of its steps, and `each FIRST END` a region without arms for each step before `END`.
+//! - `input TEXT` is the input of the run, and `steps COUNT` how many steps it has.
+
+use crate::regions::add_region;
+use crate::steps::step;
+use crate::text::{first_word, number, small_at};
+use clu_base::{Bytes, Const, ObjConst};
+use clu_frames::{Flat, FlatRoutine};
+use clu_handlers::Regions;
+use clu_object::ObjRoutine;
+use clu_wir::{Primitive, RegionBuilder};
+use rv_select::{SelectError, search_part, select, start_part, unnamed_part};
+use std::alloc::Global;
+use std::test::Fail;
+
+/// A program so far.
+#[derive(Drop)]
+pub struct Program {
+    pub alloc: Global,
+    /// The routine that was begun last.
+    pub flat: FlatRoutine,
+    regions: Regions,
+    /// The parts of the runtime, and the routines before that one.
+    pub objects: Vec<ObjRoutine>,
+    /// Whether the selection refused a routine.
+    pub is_refused: bool,
+    pub input: Bytes,
+    pub steps: u64,
+}
+
+impl Program {
+    /// No routine.
+    pub fn new(alloc: Global) -> Program {
+        let flat = FlatRoutine {
+            name: Bytes::from_vec(Vec::new(alloc)),
+            frame: 0,
+            code: Vec::new(alloc),
+            nodes: 1,
+            uses: Vec::new(alloc),
+            constants: Vec::new(alloc),
+            types: Vec::new(alloc),
+        };
+        Program {
+            alloc,
+            flat,
+            regions: Regions::new(alloc),
+            objects: Vec::new(alloc),
+            is_refused: false,
+            input: Bytes::from_vec(Vec::new(alloc)),
+            steps: 10_000,
+        }
+    }
+
+    /// The program of a text, with the parts of the runtime before its routines.
+    pub fn read(&mut self, text: &str) -> Result<(), Fail> {
+        self.objects.push(start_part(self.alloc)?)?;
+        self.objects.push(search_part(self.alloc)?)?;
+        self.objects.push(unnamed_part(self.alloc)?)?;
+        self.lines(text)
+    }
+
+    /// The routines of a text.
+    pub fn lines(&mut self, text: &str) -> Result<(), Fail> {
+        for line in text.lines() {
+            let name = first_word(line);
+            let rest = line.split_once(' ').unwrap_or(("", "")).1;
+            self.line(name, rest)?;
+        }
+        self.select()
+    }
+
+    pub fn line(&mut self, name: &str, rest: &str) -> Result<(), Fail> {
+        match name {
+            "is" => self.begin(rest),
+            "uses" => put_names(self.alloc, &mut self.flat.uses, rest),
+            "types" => put_names(self.alloc, &mut self.flat.types, rest),
+            "names" => self.names(rest),
+            "does" => self.does(rest),
+            "region" => add_region(self.alloc, &mut self.regions, rest),
+            "each" => self.each(small_at(rest, 0), small_at(rest, 1)),
+            "input" => self.input(rest),
+            "steps" => {
+                self.steps = number(rest);
+                Ok(())
+            }
+            "" => Ok(()),
+            _ => Err("no such line")?,
+        }
+    }
+
+    fn begin(&mut self, rest: &str) -> Result<(), Fail> {
+        self.select()?;
+        self.regions.clear();
+        self.flat.code.clear();
+        self.flat.uses.clear();
+        self.flat.types.clear();
+        self.flat.constants.clear();
+        self.flat.frame = small_at(rest, 1);
+        self.flat.name = Bytes::from_slice(self.alloc, first_word(rest).as_bytes())?;
+        Ok(())
+    }
+
+    fn names(&mut self, texts: &str) -> Result<(), Fail> {
+        for text in texts.split(',') {
+            let text = Bytes::from_slice(self.alloc, text.as_bytes())?;
+            let constant = ObjConst::Value(Const::Str(text));
+            self.flat.constants.push(constant)?;
+        }
+        Ok(())
+    }
+
+    fn input(&mut self, text: &str) -> Result<(), Fail> {
+        self.input = Bytes::from_slice(self.alloc, text.as_bytes())?;
+        Ok(())
+    }
+
+    fn each(&mut self, first: u32, last: u32) -> Result<(), Fail> {
+        for step in first..last {
+            let arms = Vec::new(self.alloc);
+            self.regions.add(self.alloc, step, step, None, arms)?;
+        }
+        Ok(())
+    }
+
+    fn does(&mut self, steps: &str) -> Result<(), Fail> {
+        for text in steps.split("; ") {
+            match text.split_once('*') {
+                Some((count, text)) => self.repeat(number(count), text)?,
+                None => self.step(text)?,
+            }
+        }
+        Ok(())
+    }
+
+    fn repeat(&mut self, count: u64, text: &str) -> Result<(), Fail> {
+        for _ in 0..count {
+            self.step(text)?;
+        }
+        Ok(())
+    }
+
+    fn step(&mut self, text: &str) -> Result<(), Fail> {
+        if first_word(text) == "show" {
+            return self.show(small_at(text, 1), small_at(text, 2));
+        }
+        let step = step(text).ok_or("no step")?;
+        self.flat.code.push(step)?;
+        Ok(())
+    }
+
+    fn show(&mut self, slot: u32, work: u32) -> Result<(), Fail> {
+        let code = &mut self.flat.code;
+        code.push(Flat::Word(work, 1))?;
+        code.push(Flat::Prim(Primitive::Allocate.number(), work))?;
+        code.push(Flat::Save(work, 0, slot))?;
+        code.push(Flat::Word(work.saturating_add(1), 8))?;
+        code.push(Flat::Prim(Primitive::Write.number(), work))?;
+        Ok(())
+    }
+
+    /// Selects the routine that was begun last, if there is one.
+    pub fn select(&mut self) -> Result<(), Fail> {
+        if self.flat.code.is_empty() {
+            return Ok(());
+        }
+        match select(self.alloc, &self.flat, &self.regions) {
+            Ok(object) => self.objects.push(object)?,
+            Err(SelectError::NotYet) => self.is_refused = true,
+            Err(SelectError::Memory) => return Err("out of memory")?,
+        }
+        Ok(())
+    }
+}
+
+/// Appends the names of a text.
+fn put_names(alloc: Global, names: &mut Vec<Bytes>, text: &str) -> Result<(), Fail> {
+    for name in text.split(' ') {
+        names.push(Bytes::from_slice(alloc, name.as_bytes())?)?;
+    }
+    Ok(())
+}

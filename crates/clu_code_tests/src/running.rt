@@ -1,0 +1,86 @@
+//! Runs of programs of flat code, with the smallest store and stack.
+
+use crate::ending::put_ending;
+use crate::linker::linked;
+use crate::program::Program;
+use clu_base::{MemSink, MemSource};
+use rv_isa::Image;
+use rv_machine::{Ending, Limits, Machine};
+use std::alloc::Global;
+use std::fmt::Write;
+use std::test::Fail;
+
+/// How the program of a text ends and the words that it wrote, or ` not yet` where the selection refuses a routine.
+pub fn outcome(alloc: Global, text: &str) -> Result<String, Fail> {
+    let mut found = String::new(alloc);
+    let mut program = Program::new(alloc);
+    program.read(text)?;
+    put_outcome(&mut found, &program)?;
+    Ok(found)
+}
+
+fn put_outcome(found: &mut String, program: &Program) -> Result<(), Fail> {
+    if program.is_refused {
+        found.push_str(" not yet")?;
+        return Ok(());
+    }
+    let image = linked(program.alloc, program.objects.as_slice())?;
+    put_run(found, program, &image)
+}
+
+fn put_run(found: &mut String, program: &Program, image: &Image) -> Result<(), Fail> {
+    let alloc = program.alloc;
+    let mut sink = MemSink::new(alloc, 4096, 64, Vec::new(alloc))?;
+    let input = program.input.copy(alloc)?;
+    let mut source = MemSource::new(input, 1, Vec::new(alloc));
+    put_end(alloc, found, image, program.steps, &mut source, &mut sink)?;
+    put_words(found, sink.bytes())
+}
+
+/// Writes how a run of an image ends within so many steps, with the text of its failure.
+pub fn put_end(
+    alloc: Global,
+    found: &mut String,
+    image: &Image,
+    steps: u64,
+    source: &mut MemSource,
+    sink: &mut MemSink,
+) -> Result<(), Fail> {
+    let limits = Limits::new(4096, 4096).ok_or("no limits")?;
+    let mut machine = Machine::new(alloc, image, limits)?;
+    match machine.run(steps, source, sink) {
+        Ending::Failure { at, count } => put_failure(found, machine.text(at, count)),
+        ending => Ok(put_ending(found, ending)?),
+    }
+}
+
+fn put_failure(found: &mut String, text: &[u8]) -> Result<(), Fail> {
+    found.push_str(" failure ")?;
+    found.push_str(str::from_utf8(text)?)?;
+    Ok(())
+}
+
+/// Writes the words that lie in bytes, small ones in decimal digits.
+fn put_words(found: &mut String, bytes: &[u8]) -> Result<(), Fail> {
+    let mut word = 0u64;
+    let mut shift = 0u32;
+    for byte in bytes {
+        word |= u64::from(*byte).wrapping_shl(shift);
+        shift = shift.wrapping_add(8);
+        if shift == 64 {
+            put_word(found, word)?;
+            word = 0;
+            shift = 0;
+        }
+    }
+    Ok(())
+}
+
+fn put_word(found: &mut String, word: u64) -> Result<(), Fail> {
+    if word < 65_536 {
+        write!(found, " {word}")?;
+    } else {
+        write!(found, " 0x{word:x}")?;
+    }
+    Ok(())
+}

@@ -1,0 +1,269 @@
+//! Word code from text. Behind what a statement or an expression is made of stands what is made of it: `slot 1; word 5;
+//! add; set 0` is one statement. A list of statements begins at `begin` and ends where a statement takes it.
+
+use crate::text::{first_word, kind, number, number_at, operation, small, small_at};
+use clu_base::Bytes;
+use clu_wir::{WArm, WExpr, WOp, WStmt};
+use std::alloc::Global;
+use std::test::Fail;
+
+/// What was made so far and is part of nothing yet.
+#[derive(Drop)]
+pub struct Made {
+    alloc: Global,
+    pub values: Vec<WExpr>,
+    pub statements: Vec<WStmt>,
+    arms: Vec<WArm>,
+    /// At which statement each list begins that nothing has taken.
+    begun: Vec<usize>,
+    /// How many statements, expressions, arms and slots were made.
+    pub parts: usize,
+}
+
+impl Made {
+    pub fn new(alloc: Global) -> Made {
+        Made {
+            alloc,
+            values: Vec::new(alloc),
+            statements: Vec::new(alloc),
+            arms: Vec::new(alloc),
+            begun: Vec::new(alloc),
+            parts: 0,
+        }
+    }
+
+    /// Makes what a text says.
+    pub fn read(&mut self, text: &str) -> Result<(), Fail> {
+        for item in text.split("; ") {
+            self.item(item)?;
+        }
+        Ok(())
+    }
+
+    fn item(&mut self, item: &str) -> Result<(), Fail> {
+        let name = first_word(item);
+        if let Some(op) = operation(name) {
+            return self.binary(op);
+        }
+        match name {
+            "begin" => self.begin(),
+            "load" => self.load(small_at(item, 1)),
+            "arm" => self.arm(item),
+            "set" | "put" | "break" | "continue" => self.simple(name, item),
+            "bind" | "need" => self.test(name, small_at(item, 1)),
+            "call" | "prim" => self.call(name, item),
+            "if" | "loop" | "iterate" | "guard" | "resignal" => self.nest(name, item),
+            "yield" | "exit" | "return" => self.leave(name, item),
+            "raise" | "signal" => self.signal(name, item),
+            _ => self.value(name, number_at(item, 1)),
+        }
+    }
+
+    fn count(&mut self, parts: usize) {
+        self.parts = self.parts.saturating_add(parts);
+    }
+
+    fn begin(&mut self) -> Result<(), Fail> {
+        let begins = self.statements.len();
+        self.begun.push(begins)?;
+        Ok(())
+    }
+
+    fn value(&mut self, name: &str, number: u64) -> Result<(), Fail> {
+        let value = match name {
+            "slot" => WExpr::Slot(small(number)),
+            "word" => WExpr::Word(number),
+            _ => WExpr::Hole(kind(name).ok_or("no value")?, small(number)),
+        };
+        self.put_value(value)
+    }
+
+    fn put_value(&mut self, value: WExpr) -> Result<(), Fail> {
+        self.count(1);
+        self.values.push(value)?;
+        Ok(())
+    }
+
+    fn load(&mut self, distance: u32) -> Result<(), Fail> {
+        let address = Box::new(self.alloc, self.one()?)?;
+        self.put_value(WExpr::Load(address, distance))
+    }
+
+    fn binary(&mut self, op: WOp) -> Result<(), Fail> {
+        let right = Box::new(self.alloc, self.one()?)?;
+        let left = Box::new(self.alloc, self.one()?)?;
+        self.put_value(WExpr::Binary(op, left, right))
+    }
+
+    /// The last value.
+    fn one(&mut self) -> Result<WExpr, Fail> {
+        Ok(self.values.pop().ok_or("no value")?)
+    }
+
+    /// So many of the last values.
+    fn last(&mut self, count: u64) -> Result<Vec<WExpr>, Fail> {
+        let at = self.values.len().checked_sub(count as usize);
+        Ok(self.values.split_off(at.ok_or("too few values")?)?)
+    }
+
+    /// The last list of statements.
+    fn list(&mut self) -> Result<Vec<WStmt>, Fail> {
+        let at = self.begun.pop().ok_or("no list")?;
+        if self.statements.len() < at {
+            return Err("a list inside another")?;
+        }
+        Ok(self.statements.split_off(at)?)
+    }
+
+    /// The slots that a text has from a place on.
+    fn slots(&mut self, item: &str, place: usize) -> Result<Vec<u32>, Fail> {
+        let mut slots = Vec::new(self.alloc);
+        put_slots(&mut slots, item, place)?;
+        self.count(slots.len());
+        Ok(slots)
+    }
+
+    fn put(&mut self, statement: WStmt) -> Result<(), Fail> {
+        self.count(1);
+        self.statements.push(statement)?;
+        Ok(())
+    }
+
+    fn simple(&mut self, name: &str, item: &str) -> Result<(), Fail> {
+        let number = small_at(item, 1);
+        let statement = match name {
+            "set" => WStmt::Set(number, self.one()?),
+            "put" => self.store(number)?,
+            "break" => WStmt::Break,
+            _ => WStmt::Continue,
+        };
+        self.put(statement)
+    }
+
+    fn store(&mut self, distance: u32) -> Result<WStmt, Fail> {
+        let value = self.one()?;
+        Ok(WStmt::Put(self.one()?, distance, value))
+    }
+
+    fn test(&mut self, name: &str, slot: u32) -> Result<(), Fail> {
+        let value = self.one()?;
+        if name == "need" {
+            return self.put(WStmt::Need(value));
+        }
+        let number = self.one()?;
+        self.put(WStmt::Bind(number, value, slot))
+    }
+
+    /// `call ARGUMENTS SLOT ..` or `prim NUMBER ARGUMENTS SLOT ..`
+    fn call(&mut self, name: &str, item: &str) -> Result<(), Fail> {
+        let statement = if name == "call" {
+            let results = self.slots(item, 2)?;
+            let arguments = self.last(number_at(item, 1))?;
+            WStmt::Call(self.one()?, arguments, results)
+        } else {
+            let results = self.slots(item, 3)?;
+            let arguments = self.last(number_at(item, 2))?;
+            WStmt::Prim(small_at(item, 1), arguments, results)
+        };
+        self.put(statement)
+    }
+
+    fn nest(&mut self, name: &str, item: &str) -> Result<(), Fail> {
+        let statement = match name {
+            "if" => self.choice()?,
+            "loop" => WStmt::Loop(self.list()?),
+            "iterate" => self.iterate(item)?,
+            "resignal" => self.resignal(item)?,
+            _ => self.guard(number_at(item, 1))?,
+        };
+        self.put(statement)
+    }
+
+    fn choice(&mut self) -> Result<WStmt, Fail> {
+        let other = self.list()?;
+        let then = self.list()?;
+        Ok(WStmt::If(self.one()?, then, other))
+    }
+
+    /// `iterate ARGUMENTS SLOT ..`
+    fn iterate(&mut self, item: &str) -> Result<WStmt, Fail> {
+        let slots = self.slots(item, 2)?;
+        let arguments = self.last(number_at(item, 1))?;
+        let body = self.list()?;
+        Ok(WStmt::Iterate(self.one()?, arguments, slots, body))
+    }
+
+    /// `resignal NAME ..`
+    fn resignal(&mut self, item: &str) -> Result<WStmt, Fail> {
+        let mut names = Vec::new(self.alloc);
+        put_names(self.alloc, &mut names, item)?;
+        Ok(WStmt::Resignal(self.list()?, names))
+    }
+
+    /// `guard ARMS`
+    fn guard(&mut self, count: u64) -> Result<WStmt, Fail> {
+        let at = self.arms.len().checked_sub(count as usize);
+        let arms = self.arms.split_off(at.ok_or("too few arms")?)?;
+        Ok(WStmt::Guard(self.list()?, arms))
+    }
+
+    /// `arm NAME SLOT ..`, where `*` is an arm for all names.
+    fn arm(&mut self, item: &str) -> Result<(), Fail> {
+        let name = item.split(' ').nth(1).ok_or("no name")?;
+        let mut names = Vec::new(self.alloc);
+        if name != "*" {
+            names.push(Bytes::from_slice(self.alloc, name.as_bytes())?)?;
+        }
+        let slots = self.slots(item, 2)?;
+        let arm = WArm {
+            names,
+            others: name == "*",
+            slots,
+            body: self.list()?,
+        };
+        self.count(1);
+        self.arms.push(arm)?;
+        Ok(())
+    }
+
+    /// `yield ARGUMENTS`, `return RESULTS` or `exit GUARDS ARM OBJECTS`
+    fn leave(&mut self, name: &str, item: &str) -> Result<(), Fail> {
+        let first = number_at(item, 1);
+        let statement = match name {
+            "yield" => WStmt::Yield(self.last(first)?),
+            "return" => WStmt::Return(self.last(first)?),
+            _ => {
+                let arm = small_at(item, 2);
+                WStmt::Exit(small(first), arm, self.last(number_at(item, 3))?)
+            }
+        };
+        self.put(statement)
+    }
+
+    /// `raise NAME OBJECTS` or `signal NAME OBJECTS`
+    fn signal(&mut self, name: &str, item: &str) -> Result<(), Fail> {
+        let exception = item.split(' ').nth(1).ok_or("no name")?;
+        let exception = Bytes::from_slice(self.alloc, exception.as_bytes())?;
+        let objects = self.last(number_at(item, 2))?;
+        if name == "raise" {
+            self.put(WStmt::Raise(exception, objects))
+        } else {
+            self.put(WStmt::Signal(exception, objects))
+        }
+    }
+}
+
+fn put_slots(slots: &mut Vec<u32>, item: &str, place: usize) -> Result<(), Fail> {
+    for word in item.split(' ').skip(place) {
+        slots.push(small(number(word)))?;
+    }
+    Ok(())
+}
+
+/// Appends the words of a text behind the first one.
+fn put_names(alloc: Global, names: &mut Vec<Bytes>, item: &str) -> Result<(), Fail> {
+    for name in item.split(' ').skip(1) {
+        names.push(Bytes::from_slice(alloc, name.as_bytes())?)?;
+    }
+    Ok(())
+}

@@ -1,0 +1,119 @@
+//! A file of which nothing is known yet, what is noted of its nodes, and copies of references to operations.
+
+use clu_base::{Bytes, Memory, ObjConst, Sequence};
+use clu_core::{Checked, Context, OpRef};
+use clu_tree::Tree;
+use clu_types::{Actual, Specs, TypeId};
+use std::alloc::Global;
+use std::test::Fail;
+
+fn knows_nothing(checked: &Checked) -> bool {
+    checked.tree.len() == 0
+        && checked.types.len() == 0
+        && checked.type_of.is_empty()
+        && checked.op_of.is_empty()
+        && checked.denoted.is_empty()
+        && checked.constant_of.is_empty()
+        && checked.specs.is_empty()
+}
+
+fn is_unknown_at_first(alloc: Global) -> bool {
+    match Checked::new(alloc, Tree::new(alloc)) {
+        Ok(checked) => knows_nothing(&checked),
+        Err(_) => false,
+    }
+}
+
+#[test]
+fn knows_nothing_at_first(rt: HostRuntime) {
+    assert!(rt; is_unknown_at_first(rt.alloc()));
+}
+
+/// Node 3 is none of the tree.
+fn note(c: &mut Context) {
+    c.note_type(2, TypeId(5));
+    c.note_type(3, TypeId(7));
+    c.note_denoted(1, TypeId(6));
+    c.note_op(0, OpRef::Stored);
+    c.note_constant(1, ObjConst::Param(3));
+}
+
+fn has_types(c: &Context) -> bool {
+    matches!(c.noted_type(2), Some(TypeId(5)))
+        && c.noted_type(1).is_none()
+        && c.noted_type(3).is_none()
+}
+
+fn has_denoted_types(c: &Context) -> bool {
+    matches!(c.denoted_type(1), Some(TypeId(6))) && c.denoted_type(2).is_none()
+}
+
+fn has_operation(c: &Context) -> bool {
+    matches!(c.op_of.as_slice().first(), Some(Some(OpRef::Stored)))
+}
+
+fn has_constant(c: &Context) -> bool {
+    matches!(
+        c.constant_of.as_slice().get(1),
+        Some(Some(ObjConst::Param(3)))
+    )
+}
+
+/// Whether the context of a module p has what is noted then, and had no type before.
+fn is_noted(c: &mut Context) -> bool {
+    let was_new = c.unit.name.as_slice() == b"p".as_slice() && c.noted_type(2).is_none();
+    note(c);
+    was_new && has_types(c) && has_denoted_types(c) && has_operation(c) && has_constant(c)
+}
+
+/// The same of a new context for three nodes.
+fn is_noted_in_new(alloc: Global, name: Bytes) -> bool {
+    match Context::new(alloc, 3, Specs::new(alloc), name) {
+        Ok(mut c) => is_noted(&mut c),
+        Err(_) => false,
+    }
+}
+
+#[test]
+fn notes_what_is_found_of_nodes(rt: HostRuntime) -> Result<(), Fail> {
+    let name = Bytes::from_slice(rt.alloc(), b"p")?;
+    assert!(rt; is_noted_in_new(rt.alloc(), name));
+    Ok(())
+}
+
+fn actuals(alloc: Global) -> Result<Sequence<Actual>, Memory> {
+    let mut actuals = Vec::new(alloc);
+    actuals.push(Actual::ConstParam(2))?;
+    Ok(Sequence::from_vec(actuals))
+}
+
+/// A reference of each kind, by its number.
+fn reference(alloc: Global, number: u32) -> Result<OpRef, Memory> {
+    match number {
+        0 => Ok(OpRef::Builtin(TypeId(1), Bytes::from_slice(alloc, b"add")?)),
+        1 => Ok(OpRef::Cluster(TypeId(2), Bytes::from_slice(alloc, b"get")?)),
+        2 => Ok(OpRef::Module(Bytes::from_slice(alloc, b"q")?, actuals(alloc)?)),
+        3 => Ok(OpRef::Param(1, Bytes::from_slice(alloc, b"equal")?)),
+        _ => Ok(OpRef::Stored),
+    }
+}
+
+fn is_copied(alloc: Global, op: &OpRef) -> Result<bool, Memory> {
+    let copied = op.copy(alloc)?;
+    Ok(copied == *op)
+}
+
+/// Whether the reference of this number is copied as an equal one.
+fn is_kept(alloc: Global, number: u32) -> Result<bool, Memory> {
+    let op = reference(alloc, number)?;
+    is_copied(alloc, &op)
+}
+
+#[test]
+fn copies_references(rt: HostRuntime) -> Result<(), Fail> {
+    for number in 0..5 {
+        let is_equal = is_kept(rt.alloc(), number)?;
+        assert!(rt; is_equal, "{number}");
+    }
+    Ok(())
+}

@@ -1,0 +1,22 @@
+//! Tests of types, built-in operations, texts of specifications and contexts of a check. Most are rows of texts: what a
+//! row says must come of its text. It has tests alone, so that no crate below is proved twice.
+#![tactic(auto)]
+
+#[cfg(test)]
+mod answers;
+#[cfg(test)]
+mod contexts;
+#[cfg(test)]
+mod kept_specs;
+#[cfg(test)]
+mod operations;
+#[cfg(test)]
+mod reading;
+#[cfg(test)]
+mod row_tests;
+#[cfg(test)]
+mod rows;
+#[cfg(test)]
+mod texts;
+#[cfg(test)]
+mod typing;

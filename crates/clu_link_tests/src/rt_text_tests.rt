@@ -1,0 +1,101 @@
+//! The operations of null, bool, int, char, string and stream in word code.
+
+use crate::word_rows::{put_code, words_of};
+use clu_base::{Bytes, Memory};
+use clu_rt_text::word_code;
+use clu_types::{Term, TypeArena, TypeId};
+use clu_wir::WRoutine;
+use std::alloc::Global;
+use std::fmt::Write;
+use std::test::Fail;
+
+/// Rows that each end with byte 0: an operation, by its type and name, and how many arguments it takes, or `-` where no
+/// code is kept here; and behind commas its constants.
+const ROWS: &str = "\
+null equal 2\0\
+null copy 1\0\
+null lt -\0\
+bool and 2\0\
+bool or 2\0\
+bool not 1\0\
+bool similar 2\0\
+bool add -\0\
+int add 2,overflow\0\
+int sub 2,overflow\0\
+int mul 2,overflow\0\
+int minus 1,overflow\0\
+int div 2,zero_divide,overflow\0\
+int mod 2,zero_divide\0\
+int power 2,negative_exponent,overflow\0\
+int lt 2\0\
+int le 2\0\
+int ge 2\0\
+int gt 2\0\
+int parse 1,bad_format,overflow\0\
+int unparse 1\0\
+int from_to -\0\
+int from_to_by -\0\
+int copy 1\0\
+char i2c 1,illegal_char\0\
+char c2i 1\0\
+char gt 2\0\
+string size 1\0\
+string lt 2\0\
+string concat 2\0\
+string fetch 2,bounds\0\
+string rest 2,bounds\0\
+string substr 3,negative_size,bounds\0\
+string indexs 2\0\
+string indexc 2\0\
+string chars -\0\
+string s2ac -\0\
+stream primary_input 0\0\
+stream primary_output 0\0\
+stream getc 1,cannot read,not_possible,end_of_file\0\
+stream getl 1,cannot read,not_possible,end_of_file\0\
+stream empty 1,cannot read,not_possible\0\
+stream puts 2,cannot write,not_possible\0\
+stream putl 2,cannot write,not_possible,\n\0\
+stream equal 2\0\
+stream copy -\0\
+any equal -";
+
+fn type_named(types: &mut TypeArena, word: &str) -> Result<TypeId, Memory> {
+    match word {
+        "null" => types.intern(Term::Null),
+        "bool" => types.intern(Term::Bool),
+        "int" => types.intern(Term::Int),
+        "char" => types.intern(Term::Char),
+        "string" => types.intern(Term::Str),
+        "stream" => types.intern(Term::Stream),
+        _ => types.intern(Term::Any),
+    }
+}
+
+/// The code of the operation that a row begins with.
+fn code(alloc: Global, of: &str, op: &str) -> Result<Option<WRoutine>, Memory> {
+    let mut types = TypeArena::new(alloc);
+    let of = type_named(&mut types, of)?;
+    word_code(alloc, &types, of, &Bytes::from_slice(alloc, op.as_bytes())?)
+}
+
+/// Writes the operation that a row begins with, the number of its arguments and its constants, as the row has them.
+fn put_row(alloc: Global, text: &mut String, row: &str) -> Result<(), Fail> {
+    let (of, op) = words_of(row);
+    write!(text, "{of} {op} ")?;
+    let code = code(alloc, of, op)?;
+    put_code(text, &code)
+}
+
+#[test]
+fn rows(rt: HostRuntime) -> Result<(), Fail> {
+    let mut rows = 0u32;
+    for row in ROWS.split('\0') {
+        let mut text = String::new(rt.alloc());
+        put_row(rt.alloc(), &mut text, row)?;
+        assert_eq!(rt; text.as_str(), row);
+        rows = rows.saturating_add(1);
+    }
+    assert_eq!(rt; rows, 47);
+    Ok(())
+}
