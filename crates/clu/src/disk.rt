@@ -9,8 +9,11 @@ use std::fs::File;
 use std::io::{self, ErrorKind, Read, Write};
 use std::rt::Files;
 
-/// The most bytes of a file that is read; a larger one is a fault.
-const FILE_LIMIT: u64 = 1 << 30;
+/// The most bytes of a file that is read whole; a larger one is a fault.
+const FILE_LIMIT: usize = 1 << 30;
+
+/// How often a call that a signal interrupted is made in all.
+const TRIES: u32 = 64;
 
 /// The files that the runtime reaches.
 #[derive(Drop)]
@@ -41,12 +44,14 @@ impl<R: Files> Store for Disk<'_, R> {
     ghost faults = { λ d. d.faults };
 
     fn get(&mut self, alloc: Global, name: &str) -> Result<Option<Vec<u8>>, StoreError> {
-        match content(self.rt, alloc, name) {
-            Ok(bytes) => Ok(Some(bytes)),
-            Err(error) if error.kind() == ErrorKind::NotFound => Ok(None),
-            Err(error) if error.kind() == ErrorKind::OutOfMemory => Err(StoreError::Memory),
-            Err(_) => Err(self.failed()),
+        match self.first(alloc, name, FILE_LIMIT + 1)? {
+            Some(bytes) if bytes.len() > FILE_LIMIT => Err(self.failed()),
+            found => Ok(found),
         }
+    }
+
+    fn get_first(&mut self, alloc: Global, name: &str, most: usize) -> Result<Option<Vec<u8>>, StoreError> {
+        self.first(alloc, name, most)
     }
 
     // A write that fails in the middle leaves the first bytes of the new content.

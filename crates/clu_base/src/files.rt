@@ -56,6 +56,19 @@ pub trait Store {
         ensures kept { files self.new ≡ files self.old }
         ensures found { IfOk result (λ got. IfSome (files self.old) (λ all. all name.now ≡ option_map (λ v. v.items) got)) };
 
+    /// The first bytes of the file of this name, `most` of them or all where there are fewer, or None where there is no
+    /// such file. No file changes. `Failed` comes only where the count of faults rose.
+    fn get_first(
+        &mut self,
+        alloc: Global,
+        name: &str,
+        most: usize,
+    ) -> Result<Option<Vec<u8>>, StoreError>
+        ensures counts { faults self.old ≤ faults self.new }
+        ensures failed { result ≡ Err StoreError.Failed → Rose (faults self.old) (faults self.new) }
+        ensures kept { files self.new ≡ files self.old }
+        ensures found { IfOk result (λ got. IfSome (files self.old) (λ all. option_map (take most) (all name.now) ≡ option_map (λ v. v.items) got)) };
+
     /// Gives the file of this name the bytes, and changes no other. After `Failed`, which comes
     /// only where the count of faults rose, the file is as before or holds some first bytes of
     /// the new content. After `Memory` nothing is changed.
@@ -65,6 +78,15 @@ pub trait Store {
         ensures done { OnOk result (files self.new ≡ option_map (λ all. with_file all name.now bytes.now) (files self.old)) }
         ensures torn { result ≡ Err StoreError.Failed → IsTorn (files self.old) (files self.new) name.now bytes.now }
         ensures kept { result ≡ Err StoreError.Memory → files self.new ≡ files self.old };
+}
+
+/// The first bytes, `most` of them or all where there are fewer.
+fn first_bytes(alloc: Global, bytes: &[u8], most: usize) -> Result<Vec<u8>, StoreError>
+    ensures taken { IfOk result (λ first. first.items ≡ take most bytes.now) }
+    ensures only_memory { IfErr result (λ e. e ≡ StoreError.Memory) }
+{
+    let (first, _) = bytes.split_at(most.min(bytes.len()));
+    Ok(first.to_vec(alloc)?)
 }
 
 /// A store in memory, which fails at chosen calls.
@@ -172,6 +194,32 @@ impl Store for MemStore {
         }
         match self.file(name) {
             Some(bytes) => Ok(Some(bytes.to_vec(alloc)?)),
+            None => Ok(None),
+        }
+    }
+
+    fn get_first(
+        &mut self,
+        alloc: Global,
+        name: &str,
+        most: usize,
+    ) -> Result<Option<Vec<u8>>, StoreError>
+        ensures counts { faults_of self.old ≤ faults_of self.new }
+        ensures failed { result ≡ Err StoreError.Failed → Rose (faults_of self.old) (faults_of self.new) }
+        ensures kept { Some (files_of self.new) ≡ Some (files_of self.old) }
+        ensures found { IfOk result (λ got. IfSome (Some (files_of self.old)) (λ all. option_map (take most) (all name.now) ≡ option_map (λ v. v.items) got)) }
+
+        // More than the trait says: which calls fail, and the counts.
+        ensures fails { (result ≡ Err StoreError.Failed) ↔ Contains (failing_of self.old) (calls_of self.old) }
+        ensures called { calls_of self.new ≡ next_count (calls_of self.old) }
+        ensures fault { result ≡ Err StoreError.Failed → faults_of self.new ≡ next_count (faults_of self.old) }
+        ensures no_fault { OnOk result (faults_of self.new ≡ faults_of self.old) }
+    {
+        if self.next_call_fails() {
+            return Err(StoreError::Failed);
+        }
+        match self.file(name) {
+            Some(bytes) => Ok(Some(first_bytes(alloc, bytes, most)?)),
             None => Ok(None),
         }
     }

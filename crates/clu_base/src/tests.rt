@@ -100,6 +100,8 @@ fn store_keeps_files_and_tears_them(rt: HostRuntime) -> Result<(), Fail> {
     assert_eq!(rt; store.file("b").ok_or("no file")?, b"ne".as_slice());
     assert_eq!(rt; store.file("a").ok_or("no file")?, b"old".as_slice());
     assert!(rt; store.file("c").is_none());
+    let first = store.get_first(alloc, "a", 2).map_err(|_| "get failed")?;
+    assert_eq!(rt; first.ok_or("no file")?.as_slice(), b"ol".as_slice());
     let absent = store.get(alloc, "c").map_err(|_| "get failed")?;
     assert!(rt; absent.is_none());
     Ok(())

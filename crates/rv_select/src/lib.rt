@@ -1,5 +1,5 @@
 //! Flat code to RV64IM words with holes: each step becomes instructions of its own, and nothing is kept in
-//! registers from one step to the next but what `Register` says. Beside them stand the two parts of the runtime that
+//! registers from one step to the next but what `Register` says. Beside them stand the four parts of the runtime that
 //! no flat code can say, and the layout of the tables in which one of them searches.
 #![tactic(auto)]
 
