@@ -6,6 +6,7 @@ pub mod PutIn
 pub mod AllParts
 pub mod Marking
 pub mod Remaking
+pub mod Copying
 pub mod Growing
 pub mod Tables
 pub mod Identity

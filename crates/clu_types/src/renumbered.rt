@@ -41,7 +41,8 @@ fn fields(alloc: Global, table: &[TypeId], old: &[Field]) -> Result<Sequence<Fie
     Ok(Sequence::from_vec(made))
 }
 
-fn signal(alloc: Global, table: &[TypeId], old: &Exception) -> Result<Exception, Memory>
+/// An exception with the numbers of the table.
+pub fn signal(alloc: Global, table: &[TypeId], old: &Exception) -> Result<Exception, Memory>
     ensures { IfOk result (λ made. made ≡ signal_in table.now old.now) }
 {
     Ok(Exception {
@@ -64,7 +65,8 @@ fn signals(
     Ok(Sequence::from_vec(made))
 }
 
-fn heading(alloc: Global, table: &[TypeId], old: &Heading) -> Result<Heading, Memory>
+/// A heading with the numbers of the table.
+pub fn heading(alloc: Global, table: &[TypeId], old: &Heading) -> Result<Heading, Memory>
     ensures { IfOk result (λ made. made ≡ heading_in table.now old.now) }
 {
     Ok(Heading {
