@@ -118,12 +118,7 @@ fn exception(alloc: Global, number: u64) -> Result<Exception, Fail> {
 }
 
 /// The procedure type with the exceptions of these numbers.
-fn signaling(
-    alloc: Global,
-    types: &mut TypeArena,
-    first: u64,
-    end: u64,
-) -> Result<TypeId, Fail> {
+fn signaling(alloc: Global, types: &mut TypeArena, first: u64, end: u64) -> Result<TypeId, Fail> {
     let mut signals = Vec::new(alloc);
     for number in first..end {
         signals.push(exception(alloc, number)?)?;

@@ -7,7 +7,7 @@ pub mod AllParts
 pub mod Marking
 pub mod Remaking
 pub mod Copying
-pub mod Growing
+pub mod Carrying
 pub mod Tables
 pub mod Identity
 pub mod Inclusion

@@ -15,7 +15,7 @@ use Rattle.clu_types.specs.declared.term.Actual.{Actual}
 use Rattle.clu_types.specs.declared.term.Term.{Term}
 use Rattle.clu_types.proofs.AllParts.{parts_both, parts_known}
 use Rattle.clu_types.proofs.Arenas.{types_grown}
-use Rattle.clu_types.proofs.Growing.{grows_on, length_grows, given_grown}
+use Rattle.clu_types.proofs.Carrying.{grows_on, length_grows, given_grown}
 
 -- a type without parts needs no table
 pub none_made : (from terms : List Term) (given : List Actual) (n : ℕ) (part : Term) → slice_get from n ≡ Some part → PartsBelow 0 part → ArePartsMade from given terms [] n

@@ -1,4 +1,4 @@
-use Rattle.clu_types.proofs.Growing.{given_more, given_grown}
+use Rattle.clu_types.proofs.Carrying.{given_more, given_grown}
 use Rattle.clu_types.proofs.arena.TypeArena.carry.Goals as goal
 
 pub make-requires-clause-actuals_in : goal.make-requires-clause-actuals_in

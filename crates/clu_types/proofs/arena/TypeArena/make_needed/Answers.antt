@@ -1,6 +1,6 @@
 use Rattle.std.proofs.Common.{◌≡◌, ℕ, sym, subst, arith}
 use Rattle.clu_types.specs.Carried.{AreNeeded, ArePartsMade}
-use Rattle.clu_types.proofs.Growing.{given_more}
+use Rattle.clu_types.proofs.Carrying.{given_more}
 use Rattle.clu_types.proofs.Tables.{part_made, whole_made, made_next}
 use Rattle.clu_types.proofs.arena.TypeArena.make_needed.Goals as goal
 
