@@ -9,6 +9,8 @@ mod contexts;
 #[cfg(test)]
 mod kept_specs;
 #[cfg(test)]
+mod large_tests;
+#[cfg(test)]
 mod operations;
 #[cfg(test)]
 mod reading;

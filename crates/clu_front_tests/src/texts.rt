@@ -129,6 +129,9 @@ pub const INCLUSIONS: &str = "\
     no proctype()signals(e) proctype()\0\
     yes proctype()signals(e) proctype()signals(e,f)\0\
     no proctype()signals(e,f) proctype()signals(e)\0\
+    yes proctype()signals(b,d) proctype()signals(a,b,c,d,e)\0\
+    no proctype()signals(b,d,f) proctype()signals(a,b,c,d,e)\0\
+    no proctype()signals(b(int)) proctype()signals(a,b,b2)\0\
     yes proctype() proctype()\0\
     yes proctype()signals(e,f) any\0\
     yes any any\0\
