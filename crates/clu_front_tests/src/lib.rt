@@ -9,6 +9,8 @@ mod contexts;
 #[cfg(test)]
 mod kept_specs;
 #[cfg(test)]
+mod long_texts;
+#[cfg(test)]
 mod operations;
 #[cfg(test)]
 mod reading;
