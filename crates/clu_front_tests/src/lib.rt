@@ -11,6 +11,8 @@ mod kept_specs;
 #[cfg(test)]
 mod large_tests;
 #[cfg(test)]
+mod long_texts;
+#[cfg(test)]
 mod operations;
 #[cfg(test)]
 mod reading;
