@@ -89,13 +89,7 @@ fn filled(alloc: Global, template: &[u8], unit: &str, times: usize) -> Result<Ve
 
 /// What a row says comes of its source, in which so many units stand for each `#`. A row without a blank says nothing that
 /// can come.
-fn keep_row(
-    alloc: Global,
-    row: &str,
-    unit: &str,
-    times: usize,
-    specs: &Specs,
-) -> Result<(), Fail> {
+fn keep_row(alloc: Global, row: &str, unit: &str, times: usize, specs: &Specs) -> Result<(), Fail> {
     let (due, template) = row.split_once(' ').unwrap_or(("", row));
     let source = filled(alloc, template.as_bytes(), unit, times)?;
     let found = refusal_of(alloc, source.as_slice(), specs)?;
@@ -106,13 +100,7 @@ fn keep_row(
 }
 
 /// Keeps the rows of a table, and answers how many there are besides comments.
-fn keep(
-    alloc: Global,
-    rows: &str,
-    unit: &str,
-    times: usize,
-    specs: &Specs,
-) -> Result<usize, Fail> {
+fn keep(alloc: Global, rows: &str, unit: &str, times: usize, specs: &Specs) -> Result<usize, Fail> {
     let mut count = 0usize;
     for row in rows.split_terminator('\0') {
         if !row.starts_with('%') {
@@ -140,8 +128,9 @@ pub fn keep_under(alloc: Global, rows: &str, due: usize, specs: &Specs) -> Resul
 /// Keeps tables, each with its number of rows.
 fn keep_all(alloc: Global, tables: &[(&str, usize)]) -> Result<(), Fail> {
     let none = Specs::new(alloc);
-    for (rows, due) in tables {
-        keep_under(alloc, rows, *due, &none)?;
+    for table in tables {
+        let (rows, due) = *table;
+        keep_under(alloc, rows, due, &none)?;
     }
     Ok(())
 }
@@ -150,8 +139,9 @@ fn keep_all(alloc: Global, tables: &[(&str, usize)]) -> Result<(), Fail> {
 fn keep_groups(alloc: Global, groups: &[(&str, usize, &str)], due: usize) -> Result<(), Fail> {
     let none = Specs::new(alloc);
     let mut count = 0usize;
-    for (unit, times, rows) in groups {
-        count = count.saturating_add(keep(alloc, rows, unit, *times, &none)?);
+    for group in groups {
+        let (unit, times, rows) = *group;
+        count = count.saturating_add(keep(alloc, rows, unit, times, &none)?);
     }
     counted(alloc, count, due)
 }
