@@ -66,7 +66,7 @@ fn refusal_of(alloc: Global, source: &[u8], specs: &Specs) -> Result<String, Fai
     refusal_in(alloc, source, specs)
 }
 
-/// So many units behind the source.
+/// So many units after the source.
 fn extend(source: &mut Vec<u8>, unit: &[u8], times: usize) -> Result<(), Fail> {
     for _ in 0..times {
         source.extend_from_slice(unit)?;
@@ -114,7 +114,7 @@ fn keep(alloc: Global, rows: &str, unit: &str, times: usize, specs: &Specs) -> R
 /// There are as many rows as a table says.
 pub fn counted(alloc: Global, rows: usize, due: usize) -> Result<(), Fail> {
     if rows != due {
-        return Err(format!(in alloc; "{rows} rows, where {due} are due")?)?;
+        return Err(format!(in alloc; "{rows} rows, but {due} are due")?)?;
     }
     Ok(())
 }
@@ -135,7 +135,7 @@ fn keep_all(alloc: Global, tables: &[(&str, usize)]) -> Result<(), Fail> {
     Ok(())
 }
 
-/// Keeps groups of rows, each behind what stands for `#` and how often, which have so many rows together.
+/// Keeps groups of rows, each after what stands for `#` and how often, which have so many rows together.
 fn keep_groups(alloc: Global, groups: &[(&str, usize, &str)], due: usize) -> Result<(), Fail> {
     let none = Specs::new(alloc);
     let mut count = 0usize;

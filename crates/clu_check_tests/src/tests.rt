@@ -133,7 +133,7 @@ fn keep_specs(alloc: Global, specs: &mut Specs, source: &str) -> Result<(), Fail
     Ok(())
 }
 
-/// The names of the specifications of what was checked, in their order with a blank behind each.
+/// The names of the specifications of what was checked, in their order with a blank after each.
 fn spec_names(alloc: Global, checked: &Checked) -> Result<String, Fail> {
     let mut names = String::new(alloc);
     for spec in &checked.specs {
@@ -160,7 +160,7 @@ fn kept_specifications(rt: HostRuntime) -> Result<(), Fail> {
     Ok(())
 }
 
-/// Rows that each end with byte 0: the modules that the text of the first module names, each with a blank behind it, a tab and
+/// Rows that each end with byte 0: the modules that the text of the first module names, each with a blank after it, a tab and
 /// the file.
 const NAMING: &str = "\
     \tp = proc () end p q = proc () end q\0\

@@ -7,7 +7,7 @@ use std::test::Fail;
 /// There are as many rows as a table says.
 pub fn counted(alloc: Global, rows: usize, due: usize) -> Result<(), Fail> {
     if rows != due {
-        return Err(format!(in alloc; "{rows} rows, where {due} are due")?)?;
+        return Err(format!(in alloc; "{rows} rows, but {due} are due")?)?;
     }
     Ok(())
 }

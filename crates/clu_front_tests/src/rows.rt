@@ -72,7 +72,7 @@ fn differs(alloc: Global, number: usize, found: &[u8]) -> Result<(), Fail> {
 /// There are as many rows as a table says.
 pub fn counted(alloc: Global, rows: usize, due: usize) -> Result<(), Fail> {
     if rows != due {
-        return Err(format!(in alloc; "{rows} rows, where {due} are due")?)?;
+        return Err(format!(in alloc; "{rows} rows, but {due} are due")?)?;
     }
     Ok(())
 }

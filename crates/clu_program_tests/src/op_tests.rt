@@ -15,11 +15,11 @@ use std::test::Fail;
 /// What the programs read.
 const INPUT: &[u8] = b"abcdefghij\n\n\nlast one";
 
-/// What stands behind the expression of a row: the exceptions become strings.
+/// What stands after the expression of a row: the exceptions become strings.
 const BEHIND: &str = ") except when failure (fa: string): @\"failure: \" || fa) \
     when not_possible (np: string): @\"not_possible: \" || np) others (ot: string): @ot) end\n";
 
-/// What the source of a program writes, and behind it what stands on the errors.
+/// What the source of a program writes, and after it what stands on the errors.
 fn written(alloc: Global, words: &str, source: &str) -> Result<String, Fail> {
     let source = spelled(alloc, source)?;
     let mut outside = Outside::new(alloc, INPUT, source.as_bytes(), "")?;
@@ -41,7 +41,7 @@ fn add_row(source: &mut String, due: &mut String, row: &str) -> Result<(), Fail>
     }
 }
 
-/// Adds the rows of a group behind its declarations to its source, and their values to what is due.
+/// Adds the rows of a group after its declarations to its source, and their values to what is due.
 fn add_rows(source: &mut String, due: &mut String, group: &str) -> Result<(), Fail> {
     for row in group.split_terminator('\0').skip(1) {
         add_row(source, due, row)?;

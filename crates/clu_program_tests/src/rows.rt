@@ -12,7 +12,7 @@ pub const PARTS: usize = 3;
 /// There are as many rows as a table says.
 pub fn counted(alloc: Global, rows: usize, due: usize) -> Result<(), Fail> {
     if rows != due {
-        return Err(format!(in alloc; "{rows} rows, where {due} are due")?)?;
+        return Err(format!(in alloc; "{rows} rows, but {due} are due")?)?;
     }
     Ok(())
 }
@@ -63,7 +63,7 @@ fn bytes_of(alloc: Global, digits: &str) -> Result<Vec<u8>, Fail> {
     Ok(bytes)
 }
 
-/// An outside with the file that a row writes short, or behind `0x` by its bytes.
+/// An outside with the file that a row writes short, or by its bytes after `0x`.
 fn outside_of(alloc: Global, input: &str, faults: &str, file: &str) -> Result<Box<Outside>, Fail> {
     let input = input.as_bytes();
     match file.strip_prefix("0x ") {
@@ -94,7 +94,7 @@ fn found_of_go(alloc: Global, row: &str) -> Result<String, Fail> {
     Ok(format!(in alloc; "{words}\t{input}\t{found}\t{source}")?)
 }
 
-/// What comes of a row that names what fails behind the input.
+/// What comes of a row that names what fails after the input.
 fn found_of_call(alloc: Global, row: &str) -> Result<String, Fail> {
     let mut parts = row.split('\t');
     let words = parts.next().unwrap_or("");

@@ -37,7 +37,7 @@ pub const GO_STATUSES: &str = "\
 /// How many rows `EXEC_STATUSES` has.
 pub const EXEC_COUNT: usize = 20;
 
-/// Rows of images, in the same form. A data part stands behind the code, which begins at 0x10000.
+/// Rows of images, in the same form. A data part stands after the code, which begins at 0x10000.
 pub const EXEC_STATUSES: &str = "\
     exec a\t\t\t0\thi\n\t\t0x 43 4c 55 49 01 00 00 00 00 00 00 00 07 00 00 00 08 00 00 00 93 08 40 00 37 05 01 00 13 \
     05 05 02 93 05 30 00 73 00 00 00 93 08 00 00 73 00 00 00 68 69 0a 00 00 00 00 00\0\
