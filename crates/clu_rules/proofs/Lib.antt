@@ -1,1 +1,2 @@
 pub mod OwnSpecs
+mod Places
