@@ -1,3 +1,4 @@
 pub mod Ascending
 pub mod Entering
+pub mod Found
 pub mod Kept

@@ -1,6 +1,7 @@
 -- What a library keeps, and how it changes.
-use Rattle.std.specs.Prelude.{◌≡◌, ◌<◌, ◌≤◌, ℕ, Bool, not, List, [], length, find, Option, Some, None, option_map}
+use Rattle.std.specs.Prelude.{◌≡◌, ◌<◌, ◌≤◌, ℕ, Bool, not, List, [], ◌∷◌, length, find, Option, Some, None, option_map}
 use Rattle.std.specs.List.{filter, list_any}
+use Rattle.std.specs.Option.{option_or}
 use Rattle.std.specs.Str.{bytes_eq}
 use Rattle.clu_types.specs.Specs.{with_spec}
 use Rattle.clu_types.specs.declared.spec.Spec.{Spec}
@@ -61,6 +62,10 @@ entered_by library s None = with_new_spec library s
 
 abbrev pub with_entered : Contents → Spec → Contents
 with_entered library s = entered_by library s (spec_of library s.name)
+
+-- of each name is kept what was kept before it was entered, or else the specification itself if it has the name
+pub record KeepsFirst (before after : Contents) (s : Spec) : Type 0 where
+  pub of_name : (name : List ℕ) → spec_of after name ≡ option_or (spec_of before name) (find (λ t. bytes_eq t.name name) (s ∷ []))
 
 -- it may be entered: that which is kept has the same text, or there is room
 abbrev pub MayEnter : Contents → Spec → Option Spec → Type 0

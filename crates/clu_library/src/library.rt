@@ -3,7 +3,7 @@
 ghost use Rattle.std.specs.Prelude.{◌≡◌, ◌<◌, length, IfErr, IfSome, OnOk, OnErr, IsSome};
 ghost use Rattle.std.specs.Option.{option_copied};
 ghost use Rattle.clu_specs.specs.Specifications.{SpecHolds};
-ghost use Rattle.clu_library.specs.Contents.{nothing, spec_of, last_change, limit, changed_of, body_of, program_of, HaveSameText, IsDifference, MayEnter, NotAdded, NotEntered, NotKept, HasRoom, with_entered, with_new_spec, with_body, with_program};
+ghost use Rattle.clu_library.specs.Contents.{nothing, spec_of, last_change, limit, changed_of, body_of, program_of, HaveSameText, IsDifference, KeepsFirst, MayEnter, NotAdded, NotEntered, NotKept, HasRoom, with_entered, with_new_spec, with_body, with_program};
 
 use crate::body::{Body, Change, ModuleBody};
 use crate::by_name::ByName;
@@ -119,11 +119,12 @@ impl Library {
     }
 
     /// Enters the specification of a module. `Differs` where another one is kept of the module, `Full` where 4,096
-    /// modules are kept and this is none of them. Where an equal one is kept nothing changes.
-    #[tactic(auto, using(crate::proofs::Entering::laws))]
+    /// modules are kept and this is none of them. If an equal one is kept nothing changes.
+    #[tactic(auto, using(crate::proofs::Entering::laws, crate::proofs::Found::firsts))]
     pub fn enter_spec(&mut self, alloc: Global, s: Spec) -> Result<(), EnterError>
         requires { SpecHolds s }
         ensures entered { OnOk result (self.new ≡ with_entered self.old s) }
+        ensures of_names { OnOk result (KeepsFirst self.old self.new s) }
         ensures unchanged { OnErr result (self.new ≡ self.old) }
         ensures allowed { OnOk result (MayEnter self.old s (spec_of self.old s.name)) }
         ensures refused { IfErr result (λ e. NotEntered e self.old s (spec_of self.old s.name)) }
