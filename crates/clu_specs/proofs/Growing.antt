@@ -1,6 +1,6 @@
 -- Lists that a reader makes while its arena grows.
 use Rattle.std.proofs.Common.{ℕ, zero, suc, get_or, ◌<◌, ◌≤◌, List, [], ◌∷◌, ◌++◌, length, arith}
-use Rattle.clu_types.specs.Arena.{AreBelow, FieldsBelow, SignalsBelow, ActualsBelow, HeadingBelow, Grows}
+use Rattle.clu_types.specs.Arena.{AreBelow, FieldsBelow, SignalsBelow, ActualBelow, ActualsBelow, HeadingBelow, Grows}
 use Rattle.clu_types.specs.declared.term.Heading.{Heading}
 use Rattle.clu_types.specs.declared.term.Term.TheVariants as term
 use Rattle.clu_types.specs.declared.spec.Demand.{Demand}
@@ -37,12 +37,18 @@ ids_both : (n : ℕ) (xs ys : List TypeId) → AreBelow n xs → AreBelow n ys �
 ids_both n [] ys p q = q
 ids_both n (x ∷ xs) ys p q = (p.0, ids_both n xs ys p.1 q)
 
+pub types_pushed : (n : ℕ) (xs : List TypeId) (x : TypeId) → AreBelow n xs → x.0 < n → AreBelow n (xs ++ x ∷ [])
+types_pushed n xs x p lt = ids_both n xs (x ∷ []) p (lt, tt)
+
 pub types_turn : Turn AreBelow
 types_turn = turn AreBelow ids_more ids_both
 
 fields_both : (n : ℕ) (xs ys : List Field) → FieldsBelow n xs → FieldsBelow n ys → FieldsBelow n (xs ++ ys)
 fields_both n [] ys p q = q
 fields_both n (x ∷ xs) ys p q = (p.0, fields_both n xs ys p.1 q)
+
+pub fields_pushed : (n : ℕ) (xs : List Field) (x : Field) → FieldsBelow n xs → x.of.0 < n → FieldsBelow n (xs ++ x ∷ [])
+fields_pushed n xs x p lt = fields_both n xs (x ∷ []) p (lt, tt)
 
 pub fields_turn : Turn FieldsBelow
 fields_turn = turn FieldsBelow fields_more fields_both
@@ -51,12 +57,18 @@ signals_both : (n : ℕ) (xs ys : List Exception) → SignalsBelow n xs → Sign
 signals_both n [] ys p q = q
 signals_both n (x ∷ xs) ys p q = (p.0, signals_both n xs ys p.1 q)
 
+pub signals_pushed : (n : ℕ) (xs : List Exception) (x : Exception) → SignalsBelow n xs → AreBelow n x.objects → SignalsBelow n (xs ++ x ∷ [])
+signals_pushed n xs x p b = signals_both n xs (x ∷ []) p (b, tt)
+
 pub signals_turn : Turn SignalsBelow
 signals_turn = turn SignalsBelow signals_more signals_both
 
 actuals_both : (n : ℕ) (xs ys : List Actual) → ActualsBelow n xs → ActualsBelow n ys → ActualsBelow n (xs ++ ys)
 actuals_both n [] ys p q = q
 actuals_both n (x ∷ xs) ys p q = (p.0, actuals_both n xs ys p.1 q)
+
+pub actuals_pushed : (n : ℕ) (xs : List Actual) (x : Actual) → ActualsBelow n xs → ActualBelow n x → ActualsBelow n (xs ++ x ∷ [])
+actuals_pushed n xs x p b = actuals_both n xs (x ∷ []) p (b, tt)
 
 pub actuals_turn : Turn ActualsBelow
 actuals_turn = turn ActualsBelow actuals_more actuals_both
