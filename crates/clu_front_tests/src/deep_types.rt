@@ -1,4 +1,4 @@
-//! Types ten thousand deep are read, and refused where such a text is cut or wrong in its midst.
+//! Types ten thousand deep are read, and refused at the first byte at which such a text is cut or wrong.
 
 use crate::answers::{number, word};
 use clu_base::{Bytes, FormatError};
@@ -9,7 +9,7 @@ use std::test::Fail;
 
 const DEPTH: usize = 10_000;
 
-/// What stands before the innermost type and behind it, at each depth.
+/// What stands before the innermost type and after it, at each depth.
 const ROUND: &str = "\
     array[ ]\0\
     sequence[ ]\0\
@@ -70,7 +70,7 @@ fn keep_whole(alloc: Global, front: &str, back: &str) -> Result<(), Fail> {
     keep(alloc, front, due.as_slice())
 }
 
-/// A reserved word in the place of the innermost type is refused behind it.
+/// A reserved word in the place of the innermost type is refused after its last byte.
 fn keep_wrong(alloc: Global, front: &str, back: &str) -> Result<(), Fail> {
     let text = nested(alloc, front, "real", back)?;
     let due = number(alloc, (DEPTH * front.len() + 4) as u64)?;

@@ -1,5 +1,5 @@
 -- Each turn of the loop over the stack keeps what reading the whole gives.
-use Rattle.std.proofs.Common.{◌≡◌, ℕ, ◌+◌, ◌*◌, ◌-◌, ◌<◌, ◌≤◌, List, [], ◌∷◌, ◌++◌, length, Result, Ok, Err, refl, sym, ap, subst, ◌∙◌, arith}
+use Rattle.std.proofs.Common.{◌≡◌, ℕ, ◌+◌, ◌*◌, ◌-◌, ◌<◌, ◌≤◌, List, [], ◌∷◌, ◌++◌, length, Ok, Err, refl, sym, ap, subst, ◌∙◌, arith}
 use Rattle.clu_base.specs.declared.errors.FormatError.{FormatError}
 use Rattle.clu_base.specs.declared.errors.FormatError.TheVariants as error
 use Rattle.clu_types.specs.CluType.{CluType}
@@ -14,11 +14,11 @@ use Rattle.clu_specs.specs.declared.pending.Found.{Found}
 use Rattle.clu_specs.specs.declared.pending.Found.TheVariants as found
 use Rattle.clu_specs.specs.Reading.{Read, Fails}
 use Rattle.clu_specs.specs.TypeReading.{type_read}
-use Rattle.clu_specs.specs.Pending.{Reached, whole, inside, item, signal, type_begun, resumed, item_begun, signal_begun, signals_seen, waiting_seen, found_seen, SoFarBelow, PendingBelow, FoundBelow}
+use Rattle.clu_specs.specs.Pending.{Reached, whole, type_begun, resumed, item_begun, signal_begun, signals_seen, waiting_seen, found_seen, PendingBelow, FoundBelow}
 use Rattle.clu_specs.proofs.Rows.{fails_on}
 use Rattle.clu_specs.proofs.Depths.{type_read_deep}
 use Rattle.clu_specs.proofs.Stepping.{on, type_stepped}
-use Rattle.clu_specs.proofs.Progress.{weight, cost, Falls, type_falls, resumed_falls, signal_falls, item_falls}
+use Rattle.clu_specs.proofs.Progress.{weight, Falls, type_falls, resumed_falls, signal_falls, item_falls}
 use Rattle.clu_specs.proofs.Stack.{AllBelow, stack_seen, weight_of, machine, resume_on, resume_fails, enter_on, enter_fails, too_deep, item_on_whole, item_fails, signal_on_whole, signal_fails_whole, stack_same, stack_more, stack_seen-last, stack_length, below-last, last-below, Comes}
 
 weight_seen : (ks : List CluType) (f : Found) → weight (found_seen ks f) ≡ weight_of f

@@ -10,7 +10,7 @@ use Rattle.clu_types.specs.declared.term.Field.{Field}
 use Rattle.clu_types.specs.declared.term.Exception.{Exception}
 use Rattle.clu_types.specs.declared.term.Actual.{Actual}
 use Rattle.clu_types.specs.declared.term.Term.{Term}
-use Rattle.clu_types.proofs.Parts.{ids_more, fields_more, signals_more, actuals_more, parts_more}
+use Rattle.clu_types.proofs.Parts.{ids_more, signals_more, actuals_more, parts_more}
 use Rattle.clu_types.proofs.Carrying.{grows_on, length_grows}
 use Rattle.clu_specs.specs.Specifications.{DemandsBelow, OpBelow, OpsBelow}
 
@@ -50,9 +50,6 @@ fields_both n (x ∷ xs) ys p q = (p.0, fields_both n xs ys p.1 q)
 pub fields_pushed : (n : ℕ) (xs : List Field) (x : Field) → FieldsBelow n xs → x.of.0 < n → FieldsBelow n (xs ++ x ∷ [])
 fields_pushed n xs x p lt = fields_both n xs (x ∷ []) p (lt, tt)
 
-pub fields_turn : Turn FieldsBelow
-fields_turn = turn FieldsBelow fields_more fields_both
-
 signals_both : (n : ℕ) (xs ys : List Exception) → SignalsBelow n xs → SignalsBelow n ys → SignalsBelow n (xs ++ ys)
 signals_both n [] ys p q = q
 signals_both n (x ∷ xs) ys p q = (p.0, signals_both n xs ys p.1 q)
@@ -69,9 +66,6 @@ actuals_both n (x ∷ xs) ys p q = (p.0, actuals_both n xs ys p.1 q)
 
 pub actuals_pushed : (n : ℕ) (xs : List Actual) (x : Actual) → ActualsBelow n xs → ActualBelow n x → ActualsBelow n (xs ++ x ∷ [])
 actuals_pushed n xs x p b = actuals_both n xs (x ∷ []) p (b, tt)
-
-pub actuals_turn : Turn ActualsBelow
-actuals_turn = turn ActualsBelow actuals_more actuals_both
 
 heading_more : (m n : ℕ) → m ≤ n → (h : Heading) → HeadingBelow m h → HeadingBelow n h
 heading_more m n le h b = parts_more m n le (term.Iter h) b

@@ -1,5 +1,5 @@
 -- Each step of reading takes some bytes.
-use Rattle.std.proofs.Common.{◌≡◌, ℕ, zero, suc, ◌+◌, ◌*◌, ◌-◌, ◌<◌, ◌≤◌, Bool, true, false, not, ◌&&◌, ◌==◌, ◌⊎◌, if◌then◌else◌, List, [], ◌∷◌, ◌++◌, length, codes, decimal, Option, Some, None, Result, Ok, Err, refl, sym, ap, ◌∙◌, arith, length-append, inl, inr}
+use Rattle.std.proofs.Common.{◌≡◌, ℕ, suc, ◌+◌, ◌*◌, ◌-◌, ◌<◌, ◌≤◌, Bool, true, false, not, ◌&&◌, ◌==◌, if◌then◌else◌, List, [], ◌∷◌, length, codes, decimal, Option, Some, None, Result, Ok, Err, refl, sym, ap, ◌∙◌, arith, length-append, inl, inr}
 use Rattle.clu_base.specs.declared.constants.Const.{Const}
 use Rattle.clu_types.specs.CluType.{CluType, CluTypes, no_types, Fields, Actuals}
 use Rattle.clu_specs.specs.declared.keywords.Selecting.{Selecting}
@@ -9,14 +9,14 @@ use Rattle.clu_specs.specs.declared.actuals.Lead.{Lead}
 use Rattle.clu_specs.specs.declared.scope.Sort.TheVariants as sort
 use Rattle.clu_specs.specs.declared.scope.Scope.{Scope}
 use Rattle.clu_specs.specs.Reading.{◌>>=◌, Read, literal_at, behind, begins_with}
-use Rattle.clu_specs.specs.Names.{has_later, is_named, name_after, first_word, behind_word}
+use Rattle.clu_specs.specs.Names.{has_later, name_after, first_word, behind_word}
 use Rattle.clu_specs.specs.Keywords.{keyword_of}
 use Rattle.clu_specs.specs.Constants.{word_constant}
 use Rattle.clu_specs.specs.Scopes.{parameter_at}
 use Rattle.clu_specs.specs.TypeReading.{actuals_joined, next_after, signal_name_after, lead_of, is_marked, marked_actual_read}
-use Rattle.clu_specs.specs.Pending.{SignalsMade, Waiting, element, field, argument, outcome, object, given, Reached, whole, inside, item, signal, signals_begun, results_begun, arguments_begun, keyword_begun, actuals_begun, cluster_begun, word_begun, field_ended, argument_ended, result_ended, with_signal, signal_ended, signal_made, object_ended, actual_ended, resumed, with_name, objects_begun, signal_begun, type_begun_by, type_begun, word_actual_begun, actual_begun, item_begun}
+use Rattle.clu_specs.specs.Pending.{SignalsMade, Waiting, element, field, argument, outcome, object, given, Reached, item, signals_begun, results_begun, arguments_begun, keyword_begun, actuals_begun, cluster_begun, word_begun, field_ended, argument_ended, result_ended, with_signal, signal_ended, signal_made, object_ended, actual_ended, resumed, with_name, objects_begun, signal_begun, type_begun_by, type_begun, word_actual_begun, actual_begun, item_begun}
 use Rattle.clu_specs.proofs.Outcomes.{and_then, not_refused, either, literal_spelled, behind_spelled}
-use Rattle.clu_specs.proofs.Spelled.{word_spelled, name_read, parameter_read}
+use Rattle.clu_specs.proofs.Spelled.{word_spelled, parameter_read}
 use Rattle.clu_specs.proofs.Local.{left_of}
 use Rattle.clu_specs.proofs.LocalNames.{name_consumes}
 use Rattle.clu_specs.proofs.LocalActuals.{marked_bound}
@@ -79,7 +79,7 @@ unfolding keyword_of
 keyword_some [] k e = absurd (cc)
 keyword_some (b ∷ word) k e = omega arith
 
--- what an option of the bytes behind a mark takes
+-- what an option of the bytes after a mark takes
 abbrev Takes : Option (List ℕ) → List ℕ → Type 0
 Takes o bytes = (rest : List ℕ) → o ≡ Some rest → length bytes ≡ suc (length rest)
 

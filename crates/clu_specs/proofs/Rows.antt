@@ -4,7 +4,7 @@ use Rattle.std.proofs.lemmas.Bool.{ne_eqb}
 use Rattle.clu_base.specs.declared.errors.FormatError.{FormatError}
 use Rattle.clu_base.specs.declared.errors.FormatError.TheVariants as error
 use Rattle.clu_types.specs.CluType.{CluType, Actuals, no_types, type_and, no_fields, field_and, no_signals, signal_and, actual_type, actual_const, actual_param}
-use Rattle.clu_types.specs.Arena.{type_at, types_at, fields_at, signals_at, actuals_at, types_of, AreBelow, FieldsBelow, SignalsBelow, ActualsBelow, Grows}
+use Rattle.clu_types.specs.Arena.{type_at, types_at, fields_at, signals_at, actuals_at, types_of, AreBelow, SignalsBelow, Grows}
 use Rattle.clu_types.specs.declared.term.TypeId.{TypeId}
 use Rattle.clu_types.specs.declared.term.Field.{Field}
 use Rattle.clu_types.specs.declared.term.Exception.{Exception}
@@ -13,12 +13,12 @@ use Rattle.clu_types.specs.declared.term.Actual.TheVariants as actual
 use Rattle.clu_types.specs.declared.term.Term.{Term}
 use Rattle.clu_types.proofs.Arenas.{types_grown}
 use Rattle.clu_types.proofs.Carrying.{grows_on}
-use Rattle.clu_types.proofs.Parts.{types_same, fields_same, signals_same, actuals_same}
+use Rattle.clu_types.proofs.Parts.{types_same, signals_same}
 use Rattle.clu_specs.specs.declared.actuals.Lead.{Lead}
 use Rattle.clu_specs.specs.declared.scope.Scope.{Scope}
 use Rattle.clu_specs.specs.Reading.{◌>>=◌, Read, Fails, behind, several}
 use Rattle.clu_specs.specs.Pending.{given, actual_ended, actual_begun, item_begun}
-use Rattle.clu_specs.specs.TypeReading.{Reader, types_joined, fields_joined, signals_joined, actuals_joined, types_step, fields_step, signals_step, actuals_step, field_read, signal_read, lead_of, is_marked, marked_actual_read, actual_by, actual_read, arguments_read, results_read, all_signals_read, heading_read}
+use Rattle.clu_specs.specs.TypeReading.{Reader, types_joined, fields_joined, signals_joined, actuals_joined, types_step, signals_step, signal_read, lead_of, is_marked, marked_actual_read, arguments_read, results_read, all_signals_read, heading_read}
 
 module _ {A : Type 0} (step : A → List ℕ → Read A) (next : A → List ℕ → Option (List ℕ)) where
   pub row_on : (len i : ℕ) (made more : A) (bytes after rest : List ℕ) (total : Read A) → i < len → step made bytes ≡ Ok (more, after) → next more after ≡ Some rest
@@ -58,14 +58,7 @@ pub fails_on : {X Y : Type 0} (e : FormatError) (r : Result X ℕ) (f : X → Re
 fails_on error.Memory r f h = tt
 fails_on (error.Bad left) r f h = rw h refl
 
--- a constant or a constant parameter that is refused
-pub marked_fails : (scope : Scope) (part : Reader CluType) (e : FormatError) (lead : Lead) (bytes : List ℕ) → Fails e (marked_actual_read scope lead bytes) → is_marked lead ≡ true → lead ≡ lead_of bytes → Fails e (actual_read scope part bytes)
-unfolding actual_by
-marked_fails scope part e lead bytes h marked same =
-    let now : is_marked (lead_of bytes) ≡ true = ap is_marked (sym same) ∙ marked in
-    rw now (subst (λ (x : Lead). Fails e (marked_actual_read scope x bytes)) same h)
-
--- the same of an actual parameter whose list waits
+-- a constant or a constant parameter that is refused, in a list that waits for it
 pub begun_marked_fails : (scope : Scope) (name : List ℕ) (left : ℕ) (made : Actuals) (e : FormatError) (lead : Lead) (bytes : List ℕ) → 0 < left → Fails e (marked_actual_read scope lead bytes) → is_marked lead ≡ true → lead ≡ lead_of bytes
     → Fails e (item_begun scope (given name left made) bytes)
 unfolding item_begun actual_begun
@@ -101,26 +94,12 @@ module _ (new newer : List Term) (g : Grows new newer) where
       let kept : types_at (types_of newer) made ≡ types_at (types_of new) made = types_same (types_of newer) (types_of new) (length new) (types_grown new newer g) made b in
       rw (p, types_push (types_of newer) made y, kept) refl
 
-  pub fields_made : (part : Reader CluType) (made : List Field) (y : Field) (previous name bytes after : List ℕ) → name ≡ y.name → FieldsBelow (length new) made
-      → field_read part previous bytes ≡ Ok ((y.name, type_at (types_of newer) y.of), after)
-      → fields_step part (fields_at (types_of new) made, previous) bytes ≡ Ok ((fields_at (types_of newer) (made ++ y ∷ []), name), after)
-  fields_made part made y previous name bytes after same b p =
-      let kept : fields_at (types_of newer) made ≡ fields_at (types_of new) made = fields_same (types_of newer) (types_of new) (length new) (types_grown new newer g) made b in
-      rw (same, p, fields_push (types_of newer) made y, kept) refl
-
   pub signals_made : (part : Reader CluType) (made : List Exception) (y : Exception) (previous name bytes after : List ℕ) → name ≡ y.name → SignalsBelow (length new) made
       → signal_read part previous bytes ≡ Ok ((y.name, types_at (types_of newer) y.objects), after)
       → signals_step part (signals_at (types_of new) made, previous) bytes ≡ Ok ((signals_at (types_of newer) (made ++ y ∷ []), name), after)
   signals_made part made y previous name bytes after same b p =
       let kept : signals_at (types_of newer) made ≡ signals_at (types_of new) made = signals_same (types_of newer) (types_of new) (length new) (types_grown new newer g) made b in
       rw (same, p, signals_push (types_of newer) made y, kept) refl
-
-  pub actuals_made : (scope : Scope) (part : Reader CluType) (made : List Actual) (y : Actual) (bytes after : List ℕ) → ActualsBelow (length new) made
-      → actual_read scope part bytes ≡ Ok (actuals_at (types_of newer) (y ∷ []), after)
-      → actuals_step scope part (actuals_at (types_of new) made) bytes ≡ Ok (actuals_at (types_of newer) (made ++ y ∷ []), after)
-  actuals_made scope part made y bytes after b p =
-      let kept : actuals_at (types_of newer) made ≡ actuals_at (types_of new) made = actuals_same (types_of newer) (types_of new) (length new) (types_grown new newer g) made b in
-      rw (p, actuals_push (types_of newer) made y, kept) refl
 
 -- the three lists of a heading, made one after the other
 pub heading_made : (part : Reader CluType) (iter : Bool) (bytes r1 r2 r3 : List ℕ) (t1 t2 t3 : List Term) (args results : List TypeId) (signals : List Exception) → Grows t1 t2 → Grows t2 t3

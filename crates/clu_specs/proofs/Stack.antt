@@ -1,5 +1,5 @@
 -- The stack of types that were begun: what reading the whole gives from where it has come.
-use Rattle.std.proofs.Common.{◌≡◌, ℕ, zero, suc, ◌+◌, ◌*◌, ◌-◌, ◌<◌, ◌≤◌, List, [], ◌∷◌, ◌++◌, length, Result, Ok, Err, refl, sym, ap, subst, ◌∙◌, arith}
+use Rattle.std.proofs.Common.{◌≡◌, ℕ, suc, ◌+◌, ◌-◌, ◌<◌, ◌≤◌, List, [], ◌∷◌, ◌++◌, length, Ok, refl, sym, ap, subst, ◌∙◌, arith}
 use Rattle.clu_base.specs.declared.errors.FormatError.{FormatError}
 use Rattle.clu_base.specs.declared.errors.FormatError.TheVariants as error
 use Rattle.clu_types.specs.CluType.{CluType}
@@ -7,7 +7,7 @@ use Rattle.clu_types.specs.Arena.{type_at, types_of, Grows}
 use Rattle.clu_types.specs.declared.term.Term.{Term}
 use Rattle.clu_types.specs.declared.term.TypeId.{TypeId}
 use Rattle.clu_types.proofs.Arenas.{types_grown}
-use Rattle.clu_types.proofs.Carrying.{length_grows, grows_on}
+use Rattle.clu_types.proofs.Carrying.{length_grows}
 use Rattle.clu_types.proofs.Parts.{ids_more, fields_more, signals_more, actuals_more, types_same, fields_same, signals_same, actuals_same}
 use Rattle.clu_specs.specs.declared.scope.Scope.{Scope}
 use Rattle.clu_specs.specs.declared.pending.SignalsSoFar.{SignalsSoFar}
@@ -21,7 +21,6 @@ use Rattle.clu_specs.specs.Pending.{Waiting, Reached, whole, inside, item, signa
 use Rattle.clu_specs.proofs.Rows.{fails_on}
 use Rattle.clu_specs.proofs.Depths.{type_read_deep, type_read_none}
 use Rattle.clu_specs.proofs.Stepping.{waits, on, on_from, type_stepped, resumed_stepped, item_stepped, signals_row_stepped}
-use Rattle.clu_specs.proofs.Progress.{weight, cost, Falls, type_falls, resumed_falls, signal_falls, item_falls}
 
 -- the types in the stack are below n
 abbrev pub AllBelow : ℕ → List Pending → Type 0
@@ -38,7 +37,7 @@ weight_of (found.Item p) = 1
 weight_of _ = 0
 
 module _ (scope : Scope) where
-  -- what the whole gives, where `inner` is what the innermost type gives at its depth
+  -- what the whole gives, if `inner` is what the innermost type gives at its depth
   abbrev pub around : ℕ → List Waiting → (ℕ → Read CluType) → Read CluType
   around d [] inner = inner d
   around d (w ∷ ws) inner = around (d - 1) ws inner >>= λ t. waits scope (type_read scope (d - 1)) w t.0 t.1

@@ -1,9 +1,8 @@
 -- Reading step by step gives what reading at once gives.
-use Rattle.std.proofs.Common.{◌≡◌, ℕ, zero, suc, ◌-◌, ◌<◌, Bool, true, false, not, ◌&&◌, ◌==◌, if◌then◌else◌, List, [], ◌∷◌, ◌++◌, length, codes, Option, Some, None, Result, Ok, Err, refl, sym, ap, ◌∙◌, arith}
+use Rattle.std.proofs.Common.{◌≡◌, ℕ, zero, suc, ◌-◌, Bool, true, false, not, ◌&&◌, ◌==◌, if◌then◌else◌, List, [], ◌∷◌, length, codes, Option, Some, None, Result, Ok, Err, refl, sym, ◌∙◌, arith}
 use Rattle.std.proofs.lemmas.Bool.{ne_eqb}
 use Rattle.clu_base.specs.declared.constants.Const.{Const}
 use Rattle.clu_types.specs.CluType.{CluType, parameter, cluster_of, CluTypes, no_types, type_and, Fields, no_fields, field_and, Signals, no_signals, signal_and, Actuals, no_actuals, actual_type, actual_const}
-use Rattle.clu_specs.specs.declared.keywords.Listing.{Listing}
 use Rattle.clu_specs.specs.declared.keywords.Selecting.{Selecting}
 use Rattle.clu_specs.specs.declared.keywords.Keyword.{Keyword}
 use Rattle.clu_specs.specs.declared.keywords.Keyword.TheVariants as keyword
@@ -15,8 +14,8 @@ use Rattle.clu_specs.specs.Names.{name_after, first_word, behind_word}
 use Rattle.clu_specs.specs.Keywords.{keyword_of}
 use Rattle.clu_specs.specs.Constants.{word_constant}
 use Rattle.clu_specs.specs.Scopes.{parameter_at}
-use Rattle.clu_specs.specs.TypeReading.{Reader, types_joined, fields_joined, signals_joined, actuals_joined, simple_type, listing_type, selecting_type, routine_type, next_after, signal_name_after, types_step, types_read, closed_types_read, field_read, fields_step, fields_read, objects_by, signal_read, signals_step, signals_read, arguments_by, arguments_read, results_read, all_signals_read, heading_read, word_actual_by, lead_of, marked_actual_read, is_marked, actual_by, actual_read, actuals_step, actuals_read, all_actuals_by, cluster_type_read, keyword_type_read, word_type_by, one_type_by, one_type_read}
-use Rattle.clu_specs.specs.Pending.{SignalsMade, Waiting, element, field, argument, outcome, object, given, Reached, whole, inside, item, signal, signals_begun, results_begun, arguments_begun, keyword_begun, actuals_begun, cluster_begun, word_begun, field_ended, argument_ended, result_ended, with_signal, signal_ended, signal_made, object_ended, actual_ended, resumed, with_name, objects_begun, signal_begun, type_begun_by, type_begun, word_actual_begun, actual_begun, item_begun}
+use Rattle.clu_specs.specs.TypeReading.{Reader, types_joined, fields_joined, signals_joined, actuals_joined, listing_type, selecting_type, routine_type, next_after, signal_name_after, types_step, types_read, closed_types_read, field_read, fields_step, fields_read, objects_by, signal_read, signals_step, signals_read, arguments_by, arguments_read, results_read, all_signals_read, heading_read, word_actual_by, lead_of, marked_actual_read, is_marked, actual_by, actuals_step, actuals_read, all_actuals_by, cluster_type_read, keyword_type_read, word_type_by, one_type_by, one_type_read}
+use Rattle.clu_specs.specs.Pending.{SignalsMade, Waiting, element, field, argument, outcome, object, given, Reached, whole, inside, item, signal, signals_begun, results_begun, arguments_begun, keyword_begun, actuals_begun, cluster_begun, word_begun, field_ended, argument_ended, result_ended, with_signal, signal_ended, signal_made, object_ended, actual_ended, resumed, objects_begun, signal_begun, type_begun_by, type_begun, word_actual_begun, actual_begun, item_begun}
 
 pub bind_same : {A B : Type 0} (r : Result A ℕ) (f g : A → Result B ℕ) → ((x : A) → f x ≡ g x) → (r >>= f) ≡ (r >>= g)
 bind_same (Ok x) f g e = e x
@@ -51,7 +50,7 @@ closed_bind : {A B : Type 0} (row : Read A) (mark : List ℕ) (g : A × List ℕ
 closed_bind (Ok x) mark g = bind_twice (literal_at mark x.1) (λ rest. Ok (x.0, rest)) g
 closed_bind (Err left) mark g = refl
 
--- the same where a name is left off the row
+-- the same, if a name is left off the row
 abbrev unnamed : {A C : Type 0} → (A × C) × List ℕ → Read A
 unnamed x = Ok (x.0.0, x.1)
 
@@ -108,7 +107,7 @@ module _ (scope : Scope) (part : Reader CluType) where
   abbrev pub actuals_closed : List ℕ → Actuals × List ℕ → Read CluType
   actuals_closed name x = literal_at (93 ∷ []) x.1 >>= λ rest. Ok (cluster_of name x.0, rest)
 
-  -- what the whole gives, behind the type that it waited for
+  -- what the whole gives, after the type that it waited for
   abbrev pub waits : Waiting → CluType → Reader CluType
   waits (element word) t bytes = literal_at (93 ∷ []) bytes >>= λ rest. Ok (listing_type word t, rest)
   waits (field word left made name) t bytes =
@@ -122,7 +121,7 @@ module _ (scope : Scope) (part : Reader CluType) where
   waits (given name left made) t bytes =
       go_on (behind 44 bytes) (actuals_joined made (actual_type t no_actuals), bytes) (λ rest. actuals_row left (actuals_joined made (actual_type t no_actuals)) rest) >>= actuals_closed name
 
-  -- what the whole gives where an item begins
+  -- what the whole gives from where an item begins
   abbrev pub item_on : Waiting → Reader CluType
   item_on (element word) bytes = part bytes >>= λ t. waits (element word) t.0 t.1
   item_on (field word left made name) bytes = fields_row left (made, name) bytes >>= fields_closed word
@@ -208,7 +207,7 @@ module _ (scope : Scope) (part : Reader CluType) where
   pub type_stepped : (bytes : List ℕ) → one_type_read scope part bytes ≡ on_from (type_begun scope bytes)
   type_stepped bytes = type_stepped_by (behind 35 bytes) bytes
 
-  -- behind an item
+  -- after an item
   fields_ended : (word : Selecting) (left : ℕ) (made : Fields) (name : List ℕ) (o : Option (List ℕ)) (bytes : List ℕ)
       → (go_on o ((made, name), bytes) (λ rest. fields_row left (made, name) rest) >>= fields_closed word) ≡ on_from (field_ended word left made name o bytes)
   unfolding field_ended
@@ -263,7 +262,7 @@ module _ (scope : Scope) (part : Reader CluType) where
   resumed_stepped (object s left made) t bytes = objects_ended s left (types_joined made (type_and t no_types)) (behind 44 bytes) bytes
   resumed_stepped (given name left made) t bytes = actuals_ended name left (actuals_joined made (actual_type t no_actuals)) (behind 44 bytes) bytes
 
-  -- where an item begins
+  -- from where an item begins
   field_item : (word : Selecting) (n : ℕ) (made : Fields) (previous bytes : List ℕ)
       → (fields_row (suc n) (made, previous) bytes >>= fields_closed word)
       ≡ on_from (name_after previous 200 bytes >>= λ name. literal_at (58 ∷ []) name.1 >>= λ rest. Ok (inside (field word n made name.0), rest))

@@ -48,32 +48,32 @@ pub data Reached : Type 0 where
   item : Waiting → Reached
   signal : SignalsMade → Reached
 
--- behind what a routine takes and gives
+-- after what a routine takes and gives
 unfoldable pub signals_begun : Bool → CluTypes → CluTypes → Reader Reached
 signals_begun iter args results bytes =
     if begins_with 115 bytes then (literal_at (codes "signals(") bytes >>= λ rest. Ok (signal (record { iter = iter; args = args; results = results; left = length rest; made = no_signals; name = [] }), rest)) else
     Ok (whole (routine_type iter args results no_signals), bytes)
 
--- behind what a routine takes
+-- after what a routine takes
 unfoldable pub results_begun : Bool → CluTypes → Reader Reached
 results_begun iter args bytes =
     if iter && begins_with 121 bytes then (literal_at (codes "yields(") bytes >>= λ rest. Ok (item (outcome iter args (length rest) no_types), rest)) else
     if not iter && begins_with 114 bytes then (literal_at (codes "returns(") bytes >>= λ rest. Ok (item (outcome iter args (length rest) no_types), rest)) else
     signals_begun iter args no_types bytes
 
--- behind the parenthesis of arguments
+-- after the parenthesis of arguments
 unfoldable pub arguments_begun : Bool → Option (List ℕ) → Reader Reached
 arguments_begun iter None bytes = Ok (item (argument iter (length bytes) no_types), bytes)
 arguments_begun iter (Some rest) bytes = results_begun iter no_types rest
 
--- behind the word of a type
+-- after the word of a type
 unfoldable pub keyword_begun : Keyword → Reader Reached
 keyword_begun (keyword.Simple word) bytes = Ok (whole (simple_type word), bytes)
 keyword_begun (keyword.Listing word) bytes = literal_at (91 ∷ []) bytes >>= λ rest. Ok (inside (element word), rest)
 keyword_begun (keyword.Selecting word) bytes = literal_at (91 ∷ []) bytes >>= λ rest. Ok (item (field word (length rest) no_fields []), rest)
 keyword_begun (keyword.Routine iter) bytes = literal_at (40 ∷ []) bytes >>= λ rest. arguments_begun iter (behind 41 rest) rest
 
--- behind the name of a cluster
+-- after the name of a cluster
 unfoldable pub actuals_begun : List ℕ → Option (List ℕ) → Reader Reached
 actuals_begun name None bytes = Ok (whole (cluster_of name no_actuals), bytes)
 actuals_begun name (Some rest) bytes = Ok (item (given name (length rest) no_actuals), rest)
@@ -85,7 +85,7 @@ unfoldable pub word_begun : Option Keyword → Reader Reached
 word_begun None bytes = cluster_begun bytes
 word_begun (Some word) bytes = keyword_begun word (behind_word bytes)
 
--- behind an item, with what follows the comma where there is one
+-- after an item, with what follows the comma if there is one
 unfoldable pub field_ended : Selecting → ℕ → Fields → List ℕ → Option (List ℕ) → Reader Reached
 field_ended word left made name None bytes = literal_at (93 ∷ []) bytes >>= λ rest. Ok (whole (selecting_type word made), rest)
 field_ended word left made name (Some rest) bytes = Ok (item (field word left made name), rest)
@@ -105,7 +105,7 @@ unfoldable pub signal_ended : SignalsMade → Option (List ℕ) → Reader Reach
 signal_ended s None bytes = literal_at (41 ∷ []) bytes >>= λ rest. Ok (whole (routine_type s.iter s.args s.results s.made), rest)
 signal_ended s (Some rest) bytes = Ok (signal s, rest)
 
--- behind a signal and its objects
+-- after a signal and its objects
 abbrev pub signal_made : SignalsMade → CluTypes → Reader Reached
 signal_made s objects bytes = signal_ended (with_signal s objects) (next_after s.name bytes) bytes
 
@@ -117,7 +117,7 @@ unfoldable pub actual_ended : List ℕ → ℕ → Actuals → Option (List ℕ)
 actual_ended name left made None bytes = literal_at (93 ∷ []) bytes >>= λ rest. Ok (whole (cluster_of name made), rest)
 actual_ended name left made (Some rest) bytes = Ok (item (given name left made), rest)
 
--- what waits goes on, behind the type that it waited for
+-- what waits goes on, after the type that it waited for
 unfoldable pub resumed : Waiting → CluType → Reader Reached
 resumed (element word) t bytes = literal_at (93 ∷ []) bytes >>= λ rest. Ok (whole (listing_type word t), rest)
 resumed (field word left made name) t bytes = field_ended word left (fields_joined made (field_and name t no_fields)) name (next_after name bytes) bytes
@@ -126,7 +126,7 @@ resumed (outcome iter args left made) t bytes = result_ended iter args left (typ
 resumed (object s left made) t bytes = object_ended s left (types_joined made (type_and t no_types)) (behind 44 bytes) bytes
 resumed (given name left made) t bytes = actual_ended name left (actuals_joined made (actual_type t no_actuals)) (behind 44 bytes) bytes
 
--- a signal behind those made
+-- a signal after those made
 abbrev pub with_name : SignalsMade → List ℕ → SignalsMade
 with_name s name = record { iter = s.iter; args = s.args; results = s.results; left = s.left - 1; made = s.made; name = name }
 

@@ -44,7 +44,7 @@ pub fn begin_type<'a>(
     }
 }
 
-/// The front of a type behind its word.
+/// The front of a type after its word.
 #[tactic(auto, unfolding(crate::specs::Pending::keyword_begun, crate::specs::Pending::arguments_begun))]
 fn begin_keyword<'a>(
     alloc: Global,
@@ -117,7 +117,7 @@ fn begin_cluster<'a>(
     }
 }
 
-/// What a routine gives and signals, behind what it takes.
+/// What a routine gives and signals, after what it takes.
 #[tactic(auto, unfolding(crate::specs::Pending::results_begun))]
 pub fn begin_results<'a>(
     alloc: Global,
@@ -155,7 +155,7 @@ pub fn begin_results<'a>(
     begin_signals(alloc, types, iter, args, made, bytes)
 }
 
-/// What a routine signals, behind what it takes and gives.
+/// What a routine signals, after what it takes and gives.
 #[tactic(auto, unfolding(crate::specs::Pending::signals_begun))]
 pub fn begin_signals<'a>(
     alloc: Global,

@@ -1,4 +1,5 @@
 //! A type that is read while types in it are still to come: what was begun, and how far reading has come.
+//! A list has at most as many items as bytes follow its opening mark, which is what bounds the counts here.
 
 ghost use Rattle.std.specs.Prelude.{◌≡◌, List, [], ◌∷◌, ◌++◌, IfOk};
 

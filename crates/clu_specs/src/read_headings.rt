@@ -86,7 +86,7 @@ fn signals_at<'a>(
     Err(fault(rest))
 }
 
-/// A signal behind `previous` with the types of its objects, its name, and what follows.
+/// A signal after `previous` with the types of its objects, its name, and what follows.
 #[tactic(auto, unfolding(crate::specs::TypeReading::signal_read))]
 fn signal_at<'a>(
     alloc: Global,
@@ -150,7 +150,7 @@ fn arguments_at<'a>(
     }
 }
 
-/// The types behind `returns`, of an iterator behind `yields`, or none.
+/// The types after `returns`, of an iterator after `yields`, or none.
 #[tactic(auto, unfolding(crate::specs::TypeReading::results_read))]
 fn results_at<'a>(
     alloc: Global,
@@ -175,7 +175,7 @@ fn results_at<'a>(
     Ok((Sequence::from_vec(Vec::new(alloc)), bytes))
 }
 
-/// The signals in parentheses behind `signals`, or none.
+/// The signals in parentheses after `signals`, or none.
 #[tactic(auto, unfolding(crate::specs::TypeReading::all_signals_read))]
 fn all_signals_at<'a>(
     alloc: Global,

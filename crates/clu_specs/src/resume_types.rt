@@ -17,7 +17,7 @@ use clu_base::{Bytes, FormatError, Sequence};
 use clu_types::{Actual, Exception, Field, Heading, Term, TypeArena, TypeId};
 use std::alloc::Global;
 
-/// The type that is pending, behind the type that it waited for.
+/// The type that is pending, after the type that it waited for.
 #[tactic(auto, unfolding(crate::specs::Pending::resumed))]
 pub fn resume<'a>(
     alloc: Global,
@@ -45,7 +45,7 @@ pub fn resume<'a>(
     }
 }
 
-/// Behind a field's type.
+/// After a field's type.
 #[tactic(auto, using(crate::proofs::Rows::fields_push, crate::proofs::Growing::fields_pushed), unfolding(crate::specs::Pending::resumed, crate::specs::Pending::field_ended))]
 fn end_field<'a>(
     alloc: Global,
@@ -78,7 +78,7 @@ fn end_field<'a>(
     }
 }
 
-/// Behind an argument's type.
+/// After an argument's type.
 #[tactic(auto, using(crate::proofs::Rows::types_push, crate::proofs::Growing::types_pushed), unfolding(crate::specs::Pending::resumed, crate::specs::Pending::argument_ended))]
 fn end_argument<'a>(
     alloc: Global,
@@ -107,7 +107,7 @@ fn end_argument<'a>(
     }
 }
 
-/// Behind a result's type.
+/// After a result's type.
 #[tactic(auto, using(crate::proofs::Rows::types_push, crate::proofs::Growing::types_pushed), unfolding(crate::specs::Pending::resumed, crate::specs::Pending::result_ended))]
 fn end_result<'a>(
     alloc: Global,
@@ -136,7 +136,7 @@ fn end_result<'a>(
     }
 }
 
-/// Behind the type of a signal's object.
+/// After the type of a signal's object.
 #[tactic(auto, using(crate::proofs::Rows::types_push, crate::proofs::Growing::types_pushed), unfolding(crate::specs::Pending::resumed, crate::specs::Pending::object_ended))]
 fn end_object<'a>(
     alloc: Global,
@@ -165,7 +165,7 @@ fn end_object<'a>(
     }
 }
 
-/// Behind a signal with these objects.
+/// After a signal with these objects.
 #[tactic(auto, using(crate::proofs::Rows::signals_push, crate::proofs::Growing::signals_pushed), unfolding(crate::specs::Pending::signal_ended))]
 pub fn end_signal<'a>(
     alloc: Global,
@@ -203,7 +203,7 @@ pub fn end_signal<'a>(
     }
 }
 
-/// Behind an actual parameter.
+/// After an actual parameter.
 #[tactic(auto, using(crate::proofs::Rows::actuals_push, crate::proofs::Growing::actuals_pushed), unfolding(crate::specs::Pending::actual_ended))]
 pub fn end_actual<'a>(
     types: &mut TypeArena,

@@ -1,6 +1,6 @@
-use Rattle.std.proofs.Common.{◌≡◌, ◌+◌, ◌*◌, ◌<◌, ℕ, List, [], ◌∷◌, length, refl, sym, subst, arith, Bor}
+use Rattle.std.proofs.Common.{◌+◌, ◌*◌, ◌<◌, ℕ, List, length, refl, sym, subst, arith, Bor}
 use Rattle.std.proofs.lemmas.Result.{err_from_is_err_and}
-use Rattle.clu_types.specs.Arena.{type_at, types_of}
+use Rattle.clu_types.specs.Arena.{types_of}
 use Rattle.clu_specs.specs.declared.pending.Found.{Found}
 use Rattle.clu_specs.proofs.Depths.{type_read_none}
 use Rattle.clu_specs.proofs.Stack.{weight_of}
