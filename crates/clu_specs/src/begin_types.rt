@@ -10,7 +10,9 @@ ghost use Rattle.clu_specs.specs.TypeReading.{routine_type};
 use crate::keywords::{Keyword, keyword_of, split_word};
 use crate::marks::{begins_with, behind, literal};
 use crate::names::{LONGEST, name_after};
-use crate::pending::{ActualsSoFar, ArgumentsSoFar, FieldsSoFar, Found, Pending, ResultsSoFar, SignalsSoFar};
+use crate::pending::{
+    ActualsSoFar, ArgumentsSoFar, FieldsSoFar, Found, Pending, ResultsSoFar, SignalsSoFar,
+};
 use crate::scope::{Scope, Sort};
 use crate::terms::{routine_term, simple_term};
 use clu_base::{Bytes, FormatError, Sequence};
@@ -189,5 +191,8 @@ pub fn begin_signals<'a>(
         results,
         signals: made,
     };
-    Ok((Found::Whole(types.intern(routine_term(iter, heading))?), bytes))
+    Ok((
+        Found::Whole(types.intern(routine_term(iter, heading))?),
+        bytes,
+    ))
 }

@@ -14,7 +14,10 @@ use crate::constants::word_constant;
 use crate::keywords::split_word;
 use crate::marks::{behind, fault, literal};
 use crate::names::{LONGEST, name_after, signal_name_after};
-use crate::pending::{ActualsSoFar, ArgumentsSoFar, FieldsSoFar, Found, ObjectsSoFar, Pending, ResultsSoFar, SignalsSoFar};
+use crate::pending::{
+    ActualsSoFar, ArgumentsSoFar, FieldsSoFar, Found, ObjectsSoFar, Pending, ResultsSoFar,
+    SignalsSoFar,
+};
 use crate::resume_types::{end_actual, end_signal};
 use crate::scope::Scope;
 use clu_base::{FormatError, Sequence};
@@ -47,14 +50,22 @@ pub fn begin_item<'a>(
 
 /// The next field, up to its type.
 #[tactic(auto, unfolding(crate::specs::Pending::item_begun))]
-fn begin_field<'a>(fields: FieldsSoFar<'a>, bytes: &'a [u8]) -> Result<(Found<'a>, &'a [u8]), FormatError>
+fn begin_field<'a>(
+    fields: FieldsSoFar<'a>,
+    bytes: &'a [u8],
+) -> Result<(Found<'a>, &'a [u8]), FormatError>
     ensures reads { (ks : List CluType) (scope : Scope) → Gives (λ x. (found_seen ks x.0, x.1.now)) result (item_begun scope (waiting_seen ks (Pending.Field fields.entry)) bytes.now) }
     ensures within { (n : ℕ) → PendingBelow n (Pending.Field fields.entry) → IfOk result (λ x. FoundBelow n x.0) }
 {
     if fields.left == 0 {
         return Err(fault(bytes));
     }
-    let FieldsSoFar { word, made, name, left } = fields;
+    let FieldsSoFar {
+        word,
+        made,
+        name,
+        left,
+    } = fields;
     let (name, rest) = name_after(name, LONGEST, bytes)?;
     let rest = literal(b":", rest)?;
     let fields = FieldsSoFar {
@@ -68,7 +79,10 @@ fn begin_field<'a>(fields: FieldsSoFar<'a>, bytes: &'a [u8]) -> Result<(Found<'a
 
 /// The next argument's type.
 #[tactic(auto, unfolding(crate::specs::Pending::item_begun))]
-fn begin_argument<'a>(args: ArgumentsSoFar, bytes: &'a [u8]) -> Result<(Found<'a>, &'a [u8]), FormatError>
+fn begin_argument<'a>(
+    args: ArgumentsSoFar,
+    bytes: &'a [u8],
+) -> Result<(Found<'a>, &'a [u8]), FormatError>
     ensures reads { (ks : List CluType) (scope : Scope) → Gives (λ x. (found_seen ks x.0, x.1.now)) result (item_begun scope (waiting_seen ks (Pending.Argument args)) bytes.now) }
     ensures within { (n : ℕ) → PendingBelow n (Pending.Argument args) → IfOk result (λ x. FoundBelow n x.0) }
 {
@@ -86,14 +100,22 @@ fn begin_argument<'a>(args: ArgumentsSoFar, bytes: &'a [u8]) -> Result<(Found<'a
 
 /// The next result's type.
 #[tactic(auto, unfolding(crate::specs::Pending::item_begun))]
-fn begin_result<'a>(results: ResultsSoFar, bytes: &'a [u8]) -> Result<(Found<'a>, &'a [u8]), FormatError>
+fn begin_result<'a>(
+    results: ResultsSoFar,
+    bytes: &'a [u8],
+) -> Result<(Found<'a>, &'a [u8]), FormatError>
     ensures reads { (ks : List CluType) (scope : Scope) → Gives (λ x. (found_seen ks x.0, x.1.now)) result (item_begun scope (waiting_seen ks (Pending.Outcome results)) bytes.now) }
     ensures within { (n : ℕ) → PendingBelow n (Pending.Outcome results) → IfOk result (λ x. FoundBelow n x.0) }
 {
     if results.left == 0 {
         return Err(fault(bytes));
     }
-    let ResultsSoFar { iter, args, made, left } = results;
+    let ResultsSoFar {
+        iter,
+        args,
+        made,
+        left,
+    } = results;
     let results = ResultsSoFar {
         iter,
         args,
@@ -105,14 +127,21 @@ fn begin_result<'a>(results: ResultsSoFar, bytes: &'a [u8]) -> Result<(Found<'a>
 
 /// The type of a signal's next object.
 #[tactic(auto, unfolding(crate::specs::Pending::item_begun))]
-fn begin_object<'a>(objects: ObjectsSoFar<'a>, bytes: &'a [u8]) -> Result<(Found<'a>, &'a [u8]), FormatError>
+fn begin_object<'a>(
+    objects: ObjectsSoFar<'a>,
+    bytes: &'a [u8],
+) -> Result<(Found<'a>, &'a [u8]), FormatError>
     ensures reads { (ks : List CluType) (scope : Scope) → Gives (λ x. (found_seen ks x.0, x.1.now)) result (item_begun scope (waiting_seen ks (Pending.Object objects.entry)) bytes.now) }
     ensures within { (n : ℕ) → PendingBelow n (Pending.Object objects.entry) → IfOk result (λ x. FoundBelow n x.0) }
 {
     if objects.left == 0 {
         return Err(fault(bytes));
     }
-    let ObjectsSoFar { signals, made, left } = objects;
+    let ObjectsSoFar {
+        signals,
+        made,
+        left,
+    } = objects;
     let objects = ObjectsSoFar {
         signals,
         made,
@@ -184,7 +213,14 @@ pub fn begin_signal<'a>(
     ensures within { IfOk result (λ x. FoundBelow (length types.new) x.0) }
     ensures kept { Grows types.old types.new }
 {
-    let SignalsSoFar { iter, args, results, made, name, left } = signals;
+    let SignalsSoFar {
+        iter,
+        args,
+        results,
+        made,
+        name,
+        left,
+    } = signals;
     if left == 0 {
         return Err(fault(bytes));
     }

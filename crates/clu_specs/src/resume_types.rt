@@ -11,7 +11,10 @@ ghost use Rattle.clu_specs.specs.Pending.{resumed, field_ended, argument_ended, 
 use crate::begin_types::{begin_results, begin_signals};
 use crate::marks::{behind, literal};
 use crate::names::next_after;
-use crate::pending::{ActualsSoFar, ArgumentsSoFar, FieldsSoFar, Found, ObjectsSoFar, Pending, ResultsSoFar, SignalsSoFar, pushed};
+use crate::pending::{
+    ActualsSoFar, ArgumentsSoFar, FieldsSoFar, Found, ObjectsSoFar, Pending, ResultsSoFar,
+    SignalsSoFar, pushed,
+};
 use crate::terms::{listing_term, routine_term, selecting_term};
 use clu_base::{Bytes, FormatError, Sequence};
 use clu_types::{Actual, Exception, Field, Heading, Term, TypeArena, TypeId};
@@ -60,7 +63,12 @@ fn end_field<'a>(
     ensures within { IfOk result (λ x. FoundBelow (length types.new) x.0) }
     ensures kept { Grows types.old types.new }
 {
-    let FieldsSoFar { word, made, name, left } = fields;
+    let FieldsSoFar {
+        word,
+        made,
+        name,
+        left,
+    } = fields;
     let field = Field {
         name: Bytes::from_slice(alloc, name)?,
         of: id,
@@ -68,12 +76,20 @@ fn end_field<'a>(
     let made = pushed(made, field)?;
     match next_after(name, bytes) {
         Some(rest) => {
-            let fields = FieldsSoFar { word, made, name, left };
+            let fields = FieldsSoFar {
+                word,
+                made,
+                name,
+                left,
+            };
             Ok((Found::Item(Pending::Field(fields)), rest))
         }
         None => {
             let rest = literal(b"]", bytes)?;
-            Ok((Found::Whole(types.intern(selecting_term(word, made))?), rest))
+            Ok((
+                Found::Whole(types.intern(selecting_term(word, made))?),
+                rest,
+            ))
         }
     }
 }
@@ -122,11 +138,21 @@ fn end_result<'a>(
     ensures within { IfOk result (λ x. FoundBelow (length types.new) x.0) }
     ensures kept { Grows types.old types.new }
 {
-    let ResultsSoFar { iter, args, made, left } = results;
+    let ResultsSoFar {
+        iter,
+        args,
+        made,
+        left,
+    } = results;
     let made = pushed(made, id)?;
     match behind(b',', bytes) {
         Some(rest) => {
-            let results = ResultsSoFar { iter, args, made, left };
+            let results = ResultsSoFar {
+                iter,
+                args,
+                made,
+                left,
+            };
             Ok((Found::Item(Pending::Outcome(results)), rest))
         }
         None => {
@@ -151,11 +177,19 @@ fn end_object<'a>(
     ensures within { IfOk result (λ x. FoundBelow (length types.new) x.0) }
     ensures kept { Grows types.old types.new }
 {
-    let ObjectsSoFar { signals, made, left } = objects;
+    let ObjectsSoFar {
+        signals,
+        made,
+        left,
+    } = objects;
     let made = pushed(made, id)?;
     match behind(b',', bytes) {
         Some(rest) => {
-            let objects = ObjectsSoFar { signals, made, left };
+            let objects = ObjectsSoFar {
+                signals,
+                made,
+                left,
+            };
             Ok((Found::Item(Pending::Object(objects)), rest))
         }
         None => {
@@ -180,7 +214,14 @@ pub fn end_signal<'a>(
     ensures within { IfOk result (λ x. FoundBelow (length types.new) x.0) }
     ensures kept { Grows types.old types.new }
 {
-    let SignalsSoFar { iter, args, results, made, name, left } = signals;
+    let SignalsSoFar {
+        iter,
+        args,
+        results,
+        made,
+        name,
+        left,
+    } = signals;
     let signal = Exception {
         name: Bytes::from_slice(alloc, name)?,
         objects,
@@ -188,7 +229,14 @@ pub fn end_signal<'a>(
     let made = pushed(made, signal)?;
     match next_after(name, bytes) {
         Some(rest) => {
-            let signals = SignalsSoFar { iter, args, results, made, name, left };
+            let signals = SignalsSoFar {
+                iter,
+                args,
+                results,
+                made,
+                name,
+                left,
+            };
             Ok((Found::Signal(signals), rest))
         }
         None => {
@@ -198,7 +246,10 @@ pub fn end_signal<'a>(
                 results,
                 signals: made,
             };
-            Ok((Found::Whole(types.intern(routine_term(iter, heading))?), rest))
+            Ok((
+                Found::Whole(types.intern(routine_term(iter, heading))?),
+                rest,
+            ))
         }
     }
 }

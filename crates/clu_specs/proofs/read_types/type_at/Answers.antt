@@ -65,15 +65,15 @@ loop-found-smaller c =
 pub loop-found-preserved : goal.loop-found-preserved
 loop-found-preserved c = elim c.match-found.branch [
   | in-Whole+in-Some+in_ok-resume-in-Some w ↦
-  rw (w.next-is, w.types-is, w.pending-is)
-  (comes_resumed _ _ _ _ _ w.pop.new.self.items w.in-Some.begun w.in-Whole.id _ (comes_at _ _ _ _ _ _ _ _ _ _ c.loop-found.invariant w.in-Whole.is w.in-Some.ensures.items) w.resume.new.types _ _ w.in_ok-resume-in-Some.ensures.kept w.in_ok-resume-in-Some.ensures.within w.in_ok-resume-in-Some.ensures.reads)
+      rw (w.next-is, w.types-is, w.pending-is)
+      (comes_resumed _ _ _ _ _ w.pop.new.self.items w.in-Some.begun w.in-Whole.id _ (comes_at _ _ _ _ _ _ _ _ _ _ c.loop-found.invariant w.in-Whole.is w.in-Some.ensures.items) w.resume.new.types _ _ w.in_ok-resume-in-Some.ensures.kept w.in_ok-resume-in-Some.ensures.within w.in_ok-resume-in-Some.ensures.reads)
   | in-Inside+else-depth-len+in_ok-push-in-Inside+in_ok-begin_type-in-Inside w ↦
-  rw (w.next-is, w.types-is, w.pending-is, w.in_ok-push-in-Inside.ensures.items)
-  (comes_entered _ _ _ _ _ c.loop-found.pending.items w.in-Inside.begun _ (comes_at _ _ _ _ _ _ _ _ _ _ c.loop-found.invariant w.in-Inside.is refl) w.begin_type-in-Inside.new.types _ _ (omega (arith, w.if-depth-len.false, w.len.ensures, c.loop-found.pending.ok.0)) w.in_ok-begin_type-in-Inside.ensures.kept w.in_ok-begin_type-in-Inside.ensures.within w.in_ok-begin_type-in-Inside.ensures.reads)
+      rw (w.next-is, w.types-is, w.pending-is, w.in_ok-push-in-Inside.ensures.items)
+      (comes_entered _ _ _ _ _ c.loop-found.pending.items w.in-Inside.begun _ (comes_at _ _ _ _ _ _ _ _ _ _ c.loop-found.invariant w.in-Inside.is refl) w.begin_type-in-Inside.new.types _ _ (omega (arith, w.if-depth-len.false, w.len.ensures, c.loop-found.pending.ok.0)) w.in_ok-begin_type-in-Inside.ensures.kept w.in_ok-begin_type-in-Inside.ensures.within w.in_ok-begin_type-in-Inside.ensures.reads)
   | in-Item+in_ok-begin_item-in-Item w ↦
-  rw (w.next-is, w.types-is, w.pending-is)
-  (comes_item _ _ _ _ _ c.loop-found.pending.items w.in-Item.begun _ (comes_at _ _ _ _ _ _ _ _ _ _ c.loop-found.invariant w.in-Item.is refl) w.begin_item.new.types _ _ w.in_ok-begin_item-in-Item.ensures.kept w.in_ok-begin_item-in-Item.ensures.within w.in_ok-begin_item-in-Item.ensures.reads)
+      rw (w.next-is, w.types-is, w.pending-is)
+      (comes_item _ _ _ _ _ c.loop-found.pending.items w.in-Item.begun _ (comes_at _ _ _ _ _ _ _ _ _ _ c.loop-found.invariant w.in-Item.is refl) w.begin_item.new.types _ _ w.in_ok-begin_item-in-Item.ensures.kept w.in_ok-begin_item-in-Item.ensures.within w.in_ok-begin_item-in-Item.ensures.reads)
   | in-Signal+in_ok-next-in-Signal w ↦
-  rw (w.next-is, w.types-is, w.pending-is)
-  (comes_signal _ _ _ _ _ c.loop-found.pending.items w.in-Signal.signals _ (comes_at _ _ _ _ _ _ _ _ _ _ c.loop-found.invariant w.in-Signal.is refl) w.begin_signal.new.types _ _ w.in_ok-next-in-Signal.ensures.kept w.in_ok-next-in-Signal.ensures.within w.in_ok-next-in-Signal.ensures.reads)
+      rw (w.next-is, w.types-is, w.pending-is)
+      (comes_signal _ _ _ _ _ c.loop-found.pending.items w.in-Signal.signals _ (comes_at _ _ _ _ _ _ _ _ _ _ c.loop-found.invariant w.in-Signal.is refl) w.begin_signal.new.types _ _ w.in_ok-next-in-Signal.ensures.kept w.in_ok-next-in-Signal.ensures.within w.in_ok-next-in-Signal.ensures.reads)
 ]
