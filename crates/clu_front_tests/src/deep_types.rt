@@ -1,6 +1,7 @@
 //! Types ten thousand deep are read, and refused at the first byte at which such a text is cut or wrong.
 
 use crate::answers::{number, word};
+use crate::rows::parts;
 use clu_base::{Bytes, FormatError};
 use clu_specs::read_type;
 use clu_types::TypeArena;
@@ -32,15 +33,6 @@ fn repeat(bytes: &mut Vec<u8>, part: &[u8]) -> Result<(), Fail> {
     Ok(())
 }
 
-/// The innermost type between both parts, as often as the depth says.
-fn nested(alloc: Global, front: &str, inner: &str, back: &str) -> Result<Vec<u8>, Fail> {
-    let mut bytes = Vec::new(alloc);
-    repeat(&mut bytes, front.as_bytes())?;
-    bytes.extend_from_slice(inner.as_bytes())?;
-    repeat(&mut bytes, back.as_bytes())?;
-    Ok(bytes)
-}
-
 /// Where the text is refused, or `ok`.
 fn refusal(alloc: Global, text: &[u8]) -> Result<Bytes, Fail> {
     let mut types = TypeArena::new(alloc);
@@ -62,25 +54,32 @@ fn keep(alloc: Global, text: &[u8], due: &[u8]) -> Result<(), Fail> {
 
 /// The whole text is read, and without its last byte it is refused at its end.
 fn keep_whole(alloc: Global, front: &str, back: &str) -> Result<(), Fail> {
-    let text = nested(alloc, front, "int", back)?;
-    keep(alloc, text.as_slice(), b"ok")?;
-    let cut = text.len() - 1;
-    let due = number(alloc, cut as u64)?;
-    let (front, _) = text.as_slice().split_at(cut);
-    keep(alloc, front, due.as_slice())
+    let mut text = Vec::new(alloc);
+    repeat(&mut text, front.as_bytes())?;
+    text.extend_from_slice(b"int".as_slice())?;
+    repeat(&mut text, back.as_bytes())?;
+    keep(alloc, text.as_slice(), b"ok".as_slice())?;
+    let Some((_, cut)) = text.as_slice().split_last() else {
+        return Ok(());
+    };
+    let due = number(alloc, cut.len() as u64)?;
+    keep(alloc, cut, due.as_slice())
 }
 
 /// A reserved word in the place of the innermost type is refused after its last byte.
 fn keep_wrong(alloc: Global, front: &str, back: &str) -> Result<(), Fail> {
-    let text = nested(alloc, front, "real", back)?;
-    let due = number(alloc, (DEPTH * front.len() + 4) as u64)?;
+    let mut text = Vec::new(alloc);
+    repeat(&mut text, front.as_bytes())?;
+    text.extend_from_slice(b"real".as_slice())?;
+    let due = number(alloc, text.len() as u64)?;
+    repeat(&mut text, back.as_bytes())?;
     keep(alloc, text.as_slice(), due.as_slice())
 }
 
 #[test]
 fn deep_types_are_read(rt: HostRuntime) -> Result<(), Fail> {
     for row in ROUND.split_terminator('\0') {
-        let (front, back) = crate::rows::parts(row);
+        let (front, back) = parts(row);
         keep_whole(rt.alloc(), front, back)?;
         keep_wrong(rt.alloc(), front, back)?;
     }
