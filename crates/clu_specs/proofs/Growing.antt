@@ -1,6 +1,6 @@
 -- Lists that a reader makes while its arena grows.
 use Rattle.std.proofs.Common.{ℕ, zero, suc, get_or, ◌<◌, ◌≤◌, List, [], ◌∷◌, ◌++◌, length, arith}
-use Rattle.clu_types.specs.Arena.{AreBelow, FieldsBelow, SignalsBelow, ActualsBelow, HeadingBelow, Grows}
+use Rattle.clu_types.specs.Arena.{AreBelow, FieldsBelow, SignalsBelow, ActualBelow, ActualsBelow, HeadingBelow, Grows}
 use Rattle.clu_types.specs.declared.term.Heading.{Heading}
 use Rattle.clu_types.specs.declared.term.Term.TheVariants as term
 use Rattle.clu_types.specs.declared.spec.Demand.{Demand}
@@ -10,7 +10,7 @@ use Rattle.clu_types.specs.declared.term.Field.{Field}
 use Rattle.clu_types.specs.declared.term.Exception.{Exception}
 use Rattle.clu_types.specs.declared.term.Actual.{Actual}
 use Rattle.clu_types.specs.declared.term.Term.{Term}
-use Rattle.clu_types.proofs.Parts.{ids_more, fields_more, signals_more, actuals_more, parts_more}
+use Rattle.clu_types.proofs.Parts.{ids_more, signals_more, actuals_more, parts_more}
 use Rattle.clu_types.proofs.Carrying.{grows_on, length_grows}
 use Rattle.clu_specs.specs.Specifications.{DemandsBelow, OpBelow, OpsBelow}
 
@@ -37,6 +37,9 @@ ids_both : (n : ℕ) (xs ys : List TypeId) → AreBelow n xs → AreBelow n ys �
 ids_both n [] ys p q = q
 ids_both n (x ∷ xs) ys p q = (p.0, ids_both n xs ys p.1 q)
 
+pub types_pushed : (n : ℕ) (xs : List TypeId) (x : TypeId) → AreBelow n xs → x.0 < n → AreBelow n (xs ++ x ∷ [])
+types_pushed n xs x p lt = ids_both n xs (x ∷ []) p (lt, tt)
+
 pub types_turn : Turn AreBelow
 types_turn = turn AreBelow ids_more ids_both
 
@@ -44,12 +47,15 @@ fields_both : (n : ℕ) (xs ys : List Field) → FieldsBelow n xs → FieldsBelo
 fields_both n [] ys p q = q
 fields_both n (x ∷ xs) ys p q = (p.0, fields_both n xs ys p.1 q)
 
-pub fields_turn : Turn FieldsBelow
-fields_turn = turn FieldsBelow fields_more fields_both
+pub fields_pushed : (n : ℕ) (xs : List Field) (x : Field) → FieldsBelow n xs → x.of.0 < n → FieldsBelow n (xs ++ x ∷ [])
+fields_pushed n xs x p lt = fields_both n xs (x ∷ []) p (lt, tt)
 
 signals_both : (n : ℕ) (xs ys : List Exception) → SignalsBelow n xs → SignalsBelow n ys → SignalsBelow n (xs ++ ys)
 signals_both n [] ys p q = q
 signals_both n (x ∷ xs) ys p q = (p.0, signals_both n xs ys p.1 q)
+
+pub signals_pushed : (n : ℕ) (xs : List Exception) (x : Exception) → SignalsBelow n xs → AreBelow n x.objects → SignalsBelow n (xs ++ x ∷ [])
+signals_pushed n xs x p b = signals_both n xs (x ∷ []) p (b, tt)
 
 pub signals_turn : Turn SignalsBelow
 signals_turn = turn SignalsBelow signals_more signals_both
@@ -58,8 +64,8 @@ actuals_both : (n : ℕ) (xs ys : List Actual) → ActualsBelow n xs → Actuals
 actuals_both n [] ys p q = q
 actuals_both n (x ∷ xs) ys p q = (p.0, actuals_both n xs ys p.1 q)
 
-pub actuals_turn : Turn ActualsBelow
-actuals_turn = turn ActualsBelow actuals_more actuals_both
+pub actuals_pushed : (n : ℕ) (xs : List Actual) (x : Actual) → ActualsBelow n xs → ActualBelow n x → ActualsBelow n (xs ++ x ∷ [])
+actuals_pushed n xs x p b = actuals_both n xs (x ∷ []) p (b, tt)
 
 heading_more : (m n : ℕ) → m ≤ n → (h : Heading) → HeadingBelow m h → HeadingBelow n h
 heading_more m n le h b = parts_more m n le (term.Iter h) b

@@ -1,6 +1,7 @@
 -- Lemmas on texts and their readers.
 pub mod Growing
 pub mod Depths
+pub mod Stepping
 pub mod Writing
 pub mod Strings
 pub mod Rows
@@ -28,6 +29,9 @@ pub mod LocalTypes
 pub mod LocalActuals
 pub mod LocalSpecs
 pub mod LocalWholes
+pub mod Progress
+pub mod Stack
+pub mod Comes
 pub mod Fronts
 pub mod FrontsNames
 pub mod FrontsNumbers

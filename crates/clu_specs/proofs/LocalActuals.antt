@@ -195,7 +195,7 @@ module _ (scope : Scope) where
   made_like {A} f of c p s t less = ok_like f s t (parameter_at scope of (c ∷ (p ++ s)) (p ++ s)) (parameter_at scope of (c ∷ (p ++ t)) (p ++ t)) (parameter_like of c p s t) less
 
   -- constants and constant parameters
-  marked_bound : (l : Lead) (bytes : List ℕ) → left_of (marked_actual_read scope l bytes) ≤ length bytes
+  pub marked_bound : (l : Lead) (bytes : List ℕ) → left_of (marked_actual_read scope l bytes) ≤ length bytes
   unfolding marked_actual_read
   marked_bound l [] = omega arith
   marked_bound lead.Parameter (b ∷ bytes) = made_bound (λ n. actual_param n no_actuals) sort.Constant b bytes

@@ -1,9 +1,10 @@
 -- Items in a row, as a loop reads them while its arena grows.
-use Rattle.std.proofs.Common.{◌≡◌, ℕ, suc, ◌+◌, ◌-◌, ◌<◌, ◌≤◌, List, [], ◌∷◌, ◌++◌, length, Result, Ok, Err, Option, Some, None, Bool, true, refl, sym, ap, subst, ◌∙◌, arith}
+use Rattle.std.proofs.Common.{◌≡◌, ℕ, suc, ◌+◌, ◌-◌, ◌<◌, ◌≤◌, List, [], ◌∷◌, ◌++◌, length, Result, Ok, Err, Option, Some, None, Bool, true, false, ◌==◌, refl, sym, ap, subst, ◌∙◌, arith}
+use Rattle.std.proofs.lemmas.Bool.{ne_eqb}
 use Rattle.clu_base.specs.declared.errors.FormatError.{FormatError}
 use Rattle.clu_base.specs.declared.errors.FormatError.TheVariants as error
-use Rattle.clu_types.specs.CluType.{CluType, no_types, type_and, no_fields, field_and, no_signals, signal_and, actual_type, actual_const, actual_param}
-use Rattle.clu_types.specs.Arena.{type_at, types_at, fields_at, signals_at, actuals_at, types_of, AreBelow, FieldsBelow, SignalsBelow, ActualsBelow, Grows}
+use Rattle.clu_types.specs.CluType.{CluType, Actuals, no_types, type_and, no_fields, field_and, no_signals, signal_and, actual_type, actual_const, actual_param}
+use Rattle.clu_types.specs.Arena.{type_at, types_at, fields_at, signals_at, actuals_at, types_of, AreBelow, SignalsBelow, Grows}
 use Rattle.clu_types.specs.declared.term.TypeId.{TypeId}
 use Rattle.clu_types.specs.declared.term.Field.{Field}
 use Rattle.clu_types.specs.declared.term.Exception.{Exception}
@@ -12,11 +13,12 @@ use Rattle.clu_types.specs.declared.term.Actual.TheVariants as actual
 use Rattle.clu_types.specs.declared.term.Term.{Term}
 use Rattle.clu_types.proofs.Arenas.{types_grown}
 use Rattle.clu_types.proofs.Carrying.{grows_on}
-use Rattle.clu_types.proofs.Parts.{types_same, fields_same, signals_same, actuals_same}
+use Rattle.clu_types.proofs.Parts.{types_same, signals_same}
 use Rattle.clu_specs.specs.declared.actuals.Lead.{Lead}
 use Rattle.clu_specs.specs.declared.scope.Scope.{Scope}
-use Rattle.clu_specs.specs.Reading.{◌>>=◌, Read, Fails, several}
-use Rattle.clu_specs.specs.TypeReading.{Reader, types_joined, fields_joined, signals_joined, actuals_joined, types_step, fields_step, signals_step, actuals_step, field_read, signal_read, lead_of, is_marked, marked_actual_read, actual_by, actual_read, arguments_read, results_read, all_signals_read, heading_read}
+use Rattle.clu_specs.specs.Reading.{◌>>=◌, Read, Fails, behind, several}
+use Rattle.clu_specs.specs.Pending.{given, actual_ended, actual_begun, item_begun}
+use Rattle.clu_specs.specs.TypeReading.{Reader, types_joined, fields_joined, signals_joined, actuals_joined, types_step, signals_step, signal_read, lead_of, is_marked, marked_actual_read, arguments_read, results_read, all_signals_read, heading_read}
 
 module _ {A : Type 0} (step : A → List ℕ → Read A) (next : A → List ℕ → Option (List ℕ)) where
   pub row_on : (len i : ℕ) (made more : A) (bytes after rest : List ℕ) (total : Read A) → i < len → step made bytes ≡ Ok (more, after) → next more after ≡ Some rest
@@ -56,27 +58,29 @@ pub fails_on : {X Y : Type 0} (e : FormatError) (r : Result X ℕ) (f : X → Re
 fails_on error.Memory r f h = tt
 fails_on (error.Bad left) r f h = rw h refl
 
--- a constant or a constant parameter that is refused
-pub marked_fails : (scope : Scope) (part : Reader CluType) (e : FormatError) (lead : Lead) (bytes : List ℕ) → Fails e (marked_actual_read scope lead bytes) → is_marked lead ≡ true → lead ≡ lead_of bytes → Fails e (actual_read scope part bytes)
-unfolding actual_by
-marked_fails scope part e lead bytes h marked same =
+-- a constant or a constant parameter that is refused, in a list that waits for it
+pub begun_marked_fails : (scope : Scope) (name : List ℕ) (left : ℕ) (made : Actuals) (e : FormatError) (lead : Lead) (bytes : List ℕ) → 0 < left → Fails e (marked_actual_read scope lead bytes) → is_marked lead ≡ true → lead ≡ lead_of bytes
+    → Fails e (item_begun scope (given name left made) bytes)
+unfolding item_begun actual_begun
+begun_marked_fails scope name left made e lead bytes some h marked same =
     let now : is_marked (lead_of bytes) ≡ true = ap is_marked (sym same) ∙ marked in
-    rw now (subst (λ (x : Lead). Fails e (marked_actual_read scope x bytes)) same h)
+    let more : (left == 0) ≡ false = ne_eqb left 0 (λ z. omega (arith, some, z)) in
+    rw (more, now) (fails_on e (marked_actual_read scope (lead_of bytes) bytes) (λ a. actual_ended name (left - 1) (actuals_joined made a.0) (behind 44 a.1) a.1) (subst (λ (x : Lead). Fails e (marked_actual_read scope x bytes)) same h))
 
 -- one item more
-types_push : (ks : List CluType) (xs : List TypeId) (y : TypeId) → types_at ks (xs ++ y ∷ []) ≡ types_joined (types_at ks xs) (type_and (type_at ks y) no_types)
+pub types_push : (ks : List CluType) (xs : List TypeId) (y : TypeId) → types_at ks (xs ++ y ∷ []) ≡ types_joined (types_at ks xs) (type_and (type_at ks y) no_types)
 types_push ks [] y = refl
 types_push ks (x ∷ xs) y = ap (type_and (type_at ks x)) (types_push ks xs y)
 
-fields_push : (ks : List CluType) (xs : List Field) (y : Field) → fields_at ks (xs ++ y ∷ []) ≡ fields_joined (fields_at ks xs) (field_and y.name (type_at ks y.of) no_fields)
+pub fields_push : (ks : List CluType) (xs : List Field) (y : Field) → fields_at ks (xs ++ y ∷ []) ≡ fields_joined (fields_at ks xs) (field_and y.name (type_at ks y.of) no_fields)
 fields_push ks [] y = refl
 fields_push ks (x ∷ xs) y = ap (field_and x.name (type_at ks x.of)) (fields_push ks xs y)
 
-signals_push : (ks : List CluType) (xs : List Exception) (y : Exception) → signals_at ks (xs ++ y ∷ []) ≡ signals_joined (signals_at ks xs) (signal_and y.name (types_at ks y.objects) no_signals)
+pub signals_push : (ks : List CluType) (xs : List Exception) (y : Exception) → signals_at ks (xs ++ y ∷ []) ≡ signals_joined (signals_at ks xs) (signal_and y.name (types_at ks y.objects) no_signals)
 signals_push ks [] y = refl
 signals_push ks (x ∷ xs) y = ap (signal_and x.name (types_at ks x.objects)) (signals_push ks xs y)
 
-actuals_push : (ks : List CluType) (xs : List Actual) (y : Actual) → actuals_at ks (xs ++ y ∷ []) ≡ actuals_joined (actuals_at ks xs) (actuals_at ks (y ∷ []))
+pub actuals_push : (ks : List CluType) (xs : List Actual) (y : Actual) → actuals_at ks (xs ++ y ∷ []) ≡ actuals_joined (actuals_at ks xs) (actuals_at ks (y ∷ []))
 actuals_push ks [] y = refl
 actuals_push ks (actual.Of id ∷ xs) y = ap (actual_type (type_at ks id)) (actuals_push ks xs y)
 actuals_push ks (actual.Const c ∷ xs) y = ap (actual_const c) (actuals_push ks xs y)
@@ -90,26 +94,12 @@ module _ (new newer : List Term) (g : Grows new newer) where
       let kept : types_at (types_of newer) made ≡ types_at (types_of new) made = types_same (types_of newer) (types_of new) (length new) (types_grown new newer g) made b in
       rw (p, types_push (types_of newer) made y, kept) refl
 
-  pub fields_made : (part : Reader CluType) (made : List Field) (y : Field) (previous name bytes after : List ℕ) → name ≡ y.name → FieldsBelow (length new) made
-      → field_read part previous bytes ≡ Ok ((y.name, type_at (types_of newer) y.of), after)
-      → fields_step part (fields_at (types_of new) made, previous) bytes ≡ Ok ((fields_at (types_of newer) (made ++ y ∷ []), name), after)
-  fields_made part made y previous name bytes after same b p =
-      let kept : fields_at (types_of newer) made ≡ fields_at (types_of new) made = fields_same (types_of newer) (types_of new) (length new) (types_grown new newer g) made b in
-      rw (same, p, fields_push (types_of newer) made y, kept) refl
-
   pub signals_made : (part : Reader CluType) (made : List Exception) (y : Exception) (previous name bytes after : List ℕ) → name ≡ y.name → SignalsBelow (length new) made
       → signal_read part previous bytes ≡ Ok ((y.name, types_at (types_of newer) y.objects), after)
       → signals_step part (signals_at (types_of new) made, previous) bytes ≡ Ok ((signals_at (types_of newer) (made ++ y ∷ []), name), after)
   signals_made part made y previous name bytes after same b p =
       let kept : signals_at (types_of newer) made ≡ signals_at (types_of new) made = signals_same (types_of newer) (types_of new) (length new) (types_grown new newer g) made b in
       rw (same, p, signals_push (types_of newer) made y, kept) refl
-
-  pub actuals_made : (scope : Scope) (part : Reader CluType) (made : List Actual) (y : Actual) (bytes after : List ℕ) → ActualsBelow (length new) made
-      → actual_read scope part bytes ≡ Ok (actuals_at (types_of newer) (y ∷ []), after)
-      → actuals_step scope part (actuals_at (types_of new) made) bytes ≡ Ok (actuals_at (types_of newer) (made ++ y ∷ []), after)
-  actuals_made scope part made y bytes after b p =
-      let kept : actuals_at (types_of newer) made ≡ actuals_at (types_of new) made = actuals_same (types_of newer) (types_of new) (length new) (types_grown new newer g) made b in
-      rw (p, actuals_push (types_of newer) made y, kept) refl
 
 -- the three lists of a heading, made one after the other
 pub heading_made : (part : Reader CluType) (iter : Bool) (bytes r1 r2 r3 : List ℕ) (t1 t2 t3 : List Term) (args results : List TypeId) (signals : List Exception) → Grows t1 t2 → Grows t2 t3

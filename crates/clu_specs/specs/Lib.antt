@@ -9,6 +9,7 @@ pub mod Texts
 pub mod Uses
 pub mod Specifications
 pub mod TypeReading
+pub mod Pending
 pub mod Grammar
 pub mod UseReading
 pub mod SpecReading

@@ -3,16 +3,21 @@
 #![tactic(auto)]
 
 mod actuals;
+mod begin_types;
 mod constants;
 mod keywords;
 mod marks;
 mod names;
+mod next_items;
 mod numbers;
+mod pending;
 mod pieces;
+mod read_headings;
 mod read_kinds;
 mod read_specs;
 mod read_types;
 mod read_uses;
+mod resume_types;
 mod scope;
 mod terms;
 mod text_lengths;

@@ -13,8 +13,9 @@ ghost use Rattle.clu_specs.specs.Specifications.{DemandsBelow, OpBelow, OpsBelow
 
 use crate::marks::{at_offset, begins_with, behind, end, fault, literal};
 use crate::names::{LONGEST, has_later, name_after};
+use crate::read_headings::heading_at;
 use crate::read_kinds::parameters_at;
-use crate::read_types::{heading_at, type_at};
+use crate::read_types::type_at;
 use crate::scope::{Scope, Sort, scope_of};
 use clu_base::{Bytes, FormatError, Sequence};
 use clu_types::{Demand, Form, OpSpec, ParamKind, Spec, TypeArena};
