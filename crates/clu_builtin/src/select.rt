@@ -30,13 +30,12 @@ pub fn find_row<'a>(rows: &'a [Row], op: &Bytes) -> Option<&'a Row>
 pub fn selector_row(rows: &[Row], fields: &[Field], op: &Bytes) -> Option<(Row, TypeId)>
     ensures { result ≡ row_selected rows.now fields.now op.now }
 {
-    match fields {
-        [] => None,
-        [first, rest @ ..] => match row_before(rows, &first.name, op) {
-            Some(row) => Some((*row, first.of)),
-            None => selector_row(rows, rest, op),
-        },
+    for field in fields {
+        if let Some(row) = row_before(rows, &field.name, op) {
+            return Some((*row, field.of));
+        }
     }
+    None
 }
 
 fn row_before<'a>(rows: &'a [Row], selector: &Bytes, op: &Bytes) -> Option<&'a Row>

@@ -2,49 +2,75 @@
 
 use clu_equates::{CheckError, carry, included, intern, subst, term};
 use clu_types::{Actual, Term, TypeArena, TypeId};
+use std::alloc::Global;
 use std::test::Fail;
 
 /// A type that no arena here has.
 const FOREIGN: TypeId = TypeId(9);
 
+/// Whether an arena knows and includes its own types int and any.
+fn knows(types: &TypeArena, int: TypeId, any: TypeId) -> bool {
+    matches!(term(types, any), Ok(Term::Any))
+        && matches!(included(types, int, any), Ok(true))
+        && matches!(included(types, any, int), Ok(false))
+}
+
+/// Whether it answers `NotYet` of a type that it has not.
+fn refuses_foreign(types: &mut TypeArena, int: TypeId) -> bool {
+    matches!(intern(types, Term::Array(FOREIGN)), Err(CheckError::NotYet))
+        && matches!(term(types, FOREIGN), Err(CheckError::NotYet))
+        && matches!(included(types, FOREIGN, int), Err(CheckError::NotYet))
+}
+
+fn asks(types: &mut TypeArena) -> Result<bool, CheckError> {
+    let int = intern(types, Term::Int)?;
+    let any = intern(types, Term::Any)?;
+    Ok(knows(types, int, any) && refuses_foreign(types, int))
+}
+
 #[test]
 fn asks_an_arena_for_its_own_types(rt: HostRuntime) -> Result<(), Fail> {
     let mut types = TypeArena::new(rt.alloc());
-    let int = intern(&mut types, Term::Int)?;
-    let any = intern(&mut types, Term::Any)?;
-    assert!(rt; matches!(term(&types, any), Ok(Term::Any)));
-    assert!(rt; matches!(included(&types, int, any), Ok(true)));
-    assert!(rt; matches!(included(&types, any, int), Ok(false)));
-    let of_foreign = intern(&mut types, Term::Array(FOREIGN));
-    assert!(rt; matches!(of_foreign, Err(CheckError::NotYet)));
-    assert!(rt; matches!(term(&types, FOREIGN), Err(CheckError::NotYet)));
-    assert!(rt; matches!(included(&types, FOREIGN, int), Err(CheckError::NotYet)));
+    let is_so = asks(&mut types)?;
+    assert!(rt; is_so);
     Ok(())
+}
+
+/// Whether int takes the place of a parameter, and a type that the arena has not is `NotYet`.
+fn puts(alloc: Global, types: &mut TypeArena) -> Result<bool, CheckError> {
+    let param = intern(types, Term::Param(1))?;
+    let int = intern(types, Term::Int)?;
+    let actuals = [Actual::Of(int)];
+    let put = subst(alloc, types, param, &actuals)?;
+    let foreign = subst(alloc, types, FOREIGN, &actuals);
+    Ok(put == int && matches!(foreign, Err(CheckError::NotYet)))
 }
 
 #[test]
 fn puts_actuals_in(rt: HostRuntime) -> Result<(), Fail> {
-    let alloc = rt.alloc();
-    let mut types = TypeArena::new(alloc);
-    let param = intern(&mut types, Term::Param(1))?;
-    let int = intern(&mut types, Term::Int)?;
-    let actuals = [Actual::Of(int)];
-    let put = subst(alloc, &mut types, param, &actuals)?;
-    assert!(rt; put == int);
-    let foreign = subst(alloc, &mut types, FOREIGN, &actuals);
-    assert!(rt; matches!(foreign, Err(CheckError::NotYet)));
+    let mut types = TypeArena::new(rt.alloc());
+    let is_so = puts(rt.alloc(), &mut types)?;
+    assert!(rt; is_so);
     Ok(())
+}
+
+/// Whether any is carried to another arena as any, and a type that the first has not is `NotYet`.
+fn carries(
+    alloc: Global,
+    types: &mut TypeArena,
+    other: &mut TypeArena,
+) -> Result<bool, CheckError> {
+    let any = intern(types, Term::Any)?;
+    let carried = carry(alloc, other, types, any, &[])?;
+    let foreign = carry(alloc, other, types, FOREIGN, &[]);
+    Ok(matches!(term(other, carried), Ok(Term::Any)) && matches!(foreign, Err(CheckError::NotYet)))
 }
 
 #[test]
 fn carries_types_over(rt: HostRuntime) -> Result<(), Fail> {
-    let alloc = rt.alloc();
-    let mut types = TypeArena::new(alloc);
-    let any = intern(&mut types, Term::Any)?;
-    let mut other = TypeArena::new(alloc);
-    let carried = carry(alloc, &mut other, &types, any, &[])?;
-    assert!(rt; matches!(term(&other, carried), Ok(Term::Any)));
-    let foreign = carry(alloc, &mut other, &types, FOREIGN, &[]);
-    assert!(rt; matches!(foreign, Err(CheckError::NotYet)));
+    let mut types = TypeArena::new(rt.alloc());
+    let mut other = TypeArena::new(rt.alloc());
+    let is_so = carries(rt.alloc(), &mut types, &mut other)?;
+    assert!(rt; is_so);
     Ok(())
 }

@@ -1,5 +1,5 @@
 //! The tables of the files `rules_*.rt`, run over no specifications: each source is refused by its row's
-//! rule at its row's place, or accepted where the row says `ok`.
+//! rule at its row's place, or accepted if the row says `ok`.
 
 ghost use Rattle.std.specs.Prelude.{◌≤◌, length};
 
@@ -13,8 +13,10 @@ use clu_check_mod::check;
 use clu_equates::CheckError;
 use clu_lexer::{LexError, lex};
 use clu_parser::{ParseError, parse};
+use clu_tree::Tree;
 use clu_types::Specs;
 use std::alloc::Global;
+use std::fmt::Write;
 use std::test::Fail;
 
 /// The most bytes of a source.
@@ -31,21 +33,8 @@ fn word(alloc: Global, word: &str) -> Result<String, Fail> {
     Ok(String::from_str(alloc, word)?)
 }
 
-fn refusal_in(alloc: Global, bytes: &[u8]) -> Result<String, Fail>
-    requires { length bytes.now ≤ 1_048_576 }
-{
-    let tokens = match lex(alloc, bytes) {
-        Ok(tokens) => tokens,
-        Err(LexError::Token(place)) => return refusal(alloc, Rule::Token, place),
-        Err(LexError::Memory) => return word(alloc, "memory"),
-    };
-    let tree = match parse(alloc, bytes, tokens.as_slice()) {
-        Ok(tree) => tree,
-        Err(ParseError::Syntax(place)) => return refusal(alloc, Rule::Syntax, place),
-        Err(ParseError::TooDeep(place)) => return refusal(alloc, Rule::TooDeep, place),
-        Err(_) => return word(alloc, "not parsed"),
-    };
-    match check(alloc, tree, &Specs::new(alloc)) {
+fn refusal_of_tree(alloc: Global, tree: Tree, specs: &Specs) -> Result<String, Fail> {
+    match check(alloc, tree, specs) {
         Ok(_) => word(alloc, "ok"),
         Err(CheckError::Refused(how)) => refusal(alloc, how.rule, how.place),
         Err(CheckError::Memory) => word(alloc, "memory"),
@@ -53,15 +42,31 @@ fn refusal_in(alloc: Global, bytes: &[u8]) -> Result<String, Fail>
     }
 }
 
+fn refusal_in(alloc: Global, bytes: &[u8], specs: &Specs) -> Result<String, Fail>
+    requires { length bytes.now ≤ 1_048_576 }
+{
+    let tokens = match lex(alloc, bytes) {
+        Ok(tokens) => tokens,
+        Err(LexError::Token(place)) => return refusal(alloc, Rule::Token, place),
+        Err(LexError::Memory) => return word(alloc, "memory"),
+    };
+    match parse(alloc, bytes, tokens.as_slice()) {
+        Ok(tree) => refusal_of_tree(alloc, tree, specs),
+        Err(ParseError::Syntax(place)) => refusal(alloc, Rule::Syntax, place),
+        Err(ParseError::TooDeep(place)) => refusal(alloc, Rule::TooDeep, place),
+        Err(_) => word(alloc, "not parsed"),
+    }
+}
+
 /// The first refusal of a source, as a row writes it, or `ok`.
-fn refusal_of(alloc: Global, source: &[u8]) -> Result<String, Fail> {
+fn refusal_of(alloc: Global, source: &[u8], specs: &Specs) -> Result<String, Fail> {
     if source.len() > SOURCE_LIMIT {
         return word(alloc, "too large");
     }
-    refusal_in(alloc, source)
+    refusal_in(alloc, source, specs)
 }
 
-/// So many units behind the source.
+/// So many units after the source.
 fn extend(source: &mut Vec<u8>, unit: &[u8], times: usize) -> Result<(), Fail> {
     for _ in 0..times {
         source.extend_from_slice(unit)?;
@@ -82,142 +87,165 @@ fn filled(alloc: Global, template: &[u8], unit: &str, times: usize) -> Result<Ve
     Ok(source)
 }
 
-/// What a row says must come of its source, and the source; a row of a comment has no bytes.
-fn parts(row: &[u8]) -> (&[u8], &[u8]) {
-    let none: &[u8] = b"";
-    match row.iter().position(|b| *b == b' ') {
-        Some(at) => (
-            row.get(..at).unwrap_or(none),
-            row.get(at.saturating_add(1)..).unwrap_or(none),
-        ),
-        None => (none, none),
+/// What a row says comes of its source, in which so many units stand for each `#`. A row without a blank says nothing that
+/// can come.
+fn keep_row(alloc: Global, row: &str, unit: &str, times: usize, specs: &Specs) -> Result<(), Fail> {
+    let (due, template) = row.split_once(' ').unwrap_or(("", row));
+    let source = filled(alloc, template.as_bytes(), unit, times)?;
+    let found = refusal_of(alloc, source.as_slice(), specs)?;
+    if found.as_str() != due {
+        return Err(format!(in alloc; "{found} comes of {row}")?)?;
     }
+    Ok(())
 }
 
-/// The first row that is not kept, by its number, with what comes in the place of its refusal. In its source
-/// so many units stand for each `#`.
-fn difference(alloc: Global, rows: &str, unit: &str, times: usize) -> Result<Option<String>, Fail> {
-    for (number, row) in rows.split('\0').enumerate() {
-        let (due, template) = parts(row.as_bytes());
-        if due != b"%".as_slice() && !due.is_empty() {
-            let source = filled(alloc, template, unit, times)?;
-            let found = refusal_of(alloc, source.as_slice())?;
-            if found.as_bytes() != due {
-                return Ok(Some(format!(in alloc; "row {number}: {found}")?));
-            }
+/// Keeps the rows of a table, and answers how many there are besides comments.
+fn keep(alloc: Global, rows: &str, unit: &str, times: usize, specs: &Specs) -> Result<usize, Fail> {
+    let mut count = 0usize;
+    for row in rows.split_terminator('\0') {
+        if !row.starts_with('%') {
+            keep_row(alloc, row, unit, times, specs)?;
+            count = count.saturating_add(1);
         }
     }
-    Ok(None)
+    Ok(count)
 }
+
+/// There are as many rows as a table says.
+pub fn counted(alloc: Global, rows: usize, due: usize) -> Result<(), Fail> {
+    if rows != due {
+        return Err(format!(in alloc; "{rows} rows, but {due} are due")?)?;
+    }
+    Ok(())
+}
+
+/// Keeps the rows of a table under these specifications, of which there are so many.
+pub fn keep_under(alloc: Global, rows: &str, due: usize, specs: &Specs) -> Result<(), Fail> {
+    let count = keep(alloc, rows, "#", 1, specs)?;
+    counted(alloc, count, due)
+}
+
+/// Keeps tables, each with its number of rows.
+fn keep_all(alloc: Global, tables: &[(&str, usize)]) -> Result<(), Fail> {
+    let none = Specs::new(alloc);
+    for table in tables {
+        let (rows, due) = *table;
+        keep_under(alloc, rows, due, &none)?;
+    }
+    Ok(())
+}
+
+/// Keeps groups of rows, each after what stands for `#` and how often, which have so many rows together.
+fn keep_groups(alloc: Global, groups: &[(&str, usize, &str)], due: usize) -> Result<(), Fail> {
+    let none = Specs::new(alloc);
+    let mut count = 0usize;
+    for group in groups {
+        let (unit, times, rows) = *group;
+        count = count.saturating_add(keep(alloc, rows, unit, times, &none)?);
+    }
+    counted(alloc, count, due)
+}
+
+const NAMES_AND_CONSTANTS: [(&str, usize); 3] = [
+    (rules_names::ROWS, rules_names::COUNT),
+    (rules_definitions::ROWS, rules_definitions::COUNT),
+    (rules_constants::ROWS, rules_constants::COUNT),
+];
 
 #[test]
 fn refuses_names_and_constants(rt: HostRuntime) -> Result<(), Fail> {
-    assert_eq!(rt; difference(rt.alloc(), rules_names::ROWS, "#", 1)?, None);
-    assert_eq!(rt;
-        difference(rt.alloc(), rules_definitions::ROWS, "#", 1)?,
-        None
-    );
-    assert_eq!(rt;
-        difference(rt.alloc(), rules_constants::ROWS, "#", 1)?,
-        None
-    );
-    Ok(())
+    keep_all(rt.alloc(), &NAMES_AND_CONSTANTS)
 }
+
+const OPERATIONS_AND_TYPES: [(&str, usize); 6] = [
+    (rules_operations::ROWS, rules_operations::COUNT),
+    (rules_results::ROWS, rules_results::COUNT),
+    (rules_selectors::ROWS, rules_selectors::COUNT),
+    (rules_actuals::ROWS, rules_actuals::COUNT),
+    (rules_clusters::ROWS, rules_clusters::COUNT),
+    (rules_instances::ROWS, rules_instances::COUNT),
+];
 
 #[test]
 fn refuses_operations_and_types(rt: HostRuntime) -> Result<(), Fail> {
-    assert_eq!(rt;
-        difference(rt.alloc(), rules_operations::ROWS, "#", 1)?,
-        None
-    );
-    assert_eq!(rt; difference(rt.alloc(), rules_results::ROWS, "#", 1)?, None);
-    assert_eq!(rt;
-        difference(rt.alloc(), rules_selectors::ROWS, "#", 1)?,
-        None
-    );
-    assert_eq!(rt; difference(rt.alloc(), rules_actuals::ROWS, "#", 1)?, None);
-    assert_eq!(rt; difference(rt.alloc(), rules_clusters::ROWS, "#", 1)?, None);
-    assert_eq!(rt;
-        difference(rt.alloc(), rules_instances::ROWS, "#", 1)?,
-        None
-    );
-    Ok(())
+    keep_all(rt.alloc(), &OPERATIONS_AND_TYPES)
 }
+
+const STATEMENTS_IN_ORDER: [(&str, usize); 3] = [
+    (rules_arms::ROWS, rules_arms::COUNT),
+    (rules_signals::ROWS, rules_signals::COUNT),
+    (rules_order::ROWS, rules_order::COUNT),
+];
 
 #[test]
 fn refuses_statements_in_order(rt: HostRuntime) -> Result<(), Fail> {
-    assert_eq!(rt; difference(rt.alloc(), rules_arms::ROWS, "#", 1)?, None);
-    assert_eq!(rt; difference(rt.alloc(), rules_signals::ROWS, "#", 1)?, None);
-    assert_eq!(rt; difference(rt.alloc(), rules_order::ROWS, "#", 1)?, None);
-    Ok(())
+    keep_all(rt.alloc(), &STATEMENTS_IN_ORDER)
 }
 
-#[test]
-fn refuses_expressions(rt: HostRuntime) -> Result<(), Fail> {
-    assert_eq!(rt;
-        difference(rt.alloc(), rules_expressions::ROWS, "#", 1)?,
-        None
-    );
-    Ok(())
-}
+const EXPRESSIONS_AND_STATEMENTS: [(&str, usize); 3] = [
+    (rules_expressions::ROWS, rules_expressions::COUNT),
+    (rules_statements::ROWS, rules_statements::COUNT),
+    (rules_leaving::ROWS, rules_leaving::COUNT),
+];
 
 #[test]
-fn refuses_statements(rt: HostRuntime) -> Result<(), Fail> {
-    let alloc = rt.alloc();
-    assert_eq!(rt;
-        difference(alloc, rules_statements::LONG_NAMES, "n", 201)?,
-        None
-    );
-    assert_eq!(rt;
-        difference(alloc, rules_statements::LONGEST_NAMES, "n", 200)?,
-        None
-    );
-    assert_eq!(rt; difference(alloc, rules_statements::ROWS, "#", 1)?, None);
-    assert_eq!(rt; difference(alloc, rules_leaving::ROWS, "#", 1)?, None);
-    Ok(())
+fn refuses_expressions_and_statements(rt: HostRuntime) -> Result<(), Fail> {
+    keep_all(rt.alloc(), &EXPRESSIONS_AND_STATEMENTS)
 }
+
+const LONG_NAMES: [(&str, usize, &str); 2] = [
+    ("n", 201, rules_statements::LONG_NAMES),
+    ("n", 200, rules_statements::LONGEST_NAMES),
+];
+
+#[test]
+fn refuses_long_names(rt: HostRuntime) -> Result<(), Fail> {
+    let due = rules_statements::LONG_COUNT + rules_statements::LONGEST_COUNT;
+    keep_groups(rt.alloc(), &LONG_NAMES, due)
+}
+
+const EXAMPLES: [(&str, usize); 1] = [(rules_examples::ROWS, rules_examples::COUNT)];
 
 #[test]
 fn refuses_the_examples_of_the_docs(rt: HostRuntime) -> Result<(), Fail> {
-    assert_eq!(rt; difference(rt.alloc(), rules_examples::ROWS, "#", 1)?, None);
-    Ok(())
+    keep_all(rt.alloc(), &EXAMPLES)
 }
 
 #[test]
 fn keeps_the_limits(rt: HostRuntime) -> Result<(), Fail> {
-    for (unit, times, rows) in rules_limits::GROUPS {
-        let found = difference(rt.alloc(), rows, unit, times)?;
-        assert_eq!(rt; found, None, "{times} of {unit}");
-    }
-    Ok(())
+    keep_groups(rt.alloc(), &rules_limits::GROUPS, rules_limits::COUNT)
 }
 
 #[test]
 fn unfolds_equates(rt: HostRuntime) -> Result<(), Fail> {
-    for (unit, times, rows) in rules_equates::GROUPS {
-        let found = difference(rt.alloc(), rows, unit, times)?;
-        assert_eq!(rt; found, None, "{times} of {unit}");
-    }
-    Ok(())
+    keep_groups(rt.alloc(), &rules_equates::GROUPS, rules_equates::COUNT)
 }
 
-/// What comes of the equates `a0 = a1`, `a1 = a2` and so on, where `a1000` has the given right side.
+/// The equates `a0 = a1`, `a1 = a2` and so on, where `a1000` has the given right side.
 fn chained(alloc: Global, last: &str) -> Result<String, Fail> {
     let mut source = String::from_str(alloc, "p = proc () ")?;
     for k in 0..1000u32 {
-        let next = k + 1;
-        source.push_str(format!(in alloc; "a{k} = a{next} ")?.as_str())?;
+        write!(source, "a{k} = a{} ", k + 1)?;
     }
-    source.push_str(format!(in alloc; "a1000 = {last} end p")?.as_str())?;
-    refusal_of(alloc, source.as_bytes())
+    write!(source, "a1000 = {last} end p")?;
+    Ok(source)
 }
+
+const CHAINS: [(&str, &str); 4] = [
+    ("7", "ok"),
+    ("a900", "1:18:V7"),
+    ("a1000", "1:18:V7"),
+    ("zork", "1:18:V8"),
+];
 
 #[test]
 fn unfolds_long_chains(rt: HostRuntime) -> Result<(), Fail> {
     let alloc = rt.alloc();
-    assert_eq!(rt; chained(alloc, "7")?.as_str(), "ok");
-    assert_eq!(rt; chained(alloc, "a900")?.as_str(), "1:18:V7");
-    assert_eq!(rt; chained(alloc, "a1000")?.as_str(), "1:18:V7");
-    assert_eq!(rt; chained(alloc, "zork")?.as_str(), "1:18:V8");
+    let none = Specs::new(alloc);
+    for (last, due) in CHAINS {
+        let source = chained(alloc, last)?;
+        let found = refusal_of(alloc, source.as_bytes(), &none)?;
+        assert_eq!(rt; found.as_str(), due, "{last}");
+    }
     Ok(())
 }

@@ -1,5 +1,8 @@
 //! Actual parameters and what is asked of them: V18 to V20.
 
+/// How many rows `ROWS` has besides comments.
+pub const COUNT: usize = 76;
+
 /// Rows that each end with byte 0: the place and rule of the refusal, or `ok`, and behind a blank the source.
 /// A row that begins with `%` is a comment.
 pub const ROWS: &str = "\

@@ -1,6 +1,9 @@
 //! What equates unfold to: circles, constants, types, the places of refusals, and the bound on texts. Each name is asked
 //! for where a cluster's actual parameter or a type is wanted.
 
+/// How many rows `GROUPS` has besides comments.
+pub const COUNT: usize = 139;
+
 /// What stands in a source for each `#`, how often, and rows as in the other tables.
 pub const GROUPS: [(&str, usize, &str); 9] = [
     (

@@ -1,6 +1,9 @@
 //! The examples of docs/language.md, each with the refusal that stands there, or `ok` where it is
 //! accepted.
 
+/// How many rows `ROWS` has besides comments.
+pub const COUNT: usize = 72;
+
 /// Rows that each end with byte 0: the place and rule of the refusal, or `ok`, and behind a blank the source.
 /// A row that begins with `%` is a comment.
 pub const ROWS: &str = "\

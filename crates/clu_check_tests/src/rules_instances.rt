@@ -1,5 +1,8 @@
 //! Equal types, actual parameters in headings, and the operations that operators stand for.
 
+/// How many rows `ROWS` has besides comments.
+pub const COUNT: usize = 81;
+
 /// Rows that each end with byte 0: the place and rule of the refusal, or `ok`, and behind a blank the source.
 /// A row that begins with `%` is a comment.
 pub const ROWS: &str = "\

@@ -1,5 +1,8 @@
 //! Statements: arms, signals, exits, results and own variables; bodies that violate no rule.
 
+/// How many rows `ROWS` has besides comments.
+pub const COUNT: usize = 119;
+
 /// Rows in the form of the other tables; the refusals are in line 2.
 pub const ROWS: &str = "\
     2:1:V21 p = proc (a: array[int], i: int)\ntagcase i tag a: end\nend p\0\

@@ -1,5 +1,8 @@
 //! The limits: bytes of a name, of the text of an equated value, nodes of a routine, depth: V4, V8, V9 and V35.
 
+/// How many rows `GROUPS` has besides comments.
+pub const COUNT: usize = 88;
+
 /// What stands in a source for each `#`, how often, and rows as in the other tables.
 pub const GROUPS: [(&str, usize, &str); 31] = [
     (

@@ -1,5 +1,8 @@
 //! Operations and the arguments of invocations: V11 to V13.
 
+/// How many rows `ROWS` has besides comments.
+pub const COUNT: usize = 82;
+
 /// Rows that each end with byte 0: the place and rule of the refusal, or `ok`, and behind a blank the source.
 /// A row that begins with `%` is a comment.
 pub const ROWS: &str = "\

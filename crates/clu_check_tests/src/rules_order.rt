@@ -1,6 +1,9 @@
 //! The order of refusals: the least rule at a node, children before their parent, headings before
 //! bodies.
 
+/// How many rows `ROWS` has besides comments.
+pub const COUNT: usize = 118;
+
 /// Rows that each end with byte 0: the place and rule of the refusal, or `ok`, and behind a blank the source.
 /// A row that begins with `%` is a comment.
 pub const ROWS: &str = "\

@@ -1,5 +1,8 @@
 //! Results, assignments, conditions and iterators: V14 to V16 and V36.
 
+/// How many rows `ROWS` has besides comments.
+pub const COUNT: usize = 74;
+
 /// Rows that each end with byte 0: the place and rule of the refusal, or `ok`, and behind a blank the source.
 /// A row that begins with `%` is a comment.
 pub const ROWS: &str = "\

@@ -1,5 +1,8 @@
 //! Signals, exits, loops, returns, end names and own variables: V25 to V30, V34 and V37.
 
+/// How many rows `ROWS` has besides comments.
+pub const COUNT: usize = 99;
+
 /// Rows that each end with byte 0: the place and rule of the refusal, or `ok`, and behind a blank the source.
 /// A row that begins with `%` is a comment.
 pub const ROWS: &str = "\

@@ -1,5 +1,8 @@
 //! Statements: names in scope, assignments, conditions and loops.
 
+/// How many rows `LONG_NAMES` has besides comments.
+pub const LONG_COUNT: usize = 13;
+
 /// Rows in the form of the other tables, with a name of 201 bytes for each `#`.
 pub const LONG_NAMES: &str = "\
     2:1:V4 p = proc ()\n#: int\nend p\0\
@@ -18,10 +21,16 @@ pub const LONG_NAMES: &str = "\
     2:1:V4 p = proc ()\nown #: int := \"a\"\nend p\0\
 ";
 
+/// How many rows `LONGEST_NAMES` has besides comments.
+pub const LONGEST_COUNT: usize = 1;
+
 /// The same with one of 200 bytes.
 pub const LONGEST_NAMES: &str = "\
     ok p = proc ()\n#: int := 1\nend p\0\
 ";
+
+/// How many rows `ROWS` has besides comments.
+pub const COUNT: usize = 68;
 
 /// Rows in the form of the other tables; the refusals are in line 2.
 pub const ROWS: &str = "\

@@ -2,256 +2,210 @@
 
 ghost use Rattle.std.specs.Prelude.{◌≤◌, length};
 
-use clu_base::{Bytes, Memory, Refused, Rule, Sequence};
-use clu_check_mod::{CheckError, check, named, spec_of, specs_of};
-use clu_equates::intern;
+use crate::refusals::{counted, keep_under};
+use clu_base::Bytes;
+use clu_check_mod::{check, named, spec_of, specs_of};
+use clu_core::Checked;
 use clu_lexer::lex;
+use clu_library::is_whole;
 use clu_parser::parse;
+use clu_specs::spec_text;
 use clu_tree::Tree;
-use clu_types::{
-    Actual, Demand, Exception, Field, Form, Heading, OpSpec, ParamKind, Spec, Specs, Term,
-    TypeArena, TypeId,
-};
+use clu_types::{Spec, Specs};
 use std::alloc::Global;
 use std::test::Fail;
 
-fn parsed(alloc: Global, source: &str) -> Result<Tree, Fail> {
+fn parsed(alloc: Global, source: &str) -> Result<Box<Tree>, Fail> {
     let source = source.as_bytes();
     if source.len() > 1_048_576 {
         return Err("the source is too long")?;
     }
     match lex(alloc, source) {
-        Ok(tokens) => Ok(parse(alloc, source, tokens.as_slice())?),
+        Ok(tokens) => Ok(Box::new(alloc, parse(alloc, source, tokens.as_slice())?)?),
         Err(_) => Err("no tokens")?,
     }
 }
 
-/// The rule that a source violates first under these specifications, and in which line and column.
-fn first(alloc: Global, source: &str, specs: &Specs) -> Result<Option<(Rule, u32, u32)>, Fail> {
-    match check(alloc, parsed(alloc, source)?, specs) {
-        Ok(_) => Ok(None),
-        Err(CheckError::Refused(Refused { rule, place })) => {
-            Ok(Some((rule, place.line, place.col)))
-        }
-        Err(CheckError::Memory) => Err("memory was refused")?,
-        Err(CheckError::NotYet) => Err("not yet")?,
+/// What is found of a source that no rule refuses.
+fn checked(alloc: Global, source: &str, specs: &Specs) -> Result<Box<Checked>, Fail> {
+    let tree = parsed(alloc, source)?;
+    match check(alloc, Box::into_inner(tree), specs) {
+        Ok(checked) => Ok(Box::new(alloc, checked)?),
+        Err(_) => Err("the source is not accepted")?,
     }
 }
 
-fn name(alloc: Global, text: &str) -> Result<Bytes, Memory> {
-    Bytes::from_slice(alloc, text.as_bytes())
+/// The number of the first module.
+fn first_module(tree: &Tree) -> Result<u32, Fail> {
+    match tree.modules().first() {
+        Some(module) => Ok(*module),
+        None => Err("no module")?,
+    }
 }
 
-fn exception(alloc: Global, text: &str, objects: &[TypeId]) -> Result<Exception, Memory> {
-    Ok(Exception {
-        name: name(alloc, text)?,
-        objects: Sequence::from_vec(objects.to_vec(alloc)?),
-    })
+/// Rows that each end with byte 0: the text of a specification, a tab, and a source whose only module has it.
+const SPECIFICATIONS: &str = "\
+    c=cluster[type,int,type] where #1 has q:proctype(array[#1]),#3 has f:proctype(),#3 has g:proctype(#3) is;\
+    a:iter()yields(#3) where #1 has l:proctype(),#1 has m:proctype() ;\
+    z:proc(c[#1,%2,#3],record[a:int,b:int])signals(d(array[#1]),e)\tb = {t | t has g: proctype (t), f: proctype ()} \
+    k = int c = cluster [t: type, n: k, u: type] is z, a where u in b, t has q: proctype (w) w = array[t] rep = null \
+    z = proc (x: cvt, r: record[b, a: int]) signals (e, failure(string), d(w)) end z \
+    a = iter () yields (u) where t has m, l: proctype (), m: proctype () end a h = proc () end h end c\0\
+    p=proc()\tp = proc () end p\0\
+    q=iter[string](any,bool)yields(char)\tq = iter [s: string] (x: any, y: bool) yields (char) end q\0\
+";
+
+/// How many rows `SPECIFICATIONS` has.
+const SPECIFICATION_COUNT: usize = 3;
+
+/// The text of a specification.
+fn text_of(alloc: Global, spec: &Spec) -> Result<Bytes, Fail> {
+    if !is_whole(spec) {
+        return Err("a specification with types of others")?;
+    }
+    Ok(spec_text(alloc, spec)?)
 }
 
-fn heading(
-    alloc: Global,
-    args: &[TypeId],
-    results: &[TypeId],
-    signals: Vec<Exception>,
-) -> Result<Heading, Memory> {
-    Ok(Heading {
-        args: Sequence::from_vec(args.to_vec(alloc)?),
-        results: Sequence::from_vec(results.to_vec(alloc)?),
-        signals: Sequence::from_vec(signals),
-    })
+/// The text of the specification of the first module.
+fn first_text(alloc: Global, tree: &Tree) -> Result<Bytes, Fail> {
+    let module = first_module(tree)?;
+    match spec_of(alloc, tree, module, &Specs::new(alloc)) {
+        Ok(spec) => text_of(alloc, &spec),
+        Err(_) => Err("no specification")?,
+    }
 }
 
-fn demand(alloc: Global, param: u32, op: &str, wanted: TypeId) -> Result<Demand, Memory> {
-    Ok(Demand {
-        param,
-        op: name(alloc, op)?,
-        wanted,
-    })
+/// Whether one specification is found for a source, both of its headings alone and of the whole.
+fn has_one(alloc: Global, tree: &Tree, source: &str) -> Result<bool, Fail> {
+    let none = Specs::new(alloc);
+    let whole = checked(alloc, source, &none)?;
+    match specs_of(alloc, tree, &none) {
+        Ok(specs) => Ok(specs.len() == 1 && whole.specs.len() == 1),
+        Err(_) => Ok(false),
+    }
 }
 
-const CLUSTER: &str = "b = {t | t has g: proctype (t), f: proctype ()} k = int \
-c = cluster [t: type, n: k, u: type] is z, a where u in b, t has q: proctype (w) w = array[t] rep = null \
-z = proc (x: cvt, r: record[b, a: int]) signals (e, failure(string), d(w)) end z \
-a = iter () yields (u) where t has m, l: proctype (), m: proctype () end a \
-h = proc () end h end c";
-
-/// What `CLUSTER` is, with types of the arena.
-fn cluster_form(alloc: Global, types: &mut TypeArena) -> Result<Form, Fail> {
-    let t = intern(types, Term::Param(1))?;
-    let u = intern(types, Term::Param(3))?;
-    let int = intern(types, Term::Int)?;
-    let ts = intern(types, Term::Array(t))?;
-    let plain = intern(
-        types,
-        Term::Proc(heading(alloc, &[], &[], Vec::new(alloc))?),
-    )?;
-    let of_u = intern(
-        types,
-        Term::Proc(heading(alloc, &[u], &[], Vec::new(alloc))?),
-    )?;
-    let of_ts = intern(
-        types,
-        Term::Proc(heading(alloc, &[ts], &[], Vec::new(alloc))?),
-    )?;
-    let demands = vec![in alloc;
-        demand(alloc, 1, "q", of_ts)?,
-        demand(alloc, 3, "f", plain)?,
-        demand(alloc, 3, "g", of_u)?,
-    ]?;
-    let own = vec![in alloc; Actual::Of(t), Actual::ConstParam(2), Actual::Of(u)]?;
-    let own = intern(
-        types,
-        Term::Cluster(name(alloc, "c")?, Sequence::from_vec(own)),
-    )?;
-    let a = Field {
-        name: name(alloc, "a")?,
-        of: int,
-    };
-    let b = Field {
-        name: name(alloc, "b")?,
-        of: int,
-    };
-    let pair = intern(
-        types,
-        Term::Record(Sequence::from_vec(vec![in alloc; a, b]?)),
-    )?;
-    let signals = vec![in alloc; exception(alloc, "d", &[ts])?, exception(alloc, "e", &[])?]?;
-    let own_demands = vec![in alloc;
-        demand(alloc, 1, "l", plain)?,
-        demand(alloc, 1, "m", plain)?,
-    ]?;
-    let ops = vec![in alloc;
-        OpSpec {
-            name: name(alloc, "a")?,
-            iter: true,
-            heading: heading(alloc, &[], &[u], Vec::new(alloc))?,
-            demands: Sequence::from_vec(own_demands),
-        },
-        OpSpec {
-            name: name(alloc, "z")?,
-            iter: false,
-            heading: heading(alloc, &[own, pair], &[], signals)?,
-            demands: Sequence::from_vec(Vec::new(alloc)),
-        },
-    ]?;
-    Ok(Form::Cluster(Sequence::from_vec(demands), Sequence::from_vec(ops)))
+/// The first module of a row has its text.
+fn keep_text(alloc: Global, row: &str) -> Result<(), Fail> {
+    let (due, source) = row.split_once('\t').unwrap_or(("", row));
+    let tree = parsed(alloc, source)?;
+    let found = first_text(alloc, &tree)?;
+    if found.as_slice() != due.as_bytes() {
+        return Err(format!(in alloc; "{}", std::str::from_utf8(found.as_slice())?)?)?;
+    }
+    if !has_one(alloc, &tree, source)? {
+        return Err("not one specification")?;
+    }
+    Ok(())
 }
 
 #[test]
 fn specifications(rt: HostRuntime) -> Result<(), Fail> {
-    let alloc = rt.alloc();
-    let tree = parsed(alloc, CLUSTER)?;
-    let module = tree.modules().first().copied().ok_or("a module")?;
-    let spec = spec_of(alloc, &tree, module, &Specs::new(alloc))?;
-    let Spec {
-        name: of,
-        kinds,
-        types,
-        form,
-    } = spec;
-    assert_eq!(rt; of, name(alloc, "c")?);
-    assert_eq!(rt;
-        kinds.as_slice(),
-        [ParamKind::OfType, ParamKind::Int, ParamKind::OfType].as_slice()
-    );
-    let mut types = types;
-    assert_eq!(rt; form, cluster_form(alloc, &mut types)?);
-    let all = specs_of(alloc, &tree, &Specs::new(alloc))?;
-    assert_eq!(rt; all.len(), 1);
-    let checked = check(alloc, tree, &Specs::new(alloc))?;
-    assert_eq!(rt; checked.specs.len(), 1);
+    let mut rows = 0usize;
+    for row in SPECIFICATIONS.split_terminator('\0') {
+        keep_text(rt.alloc(), row)?;
+        rows = rows.saturating_add(1);
+    }
+    counted(rt.alloc(), rows, SPECIFICATION_COUNT)
+}
+
+/// The source of the kept specifications.
+const KEPT: &str = "r = proc () end r q = proc (x: int) end q";
+
+/// Rows as in the other tables, over the specifications of `KEPT`.
+const UNDER_KEPT: &str = "\
+    1:14:V12 p = proc () q() end p\0\
+    ok p = proc () q() end p q = proc () end q\0\
+    1:13:V5 p = proc () s() end p\0\
+    ok r = proc () q(1) end r\0\
+    ok p = proc () q: int := 1 r: int := q end p\0\
+";
+
+/// How many rows `UNDER_KEPT` has.
+const KEPT_COUNT: usize = 5;
+
+/// Keeps the specifications of a source.
+fn keep_specs(alloc: Global, specs: &mut Specs, source: &str) -> Result<(), Fail> {
+    let tree = parsed(alloc, source)?;
+    for spec in specs_of(alloc, &tree, &Specs::new(alloc))? {
+        specs.with(spec)?;
+    }
     Ok(())
 }
 
-/// Sources under the specifications of `q = proc (x: int) end q` and `r = proc () end r`.
-const UNDER_KEPT: [(&str, Option<(Rule, u32, u32)>); 5] = [
-    ("p = proc () q() end p", Some((Rule::ArgumentCount, 1, 14))),
-    ("p = proc () q() end p q = proc () end q", None),
-    ("p = proc () s() end p", Some((Rule::UnknownName, 1, 13))),
-    ("r = proc () q(1) end r", None),
-    ("p = proc () q: int := 1 r: int := q end p", None),
-];
+/// The names of the specifications of what was checked, in their order with a blank after each.
+fn spec_names(alloc: Global, checked: &Checked) -> Result<String, Fail> {
+    let mut names = String::new(alloc);
+    for spec in &checked.specs {
+        put_name(&mut names, &spec.name)?;
+    }
+    Ok(names)
+}
+
+fn put_name(names: &mut String, name: &Bytes) -> Result<(), Fail> {
+    names.push_str(std::str::from_utf8(name.as_slice())?)?;
+    names.push(' ')?;
+    Ok(())
+}
 
 #[test]
 fn kept_specifications(rt: HostRuntime) -> Result<(), Fail> {
     let alloc = rt.alloc();
     let mut specs = Specs::new(alloc);
-    let kept = parsed(alloc, "r = proc () end r q = proc (x: int) end q")?;
-    for spec in specs_of(alloc, &kept, &Specs::new(alloc))? {
-        specs.with(spec)?;
-    }
-    for (source, wanted) in UNDER_KEPT {
-        let found = first(alloc, source, &specs)?;
-        assert_eq!(rt; found, wanted, "{source}");
-    }
-    let checked = check(alloc, parsed(alloc, "r = proc () q(1) end r")?, &specs)?;
-    let mut names = Vec::new(alloc);
-    for spec in &checked.specs {
-        names.push(spec.name.copy(alloc)?)?;
-    }
-    assert_eq!(rt;
-        names,
-        vec![in alloc; name(alloc, "r")?, name(alloc, "q")?]?
-    );
+    keep_specs(alloc, &mut specs, KEPT)?;
+    keep_under(alloc, UNDER_KEPT, KEPT_COUNT, &specs)?;
+    let checked = checked(alloc, "r = proc () q(1) end r", &specs)?;
+    let names = spec_names(alloc, &checked)?;
+    assert_eq!(rt; names.as_str(), "r q ");
     Ok(())
 }
 
-/// A file and the modules that the text of its first module names.
-const NAMING: [(&str, &[&str]); 9] = [
-    ("p = proc () end p q = proc () end q", &[]),
-    ("p = proc () p() end p", &[]),
-    (
-        "p = proc (x: b) returns (c) q: int := 1 return (c$f()) end p \
-         b = cluster is f rep = null f = proc () end f end b \
-         c = cluster is f rep = null f = proc () returns (cvt) return (nil) end f end c \
-         q = proc () end q",
-        &["b", "c"],
-    ),
-    (
-        "t = array[b] p = proc () end p b = cluster is f rep = null f = proc () end f end b",
-        &["b"],
-    ),
-    (
-        "p = proc () if true then q: int := 1 q := 2 else q() end end p q = proc () end q",
-        &["q"],
-    ),
-    (
-        "p = proc () q: int := q() end p q = proc () returns (int) return (1) end q",
-        &["q"],
-    ),
-    (
-        "p = proc () for q: int in q() do q := 1 end end p q = iter () yields (int) end q",
-        &["q"],
-    ),
-    (
-        "p = proc () begin q = 1 end q() r() end p r = proc () end r q = proc () end q",
-        &["q", "r"],
-    ),
-    (
-        "c = cluster is q rep = null q = proc (r: int) r := 1 end q end c \
-         q = proc () end q r = proc () end r",
-        &[],
-    ),
-];
+/// Rows that each end with byte 0: the modules that the text of the first module names, each with a blank after it, a tab and
+/// the file.
+const NAMING: &str = "\
+    \tp = proc () end p q = proc () end q\0\
+    \tp = proc () p() end p\0\
+    b c \tp = proc (x: b) returns (c) q: int := 1 return (c$f()) end p \
+    b = cluster is f rep = null f = proc () end f end b \
+    c = cluster is f rep = null f = proc () returns (cvt) return (nil) end f end c \
+    q = proc () end q\0\
+    b \tt = array[b] p = proc () end p b = cluster is f rep = null f = proc () end f end b\0\
+    q \tp = proc () if true then q: int := 1 q := 2 else q() end end p q = proc () end q\0\
+    q \tp = proc () q: int := q() end p q = proc () returns (int) return (1) end q\0\
+    q \tp = proc () for q: int in q() do q := 1 end end p q = iter () yields (int) end q\0\
+    q r \tp = proc () begin q = 1 end q() r() end p r = proc () end r q = proc () end q\0\
+    \tc = cluster is q rep = null q = proc (r: int) r := 1 end q end c q = proc () end q r = proc () end r\0\
+";
 
-fn names_of(alloc: Global, texts: &[&str]) -> Result<Vec<Bytes>, Memory> {
-    let mut names = Vec::new(alloc);
-    for text in texts {
-        names.push(name(alloc, text)?)?;
+/// How many rows `NAMING` has.
+const NAMING_COUNT: usize = 9;
+
+/// The modules that the text of the first module names.
+fn named_by(alloc: Global, checked: &Checked) -> Result<String, Fail> {
+    let mut names = String::new(alloc);
+    for name in named(alloc, checked, first_module(&checked.tree)?)? {
+        put_name(&mut names, &name)?;
     }
     Ok(names)
 }
 
-#[test]
-fn modules_that_a_text_names(rt: HostRuntime) -> Result<(), Fail> {
-    let alloc = rt.alloc();
-    for (source, wanted) in NAMING {
-        let tree = parsed(alloc, source)?;
-        let module = tree.modules().first().copied().ok_or("a module")?;
-        let checked = check(alloc, tree, &Specs::new(alloc))?;
-        let names = names_of(alloc, wanted)?;
-        assert_eq!(rt; named(alloc, &checked, module)?, names, "{source}");
+/// The first module of a row names what stands before it.
+fn keep_names(alloc: Global, row: &str) -> Result<(), Fail> {
+    let (due, source) = row.split_once('\t').unwrap_or(("?", row));
+    let checked = checked(alloc, source, &Specs::new(alloc))?;
+    let found = named_by(alloc, &checked)?;
+    if found.as_str() != due {
+        return Err(format!(in alloc; "{found}are named by {row}")?)?;
     }
     Ok(())
+}
+
+#[test]
+fn modules_that_a_text_names(rt: HostRuntime) -> Result<(), Fail> {
+    let mut rows = 0usize;
+    for row in NAMING.split_terminator('\0') {
+        keep_names(rt.alloc(), row)?;
+        rows = rows.saturating_add(1);
+    }
+    counted(rt.alloc(), rows, NAMING_COUNT)
 }

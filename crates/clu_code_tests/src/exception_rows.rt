@@ -1,5 +1,8 @@
 //! Programs of flat code with exceptions, each behind how it ends and what it writes.
 
+/// How many rows `ARMS` has.
+pub const ARMS_COUNT: usize = 4;
+
 /// One of `ee` and `other` with the object 77 is raised where a region with an arm for `ee` lies inside one with an
 /// arm for all names, or only in the latter. The first arm writes the object, the second one the number of bytes of
 /// the name.
@@ -37,6 +40,9 @@ does take 4 5; load 4 4 0; show 4 5; leave 0
 region 1 3 - /12/4
 region 2 2 0 ee/4/4
 ";
+
+/// How many rows `SIGNALS` has.
+pub const SIGNALS_COUNT: usize = 3;
 
 /// Signals to the caller, whose arms write the first two words of the string that is the object; and out of two frames:
 /// what the routine between doesn't handle becomes failure there, and failure goes on as it is.
@@ -83,6 +89,9 @@ is signals 2
 names failure,abc
 does enter 0; constant 0 0; constant 1 1; signal 0
 ";
+
+/// How many rows `UNHANDLED` has.
+pub const UNHANDLED_COUNT: usize = 11;
 
 /// Failures outside all routines, of runs that first take words of the store. The text of 22 bytes takes 4 words of
 /// the 512 where it is made in a routine, and none outside all routines.
@@ -134,6 +143,9 @@ names e,its own text
 does enter 0; word 0 512; allocate 0; constant 0 0; constant 1 1; signal 0
 ";
 
+/// How many rows `LOOPS` has.
+pub const LOOPS_COUNT: usize = 3;
+
 /// Loops over an iterator that yields in a region with an arm for all names, and then signals `late`. That arm takes
 /// neither what the body raises nor what the iterator itself signals. In the last program an arm inside a loop cuts
 /// to the top above the loop's record, and the loop goes on.
@@ -177,6 +189,9 @@ names ee,abcd
 does enter 0; constant 0 0; constant 1 1; signal 0
 ";
 
+/// How many rows `PASSED` has.
+pub const PASSED_COUNT: usize = 2;
+
 /// A signal with two objects that a routine passes on as it is: an arm of its caller takes both, or none is there.
 pub const PASSED: &str = "
 = returned 11 22
@@ -209,6 +224,9 @@ names e
 does enter 0; constant 0 0; word 1 11; word 2 22; signal 0
 ";
 
+/// How many rows `NEEDED` has.
+pub const NEEDED_COUNT: usize = 3;
+
 /// Tests that a variable names an object: it does; it doesn't; and an arm takes the failure and writes the size of
 /// its text.
 pub const NEEDED: &str = "
@@ -225,6 +243,9 @@ does enter 0; word 0 0; need 0; leave 0
 does result 4 0; load 4 4 0; show 4 5; leave 0
 region 2 2 - failure/4/4
 ";
+
+/// How many rows `SEARCHES` has.
+pub const SEARCHES_COUNT: usize = 2;
 
 /// Searches within their steps. First a raise in the last of 300 regions that lie side by side, with 601 cuts. Before
 /// the search come 9 steps of the start, 11 to enter, 600 in the regions and 12 to raise, and behind it 10 to the

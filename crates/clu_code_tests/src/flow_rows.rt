@@ -1,6 +1,9 @@
 //! Programs of flat code with calls, loops over iterators and the primitives, each behind how it ends and what it
 //! writes.
 
+/// How many rows `CALLS` has.
+pub const CALLS_COUNT: usize = 5;
+
 /// Calls, jumps and the end of the stack, which has 512 words. A frame has 5 before its slots.
 pub const CALLS: &str = "
 = returned 42 58
@@ -27,6 +30,9 @@ is p 3
 uses p
 does enter 1; descriptor 1 0; move 2 0; invoke 1; take 1 1; leave 0
 ";
+
+/// How many rows `ITERATORS` has.
+pub const ITERATORS_COUNT: usize = 4;
 
 /// Loops over `down`, which yields the numbers from its argument down to 1. In the second program the inner loop ends
 /// itself at its second turn, the outer one at its third. The stack is that outside the loops in the end: the frame
@@ -74,6 +80,9 @@ uses again
 does enter 1; descriptor 1 0; invoke 1; jump 0; take 1 2; yield 0; label 0; leave 0
 ";
 
+/// How many rows `PRIMITIVES` has.
+pub const PRIMITIVES_COUNT: usize = 8;
+
 /// Taking from the store, which has 512 words; input and output; and the second byte of a word, which becomes 0x80
 /// where 0x180 is put, and is read again without a sign.
 pub const PRIMITIVES: &str = "
@@ -110,6 +119,9 @@ is p 7
 does enter 0; word 0 1; allocate 0; word 1 1; add 1 0 1; move 3 1; word 2 0x180; save_byte 1; load_byte 3; load 4 0 0
 does show 3 5; show 4 5; leave 0
 ";
+
+/// How many rows `VALUES` has.
+pub const VALUES_COUNT: usize = 6;
 
 /// Words of each length, and slots that are far: from 8 * (5 + 251) = 2048 bytes on they are out of an immediate's
 /// reach.
@@ -149,6 +161,9 @@ does enter 0; word 251 40; word 252 2; add 251 251 252; move 253 251; show 253 2
 is p 405
 does enter 0; word 400 40; word 401 2; add 400 400 401; move 402 400; show 402 403; leave 0
 ";
+
+/// How many rows `OPERATIONS` has.
+pub const OPERATIONS_COUNT: usize = 37;
 
 /// An operation, its words and what it gives.
 pub const OPERATIONS: &str = "\

@@ -1,5 +1,8 @@
 //! Bodies of routines in word code, each behind what comes of it: the steps and the regions, or ` refused`.
 
+/// How many rows `ROWS` has.
+pub const COUNT: usize = 28;
+
 pub const ROWS: &str = "
 = Enter(1) Word(3, 5) Bin(Add, 0, 1, 3) Leave(3)
 slot 1; word 5; add; set 0

@@ -1,7 +1,7 @@
 //! Regions in code, the arms that are found in them, and their cuts. What is found is shown as one text.
 
 use crate::regions::{add_region, parent_of};
-use crate::text::small_at;
+use crate::text::{counted, small_at};
 use clu_base::Bytes;
 use clu_handlers::{NO_REGION, Regions};
 use clu_wir::{RegionBuilder, RegionError};
@@ -108,16 +108,24 @@ fn is_refused(alloc: Global, text: &str) -> Result<bool, Fail> {
     Ok(matches!(added, Err(RegionError::Misplaced)) && regions.len() == 2)
 }
 
+/// How many rows `MISPLACED` has.
+const MISPLACED_COUNT: usize = 8;
+
 /// An empty range, a parent that is not there, ranges that are not in the parent, and those that meet another region.
 const MISPLACED: &str = "3 2 -; 10 12 2; 1 5 0; 8 10 0; 5 7 0; 9 12 -; 2 9 -; 4 6 1";
 
 #[test]
 fn what_is_misplaced(rt: HostRuntime) -> Result<(), Fail> {
     let alloc = rt.alloc();
+    let mut rows = 0usize;
     for text in MISPLACED.split("; ") {
-        assert!(rt; is_refused(alloc, text)?, "{text}");
+        let is_so = is_refused(alloc, text)?;
+        assert!(rt; is_so, "{text}");
+        rows = rows.saturating_add(1);
     }
-    assert!(rt; !is_refused(alloc, "5 5 1")?);
+    counted(alloc, rows, MISPLACED_COUNT)?;
+    let is_so = is_refused(alloc, "5 5 1")?;
+    assert!(rt; !is_so);
     Ok(())
 }
 

@@ -2,6 +2,7 @@
 
 use crate::program::Program;
 use crate::regions::{arm, put_region};
+use crate::text::{counted, same};
 use clu_base::Sequence;
 use clu_frames::OUTER_MARK;
 use clu_object::{ObjRoutine, Region};
@@ -94,16 +95,19 @@ fn has_table(alloc: Global, regions: &[Region], names: &[u64], due: &[u64]) -> b
     }
 }
 
+/// Whether two regions and none have their tables, and names that are too few give none.
+fn have_tables(alloc: Global, regions: &[Region]) -> bool {
+    let short = regions_table(alloc, regions, 0x10000, 0x20000, &[0]);
+    has_table(alloc, regions, &[0, 0x30000], &TABLE)
+        && has_table(alloc, &[], &[], &[1, 0x10000, 0])
+        && matches!(short, Err(SelectError::NotYet))
+}
+
 #[test]
 fn a_table(rt: HostRuntime) -> Result<(), Fail> {
-    let alloc = rt.alloc();
-    let mut regions = Vec::new(alloc);
-    add_two(alloc, &mut regions)?;
-    assert_eq!(rt; OUTER_MARK, 4);
-    assert!(rt; has_table(alloc, regions.as_slice(), &[0, 0x30000], &TABLE));
-    assert!(rt; has_table(alloc, &[], &[], &[1, 0x10000, 0]));
-    let table = regions_table(alloc, regions.as_slice(), 0x10000, 0x20000, &[0]);
-    assert!(rt; matches!(table, Err(SelectError::NotYet)));
+    let mut regions = Vec::new(rt.alloc());
+    add_two(rt.alloc(), &mut regions)?;
+    assert!(rt; OUTER_MARK == 4 && have_tables(rt.alloc(), regions.as_slice()));
     Ok(())
 }
 
@@ -114,6 +118,9 @@ fn begin(program: &mut Program, steps: &str) -> Result<(), Fail> {
     program.line("types", "int")?;
     program.line("does", steps)
 }
+
+/// How many rows `STEPS` has.
+const STEPS_COUNT: usize = 26;
 
 /// Each step where its words are the most: all slots are far.
 const STEPS: &str = "move 900 901\0\
@@ -161,11 +168,17 @@ fn is_counted(alloc: Global, step: &str) -> Result<bool, Fail> {
 
 #[test]
 fn no_step_takes_more_words_than_are_counted(rt: HostRuntime) -> Result<(), Fail> {
+    let mut rows = 0usize;
     for step in STEPS.split('\0') {
-        assert!(rt; is_counted(rt.alloc(), step)?, "{step}");
+        let is_so = is_counted(rt.alloc(), step)?;
+        assert!(rt; is_so, "{step}");
+        rows = rows.saturating_add(1);
     }
-    Ok(())
+    counted(rt.alloc(), rows, STEPS_COUNT)
 }
+
+/// How many rows `REFUSED` has.
+const REFUSED_COUNT: usize = 9;
 
 /// Steps that no source gives.
 const REFUSED: &str = "jump 0\0\
@@ -187,10 +200,13 @@ fn is_refused(alloc: Global, steps: &str) -> Result<bool, Fail> {
 
 #[test]
 fn what_no_source_gives(rt: HostRuntime) -> Result<(), Fail> {
+    let mut rows = 0usize;
     for steps in REFUSED.split('\0') {
-        assert!(rt; is_refused(rt.alloc(), steps)?, "{steps}");
+        let is_so = is_refused(rt.alloc(), steps)?;
+        assert!(rt; is_so, "{steps}");
+        rows = rows.saturating_add(1);
     }
-    Ok(())
+    counted(rt.alloc(), rows, REFUSED_COUNT)
 }
 
 /// Writes the first and the last word of a routine of these steps, or that it is refused.
@@ -212,6 +228,9 @@ fn put_ends_of(text: &mut String, code: &[u32]) -> Result<(), Fail> {
     Ok(())
 }
 
+/// How many rows `FAR` has.
+const FAR_COUNT: usize = 3;
+
 /// Jumps reach 2^18 - 1 words on and 2^18 words back. A move has two words, and to enter with 200 arguments takes 13
 /// words and two for each: behind the first jump stand 634 * 413 + 150 * 2 = 2^18 - 2 words, and the last one is at
 /// word 2^18. Then another word stands before label 0, and another jump back behind that one.
@@ -220,15 +239,21 @@ label 1; jump 0; 634*enter 200; 150*move 0 0; label 0; jump 1; jump 1 gives 7fdf
 label 1; jump 0; 634*enter 200; 150*move 0 0; jump 1; label 0 gives refused\0\
 label 1; jump 0; 634*enter 200; 150*move 0 0; label 0; jump 1; jump 1; jump 1 gives refused";
 
+fn keep_ends(alloc: Global, row: &str) -> Result<(), Fail> {
+    let (steps, due) = row.split_once(" gives").unwrap_or((row, ""));
+    let mut text = String::new(alloc);
+    put_ends(alloc, &mut text, steps)?;
+    same(text, due)
+}
+
 #[test]
 fn jumps_that_are_far(rt: HostRuntime) -> Result<(), Fail> {
+    let mut rows = 0usize;
     for row in FAR.split('\0') {
-        let (steps, due) = row.split_once(" gives").unwrap_or((row, ""));
-        let mut text = String::new(rt.alloc());
-        put_ends(rt.alloc(), &mut text, steps)?;
-        assert_eq!(rt; text.as_str(), due, "{steps}");
+        keep_ends(rt.alloc(), row)?;
+        rows = rows.saturating_add(1);
     }
-    Ok(())
+    counted(rt.alloc(), rows, FAR_COUNT)
 }
 
 /// How many holes of this kind a part has, and how many others.
@@ -252,18 +277,24 @@ fn holes_of(part: &ObjRoutine, kind: u8) -> (u32, u32) {
     (of_kind, others)
 }
 
+fn have_numbers() -> bool {
+    Part::Start.number() == 0
+        && Part::Search.number() == 1
+        && Part::Bind.number() == 2
+        && Part::Unnamed.number() == 3
+}
+
 /// The holes of the parts are for the runtime's table, and one is for the search.
+fn have_holes(alloc: Global) -> bool {
+    holes(start_part(alloc), HoleKind::Regions) == (1, 0)
+        && holes(search_part(alloc), HoleKind::Regions).1 == 0
+        && holes(bind_part(alloc), HoleKind::Regions).1 == 0
+        && holes(unnamed_part(alloc), HoleKind::Regions) == (1, 1)
+        && holes(unnamed_part(alloc), HoleKind::Runtime) == (1, 1)
+}
+
 #[test]
-fn parts_have_their_numbers(rt: HostRuntime) -> Result<(), Fail> {
-    let alloc = rt.alloc();
-    assert_eq!(rt; Part::Start.number(), 0);
-    assert_eq!(rt; Part::Search.number(), 1);
-    assert_eq!(rt; Part::Bind.number(), 2);
-    assert_eq!(rt; Part::Unnamed.number(), 3);
-    assert_eq!(rt; holes(start_part(alloc), HoleKind::Regions), (1, 0));
-    assert_eq!(rt; holes(search_part(alloc), HoleKind::Regions).1, 0);
-    assert_eq!(rt; holes(bind_part(alloc), HoleKind::Regions).1, 0);
-    assert_eq!(rt; holes(unnamed_part(alloc), HoleKind::Regions), (1, 1));
-    assert_eq!(rt; holes(unnamed_part(alloc), HoleKind::Runtime), (1, 1));
-    Ok(())
+fn parts_have_their_numbers(rt: HostRuntime) {
+    assert!(rt; have_numbers());
+    assert!(rt; have_holes(rt.alloc()));
 }

@@ -41,7 +41,7 @@ pub fn linked(alloc: Global, objects: &[ObjRoutine]) -> Result<Image, Fail> {
         alloc,
         code: Vec::new(alloc),
         starts: Vec::new(alloc),
-        fixed: Vec::new(alloc),
+        fixed: vec![in alloc; 0; objects.len().saturating_mul(3).saturating_add(4)]?,
         base: IMAGE,
         texts: Vec::new(alloc),
     };
@@ -59,18 +59,16 @@ impl Layout {
         Ok(())
     }
 
-    /// The code of all, and room for three words for each and four for the runtime's table.
+    /// The code of all. The fixed part has room for three words for each and four for the runtime's table.
     fn place_code(&mut self, objects: &[ObjRoutine]) -> Result<(), Fail> {
         for object in objects {
             let start = self.code_end();
             self.starts.push(start)?;
             self.code.extend_from_slice(object.code.as_slice())?;
-            self.fixed.extend_from_slice(&[0, 0, 0])?;
         }
         if self.code.len() % 2 == 1 {
             self.code.push(0)?;
         }
-        self.fixed.extend_from_slice(&[0, 0, 0, 0])?;
         self.base = self.code_end();
         Ok(())
     }
@@ -275,7 +273,10 @@ impl Layout {
             bytes.extend_from_slice(&word.to_le_bytes())?;
         }
         let code = self.code.as_slice().to_vec(self.alloc)?;
-        Ok(Image::new(0, code, bytes, Vec::new(self.alloc)).ok_or("no image")?)
+        match Image::new(0, code, bytes, Vec::new(self.alloc)) {
+            Some(image) => Ok(image),
+            None => Err("no image")?,
+        }
     }
 }
 

@@ -1,6 +1,9 @@
 //! Instructions and what they do, after the tables of the RISC-V manual, and small programs. Numbers have hexadecimal
 //! digits.
 
+/// How many rows `INSTRUCTIONS` has.
+pub const INSTRUCTIONS_COUNT: usize = 83;
+
 /// What a row shows, the word, what x5 and x6 hold, and what x10, the pc and the eight bytes from which x6 was loaded
 /// are after it. The word stands at 0x1000c, and x5 was loaded from 16(x7) and x6 from 24(x7).
 pub const INSTRUCTIONS: &str = "\
@@ -88,6 +91,9 @@ jalr clears bit 0: 00128567 10004 0 gives 10010 10004 0\0\
 jalr reads rs1 first: 000282e7 10008 0 gives 0 10008 0\0\
 fence does nothing: 0ff0000f 1 2 gives 0 10010 2";
 
+/// How many rows `ENDINGS` has.
+pub const ENDINGS_COUNT: usize = 30;
+
 /// What a row shows, two words of code, and how their run ends. Behind the code stand eight bytes of the fixed part and
 /// eight of data.
 pub const ENDINGS: &str = "\
@@ -121,6 +127,9 @@ addi x17, x0, 2: 00200893 00000073 gives store full\0\
 addi x17, x0, 3: 00300893 00000073 gives stack full\0\
 addi x17, x0, 1: 00100893 00000073 gives failure 0 0\0\
 addi x17, x0, 4, no bytes: 00400893 00000073 gives bad jump 10008";
+
+/// How many rows `ECHOES` has.
+pub const ECHOES_COUNT: usize = 8;
 
 /// How many bytes the input gives at once, which two of its reads and which two writes of the output fail, and how
 /// the echo of `abc` ends and what it writes.

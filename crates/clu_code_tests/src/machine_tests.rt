@@ -2,15 +2,16 @@
 //! reckoned by hand.
 
 use crate::ending::put_ending;
-use crate::machine_rows::{ECHOES, ENDINGS, INSTRUCTIONS};
+use crate::machine_rows::{
+    ECHOES, ECHOES_COUNT, ENDINGS, ENDINGS_COUNT, INSTRUCTIONS, INSTRUCTIONS_COUNT,
+};
 use crate::running::put_end;
-use crate::text::{hex_at, small};
+use crate::text::{counted, hex_at, same, small};
 use clu_base::{Bytes, MemSink, MemSource};
 use rv_isa::{Image, Reg};
 use rv_machine::{Ending, Limits, Machine};
 use std::alloc::Global;
 use std::fmt::Write;
-use std::process::Abort;
 use std::test::Fail;
 
 /// A machine with its input and output.
@@ -23,25 +24,29 @@ struct Run {
 
 impl Run {
     /// The image, with the smallest regions.
-    fn new(alloc: Global, image: &Image, input: MemSource, output: MemSink) -> Result<Run, Fail> {
-        let limits = Limits::new(4096, 4096).ok_or("no limits")?;
-        Ok(Run {
+    fn new(
+        alloc: Global,
+        image: &Image,
+        input: MemSource,
+        output: MemSink,
+    ) -> Result<Box<Run>, Fail> {
+        let Some(limits) = Limits::new(4096, 4096) else {
+            return Err("no limits")?;
+        };
+        let run = Run {
             machine: Machine::new(alloc, image, limits)?,
             input,
             output,
-        })
+        };
+        Ok(Box::new(alloc, run)?)
     }
 
-    /// The image, with no input.
-    fn silent(alloc: Global, image: &Image) -> Result<Run, Fail> {
-        let output = MemSink::new(alloc, 64, 1, Vec::new(alloc))?;
+    /// The image, with no input, where the writes of these numbers fail.
+    fn silent(alloc: Global, image: &Image, failing: Vec<u64>) -> Result<Box<Run>, Fail> {
+        let output = MemSink::new(alloc, 64, 1, failing)?;
         let input = Bytes::from_vec(Vec::new(alloc));
-        Run::new(
-            alloc,
-            image,
-            MemSource::new(input, 1, Vec::new(alloc)),
-            output,
-        )
+        let input = MemSource::new(input, 1, Vec::new(alloc));
+        Run::new(alloc, image, input, output)
     }
 
     fn run(&mut self, steps: u64) -> Ending {
@@ -94,25 +99,24 @@ fn area_of(row: &str) -> [u8; 16] {
     area
 }
 
-fn instruction(alloc: Global, row: &str) -> Result<Run, Fail> {
+fn instruction(alloc: Global, row: &str) -> Result<Box<Run>, Fail> {
     let image = image(alloc, 5, &code_of(row), &[], &area_of(row))?;
-    Run::silent(alloc, &image)
+    Run::silent(alloc, &image, Vec::new(alloc))
 }
 
-/// Writes what x10, the pc and the eight bytes are after the word of a row.
+/// Writes what x10, the pc and the eight bytes are after the word of a row, if neither it nor the next one ends the run.
 fn put_after(text: &mut String, run: &mut Run) -> Result<(), Fail> {
-    let x6 = Reg::new(6).ok_or("x6")?;
-    let x10 = Reg::new(10).ok_or("x10")?;
-    if run.run(6) != Ending::StepsSpent {
-        return Err("it ended")?;
-    }
+    let (Some(x6), Some(x10)) = (Reg::new(6), Reg::new(10)) else {
+        return Err("no registers")?;
+    };
+    let first = run.run(6);
     let value = run.machine.reg(x10);
     let pc = run.machine.pc();
-    if run.run(1) != Ending::StepsSpent {
-        return Err("it ended behind the word")?;
-    }
+    let second = run.run(1);
     let word = run.machine.reg(x6);
-    write!(text, " {value:x} {pc:x} {word:x}")?;
+    if first == Ending::StepsSpent && second == Ending::StepsSpent {
+        write!(text, " {value:x} {pc:x} {word:x}")?;
+    }
     Ok(())
 }
 
@@ -123,44 +127,47 @@ fn parts_of(row: &str) -> (&str, &str, &str) {
     (name, given, due)
 }
 
-#[test]
-fn instructions(rt: HostRuntime) -> Result<(), Fail> {
-    let alloc = rt.alloc();
-    for row in INSTRUCTIONS.split('\0') {
-        let (name, given, due) = parts_of(row);
-        let mut text = String::new(alloc);
-        let mut run = instruction(alloc, given)?;
-        put_after(&mut text, &mut run)?;
-        assert_eq!(rt; text.as_str(), due, "{name}");
-    }
-    Ok(())
+fn keep_instruction(alloc: Global, row: &str) -> Result<(), Fail> {
+    let (_, given, due) = parts_of(row);
+    let mut text = String::new(alloc);
+    let mut run = instruction(alloc, given)?;
+    put_after(&mut text, &mut run)?;
+    same(text, due)
 }
 
-/// Two words of code, and eight bytes of the fixed part and of data each.
-fn ending(alloc: Global, row: &str) -> Result<Run, Fail> {
+#[test]
+fn instructions(rt: HostRuntime) -> Result<(), Fail> {
+    let mut rows = 0usize;
+    for row in INSTRUCTIONS.split('\0') {
+        keep_instruction(rt.alloc(), row)?;
+        rows = rows.saturating_add(1);
+    }
+    counted(rt.alloc(), rows, INSTRUCTIONS_COUNT)
+}
+
+/// Two words of code, and eight bytes of the fixed part and of data each; the first write fails.
+fn ending(alloc: Global, row: &str) -> Result<Box<Run>, Fail> {
     let code = [small(hex_at(row, 0)), small(hex_at(row, 1))];
     let image = image(alloc, 0, &code, &[0; 8], &[0; 8])?;
-    let output = MemSink::new(alloc, 64, 1, vec![in alloc; 0]?)?;
-    let input = Bytes::from_vec(Vec::new(alloc));
-    Run::new(
-        alloc,
-        &image,
-        MemSource::new(input, 1, Vec::new(alloc)),
-        output,
-    )
+    Run::silent(alloc, &image, vec![in alloc; 0]?)
+}
+
+fn keep_ending(alloc: Global, row: &str) -> Result<(), Fail> {
+    let (_, given, due) = parts_of(row);
+    let mut text = String::new(alloc);
+    let mut run = ending(alloc, given)?;
+    put_ending(&mut text, run.run(100))?;
+    same(text, due)
 }
 
 #[test]
 fn endings(rt: HostRuntime) -> Result<(), Fail> {
-    let alloc = rt.alloc();
+    let mut rows = 0usize;
     for row in ENDINGS.split('\0') {
-        let (name, given, due) = parts_of(row);
-        let mut text = String::new(alloc);
-        let mut run = ending(alloc, given)?;
-        put_ending(&mut text, run.run(100))?;
-        assert_eq!(rt; text.as_str(), due, "{name}");
+        keep_ending(rt.alloc(), row)?;
+        rows = rows.saturating_add(1);
     }
-    Ok(())
+    counted(rt.alloc(), rows, ENDINGS_COUNT)
 }
 
 /// Writes `hi` and returns, with the text at 0x10020.
@@ -176,27 +183,32 @@ const HELLO: [u32; 7] = [
 
 const TEXT: [u8; 8] = [0x68, 0x69, 0x0a, 0, 0, 0, 0, 0];
 
-fn hello(alloc: Global, fixed: &[u8], area: &[u8]) -> Result<Run, Fail> {
+fn hello(alloc: Global, fixed: &[u8], area: &[u8]) -> Result<Box<Run>, Fail> {
     let image = image(alloc, 0, &HELLO, fixed, area)?;
-    Run::silent(alloc, &image)
+    Run::silent(alloc, &image, Vec::new(alloc))
 }
 
-/// Runs it step by step, and once more behind its end.
-fn greets(rt: &impl Abort, run: &mut Run) {
-    assert_eq!(rt; run.run(6), Ending::StepsSpent);
-    assert_eq!(rt; run.output.bytes(), b"hi\n".as_slice());
-    assert_eq!(rt; run.step(), Some(Ending::Returned));
-    assert_eq!(rt; run.step(), Some(Ending::Returned));
-    assert_eq!(rt; run.run(0), Ending::Returned);
-    assert_eq!(rt; run.output.bytes(), b"hi\n".as_slice());
+/// Whether it writes its text within six steps and then returns, also when it is run once more behind its end.
+fn greets(run: &mut Run) -> bool {
+    run.run(6) == Ending::StepsSpent
+        && run.output.bytes() == b"hi\n".as_slice()
+        && run.step() == Some(Ending::Returned)
+        && run.step() == Some(Ending::Returned)
+        && run.run(0) == Ending::Returned
+        && run.output.bytes() == b"hi\n".as_slice()
+}
+
+/// The same of the image of these parts.
+fn image_greets(alloc: Global, fixed: &[u8], area: &[u8]) -> Result<bool, Fail> {
+    let mut run = hello(alloc, fixed, area)?;
+    Ok(greets(&mut run))
 }
 
 #[test]
 fn a_text_in_either_part(rt: HostRuntime) -> Result<(), Fail> {
-    let mut run = hello(rt.alloc(), &[], &TEXT)?;
-    greets(&rt, &mut run);
-    let mut run = hello(rt.alloc(), &TEXT, &[])?;
-    greets(&rt, &mut run);
+    let in_area = image_greets(rt.alloc(), &[], &TEXT)?;
+    let in_fixed = image_greets(rt.alloc(), &TEXT, &[])?;
+    assert!(rt; in_area && in_fixed);
     Ok(())
 }
 
@@ -255,7 +267,7 @@ const ECHO: [u32; 18] = [
 ];
 
 /// The echo of `abc` with the input and the output of a row.
-fn echo(alloc: Global, row: &str) -> Result<Run, Fail> {
+fn echo(alloc: Global, row: &str) -> Result<Box<Run>, Fail> {
     let piece = (hex_at(row, 0) as usize).max(1);
     let reads = vec![in alloc; hex_at(row, 1), hex_at(row, 2)]?;
     let writes = vec![in alloc; hex_at(row, 3), hex_at(row, 4)]?;
@@ -274,40 +286,49 @@ fn put_echo(text: &mut String, run: &mut Run) -> Result<(), Fail> {
 }
 
 /// An ended run answers the same again.
-#[test]
-fn input_and_output(rt: HostRuntime) -> Result<(), Fail> {
-    let alloc = rt.alloc();
-    for row in ECHOES.split('\0') {
-        let (_, given, due) = parts_of(row);
-        let mut run = echo(alloc, given)?;
-        for _ in 0..2 {
-            let mut text = String::new(alloc);
-            put_echo(&mut text, &mut run)?;
-            assert_eq!(rt; text.as_str(), due, "{given}");
-        }
+fn keep_echo(alloc: Global, row: &str) -> Result<(), Fail> {
+    let (_, given, due) = parts_of(row);
+    let mut run = echo(alloc, given)?;
+    for _ in 0..2 {
+        let mut text = String::new(alloc);
+        put_echo(&mut text, &mut run)?;
+        same(text, due)?;
     }
     Ok(())
 }
 
 #[test]
+fn input_and_output(rt: HostRuntime) -> Result<(), Fail> {
+    let mut rows = 0usize;
+    for row in ECHOES.split('\0') {
+        keep_echo(rt.alloc(), row)?;
+        rows = rows.saturating_add(1);
+    }
+    counted(rt.alloc(), rows, ECHOES_COUNT)
+}
+
+/// Whether there are limits of this store and this stack, and have them.
+fn are_limits(store: u64, stack: u64) -> bool {
+    match Limits::new(store, stack) {
+        Some(limits) => limits.store() == store && limits.stack() == stack,
+        None => false,
+    }
+}
+
+const LIMITS: [(u64, u64, bool); 8] = [
+    (4096, 4096, true),
+    (268_435_456, 67_108_864, true),
+    (4080, 4096, false),
+    (4096, 4080, false),
+    (4100, 4096, false),
+    (4096, 4100, false),
+    (268_435_472, 4096, false),
+    (4096, 67_108_880, false),
+];
+
+#[test]
 fn limits(rt: HostRuntime) {
-    let table = [
-        (4096, 4096, true),
-        (268_435_456, 67_108_864, true),
-        (4080, 4096, false),
-        (4096, 4080, false),
-        (4100, 4096, false),
-        (4096, 4100, false),
-        (268_435_472, 4096, false),
-        (4096, 67_108_880, false),
-    ];
-    for (store, stack, good) in table {
-        match Limits::new(store, stack) {
-            Some(limits) => {
-                assert!(rt; good, "{store} {stack}");
-                assert_eq!(rt; (limits.store(), limits.stack()), (store, stack));
-            }
-            None => assert!(rt; !good, "{store} {stack}"),
-        }
+    for (store, stack, good) in LIMITS {
+        assert_eq!(rt; are_limits(store, stack), good, "{store} {stack}");
     }
 }

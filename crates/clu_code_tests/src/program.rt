@@ -155,12 +155,16 @@ impl Program {
     }
 
     fn show(&mut self, slot: u32, work: u32) -> Result<(), Fail> {
-        let code = &mut self.flat.code;
-        code.push(Flat::Word(work, 1))?;
-        code.push(Flat::Prim(Primitive::Allocate.number(), work))?;
-        code.push(Flat::Save(work, 0, slot))?;
-        code.push(Flat::Word(work.saturating_add(1), 8))?;
-        code.push(Flat::Prim(Primitive::Write.number(), work))?;
+        let steps = [
+            Flat::Word(work, 1),
+            Flat::Prim(Primitive::Allocate.number(), work),
+            Flat::Save(work, 0, slot),
+            Flat::Word(work.saturating_add(1), 8),
+            Flat::Prim(Primitive::Write.number(), work),
+        ];
+        for step in steps {
+            self.flat.code.push(step)?;
+        }
         Ok(())
     }
 

@@ -1,77 +1,87 @@
 //! Programs of flat code, selected, linked and run on the machine. What they write was reckoned by hand.
 
-use crate::exception_rows::{ARMS, LOOPS, NEEDED, PASSED, SEARCHES, SIGNALS, UNHANDLED};
-use crate::flow_rows::{CALLS, ITERATORS, OPERATIONS, PRIMITIVES, VALUES};
+use crate::exception_rows::{
+    ARMS, ARMS_COUNT, LOOPS, LOOPS_COUNT, NEEDED, NEEDED_COUNT, PASSED, PASSED_COUNT, SEARCHES,
+    SEARCHES_COUNT, SIGNALS, SIGNALS_COUNT, UNHANDLED, UNHANDLED_COUNT,
+};
+use crate::flow_rows::{
+    CALLS, CALLS_COUNT, ITERATORS, ITERATORS_COUNT, OPERATIONS, OPERATIONS_COUNT, PRIMITIVES,
+    PRIMITIVES_COUNT, VALUES, VALUES_COUNT,
+};
 use crate::running::outcome;
+use crate::text::{counted, same};
 use std::alloc::Global;
-use std::process::Abort;
 use std::test::Fail;
 
-/// What comes of each of so many programs of a table is what stands before it.
-fn keep(rt: &impl Abort, alloc: Global, rows: &str, count: u32) -> Result<(), Fail> {
-    let mut kept = 0u32;
+/// What comes of the program of a row is what stands before it.
+fn keep_row(alloc: Global, row: &str) -> Result<(), Fail> {
+    let (due, text) = row.split_once('\n').unwrap_or((row, ""));
+    same(outcome(alloc, text)?, due)
+}
+
+/// The rows of a table are kept, of which there are so many.
+fn keep(alloc: Global, rows: &str, count: usize) -> Result<(), Fail> {
+    let mut kept = 0usize;
     for row in rows.split('=').skip(1) {
-        let (due, text) = row.split_once('\n').unwrap_or((row, ""));
-        assert_eq!(rt; outcome(alloc, text)?.as_str(), due, "{text}");
+        keep_row(alloc, row)?;
         kept = kept.saturating_add(1);
     }
-    assert_eq!(rt; kept, count);
-    Ok(())
+    counted(alloc, kept, count)
 }
 
 #[test]
 fn calls(rt: HostRuntime) -> Result<(), Fail> {
-    keep(&rt, rt.alloc(), CALLS, 5)
+    keep(rt.alloc(), CALLS, CALLS_COUNT)
 }
 
 #[test]
 fn iterators(rt: HostRuntime) -> Result<(), Fail> {
-    keep(&rt, rt.alloc(), ITERATORS, 4)
+    keep(rt.alloc(), ITERATORS, ITERATORS_COUNT)
 }
 
 #[test]
 fn primitives(rt: HostRuntime) -> Result<(), Fail> {
-    keep(&rt, rt.alloc(), PRIMITIVES, 8)
+    keep(rt.alloc(), PRIMITIVES, PRIMITIVES_COUNT)
 }
 
 #[test]
 fn values(rt: HostRuntime) -> Result<(), Fail> {
-    keep(&rt, rt.alloc(), VALUES, 6)
+    keep(rt.alloc(), VALUES, VALUES_COUNT)
 }
 
 #[test]
 fn arms(rt: HostRuntime) -> Result<(), Fail> {
-    keep(&rt, rt.alloc(), ARMS, 4)
+    keep(rt.alloc(), ARMS, ARMS_COUNT)
 }
 
 #[test]
 fn signals(rt: HostRuntime) -> Result<(), Fail> {
-    keep(&rt, rt.alloc(), SIGNALS, 3)
+    keep(rt.alloc(), SIGNALS, SIGNALS_COUNT)
 }
 
 #[test]
 fn failures_outside_all_routines(rt: HostRuntime) -> Result<(), Fail> {
-    keep(&rt, rt.alloc(), UNHANDLED, 11)
+    keep(rt.alloc(), UNHANDLED, UNHANDLED_COUNT)
 }
 
 #[test]
 fn exceptions_of_loops(rt: HostRuntime) -> Result<(), Fail> {
-    keep(&rt, rt.alloc(), LOOPS, 3)
+    keep(rt.alloc(), LOOPS, LOOPS_COUNT)
 }
 
 #[test]
 fn exceptions_that_are_passed_on(rt: HostRuntime) -> Result<(), Fail> {
-    keep(&rt, rt.alloc(), PASSED, 2)
+    keep(rt.alloc(), PASSED, PASSED_COUNT)
 }
 
 #[test]
 fn variables_that_name_no_object(rt: HostRuntime) -> Result<(), Fail> {
-    keep(&rt, rt.alloc(), NEEDED, 3)
+    keep(rt.alloc(), NEEDED, NEEDED_COUNT)
 }
 
 #[test]
 fn searches_within_their_steps(rt: HostRuntime) -> Result<(), Fail> {
-    keep(&rt, rt.alloc(), SEARCHES, 2)
+    keep(rt.alloc(), SEARCHES, SEARCHES_COUNT)
 }
 
 /// What a program writes that does one operation on two words.
@@ -86,17 +96,22 @@ fn gives(alloc: Global, operation: &str) -> Result<String, Fail> {
     outcome(alloc, text.as_str())
 }
 
-#[test]
-fn operations(rt: HostRuntime) -> Result<(), Fail> {
-    let alloc = rt.alloc();
-    for row in OPERATIONS.split('\0') {
-        let (operation, due) = row.split_once(" gives").ok_or("no row")?;
-        let found = gives(alloc, operation)?;
-        assert_eq!(rt;
-            found.as_str().strip_prefix(" returned"),
-            Some(due),
-            "{row}"
-        );
+/// What an operation writes is what stands behind it.
+fn keep_operation(alloc: Global, row: &str) -> Result<(), Fail> {
+    let (operation, due) = row.split_once(" gives").unwrap_or((row, ""));
+    let found = gives(alloc, operation)?;
+    if found.as_str().strip_prefix(" returned") != Some(due) {
+        return Err(found)?;
     }
     Ok(())
+}
+
+#[test]
+fn operations(rt: HostRuntime) -> Result<(), Fail> {
+    let mut rows = 0usize;
+    for row in OPERATIONS.split('\0') {
+        keep_operation(rt.alloc(), row)?;
+        rows = rows.saturating_add(1);
+    }
+    counted(rt.alloc(), rows, OPERATIONS_COUNT)
 }

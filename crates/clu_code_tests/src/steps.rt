@@ -14,6 +14,65 @@ struct Numbers {
     word: u64,
 }
 
+/// What the name of a step says.
+#[derive(Clone, Copy)]
+enum Name {
+    Move,
+    Word,
+    Load,
+    Save,
+    Take,
+    Result,
+    Label,
+    Jump,
+    Branch,
+    Enter,
+    Invoke,
+    Yield,
+    Resume,
+    Cut,
+    Leave,
+    Raise,
+    Signal,
+    Bind,
+    Need,
+    Pass,
+    Prim,
+}
+
+const NAMES: [(&str, Name); 21] = [
+    ("move", Name::Move),
+    ("word", Name::Word),
+    ("load", Name::Load),
+    ("save", Name::Save),
+    ("take", Name::Take),
+    ("result", Name::Result),
+    ("label", Name::Label),
+    ("jump", Name::Jump),
+    ("branch", Name::Branch),
+    ("enter", Name::Enter),
+    ("invoke", Name::Invoke),
+    ("yield", Name::Yield),
+    ("resume", Name::Resume),
+    ("cut", Name::Cut),
+    ("leave", Name::Leave),
+    ("raise", Name::Raise),
+    ("signal", Name::Signal),
+    ("bind", Name::Bind),
+    ("need", Name::Need),
+    ("pass", Name::Pass),
+    ("prim", Name::Prim),
+];
+
+fn name_of(word: &str) -> Option<Name> {
+    for (known, name) in NAMES {
+        if known == word {
+            return Some(name);
+        }
+    }
+    None
+}
+
 /// The step of a text.
 pub fn step(text: &str) -> Option<Flat> {
     let name = first_word(text);
@@ -24,14 +83,9 @@ pub fn step(text: &str) -> Option<Flat> {
         third: small_at(text, 3),
         word,
     };
-    match name {
-        "move" | "word" | "load" | "save" | "take" | "result" => moving(name, numbers),
-        "label" | "jump" | "branch" | "enter" | "invoke" => going(name, numbers),
-        "yield" | "resume" | "cut" | "leave" | "raise" | "signal" => leaving(name, numbers.first),
-        "bind" => Some(Flat::Bind(numbers.first, numbers.second, numbers.third)),
-        "need" => Some(Flat::Need(numbers.first)),
-        "pass" => Some(Flat::Pass),
-        _ => named(name, numbers),
+    match name_of(name) {
+        Some(name) => Some(plain(name, numbers)),
+        None => named(name, numbers),
     }
 }
 
@@ -39,7 +93,7 @@ fn distance(number: u32) -> i32 {
     i32::try_from(number).unwrap_or(i32::MAX)
 }
 
-fn moving(name: &str, numbers: Numbers) -> Option<Flat> {
+fn plain(name: Name, numbers: Numbers) -> Flat {
     let Numbers {
         first,
         second,
@@ -47,37 +101,27 @@ fn moving(name: &str, numbers: Numbers) -> Option<Flat> {
         word,
     } = numbers;
     match name {
-        "move" => Some(Flat::Move(first, second)),
-        "word" => Some(Flat::Word(first, word)),
-        "load" => Some(Flat::Load(first, second, distance(third))),
-        "save" => Some(Flat::Save(first, distance(second), third)),
-        "take" => Some(Flat::Take(first, second)),
-        "result" => Some(Flat::Result(first, distance(second))),
-        _ => None,
-    }
-}
-
-fn going(name: &str, numbers: Numbers) -> Option<Flat> {
-    let Numbers { first, second, .. } = numbers;
-    match name {
-        "label" => Some(Flat::Label(first)),
-        "jump" => Some(Flat::Jump(first)),
-        "branch" => Some(Flat::Branch(first, second)),
-        "enter" => Some(Flat::Enter(first)),
-        "invoke" => Some(Flat::Invoke(first)),
-        _ => None,
-    }
-}
-
-fn leaving(name: &str, number: u32) -> Option<Flat> {
-    match name {
-        "yield" => Some(Flat::Yield(number)),
-        "resume" => Some(Flat::Resume(number)),
-        "cut" => Some(Flat::Cut(number)),
-        "leave" => Some(Flat::Leave(number)),
-        "raise" => Some(Flat::Raise(number)),
-        "signal" => Some(Flat::Signal(number)),
-        _ => None,
+        Name::Move => Flat::Move(first, second),
+        Name::Word => Flat::Word(first, word),
+        Name::Load => Flat::Load(first, second, distance(third)),
+        Name::Save => Flat::Save(first, distance(second), third),
+        Name::Take => Flat::Take(first, second),
+        Name::Result => Flat::Result(first, distance(second)),
+        Name::Label => Flat::Label(first),
+        Name::Jump => Flat::Jump(first),
+        Name::Branch => Flat::Branch(first, second),
+        Name::Enter => Flat::Enter(first),
+        Name::Invoke => Flat::Invoke(first),
+        Name::Yield => Flat::Yield(first),
+        Name::Resume => Flat::Resume(first),
+        Name::Cut => Flat::Cut(first),
+        Name::Leave => Flat::Leave(first),
+        Name::Raise => Flat::Raise(first),
+        Name::Signal => Flat::Signal(first),
+        Name::Bind => Flat::Bind(first, second, third),
+        Name::Need => Flat::Need(first),
+        Name::Pass => Flat::Pass,
+        Name::Prim => Flat::Prim(first, second),
     }
 }
 
@@ -95,20 +139,26 @@ fn named(name: &str, numbers: Numbers) -> Option<Flat> {
     if let Some(kind) = kind(name) {
         return Some(Flat::Hole(first, kind, second));
     }
-    match name {
-        "prim" => Some(Flat::Prim(first, second)),
-        _ => Some(Flat::Prim(primitive(name)?.number(), first)),
+    match primitive(name) {
+        Some(primitive) => Some(Flat::Prim(primitive.number(), first)),
+        None => None,
     }
 }
 
+const PRIMITIVES: [(&str, Primitive); 6] = [
+    ("allocate", Primitive::Allocate),
+    ("write", Primitive::Write),
+    ("take_byte", Primitive::TakeByte),
+    ("peek_byte", Primitive::PeekByte),
+    ("load_byte", Primitive::LoadByte),
+    ("save_byte", Primitive::SaveByte),
+];
+
 fn primitive(name: &str) -> Option<Primitive> {
-    match name {
-        "allocate" => Some(Primitive::Allocate),
-        "write" => Some(Primitive::Write),
-        "take_byte" => Some(Primitive::TakeByte),
-        "peek_byte" => Some(Primitive::PeekByte),
-        "load_byte" => Some(Primitive::LoadByte),
-        "save_byte" => Some(Primitive::SaveByte),
-        _ => None,
+    for (known, primitive) in PRIMITIVES {
+        if known == name {
+            return Some(primitive);
+        }
     }
+    None
 }

@@ -1,6 +1,25 @@
 //! Numbers and names in the rows of tests.
 
 use clu_wir::{HoleKind, WOp};
+use std::alloc::Global;
+use std::test::Fail;
+
+/// There are as many rows as a table says.
+pub fn counted(alloc: Global, rows: usize, due: usize) -> Result<(), Fail> {
+    if rows != due {
+        return Err(format!(in alloc; "{rows} rows, but {due} are due")?)?;
+    }
+    Ok(())
+}
+
+/// What was found is what is due of a row.
+pub fn same(found: String, due: &str) -> Result<(), Fail> {
+    if found.as_str() == due {
+        Ok(())
+    } else {
+        Err(found)?
+    }
+}
 
 /// The first word of a text.
 pub fn first_word(text: &str) -> &str {
@@ -33,42 +52,54 @@ pub fn small_at(text: &str, place: usize) -> u32 {
     small(number_at(text, place))
 }
 
+const OPERATIONS: [(&str, WOp); 19] = [
+    ("add", WOp::Add),
+    ("sub", WOp::Sub),
+    ("sll", WOp::Sll),
+    ("slt", WOp::Slt),
+    ("sltu", WOp::Sltu),
+    ("xor", WOp::Xor),
+    ("srl", WOp::Srl),
+    ("sra", WOp::Sra),
+    ("or", WOp::Or),
+    ("and", WOp::And),
+    ("mul", WOp::Mul),
+    ("mulh", WOp::Mulh),
+    ("mulhsu", WOp::Mulhsu),
+    ("mulhu", WOp::Mulhu),
+    ("div", WOp::Div),
+    ("divu", WOp::Divu),
+    ("rem", WOp::Rem),
+    ("remu", WOp::Remu),
+    ("equal", WOp::Equal),
+];
+
 /// The operation of this name.
 pub fn operation(name: &str) -> Option<WOp> {
-    match name {
-        "add" => Some(WOp::Add),
-        "sub" => Some(WOp::Sub),
-        "sll" => Some(WOp::Sll),
-        "slt" => Some(WOp::Slt),
-        "sltu" => Some(WOp::Sltu),
-        "xor" => Some(WOp::Xor),
-        "srl" => Some(WOp::Srl),
-        "sra" => Some(WOp::Sra),
-        "or" => Some(WOp::Or),
-        "and" => Some(WOp::And),
-        "mul" => Some(WOp::Mul),
-        "mulh" => Some(WOp::Mulh),
-        "mulhsu" => Some(WOp::Mulhsu),
-        "mulhu" => Some(WOp::Mulhu),
-        "div" => Some(WOp::Div),
-        "divu" => Some(WOp::Divu),
-        "rem" => Some(WOp::Rem),
-        "remu" => Some(WOp::Remu),
-        "equal" => Some(WOp::Equal),
-        _ => None,
+    for (known, operation) in OPERATIONS {
+        if known == name {
+            return Some(operation);
+        }
     }
+    None
 }
+
+const KINDS: [(&str, HoleKind); 5] = [
+    ("entry", HoleKind::Entry),
+    ("descriptor", HoleKind::Descriptor),
+    ("constant", HoleKind::Constant),
+    ("type_word", HoleKind::TypeWord),
+    ("type_cell", HoleKind::TypeCell),
+];
 
 /// The kind of hole of this name.
 pub fn kind(name: &str) -> Option<HoleKind> {
-    match name {
-        "entry" => Some(HoleKind::Entry),
-        "descriptor" => Some(HoleKind::Descriptor),
-        "constant" => Some(HoleKind::Constant),
-        "type_word" => Some(HoleKind::TypeWord),
-        "type_cell" => Some(HoleKind::TypeCell),
-        _ => None,
+    for (known, kind) in KINDS {
+        if known == name {
+            return Some(kind);
+        }
     }
+    None
 }
 
 /// The number in hexadecimal digits at this place among the words of a text; 0 where there is none.

@@ -85,30 +85,42 @@ impl Made {
     }
 
     fn load(&mut self, distance: u32) -> Result<(), Fail> {
-        let address = Box::new(self.alloc, self.one()?)?;
+        let address = self.boxed()?;
         self.put_value(WExpr::Load(address, distance))
     }
 
     fn binary(&mut self, op: WOp) -> Result<(), Fail> {
-        let right = Box::new(self.alloc, self.one()?)?;
-        let left = Box::new(self.alloc, self.one()?)?;
+        let right = self.boxed()?;
+        let left = self.boxed()?;
         self.put_value(WExpr::Binary(op, left, right))
+    }
+
+    /// The last value, in a box.
+    fn boxed(&mut self) -> Result<Box<WExpr>, Fail> {
+        Ok(Box::new(self.alloc, self.one()?)?)
     }
 
     /// The last value.
     fn one(&mut self) -> Result<WExpr, Fail> {
-        Ok(self.values.pop().ok_or("no value")?)
+        match self.values.pop() {
+            Some(value) => Ok(value),
+            None => Err("no value")?,
+        }
     }
 
     /// So many of the last values.
     fn last(&mut self, count: u64) -> Result<Vec<WExpr>, Fail> {
-        let at = self.values.len().checked_sub(count as usize);
-        Ok(self.values.split_off(at.ok_or("too few values")?)?)
+        match self.values.len().checked_sub(count as usize) {
+            Some(at) => Ok(self.values.split_off(at)?),
+            None => Err("too few values")?,
+        }
     }
 
     /// The last list of statements.
     fn list(&mut self) -> Result<Vec<WStmt>, Fail> {
-        let at = self.begun.pop().ok_or("no list")?;
+        let Some(at) = self.begun.pop() else {
+            return Err("no list")?;
+        };
         if self.statements.len() < at {
             return Err("a list inside another")?;
         }
@@ -130,19 +142,23 @@ impl Made {
     }
 
     fn simple(&mut self, name: &str, item: &str) -> Result<(), Fail> {
-        let number = small_at(item, 1);
-        let statement = match name {
-            "set" => WStmt::Set(number, self.one()?),
-            "put" => self.store(number)?,
-            "break" => WStmt::Break,
-            _ => WStmt::Continue,
-        };
-        self.put(statement)
+        match name {
+            "set" => self.set(small_at(item, 1)),
+            "put" => self.store(small_at(item, 1)),
+            "break" => self.put(WStmt::Break),
+            _ => self.put(WStmt::Continue),
+        }
     }
 
-    fn store(&mut self, distance: u32) -> Result<WStmt, Fail> {
+    fn set(&mut self, slot: u32) -> Result<(), Fail> {
         let value = self.one()?;
-        Ok(WStmt::Put(self.one()?, distance, value))
+        self.put(WStmt::Set(slot, value))
+    }
+
+    fn store(&mut self, distance: u32) -> Result<(), Fail> {
+        let value = self.boxed()?;
+        let address = self.one()?;
+        self.put(WStmt::Put(address, distance, Box::into_inner(value)))
     }
 
     fn test(&mut self, name: &str, slot: u32) -> Result<(), Fail> {
@@ -169,42 +185,52 @@ impl Made {
     }
 
     fn nest(&mut self, name: &str, item: &str) -> Result<(), Fail> {
-        let statement = match name {
-            "if" => self.choice()?,
-            "loop" => WStmt::Loop(self.list()?),
-            "iterate" => self.iterate(item)?,
-            "resignal" => self.resignal(item)?,
-            _ => self.guard(number_at(item, 1))?,
-        };
-        self.put(statement)
+        match name {
+            "if" => self.choice(),
+            "loop" => self.repeat(),
+            "iterate" => self.iterate(item),
+            "resignal" => self.resignal(item),
+            _ => self.guard(number_at(item, 1)),
+        }
     }
 
-    fn choice(&mut self) -> Result<WStmt, Fail> {
+    fn choice(&mut self) -> Result<(), Fail> {
         let other = self.list()?;
         let then = self.list()?;
-        Ok(WStmt::If(self.one()?, then, other))
+        let condition = self.one()?;
+        self.put(WStmt::If(condition, then, other))
+    }
+
+    fn repeat(&mut self) -> Result<(), Fail> {
+        let body = self.list()?;
+        self.put(WStmt::Loop(body))
     }
 
     /// `iterate ARGUMENTS SLOT ..`
-    fn iterate(&mut self, item: &str) -> Result<WStmt, Fail> {
+    fn iterate(&mut self, item: &str) -> Result<(), Fail> {
         let slots = self.slots(item, 2)?;
         let arguments = self.last(number_at(item, 1))?;
         let body = self.list()?;
-        Ok(WStmt::Iterate(self.one()?, arguments, slots, body))
+        let iterator = self.one()?;
+        self.put(WStmt::Iterate(iterator, arguments, slots, body))
     }
 
     /// `resignal NAME ..`
-    fn resignal(&mut self, item: &str) -> Result<WStmt, Fail> {
+    fn resignal(&mut self, item: &str) -> Result<(), Fail> {
         let mut names = Vec::new(self.alloc);
         put_names(self.alloc, &mut names, item)?;
-        Ok(WStmt::Resignal(self.list()?, names))
+        let body = self.list()?;
+        self.put(WStmt::Resignal(body, names))
     }
 
     /// `guard ARMS`
-    fn guard(&mut self, count: u64) -> Result<WStmt, Fail> {
-        let at = self.arms.len().checked_sub(count as usize);
-        let arms = self.arms.split_off(at.ok_or("too few arms")?)?;
-        Ok(WStmt::Guard(self.list()?, arms))
+    fn guard(&mut self, count: u64) -> Result<(), Fail> {
+        let Some(at) = self.arms.len().checked_sub(count as usize) else {
+            return Err("too few arms")?;
+        };
+        let arms = self.arms.split_off(at)?;
+        let body = self.list()?;
+        self.put(WStmt::Guard(body, arms))
     }
 
     /// `arm NAME SLOT ..`, where `*` is an arm for all names.

@@ -1,5 +1,6 @@
 //! Specifications that are kept by the names of their modules.
 
+use crate::rows::counted;
 use clu_base::{Bytes, FormatError};
 use clu_specs::read_spec;
 use clu_types::{Spec, Specs};
@@ -8,6 +9,9 @@ use std::test::Fail;
 
 /// Specifications in the order in which they are kept. The last takes the place of the first.
 const KEPT: &str = "m=proc[type]()\0c=proc[type]()\0x=proc[type]()\0m=iter[type]()\0";
+
+/// How many rows `ORDER` has.
+const ORDER_COUNT: usize = 3;
 
 /// What there is then, in order.
 const ORDER: &str = "c=proc[type]()\0m=iter[type]()\0x=proc[type]()\0";
@@ -53,12 +57,14 @@ fn is_found(
 
 /// The copy has the names in order, and the list that was copied has the specifications by their names.
 fn keep_order(alloc: Global, specs: &Specs, copied: &Specs) -> Result<(), Fail> {
-    for (n, text) in ORDER.split_terminator('\0').enumerate() {
-        if !is_found(alloc, specs, copied, n, text)? {
+    let mut count = 0usize;
+    for text in ORDER.split_terminator('\0') {
+        if !is_found(alloc, specs, copied, count, text)? {
             return Err("something else is kept here")?;
         }
+        count = count.saturating_add(1);
     }
-    Ok(())
+    counted(alloc, count, ORDER_COUNT)
 }
 
 /// Whether there is no fourth specification in the copy, and none of the name in the list.

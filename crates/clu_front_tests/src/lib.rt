@@ -9,6 +9,10 @@ mod contexts;
 #[cfg(test)]
 mod kept_specs;
 #[cfg(test)]
+mod large_tests;
+#[cfg(test)]
+mod long_texts;
+#[cfg(test)]
 mod operations;
 #[cfg(test)]
 mod reading;

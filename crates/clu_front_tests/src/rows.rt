@@ -69,19 +69,30 @@ fn differs(alloc: Global, number: usize, found: &[u8]) -> Result<(), Fail> {
     Err(format!(in alloc; "row {number}: {found}")?)?
 }
 
-/// Each row says what is answered of its text.
+/// There are as many rows as a table says.
+pub fn counted(alloc: Global, rows: usize, due: usize) -> Result<(), Fail> {
+    if rows != due {
+        return Err(format!(in alloc; "{rows} rows, but {due} are due")?)?;
+    }
+    Ok(())
+}
+
+/// Each row says what is answered of its text, and there are so many rows. A row without a blank says nothing that can come.
 pub fn keep(
     alloc: Global,
     types: &mut TypeArena,
     question: Question,
     rows: &str,
+    count: usize,
 ) -> Result<(), Fail> {
-    for (number, row) in rows.split_terminator('\0').enumerate() {
+    let mut number = 0usize;
+    for row in rows.split_terminator('\0') {
         let (due, text) = parts(row);
         let found = answer(alloc, types, question, text)?;
-        if found.as_slice() != due.as_bytes() {
+        if due.is_empty() || found.as_slice() != due.as_bytes() {
             return differs(alloc, number, found.as_slice());
         }
+        number = number.saturating_add(1);
     }
-    Ok(())
+    counted(alloc, number, count)
 }

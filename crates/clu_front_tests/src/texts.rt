@@ -5,6 +5,9 @@
 pub const TALLY: &str =
     "tally=cluster[type] where #1 has equal:proctype(#1,#1)returns(bool) is;note:proc(#1,#1)returns(int)";
 
+/// How many rows `SPECIFICATIONS` has.
+pub const SPECIFICATIONS_COUNT: usize = 61;
+
 /// Texts of specifications behind `ok`, and texts that are none behind the length of the longest front that begins one.
 pub const SPECIFICATIONS: &str = "\
     ok tally=cluster[type] where #1 has equal:proctype(#1,#1)returns(bool) is;note:proc(#1,#1)returns(int)\0\
@@ -69,6 +72,9 @@ pub const SPECIFICATIONS: &str = "\
     ok aa*=proc()\0\
     200 aaa*=proc()\0";
 
+/// How many rows `TYPES` has.
+pub const TYPES_COUNT: usize = 15;
+
 /// The same of types. Behind the last of all names no selector can follow, so its comma is refused.
 pub const TYPES: &str = "\
     ok array[#4294967295]\0\
@@ -86,6 +92,9 @@ pub const TYPES: &str = "\
     13 record[b:int,a:int]\0\
     211 record[zz*:int,a:int]\0\
     212 record[yz*:int,yz:int]\0";
+
+/// How many rows `USES` has.
+pub const USES_COUNT: usize = 18;
 
 /// The same of uses.
 pub const USES: &str = "\
@@ -108,12 +117,18 @@ pub const USES: &str = "\
     ok m$aaaaaa*\0\
     206 m$aaaaaaa*\0";
 
+/// How many rows `TARGETS` has.
+pub const TARGETS_COUNT: usize = 4;
+
 /// What uses name, in a word.
 pub const TARGETS: &str = "\
     module m[int,-7]\0\
     operation int$add\0\
     own int$own\0\
     force int$force\0";
+
+/// How many rows `NUMBERS` has.
+pub const NUMBERS_COUNT: usize = 5;
 
 /// The numbers that types have where they are read in this order.
 pub const NUMBERS: &str = "\
@@ -123,12 +138,18 @@ pub const NUMBERS: &str = "\
     3 sequence[int]\0\
     1 struct[x:int,y:int]\0";
 
+/// How many rows `INCLUSIONS` has.
+pub const INCLUSIONS_COUNT: usize = 11;
+
 /// Whether the first type is included in the second.
 pub const INCLUSIONS: &str = "\
     yes proctype() proctype()signals(e)\0\
     no proctype()signals(e) proctype()\0\
     yes proctype()signals(e) proctype()signals(e,f)\0\
     no proctype()signals(e,f) proctype()signals(e)\0\
+    yes proctype()signals(b,d) proctype()signals(a,b,c,d,e)\0\
+    no proctype()signals(b,d,f) proctype()signals(a,b,c,d,e)\0\
+    no proctype()signals(b(int)) proctype()signals(a,b,b2)\0\
     yes proctype() proctype()\0\
     yes proctype()signals(e,f) any\0\
     yes any any\0\
@@ -136,6 +157,9 @@ pub const INCLUSIONS: &str = "\
     no proctype() itertype()\0\
     yes itertype()yields(int) itertype()yields(int)signals(e(int))\0\
     no itertype()yields(int) itertype()yields(char)signals(e(int))\0";
+
+/// How many rows `SUBSTITUTIONS` has.
+pub const SUBSTITUTIONS_COUNT: usize = 5;
 
 /// What a type becomes where the actuals of a use are put in for its parameters.
 pub const SUBSTITUTIONS: &str = "\
@@ -145,12 +169,18 @@ pub const SUBSTITUTIONS: &str = "\
     c[5,array[char]] c[%1,array[#2]] m[5,char]\0\
     c[%3] c[%1] m[%3]\0";
 
+/// How many rows `CARRIED` has.
+pub const CARRIED_COUNT: usize = 4;
+
 /// The same, where the type comes from another arena.
 pub const CARRIED: &str = "\
     struct[x:#2,y:#2] struct[x:#2,y:#2] m\0\
     #2 #2 m\0\
     struct[x:char,y:char] struct[x:#2,y:#2] m[5,char]\0\
     c[5,array[char]] c[%1,array[#2]] m[5,char]\0";
+
+/// How many rows `HEADINGS` has.
+pub const HEADINGS_COUNT: usize = 14;
 
 /// The types of built-in operations, or `none`.
 pub const HEADINGS: &str = "\
@@ -170,6 +200,9 @@ pub const HEADINGS: &str = "\
     none #1 copy\0\
     none array[int] get_x\0\
     none int \0";
+
+/// How many rows `NEEDS` has.
+pub const NEEDS_COUNT: usize = 9;
 
 /// How many needs built-in operations have.
 pub const NEEDS: &str = "\

@@ -1,6 +1,7 @@
 //! Tests of the routines of operations that are texts: each counts as many nodes as its text, which gives its frame room.
 
-use crate::derived_texts::TEXTS;
+use crate::derived_texts::{TEXT_COUNT, TEXTS};
+use crate::rows::{counted, same};
 use clu_base::{Bytes, Memory};
 use clu_lexer::lex;
 use clu_parser::parse;
@@ -12,13 +13,16 @@ use std::alloc::Global;
 use std::test::Fail;
 
 /// The tree of a text.
-fn tree_of(alloc: Global, text: &str) -> Result<Tree, Fail> {
+fn tree_of(alloc: Global, text: &str) -> Result<Box<Tree>, Fail> {
     let source = text.as_bytes();
     if source.len() > 1000 {
         return Err("a text too long".into());
     }
     let tokens = lex(alloc, source)?;
-    Ok(parse(alloc, source, tokens.as_slice()).or(Err("no text of a file"))?)
+    match parse(alloc, source, tokens.as_slice()) {
+        Ok(tree) => Ok(Box::new(alloc, tree)?),
+        Err(_) => Err("no text of a file")?,
+    }
 }
 
 /// The count of the only routine.
@@ -45,11 +49,24 @@ fn type_named(types: &mut TypeArena, word: &str) -> Result<TypeId, Memory> {
 }
 
 /// The routine of an operation.
-fn routine_of(alloc: Global, of: &str, op: &str) -> Result<WRoutine, Fail> {
+fn routine_of(alloc: Global, of: &str, op: &str) -> Result<Box<WRoutine>, Fail> {
     let mut types = TypeArena::new(alloc);
     let of = type_named(&mut types, of)?;
     let op = Bytes::from_slice(alloc, op.as_bytes())?;
-    Ok(derived(alloc, &types, of, &op)?.ok_or("no text")?)
+    match derived(alloc, &types, of, &op)? {
+        Some(routine) => Ok(Box::new(alloc, routine)?),
+        None => Err("no text")?,
+    }
+}
+
+/// Whether a routine counts the nodes of the only routine of its text, and takes no more than these allow.
+fn is_counted(routine: &WRoutine, tree: &Tree) -> bool {
+    let nodes = routine.nodes;
+    let room = routine.room();
+    count_of(tree) == Some(nodes)
+        && routine.width() <= nodes.saturating_mul(2)
+        && room.code <= u64::from(nodes).saturating_mul(64)
+        && room.data <= u64::from(nodes).saturating_mul(256)
 }
 
 /// What an operation uses, with blanks between.
@@ -62,27 +79,28 @@ fn uses_of(alloc: Global, routine: &WRoutine) -> Result<String, Fail> {
     Ok(text)
 }
 
+/// What a row is found to be whose routine counts as many nodes as its text.
+fn found(alloc: Global, row: &str) -> Result<String, Fail> {
+    let mut parts = row.split('\t');
+    let of = parts.next().unwrap_or("");
+    let op = parts.next().unwrap_or("");
+    let text = parts.last().unwrap_or("");
+    let routine = routine_of(alloc, of, op)?;
+    let tree = tree_of(alloc, text)?;
+    if !is_counted(&routine, &tree) {
+        return Err("other nodes than those of the text")?;
+    }
+    let uses = uses_of(alloc, &routine)?;
+    Ok(format!(in alloc; "{of}\t{op}\t{uses}\t{text}")?)
+}
+
 #[test]
 fn routines_of_texts(rt: HostRuntime) -> Result<(), Fail> {
     let alloc = rt.alloc();
-    let mut rows = 0u32;
-    for row in TEXTS.split('\0') {
-        let mut parts = row.split('\t');
-        let of = parts.next().unwrap_or("");
-        let op = parts.next().unwrap_or("");
-        let uses = parts.next().unwrap_or("");
-        let text = parts.next().unwrap_or("");
-        if !text.is_empty() {
-            let routine = routine_of(alloc, of, op)?;
-            let count = count_of(&tree_of(alloc, text)?);
-            assert_eq!(rt; count, Some(routine.nodes), "{of} {op}");
-            assert_eq!(rt; uses_of(alloc, &routine)?.as_str(), uses, "{of} {op}");
-            assert!(rt; routine.width() <= routine.nodes.saturating_mul(2));
-            assert!(rt; routine.room().code <= u64::from(routine.nodes).saturating_mul(64));
-            assert!(rt; routine.room().data <= u64::from(routine.nodes).saturating_mul(256));
-            rows = rows.saturating_add(1);
-        }
+    let mut rows = 0usize;
+    for row in TEXTS.split_terminator('\0') {
+        same(row, found(alloc, row)?)?;
+        rows = rows.saturating_add(1);
     }
-    assert_eq!(rt; rows, 13);
-    Ok(())
+    counted(alloc, rows, TEXT_COUNT)
 }

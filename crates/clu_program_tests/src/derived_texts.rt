@@ -1,5 +1,8 @@
 //! The texts of the operations that mean what a text means, where t is the type of the elements.
 
+/// How many rows `TEXTS` has.
+pub const TEXT_COUNT: usize = 13;
+
 /// Rows that each end with byte 0, with tabs between their parts: the type, the operation, what its routine uses, each
 /// behind a blank, and the text.
 pub const TEXTS: &str = "\

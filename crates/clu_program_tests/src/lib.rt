@@ -3,8 +3,6 @@
 #![tactic(auto)]
 
 #[cfg(test)]
-mod command_rows;
-#[cfg(test)]
 mod command_tests;
 #[cfg(test)]
 mod derived_tests;
@@ -23,6 +21,8 @@ mod go_iter_rows;
 #[cfg(test)]
 mod go_rows;
 #[cfg(test)]
+mod limit_rows;
+#[cfg(test)]
 mod limit_tests;
 #[cfg(test)]
 mod op_costs;
@@ -35,6 +35,8 @@ mod op_rows_text;
 #[cfg(test)]
 mod op_tests;
 #[cfg(test)]
+mod order_rows;
+#[cfg(test)]
 mod outside;
 #[cfg(test)]
 mod parameter_rows;
@@ -44,6 +46,8 @@ mod print_tests;
 mod program_tests;
 #[cfg(test)]
 mod rows;
+#[cfg(test)]
+mod status_rows;
 #[cfg(test)]
 mod syntax_rows;
 #[cfg(test)]

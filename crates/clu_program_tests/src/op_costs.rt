@@ -1,5 +1,8 @@
 //! What the operations take of the store.
 
+/// How many rows `COSTS` has.
+pub const COST_COUNT: usize = 55;
+
 /// Rows that each end with byte 0: declarations, statements, and how often the statements are done in a store of 512
 /// words, at most 600 times.
 pub const COSTS: &str = "\

@@ -1,5 +1,8 @@
 //! What the operations of null, bool, int, char, string and stream come to.
 
+/// How many rows `TEXT_ROWS` has.
+pub const TEXT_ROW_COUNT: usize = 189;
+
 /// Groups that each begin with byte 1, with the declarations that their rows share, and rows; both end with byte 0. A row
 /// is an expression of type string, a tab, and its value, or the name of the exception that it raises. The objects are
 /// those that the rows before have left.

@@ -1,27 +1,28 @@
 //! Tests of each operation of the built-in types: its results, its exceptions in their order, and what it
 //! takes of the store, in programs that are compiled, linked and run.
 
-use crate::op_costs::COSTS;
+use crate::op_costs::{COST_COUNT, COSTS};
 use crate::op_helpers::HELPERS;
-use crate::op_rows_data::DATA_ROWS;
-use crate::op_rows_text::TEXT_ROWS;
+use crate::op_rows_data::{DATA_ROW_COUNT, DATA_ROWS};
+use crate::op_rows_text::{TEXT_ROW_COUNT, TEXT_ROWS};
 use crate::outside::Outside;
-use crate::rows::{PARTS, spelled};
-use crate::text_rows::{TEXT_HELPERS, TEXT_OPERATIONS};
+use crate::rows::{PARTS, counted, same, spelled};
+use crate::text_rows::{TEXT_HELPERS, TEXT_OPERATION_COUNT, TEXT_OPERATIONS};
 use std::alloc::Global;
-use std::process::Abort;
+use std::fmt::Write;
 use std::test::Fail;
 
 /// What the programs read.
 const INPUT: &[u8] = b"abcdefghij\n\n\nlast one";
 
-/// What stands behind the expression of a row: the exceptions become strings.
+/// What stands after the expression of a row: the exceptions become strings.
 const BEHIND: &str = ") except when failure (fa: string): @\"failure: \" || fa) \
     when not_possible (np: string): @\"not_possible: \" || np) others (ot: string): @ot) end\n";
 
-/// What the source of a program writes, and behind it what stands on the errors.
+/// What the source of a program writes, and after it what stands on the errors.
 fn written(alloc: Global, words: &str, source: &str) -> Result<String, Fail> {
-    let mut outside = Outside::new(alloc, INPUT, &spelled(alloc, source)?)?;
+    let source = spelled(alloc, source)?;
+    let mut outside = Outside::new(alloc, INPUT, source.as_bytes(), "")?;
     let _status = outside.call(alloc, words)?;
     let output = std::str::from_utf8(outside.output.bytes())?;
     let errors = std::str::from_utf8(outside.errors.bytes())?;
@@ -29,94 +30,114 @@ fn written(alloc: Global, words: &str, source: &str) -> Result<String, Fail> {
 }
 
 /// Adds a row to the source of its group, and its value to what is due.
-fn add_row(alloc: Global, source: &mut String, due: &mut String, row: &str) -> Result<(), Fail> {
-    let mut parts = row.split('\t');
-    let expression = parts.next().unwrap_or("");
-    let value = parts.next().unwrap_or("");
-    if !expression.is_empty() {
-        source.push_str(format!(in alloc; "@{expression}{BEHIND}")?.as_str())?;
-        due.push_str(format!(in alloc; "{value}\n")?.as_str())?;
+fn add_row(source: &mut String, due: &mut String, row: &str) -> Result<(), Fail> {
+    match row.split_once('\t') {
+        Some((expression, value)) => {
+            write!(source, "@{expression}{BEHIND}")?;
+            write!(due, "{value}\n")?;
+            Ok(())
+        }
+        None => Err("a row without a value")?,
+    }
+}
+
+/// Adds the rows of a group after its declarations to its source, and their values to what is due.
+fn add_rows(source: &mut String, due: &mut String, group: &str) -> Result<(), Fail> {
+    for row in group.split_terminator('\0').skip(1) {
+        add_row(source, due, row)?;
     }
     Ok(())
 }
 
 /// The rows of a group are kept by one program.
-fn keep_group(rt: &impl Abort, alloc: Global, helpers: &str, group: &str) -> Result<(), Fail> {
-    let mut rows = group.split('\0');
-    let declarations = rows.next().unwrap_or("");
-    if !declarations.is_empty() {
-        let mut source = format!(in alloc;
-            "{HELPERS}{helpers}start_up = proc () {declarations}\n"
-        )?;
-        let mut due = String::new(alloc);
-        for row in rows {
-            add_row(alloc, &mut source, &mut due, row)?;
-        }
-        source.push_str("end start_up")?;
-        assert_eq!(rt; written(alloc, "go a b", source.as_str())?, due);
+fn keep_group(alloc: Global, helpers: &str, group: &str) -> Result<(), Fail> {
+    let declarations = group.split('\0').next().unwrap_or("");
+    let mut due = String::new(alloc);
+    let mut source = format!(in alloc; "{HELPERS}{helpers}start_up = proc () {declarations}\n")?;
+    add_rows(&mut source, &mut due, group)?;
+    source.push_str("end start_up")?;
+    let found = written(alloc, "go a b", source.as_str())?;
+    if found.as_str() != due.as_str() {
+        return Err(found)?;
     }
     Ok(())
 }
 
-/// The groups of a part are kept.
-fn keep(
-    rt: &impl Abort,
-    alloc: Global,
-    helpers: &str,
-    groups: &str,
-    part: usize,
-) -> Result<(), Fail> {
-    for (number, group) in groups.split('\u{1}').enumerate() {
+/// The groups of a part are kept, and there are so many rows in all, those of declarations among them.
+fn keep(alloc: Global, helpers: &str, groups: &str, count: usize, part: usize) -> Result<(), Fail> {
+    let mut rows = 0usize;
+    let mut number = 0usize;
+    for group in groups.split('\u{1}').skip(1) {
         if number % PARTS == part {
-            keep_group(rt, alloc, helpers, group)?;
+            keep_group(alloc, helpers, group)?;
         }
+        rows = rows.saturating_add(group.split_terminator('\0').count());
+        number = number.saturating_add(1);
     }
-    Ok(())
+    counted(alloc, rows, count)
 }
 
 #[test]
 fn operations_on_text_first(rt: HostRuntime) -> Result<(), Fail> {
-    keep(&rt, rt.alloc(), "", TEXT_ROWS, 0)
+    keep(rt.alloc(), "", TEXT_ROWS, TEXT_ROW_COUNT, 0)
 }
 
 #[test]
 fn operations_on_text_second(rt: HostRuntime) -> Result<(), Fail> {
-    keep(&rt, rt.alloc(), "", TEXT_ROWS, 1)
+    keep(rt.alloc(), "", TEXT_ROWS, TEXT_ROW_COUNT, 1)
 }
 
 #[test]
 fn operations_on_text_third(rt: HostRuntime) -> Result<(), Fail> {
-    keep(&rt, rt.alloc(), "", TEXT_ROWS, 2)
+    keep(rt.alloc(), "", TEXT_ROWS, TEXT_ROW_COUNT, 2)
 }
 
 #[test]
 fn operations_on_data_first(rt: HostRuntime) -> Result<(), Fail> {
-    keep(&rt, rt.alloc(), "", DATA_ROWS, 0)
+    keep(rt.alloc(), "", DATA_ROWS, DATA_ROW_COUNT, 0)
 }
 
 #[test]
 fn operations_on_data_second(rt: HostRuntime) -> Result<(), Fail> {
-    keep(&rt, rt.alloc(), "", DATA_ROWS, 1)
+    keep(rt.alloc(), "", DATA_ROWS, DATA_ROW_COUNT, 1)
 }
 
 #[test]
 fn operations_on_data_third(rt: HostRuntime) -> Result<(), Fail> {
-    keep(&rt, rt.alloc(), "", DATA_ROWS, 2)
+    keep(rt.alloc(), "", DATA_ROWS, DATA_ROW_COUNT, 2)
 }
 
 #[test]
 fn operations_that_are_texts_first(rt: HostRuntime) -> Result<(), Fail> {
-    keep(&rt, rt.alloc(), TEXT_HELPERS, TEXT_OPERATIONS, 0)
+    keep(
+        rt.alloc(),
+        TEXT_HELPERS,
+        TEXT_OPERATIONS,
+        TEXT_OPERATION_COUNT,
+        0,
+    )
 }
 
 #[test]
 fn operations_that_are_texts_second(rt: HostRuntime) -> Result<(), Fail> {
-    keep(&rt, rt.alloc(), TEXT_HELPERS, TEXT_OPERATIONS, 1)
+    keep(
+        rt.alloc(),
+        TEXT_HELPERS,
+        TEXT_OPERATIONS,
+        TEXT_OPERATION_COUNT,
+        1,
+    )
 }
 
 #[test]
 fn operations_that_are_texts_third(rt: HostRuntime) -> Result<(), Fail> {
-    keep(&rt, rt.alloc(), TEXT_HELPERS, TEXT_OPERATIONS, 2)
+    keep(
+        rt.alloc(),
+        TEXT_HELPERS,
+        TEXT_OPERATIONS,
+        TEXT_OPERATION_COUNT,
+        2,
+    )
 }
 
 /// How often statements are done until a store of 512 words is full, as they write it.
@@ -126,41 +147,41 @@ fn turns(alloc: Global, declarations: &str, statements: &str) -> Result<usize, F
         stream$puts(stream$primary_output(), \".\") k := k + 1 end end start_up"
     )?;
     let found = written(alloc, "go --store 4096 a b", source.as_str())?;
-    let mut dots = 0usize;
-    for byte in found.as_bytes() {
-        if *byte == b'.' {
-            dots = dots.saturating_add(1);
-        }
-    }
-    Ok(dots)
+    Ok(found.as_str().split('.').count().saturating_sub(1))
+}
+
+/// What comes of a row of declarations, statements and how often these are done.
+fn cost(alloc: Global, row: &str) -> Result<String, Fail> {
+    let mut parts = row.split('\t');
+    let declarations = parts.next().unwrap_or("");
+    let statements = parts.next().unwrap_or("");
+    let found = turns(alloc, declarations, statements)?;
+    Ok(format!(in alloc; "{declarations}\t{statements}\t{found}")?)
 }
 
 /// The costs of a part are kept.
-fn cost(rt: &impl Abort, alloc: Global, part: usize) -> Result<(), Fail> {
-    for (number, row) in COSTS.split('\0').enumerate() {
-        let mut parts = row.split('\t');
-        let declarations = parts.next().unwrap_or("");
-        let statements = parts.next().unwrap_or("");
-        let due = parts.next().unwrap_or("");
-        if number % PARTS == part && !due.is_empty() {
-            let found = turns(alloc, declarations, statements)?;
-            assert_eq!(rt; format!(in alloc; "{found}")?.as_str(), due, "{statements}");
+fn costs(alloc: Global, part: usize) -> Result<(), Fail> {
+    let mut number = 0usize;
+    for row in COSTS.split_terminator('\0') {
+        if number % PARTS == part {
+            same(row, cost(alloc, row)?)?;
         }
+        number = number.saturating_add(1);
     }
-    Ok(())
+    counted(alloc, number, COST_COUNT)
 }
 
 #[test]
 fn costs_of_operations_first(rt: HostRuntime) -> Result<(), Fail> {
-    cost(&rt, rt.alloc(), 0)
+    costs(rt.alloc(), 0)
 }
 
 #[test]
 fn costs_of_operations_second(rt: HostRuntime) -> Result<(), Fail> {
-    cost(&rt, rt.alloc(), 1)
+    costs(rt.alloc(), 1)
 }
 
 #[test]
 fn costs_of_operations_third(rt: HostRuntime) -> Result<(), Fail> {
-    cost(&rt, rt.alloc(), 2)
+    costs(rt.alloc(), 2)
 }

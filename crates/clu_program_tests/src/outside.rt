@@ -1,12 +1,54 @@
 //! The outside of a call, in memory.
 
-use clu_base::{Bytes, MemSink, MemSource, MemStore, Store};
+use clu_base::{Bytes, MemSink, MemSource, MemStore, Memory, Store};
 use clu_driver::clu;
 use std::alloc::Global;
 use std::test::Fail;
 
 /// The file that a call finds.
 pub const FILE: &str = "a";
+
+/// The file that `go` puts.
+pub const IMAGE: &str = "b";
+
+/// The numbers of the calls that fail.
+#[derive(Drop)]
+struct Faults {
+    input: Vec<u64>,
+    output: Vec<u64>,
+    errors: Vec<u64>,
+    files: Vec<u64>,
+}
+
+impl Faults {
+    /// What fails is named by words with blanks between them: the first `read` of the input, the first `write` of the
+    /// output, the first line to `errors`, the `get` of the file that the command reads, and the `put` after it.
+    fn named(alloc: Global, words: &str) -> Result<Faults, Fail> {
+        let mut faults = Faults {
+            input: Vec::new(alloc),
+            output: Vec::new(alloc),
+            errors: Vec::new(alloc),
+            files: Vec::new(alloc),
+        };
+        for word in words.split(' ') {
+            faults.add(word)?;
+        }
+        Ok(faults)
+    }
+
+    /// Call 0 of the store is the put of `FILE`.
+    fn add(&mut self, word: &str) -> Result<(), Fail> {
+        match word {
+            "read" => Ok(self.input.push(0)?),
+            "write" => Ok(self.output.push(0)?),
+            "errors" => Ok(self.errors.push(0)?),
+            "get" => Ok(self.files.push(1)?),
+            "put" => Ok(self.files.push(2)?),
+            "" => Ok(()),
+            _ => Err("no such fault")?,
+        }
+    }
+}
 
 /// The outside of a call.
 #[derive(Drop)]
@@ -18,16 +60,28 @@ pub struct Outside {
 }
 
 impl Outside {
-    /// One in which nothing fails, with this input and this content of `FILE`.
-    pub fn new(alloc: Global, input: &[u8], content: &[u8]) -> Result<Outside, Fail> {
-        let mut outside = Outside {
-            input: MemSource::new(Bytes::from_slice(alloc, input)?, 64, Vec::new(alloc)),
-            output: MemSink::new(alloc, 65_536, 64, Vec::new(alloc))?,
-            errors: MemSink::new(alloc, 1024, 64, Vec::new(alloc))?,
-            files: MemStore::new(alloc, Vec::new(alloc), 5),
-        };
+    /// One with this input and this content of `FILE`, in which what is named fails.
+    pub fn new(
+        alloc: Global,
+        input: &[u8],
+        content: &[u8],
+        faults: &str,
+    ) -> Result<Box<Outside>, Fail> {
+        let faults = Faults::named(alloc, faults)?;
+        let mut outside = Outside::failing(alloc, input, faults)?;
         outside.files.put(alloc, FILE, content)?;
         Ok(outside)
+    }
+
+    fn failing(alloc: Global, input: &[u8], faults: Faults) -> Result<Box<Outside>, Memory> {
+        let input = Bytes::from_slice(alloc, input)?;
+        let outside = Outside {
+            input: MemSource::new(input, 64, faults.input),
+            output: MemSink::new(alloc, 65_536, 64, faults.output)?,
+            errors: MemSink::new(alloc, 1024, 64, faults.errors)?,
+            files: MemStore::new(alloc, faults.files, 5),
+        };
+        Ok(Box::new(alloc, outside)?)
     }
 
     /// The status of a call with these words, which have blanks between them.
@@ -44,5 +98,13 @@ impl Outside {
             &mut self.errors,
             &mut self.files,
         ))
+    }
+
+    /// Whether a call of this status left `IMAGE` as it was, if it is a refusal before the put.
+    pub fn is_kept(&self, status: u8) -> bool {
+        match status {
+            2 | 10..=21 | 25..=27 => self.files.file(IMAGE).is_none(),
+            _ => true,
+        }
     }
 }

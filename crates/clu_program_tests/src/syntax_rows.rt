@@ -1,5 +1,8 @@
 //! Sources that break V2, some for each production of the grammar.
 
+/// How many rows `ROWS` has.
+pub const COUNT: usize = 108;
+
 /// Rows that each end with byte 0. A `^` stands before the refused token, or at the end where the file ends too
 /// early; it is not of the source. A row that begins with `%` is a comment.
 pub const ROWS: &str = "\

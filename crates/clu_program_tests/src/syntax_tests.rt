@@ -2,7 +2,7 @@
 
 ghost use Rattle.std.specs.Prelude.{◌≤◌, length};
 
-use crate::syntax_rows::ROWS;
+use crate::syntax_rows::{COUNT, ROWS};
 use clu_base::Place;
 use clu_lexer::lex;
 use clu_parser::{ParseError, parse};
@@ -36,7 +36,7 @@ fn refused_at(alloc: Global, source: &[u8]) -> Result<Option<Place>, Fail>
 #[test]
 fn sources_are_refused_at_the_first_token_that_no_file_has(rt: HostRuntime) -> Result<(), Fail> {
     let alloc = rt.alloc();
-    let mut rows = 0u32;
+    let mut rows = 0usize;
     for row in ROWS.as_bytes().split(|byte| *byte == 0) {
         if row.first() != Some(&b'%') && !row.is_empty() {
             let (source, col) = source_of(alloc, row)?;
@@ -52,6 +52,6 @@ fn sources_are_refused_at_the_first_token_that_no_file_has(rt: HostRuntime) -> R
             rows = rows.saturating_add(1);
         }
     }
-    assert_eq!(rt; rows, 108);
+    assert_eq!(rt; rows, COUNT);
     Ok(())
 }

@@ -29,6 +29,9 @@ kl = proc (x: array[k], y: int) returns (array[k]) array[k]$set_low(x, y) return
 less = proc (x: array[k]) returns (bool) array[k]$addl(x, k$make(91, x)) array[k]$addh(x, k$make(7, x)) y: array[k] := array[k]$copy1(x) return (array[k]$similar(x, y)) end less\n\
 ";
 
+/// How many rows `TEXT_OPERATIONS` has.
+pub const TEXT_OPERATION_COUNT: usize = 74;
+
 /// Groups as those of `op_rows_data`.
 pub const TEXT_OPERATIONS: &str = "\
 \x01ai = array[int] m: int := 9223372036854775807 l: int := -9223372036854775807 - 1\0\

@@ -13,4 +13,5 @@ pub mod Grammar
 pub mod UseReading
 pub mod SpecReading
 pub mod Seen
+pub mod Pieces
 pub mod Offsets

@@ -63,6 +63,7 @@ const KEYWORDS: [(&[u8], Keyword); 15] = [
     (b"itertype", Keyword::Routine(true)),
 ];
 
+/// The entry of the word. It goes at most as deep as the table has entries.
 fn keyword_in(table: &[(&[u8], Keyword)], word: &[u8]) -> Option<Keyword>
     ensures { result ≡ keyword_in (map (λ entry. (entry.0.now, entry.1)) table.now) word.now }
 {

@@ -14,7 +14,8 @@ pub fn fault(rest: &[u8]) -> FormatError
     FormatError::Bad(rest.len() as u64)
 }
 
-/// What follows the fixed part; refused at its first byte that is missing or differs.
+/// What follows the fixed part; refused at its first byte that is missing or differs. It goes as deep as the part
+/// is long; each is a word of this crate.
 #[tactic(auto, unfolding(crate::specs::Reading::literal_at))]
 pub fn literal<'a>(fixed: &[u8], bytes: &'a [u8]) -> Result<&'a [u8], FormatError>
     ensures { Gives (λ rest. rest.now) result (literal_at fixed.now bytes.now) }

@@ -17,7 +17,8 @@ pub const LONGEST: usize = 200;
 /// The same of an operation in a use, where `get_` or `set_` may stand before a selector.
 pub const LONGEST_OPERATION: usize = 204;
 
-/// Whether the first name comes before the second: a proper prefix does.
+/// Whether the first name comes before the second: a proper prefix does. It goes as deep as the shorter one is
+/// long, at most `LONGEST_OPERATION`.
 fn is_before(a: &[u8], b: &[u8]) -> bool
     ensures { result ≡ is_before a.now b.now }
 {
@@ -36,7 +37,7 @@ fn is_before(a: &[u8], b: &[u8]) -> bool
     }
 }
 
-/// How many first bytes are the same.
+/// How many first bytes are the same. It goes as deep as that, at most `LONGEST_OPERATION`.
 fn common(a: &[u8], b: &[u8]) -> usize
     ensures is { result ≡ common a.now b.now }
     ensures within { result ≤ length b.now }
@@ -56,7 +57,8 @@ fn common(a: &[u8], b: &[u8]) -> usize
     }
 }
 
-/// The place of the last byte that a greater one can replace; `z` is the greatest.
+/// The place of the last byte that a greater one can replace; `z` is the greatest. It goes as deep as the name is
+/// long, at most `LONGEST_OPERATION`.
 fn last_below_z(name: &[u8]) -> Option<usize>
     ensures is { result ≡ last_below_z name.now }
     ensures within { IfSome result (λ i. i < length name.now) }

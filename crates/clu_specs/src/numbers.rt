@@ -7,7 +7,7 @@ ghost use Rattle.clu_specs.specs.Numbers.{shorten, begins_decimal, digits_from, 
 use crate::marks::fault;
 use clu_base::FormatError;
 
-/// The first digits of a number, at most so many fewer that it isn't above `first`.
+/// The first digits of a number, at most so many fewer that it isn't above `first`. It goes so deep, at most 20.
 fn shorten(digits: u8, first: u64, number: u64) -> u64
     ensures { result ≡ shorten digits first number }
 {

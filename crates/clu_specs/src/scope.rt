@@ -136,7 +136,8 @@ impl Scope {
         false
     }
 
-    /// How many bytes are left behind the digits at the front that begin some number of the sort.
+    /// How many bytes are left behind the digits at the front that begin some number of the sort. It goes at most as
+    /// deep as `LAST_NUMBER` has digits, and one more.
     fn left_of_number(&self, sort: Sort, least: u64, read: u64, bytes: &[u8]) -> u64
         ensures { result ≡ left_of_number self.now sort least read bytes.now }
     {

@@ -1,45 +1,61 @@
 //! Specifications as texts.
 
-ghost use Rattle.std.specs.Prelude.{◌≡◌, ◌<◌, ◌++◌, ◌∷◌, length, map, IfOk, OnOk};
+ghost use Rattle.std.specs.Prelude.{◌≡◌, ◌++◌, ◌∷◌, List, map, IfOk, OnOk};
 ghost use Rattle.std.specs.List.{flat_map};
+ghost use Rattle.clu_types.specs.CluType.{CluType};
 ghost use Rattle.clu_types.specs.Arena.{types_of};
-ghost use Rattle.clu_specs.specs.Seen.{demand_seen, op_seen, seen, kind_text, kinds_text, demand_text, demands_text, routine_word, routine_text, op_text, spec_text};
-ghost use Rattle.clu_specs.specs.Specifications.{DemandsBelow, OpBelow, OpsBelow, SpecHolds};
+ghost use Rattle.clu_specs.specs.Seen.{demand_seen, op_seen, form_seen, seen, kind_text, kinds_text, demand_text, demands_text, routine_word, routine_text, op_text, shape_text, spec_text};
+ghost use Rattle.clu_specs.specs.Specifications.{SpecHolds};
+ghost use Rattle.clu_specs.specs.Pieces.{stack_text};
 
-use crate::constants::{put, put_parameter};
-use crate::write_types::{put_heading, put_type};
+use crate::pieces::{Piece, push, push_heading};
+use crate::write_types::written;
 use clu_base::{Bytes, Memory};
-use clu_types::{Demand, Form, OpSpec, ParamKind, Spec, TypeArena};
+use clu_types::{Demand, Form, OpSpec, ParamKind, Spec};
 use std::alloc::Global;
 
-/// The text of a specification, by the grammar in docs/formats.md. The only error is want of memory.
+/// The text of a specification, by the grammar in docs/formats.md. The only error is that memory runs out.
 pub fn spec_text(alloc: Global, s: &Spec) -> Result<Bytes, Memory>
     requires { SpecHolds s.now }
     ensures { IfOk result (λ text. text ≡ spec_text (seen s.now)) }
 {
-    let mut out = Vec::new(alloc);
-    put_spec(&mut out, s)?;
-    Ok(Bytes::from_vec(out))
+    let mut stack = Vec::new(alloc);
+    push_spec(&mut stack, s)?;
+    written(alloc, &s.types, &mut stack)
 }
 
-fn put_spec(out: &mut Vec<u8>, s: &Spec) -> Result<(), Memory>
-    requires { SpecHolds s.now }
-    ensures { OnOk result (out.new.items ≡ out.old.items ++ spec_text (seen s.now)) }
+fn push_spec<'a>(stack: &mut Vec<Piece<'a>>, s: &'a Spec) -> Result<(), Memory>
+    ensures { OnOk result (stack_text (types_of s.now.types) stack.new.items ≡ spec_text (seen s.now) ++ stack_text (types_of s.now.types) stack.old.items) }
 {
-    put(out, s.name.as_slice())?;
-    match &s.form {
+    push_form(stack, s.kinds.as_slice(), &s.form)?;
+    push(stack, &[Piece::Text(s.name.as_slice())])
+}
+
+/// Puts what follows the name of a specification on the stack.
+fn push_form<'a>(
+    stack: &mut Vec<Piece<'a>>,
+    kinds: &'a [ParamKind],
+    form: &'a Form,
+) -> Result<(), Memory>
+    ensures { (ks : List CluType) → OnOk result (stack_text ks stack.new.items ≡ shape_text kinds.now (form_seen ks form.now) ++ stack_text ks stack.old.items) }
+{
+    match form {
         Form::Routine(op) => {
-            put(out, b"=")?;
-            put(out, routine_word(op.iter))?;
-            put_kinds(out, s.kinds.as_slice())?;
-            put_routine(out, &s.types, op)
+            push_routine(stack, op)?;
+            push_kinds(stack, kinds)?;
+            push(
+                stack,
+                &[Piece::Text(routine_word(op.iter)), Piece::Text(b"=")],
+            )
         }
         Form::Cluster(demands, ops) => {
-            put(out, b"=cluster")?;
-            put_kinds(out, s.kinds.as_slice())?;
-            put_demands(out, &s.types, demands.as_slice())?;
-            put(out, b"is")?;
-            put_operations(out, &s.types, ops.as_slice())
+            push(
+                stack,
+                &[Piece::Operations(ops.as_slice()), Piece::Text(b"is")],
+            )?;
+            push_demands(stack, demands.as_slice())?;
+            push_kinds(stack, kinds)?;
+            push(stack, &[Piece::Text(b"=cluster")])
         }
     }
 }
@@ -51,7 +67,7 @@ fn routine_word(iter: bool) -> &'static [u8]
 }
 
 /// The word of a kind of parameter.
-fn kind_word(kind: ParamKind) -> &'static [u8]
+pub fn kind_word(kind: ParamKind) -> &'static [u8]
     ensures { result.now ≡ kind_text kind }
 {
     match kind {
@@ -64,98 +80,124 @@ fn kind_word(kind: ParamKind) -> &'static [u8]
     }
 }
 
-/// Appends kinds of parameters, each behind a comma.
-fn put_more_kinds(out: &mut Vec<u8>, kinds: &[ParamKind]) -> Result<(), Memory>
-    ensures { OnOk result (out.new.items ≡ out.old.items ++ flat_map (λ kind. 44 ∷ kind_text kind) kinds.now) }
+/// Puts a kind of parameter and the kinds after it on the stack.
+fn push_first_kind<'a>(
+    stack: &mut Vec<Piece<'a>>,
+    first: ParamKind,
+    rest: &'a [ParamKind],
+) -> Result<(), Memory>
+    ensures { (ks : List CluType) → OnOk result (stack_text ks stack.new.items ≡ (kind_text first ++ flat_map (λ kind. 44 ∷ kind_text kind) rest.now) ++ stack_text ks stack.old.items) }
 {
-    for kind in kinds {
-        put(out, b",")?;
-        put(out, kind_word(*kind))?;
-    }
-    Ok(())
+    push(stack, &[Piece::Kinds(rest), Piece::Text(kind_word(first))])
 }
 
-/// Appends the kinds of parameters in brackets; nothing where there are none.
-fn put_kinds(out: &mut Vec<u8>, kinds: &[ParamKind]) -> Result<(), Memory>
-    ensures { OnOk result (out.new.items ≡ out.old.items ++ kinds_text kinds.now) }
+/// Puts kinds of parameters, each after a comma, on the stack.
+pub fn push_more_kinds<'a>(stack: &mut Vec<Piece<'a>>, kinds: &'a [ParamKind]) -> Result<(), Memory>
+    ensures { (ks : List CluType) → OnOk result (stack_text ks stack.new.items ≡ flat_map (λ kind. 44 ∷ kind_text kind) kinds.now ++ stack_text ks stack.old.items) }
 {
     match kinds {
         [] => Ok(()),
         [first, rest @ ..] => {
-            put(out, b"[")?;
-            put(out, kind_word(*first))?;
-            put_more_kinds(out, rest)?;
-            put(out, b"]")
+            push_first_kind(stack, *first, rest)?;
+            push(stack, &[Piece::Text(b",")])
         }
     }
 }
 
-/// Appends a heading with its demands.
-fn put_routine(out: &mut Vec<u8>, types: &TypeArena, op: &OpSpec) -> Result<(), Memory>
-    requires { OpBelow (length types.now) op.now }
-    ensures { OnOk result (out.new.items ≡ out.old.items ++ routine_text (op_seen (types_of types.now) op.now)) }
+/// Puts the kinds of parameters in brackets on the stack; nothing if there are none.
+fn push_kinds<'a>(stack: &mut Vec<Piece<'a>>, kinds: &'a [ParamKind]) -> Result<(), Memory>
+    ensures { (ks : List CluType) → OnOk result (stack_text ks stack.new.items ≡ kinds_text kinds.now ++ stack_text ks stack.old.items) }
 {
-    put_heading(out, types, op.iter, &op.heading, types.len() as u64)?;
-    put_demands(out, types, op.demands.as_slice())
-}
-
-fn put_demand(out: &mut Vec<u8>, types: &TypeArena, demand: &Demand) -> Result<(), Memory>
-    requires { demand.now.wanted.0 < length types.now }
-    ensures { OnOk result (out.new.items ≡ out.old.items ++ demand_text (demand_seen (types_of types.now) demand.now)) }
-{
-    put_parameter(out, b'#', demand.param)?;
-    put(out, b" has ")?;
-    put(out, demand.op.as_slice())?;
-    put(out, b":")?;
-    put_type(out, types, demand.wanted)
-}
-
-/// Appends demands, each behind a comma.
-fn put_more_demands(out: &mut Vec<u8>, types: &TypeArena, demands: &[Demand]) -> Result<(), Memory>
-    requires { DemandsBelow (length types.now) demands.now }
-    ensures { OnOk result (out.new.items ≡ out.old.items ++ flat_map (λ demand. 44 ∷ demand_text demand) (map (demand_seen (types_of types.now)) demands.now)) }
-{
-    for demand in demands {
-        put(out, b",")?;
-        put_demand(out, types, demand)?;
+    match kinds {
+        [] => Ok(()),
+        [first, rest @ ..] => {
+            push(stack, &[Piece::Text(b"]")])?;
+            push_first_kind(stack, *first, rest)?;
+            push(stack, &[Piece::Text(b"[")])
+        }
     }
-    Ok(())
 }
 
-/// Appends a where clause; nothing where nothing is demanded.
-fn put_demands(out: &mut Vec<u8>, types: &TypeArena, demands: &[Demand]) -> Result<(), Memory>
-    requires { DemandsBelow (length types.now) demands.now }
-    ensures { OnOk result (out.new.items ≡ out.old.items ++ demands_text (map (demand_seen (types_of types.now)) demands.now)) }
+/// Puts a heading with its demands on the stack.
+fn push_routine<'a>(stack: &mut Vec<Piece<'a>>, op: &'a OpSpec) -> Result<(), Memory>
+    ensures { (ks : List CluType) → OnOk result (stack_text ks stack.new.items ≡ routine_text (op_seen ks op.now) ++ stack_text ks stack.old.items) }
+{
+    push_demands(stack, op.demands.as_slice())?;
+    push_heading(stack, op.iter, &op.heading)
+}
+
+/// Puts a demand on the stack.
+fn push_demand<'a>(stack: &mut Vec<Piece<'a>>, demand: &'a Demand) -> Result<(), Memory>
+    ensures { (ks : List CluType) → OnOk result (stack_text ks stack.new.items ≡ demand_text (demand_seen ks demand.now) ++ stack_text ks stack.old.items) }
+{
+    push(
+        stack,
+        &[
+            Piece::Type(demand.wanted),
+            Piece::Text(b":"),
+            Piece::Text(demand.op.as_slice()),
+            Piece::Text(b" has "),
+            Piece::Parameter(b'#', demand.param),
+        ],
+    )
+}
+
+/// Puts demands, each after a comma, on the stack.
+pub fn push_more_demands<'a>(
+    stack: &mut Vec<Piece<'a>>,
+    demands: &'a [Demand],
+) -> Result<(), Memory>
+    ensures { (ks : List CluType) → OnOk result (stack_text ks stack.new.items ≡ flat_map (λ demand. 44 ∷ demand_text demand) (map (demand_seen ks) demands.now) ++ stack_text ks stack.old.items) }
 {
     match demands {
         [] => Ok(()),
         [first, rest @ ..] => {
-            put(out, b" where ")?;
-            put_demand(out, types, first)?;
-            put_more_demands(out, types, rest)?;
-            put(out, b" ")
+            push(stack, &[Piece::Demands(rest)])?;
+            push_demand(stack, first)?;
+            push(stack, &[Piece::Text(b",")])
         }
     }
 }
 
-fn put_operation(out: &mut Vec<u8>, types: &TypeArena, op: &OpSpec) -> Result<(), Memory>
-    requires { OpBelow (length types.now) op.now }
-    ensures { OnOk result (out.new.items ≡ out.old.items ++ op_text (op_seen (types_of types.now) op.now)) }
+/// Puts a where clause on the stack; nothing if nothing is demanded.
+fn push_demands<'a>(stack: &mut Vec<Piece<'a>>, demands: &'a [Demand]) -> Result<(), Memory>
+    ensures { (ks : List CluType) → OnOk result (stack_text ks stack.new.items ≡ demands_text (map (demand_seen ks) demands.now) ++ stack_text ks stack.old.items) }
 {
-    put(out, b";")?;
-    put(out, op.name.as_slice())?;
-    put(out, b":")?;
-    put(out, routine_word(op.iter))?;
-    put_routine(out, types, op)
+    match demands {
+        [] => Ok(()),
+        [first, rest @ ..] => {
+            push(stack, &[Piece::Text(b" "), Piece::Demands(rest)])?;
+            push_demand(stack, first)?;
+            push(stack, &[Piece::Text(b" where ")])
+        }
+    }
 }
 
-/// Appends operations, each behind `;`.
-fn put_operations(out: &mut Vec<u8>, types: &TypeArena, ops: &[OpSpec]) -> Result<(), Memory>
-    requires { OpsBelow (length types.now) ops.now }
-    ensures { OnOk result (out.new.items ≡ out.old.items ++ flat_map op_text (map (op_seen (types_of types.now)) ops.now)) }
+/// Puts operations, each after `;`, on the stack.
+pub fn push_operations<'a>(stack: &mut Vec<Piece<'a>>, ops: &'a [OpSpec]) -> Result<(), Memory>
+    ensures { (ks : List CluType) → OnOk result (stack_text ks stack.new.items ≡ flat_map op_text (map (op_seen ks) ops.now) ++ stack_text ks stack.old.items) }
 {
-    for op in ops {
-        put_operation(out, types, op)?;
+    match ops {
+        [] => Ok(()),
+        [first, rest @ ..] => {
+            push(stack, &[Piece::Operations(rest)])?;
+            push_operation(stack, first)
+        }
     }
-    Ok(())
+}
+
+/// Puts an operation of a cluster on the stack.
+fn push_operation<'a>(stack: &mut Vec<Piece<'a>>, op: &'a OpSpec) -> Result<(), Memory>
+    ensures { (ks : List CluType) → OnOk result (stack_text ks stack.new.items ≡ op_text (op_seen ks op.now) ++ stack_text ks stack.old.items) }
+{
+    push_routine(stack, op)?;
+    push(
+        stack,
+        &[
+            Piece::Text(routine_word(op.iter)),
+            Piece::Text(b":"),
+            Piece::Text(op.name.as_slice()),
+            Piece::Text(b";"),
+        ],
+    )
 }

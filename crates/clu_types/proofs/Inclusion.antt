@@ -1,9 +1,10 @@
 -- Inclusion of routine types, by the numbers of their parts and by their types.
-use Rattle.std.proofs.Common.{◌≡◌, ℕ, ◌<◌, List, [], ◌∷◌, length, ap, inl, inr, Bool, IsTrue, arith, subst}
+use Rattle.std.proofs.Common.{◌≡◌, ℕ, ◌-◌, ◌<◌, ◌≤◌, List, [], ◌∷◌, length, get_or, take, drop, ap, sym, ◌∙◌, inl, inr, Bool, IsTrue, arith, subst}
+use Rattle.std.proofs.lemmas.List.{take_rest}
 use Rattle.clu_types.specs.CluType.{CluType}
 use Rattle.clu_types.specs.Arena.{type_at, types_at, signals_at, types_of, AreBelow, SignalsBelow, HeadingBelow, PartsBelow, IsArena, type_of}
 use Rattle.clu_types.specs.Included.{HasSignal, AreAmong, IsNarrower}
-use Rattle.clu_types.specs.Narrower.{HasException, AreExceptionsOf, IsNarrowerHeading}
+use Rattle.clu_types.specs.Narrower.{HasException, AreExceptionsOf, AreAmongThese, IsNarrowerHeading}
 use Rattle.clu_types.specs.declared.term.TypeId.{TypeId}
 use Rattle.clu_types.specs.declared.term.Exception.{Exception}
 use Rattle.clu_types.specs.declared.term.Heading.{Heading}
@@ -70,3 +71,26 @@ narrower_iters ts arena a b s t narrow wide s_is t_is in_a in_b parts_a parts_b 
     let in_wide : HeadingBelow (length ts) wide = parts_more b.0 (length ts) (omega arith) (term.Iter wide) (subst (PartsBelow b.0) t_is parts_b) in
     let both = narrower ts arena narrow wide in_narrow in_wide in
     rw (type_a, type_b, s_is, t_is) (λ e. both.0 (says.0 e), λ h. says.1 (both.1 h))
+
+-- a list is its first exception and the others
+in_two : (xs : List Exception) (d : Exception) → 1 ≤ length xs → xs ≡ get_or xs 0 d ∷ take (length xs - 1) (drop 1 xs)
+in_two [] d some = absurd (omega arith)
+in_two (x ∷ xs) d some = ap (λ (rest : List Exception). x ∷ rest) (sym (take_rest (x ∷ xs) 1))
+
+-- the first is the wanted one
+pub found_first : (xs all : List Exception) (first wanted : Exception) → 1 ≤ length xs → first ≡ get_or xs 0 first → first ≡ wanted → AreAmongThese xs all
+    → HasException wanted all × AreAmongThese (take (length xs - 1) (drop 1 xs)) all
+found_first xs all first wanted some is same among =
+    let both : xs ≡ first ∷ take (length xs - 1) (drop 1 xs) = in_two xs first some ∙ ap (λ (x : Exception). x ∷ take (length xs - 1) (drop 1 xs)) (sym is) in
+    let those = subst (λ (ys : List Exception). AreAmongThese ys all) both among in
+    (those wanted (inl same), λ e h. those e (inr h))
+
+-- it is another one
+pub after_first : (xs all : List Exception) (first wanted : Exception) → 1 ≤ length xs → first ≡ get_or xs 0 first → (first ≡ wanted → ⊥)
+    → (HasException wanted all → HasException wanted xs) × AreAmongThese xs all
+    → (HasException wanted all → HasException wanted (take (length xs - 1) (drop 1 xs))) × AreAmongThese (take (length xs - 1) (drop 1 xs)) all
+after_first xs all first wanted some is other known =
+    let rest : List Exception = take (length xs - 1) (drop 1 xs) in
+    let both : xs ≡ first ∷ rest = in_two xs first some ∙ ap (λ (x : Exception). x ∷ rest) (sym is) in
+    let those = subst (λ (ys : List Exception). (HasException wanted all → HasException wanted ys) × AreAmongThese ys all) both known in
+    (λ h. elim (those.0 h) [ inl e ↦ absurd (other e) | inr there ↦ there ], λ e h. those.1 e (inr h))

@@ -3,7 +3,12 @@ pub mod Equality
 pub mod Parts
 pub mod Arenas
 pub mod PutIn
+pub mod AllParts
+pub mod Marking
+pub mod Remaking
+pub mod Copying
 pub mod Carrying
+pub mod Tables
 pub mod Identity
 pub mod Inclusion
 pub mod Ascending

@@ -13,11 +13,11 @@ type_by types (Some (actual.Of id)) other = type_at types id
 type_by types (Some (actual.Const c)) other = other
 type_by types (Some (actual.ConstParam p)) other = other
 
-abbrev pub constant_by : Option Actual → ℕ → Actuals → Actuals
-constant_by None n behind = actual_param n behind
-constant_by (Some (actual.Of id)) n behind = actual_param n behind
-constant_by (Some (actual.Const c)) n behind = actual_const c behind
-constant_by (Some (actual.ConstParam p)) n behind = actual_param p behind
+abbrev pub constant_put_by : Option Actual → ℕ → Actuals → Actuals
+constant_put_by None n behind = actual_param n behind
+constant_put_by (Some (actual.Of id)) n behind = actual_param n behind
+constant_put_by (Some (actual.Const c)) n behind = actual_const c behind
+constant_put_by (Some (actual.ConstParam p)) n behind = actual_param p behind
 
 type_at_place : (types : List CluType) (given : List Actual) (i : ℕ) (other : CluType) → type_of_actual (actuals_at types given) i other ≡ type_by types (slice_get given i) other
 type_at_place types [] i other = refl
@@ -28,7 +28,7 @@ type_at_place types (actual.Of id ∷ rest) (suc i) other = type_at_place types 
 type_at_place types (actual.Const c ∷ rest) (suc i) other = type_at_place types rest i other
 type_at_place types (actual.ConstParam p ∷ rest) (suc i) other = type_at_place types rest i other
 
-constant_at_place : (types : List CluType) (given : List Actual) (i n : ℕ) (behind : Actuals) → constant_of_actual (actuals_at types given) i n behind ≡ constant_by (slice_get given i) n behind
+constant_at_place : (types : List CluType) (given : List Actual) (i n : ℕ) (behind : Actuals) → constant_of_actual (actuals_at types given) i n behind ≡ constant_put_by (slice_get given i) n behind
 constant_at_place types [] i n behind = refl
 constant_at_place types (actual.Of id ∷ rest) zero n behind = refl
 constant_at_place types (actual.Const c ∷ rest) zero n behind = refl
@@ -41,7 +41,7 @@ pub type_put-nth : (types : List CluType) (given : List Actual) (n : ℕ) (found
 type_put-nth types given zero found e = rw (← e) refl
 type_put-nth types given (suc i) found e = rw (← e) (type_at_place types given i (parameter (suc i)))
 
-pub constant_put-nth : (types : List CluType) (given : List Actual) (n : ℕ) (behind : Actuals) (found : Option Actual) → nth given n ≡ found → constant_put (actuals_at types given) n behind ≡ constant_by found n behind
+pub constant_put-nth : (types : List CluType) (given : List Actual) (n : ℕ) (behind : Actuals) (found : Option Actual) → nth given n ≡ found → constant_put (actuals_at types given) n behind ≡ constant_put_by found n behind
 constant_put-nth types given zero behind found e = rw (← e) refl
 constant_put-nth types given (suc i) behind found e = rw (← e) (constant_at_place types given i (suc i) behind)
 

@@ -4,5 +4,8 @@ pub mod Arena
 pub mod Included
 pub mod Substituted
 pub mod Actual
+pub mod Renumbered
+pub mod Marked
+pub mod Carried
 pub mod Narrower
 pub mod Specs

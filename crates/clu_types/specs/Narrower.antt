@@ -11,6 +11,10 @@ abbrev pub AreExceptionsOf : List Exception → List Exception → Type 0
 AreExceptionsOf [] many = Unit {0}
 AreExceptionsOf (s ∷ few) many = HasException s many × AreExceptionsOf few many
 
+-- the exceptions of the first list are among those of the second
+abbrev pub AreAmongThese : List Exception → List Exception → Type 0
+AreAmongThese few many = (e : Exception) → HasException e few → HasException e many
+
 -- the same arguments and results, and no exception that the other heading lacks
 abbrev pub IsNarrowerHeading : Heading → Heading → Type 0
 IsNarrowerHeading narrow wide = (narrow.args ≡ wide.args) × (narrow.results ≡ wide.results) × AreExceptionsOf narrow.signals wide.signals

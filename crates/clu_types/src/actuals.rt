@@ -2,10 +2,11 @@
 
 ghost use Rattle.std.specs.Prelude.{◌≡◌, ℕ, ◌<◌, List, IfOk, IfSome, MatchOption};
 ghost use Rattle.std.specs.Option.{option_copied};
-ghost use Rattle.clu_types.specs.CluType.{CluType, Actuals, parameter};
-ghost use Rattle.clu_types.specs.Arena.{type_at, actual_at, actuals_at, ActualBelow, ActualsBelow};
-ghost use Rattle.clu_types.specs.Substituted.{type_put, constant_put};
+ghost use Rattle.clu_types.specs.CluType.{CluType, parameter};
+ghost use Rattle.clu_types.specs.Arena.{type_at, actuals_at, ActualsBelow};
+ghost use Rattle.clu_types.specs.Substituted.{type_put};
 ghost use Rattle.clu_types.specs.Actual.{nth};
+ghost use Rattle.clu_types.specs.Renumbered.{constant_by};
 
 use crate::term::{Actual, TypeId};
 use clu_base::Memory;
@@ -36,8 +37,7 @@ pub fn type_actual(actuals: &[Actual], n: u32) -> Option<TypeId>
 
 /// The constant or constant parameter that is put in for the constant parameter n, or n itself.
 pub fn constant_actual(alloc: Global, actuals: &[Actual], n: u32) -> Result<Actual, Memory>
-    ensures put { IfOk result (λ made. (types : List CluType) (behind : Actuals) → actual_at types made behind ≡ constant_put (actuals_at types actuals.now) n behind) }
-    ensures below { IfOk result (λ made. (m : ℕ) → ActualBelow m made) }
+    ensures { IfOk result (λ made. made ≡ constant_by (nth actuals.now n) n) }
 {
     match nth_actual(actuals, n) {
         Some(Actual::Const(c)) => Ok(Actual::Const(c.copy(alloc)?)),

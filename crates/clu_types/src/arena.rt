@@ -8,12 +8,19 @@ use crate::term::{Actual, Exception, Field, Heading, Term, TypeId};
 use clu_base::Memory;
 use indexmap::IndexSet;
 use std::alloc::Global;
+use std::fmt;
 use std::marker::Model;
 
 /// Types by number. Equal numbers are equal types, and equal types have one number.
-#[derive(Debug, Drop)]
+#[derive(Drop)]
 pub struct TypeArena {
     pub(crate) terms: IndexSet<Term>,
+}
+
+impl fmt::Debug for TypeArena {
+    fn fmt<W: fmt::Write>(&self, f: &mut fmt::Formatter<W>) -> fmt::Result {
+        f.write_str("TypeArena")
+    }
 }
 
 impl Model for TypeArena {
@@ -103,28 +110,34 @@ impl TypeArena {
 fn ids_below(ids: &[TypeId], n: u64) -> bool
     ensures { IsTrue result ↔ AreBelow n ids.now }
 {
-    match ids {
-        [] => true,
-        [first, rest @ ..] => first.0 < n && ids_below(rest, n),
+    for id in ids {
+        if id.0 >= n {
+            return false;
+        }
     }
+    true
 }
 
 fn fields_below(fields: &[Field], n: u64) -> bool
     ensures { IsTrue result ↔ FieldsBelow n fields.now }
 {
-    match fields {
-        [] => true,
-        [first, rest @ ..] => first.of.0 < n && fields_below(rest, n),
+    for field in fields {
+        if field.of.0 >= n {
+            return false;
+        }
     }
+    true
 }
 
 fn signals_below(signals: &[Exception], n: u64) -> bool
     ensures { IsTrue result ↔ SignalsBelow n signals.now }
 {
-    match signals {
-        [] => true,
-        [first, rest @ ..] => ids_below(first.objects.as_slice(), n) && signals_below(rest, n),
+    for signal in signals {
+        if !ids_below(signal.objects.as_slice(), n) {
+            return false;
+        }
     }
+    true
 }
 
 fn heading_below(heading: &Heading, n: u64) -> bool
@@ -147,13 +160,16 @@ fn actual_below(actual: &Actual, n: u64) -> bool
 fn actuals_below(actuals: &[Actual], n: u64) -> bool
     ensures { IsTrue result ↔ ActualsBelow n actuals.now }
 {
-    match actuals {
-        [] => true,
-        [first, rest @ ..] => actual_below(first, n) && actuals_below(rest, n),
+    for actual in actuals {
+        if !actual_below(actual, n) {
+            return false;
+        }
     }
+    true
 }
 
-fn parts_below(term: &Term, n: u64) -> bool
+/// Whether the parts of a term are below a number.
+pub fn parts_below(term: &Term, n: u64) -> bool
     ensures { IsTrue result ↔ PartsBelow n term.now }
 {
     match term {

@@ -1,20 +1,25 @@
 //! Types with actual parameters put in for their parameters, within an arena and from one to another.
-//! The parts are carried first, and the term over the new parts is interned last.
+//! Going down from the type, what it is made of is marked; going up, each marked type is made once, over the
+//! numbers of its parts.
 
-ghost use Rattle.std.specs.Prelude.{◌≡◌, ◌<◌, ◌≤◌, length, IfOk};
-ghost use Rattle.clu_types.specs.CluType.{Actuals};
-ghost use Rattle.clu_types.specs.Arena.{type_at, types_at, fields_at, signals_at, actual_at, actuals_at, types_of, AreBelow, FieldsBelow, SignalsBelow, ActualBelow, ActualsBelow, HeadingBelow, Grows};
-ghost use Rattle.clu_types.specs.Substituted.{substituted, types_substituted, fields_substituted, signals_substituted, actuals_substituted};
+ghost use Rattle.std.specs.Prelude.{◌≡◌, ℕ, ◌<◌, true, false, List, length, replicate, IfOk, IfSome, MatchOption};
+ghost use Rattle.clu_types.specs.CluType.{CluType};
+ghost use Rattle.clu_types.specs.Arena.{type_at, type_of, actuals_at, types_of, ActualsBelow, Grows};
+ghost use Rattle.clu_types.specs.Substituted.{substituted};
+ghost use Rattle.clu_types.specs.Carried.{AreNeeded, AreSpread, ArePartsMade, Stays};
 
 use crate::TypeArena;
-use crate::actuals::{constant_actual, type_actual};
-use crate::term::{Actual, Exception, Field, Heading, Term, TypeId};
-use clu_base::{Memory, Sequence};
+use crate::actuals::type_actual;
+use crate::arena::parts_below;
+use crate::marks::mark_parts;
+use crate::renumbered::renumbered;
+use crate::term::{Actual, Term, TypeId};
+use clu_base::Memory;
 use std::alloc::Global;
 
 impl TypeArena {
     /// The type with the actuals put in for its parameters. A parameter that has no actual of its kind stays.
-    /// After want of memory the arena may have grown.
+    /// After `Memory` the arena may have grown.
     pub fn subst(&mut self, alloc: Global, t: TypeId, actuals: &[Actual]) -> Result<TypeId, Memory>
         requires t_in { t.0 < length self.old }
         requires actuals_in { ActualsBelow (length self.old) actuals.now }
@@ -28,8 +33,7 @@ impl TypeArena {
     }
 
     /// The type that `t` has in the other arena, in this one, with actuals of this one put in for its parameters.
-    /// A parameter that has no actual of its kind stays. After want of memory this arena may have grown.
-    #[cycle(carry)]
+    /// A parameter that has no actual of its kind stays. After `Memory` this arena may have grown.
     pub fn carry(
         &mut self,
         alloc: Global,
@@ -43,206 +47,145 @@ impl TypeArena {
         ensures within { IfOk result (λ id. id.0 < length self.new) }
         ensures kept { Grows self.old self.new }
     {
-        match from.view(t) {
-            Term::Null => self.intern(Term::Null),
-            Term::Bool => self.intern(Term::Bool),
-            Term::Int => self.intern(Term::Int),
-            Term::Char => self.intern(Term::Char),
-            Term::Str => self.intern(Term::Str),
-            Term::Any => self.intern(Term::Any),
-            Term::Stream => self.intern(Term::Stream),
-            Term::Array(of) => {
-                let of = self.carry(alloc, from, *of, actuals)?;
-                self.intern(Term::Array(of))
-            }
-            Term::Sequence(of) => {
-                let of = self.carry(alloc, from, *of, actuals)?;
-                self.intern(Term::Sequence(of))
-            }
-            Term::Record(fields) => {
-                let fields = self.carry_fields(alloc, from, fields.as_slice(), t, actuals)?;
-                self.intern(Term::Record(fields))
-            }
-            Term::Struct(fields) => {
-                let fields = self.carry_fields(alloc, from, fields.as_slice(), t, actuals)?;
-                self.intern(Term::Struct(fields))
-            }
-            Term::Oneof(fields) => {
-                let fields = self.carry_fields(alloc, from, fields.as_slice(), t, actuals)?;
-                self.intern(Term::Oneof(fields))
-            }
-            Term::Variant(fields) => {
-                let fields = self.carry_fields(alloc, from, fields.as_slice(), t, actuals)?;
-                self.intern(Term::Variant(fields))
-            }
-            Term::Proc(heading) => {
-                let heading = self.carry_heading(alloc, from, heading, t, actuals)?;
-                self.intern(Term::Proc(heading))
-            }
-            Term::Iter(heading) => {
-                let heading = self.carry_heading(alloc, from, heading, t, actuals)?;
-                self.intern(Term::Iter(heading))
-            }
-            Term::Cluster(name, inner) => {
-                let inner = self.carry_actuals(alloc, from, inner.as_slice(), t, actuals)?;
-                self.intern(Term::Cluster(name.copy(alloc)?, inner))
-            }
-            Term::Param(n) => match type_actual(actuals, *n) {
-                Some(id) => Ok(id),
-                None => self.intern(Term::Param(*n)),
-            },
-        }
+        let table = self.parts_made(alloc, from, t, actuals)?;
+        self.make(alloc, from, t, table.as_slice(), actuals)
     }
 
-    /// Parts of the type `whole` of the other arena, one after another.
-    #[cycle(carry)]
-    fn carry_types(
+    /// The numbers here, by their numbers in the other arena, of all that `t` is made of. A type without parts needs none.
+    fn parts_made(
         &mut self,
         alloc: Global,
         from: &TypeArena,
-        ids: &[TypeId],
-        whole: TypeId,
+        t: TypeId,
         actuals: &[Actual],
-    ) -> Result<Sequence<TypeId>, Memory>
-        requires whole_in { whole.0 < length from.now }
-        requires parts { AreBelow whole.0 ids.now }
+    ) -> Result<Vec<TypeId>, Memory>
+        requires t_in { t.0 < length from.now }
         requires actuals_in { ActualsBelow (length self.old) actuals.now }
-        ensures of_types { IfOk result (λ made. types_at (types_of self.new) made ≡ types_substituted (actuals_at (types_of self.old) actuals.now) (types_at (types_of from.now) ids.now)) }
-        ensures within { IfOk result (λ made. AreBelow (length self.new) made) }
+        ensures made { IfOk result (λ table. ArePartsMade from.now actuals.now self.new table.items t.0) }
         ensures kept { Grows self.old self.new }
     {
-        let mut made = Vec::new(alloc);
-        for id in ids {
-            made.push(self.carry(alloc, from, *id, actuals)?)?;
+        if parts_below(from.view(t), 0) {
+            return Ok(Vec::new(alloc));
         }
-        Ok(Sequence::from_vec(made))
+        let needed = from.needed(alloc, t)?;
+        self.make_needed(alloc, from, t, needed.as_slice(), actuals)
     }
 
-    #[cycle(carry)]
-    fn carry_fields(
+    /// What a type is made of, itself left out, as marks by number.
+    fn needed(&self, alloc: Global, t: TypeId) -> Result<Vec<bool>, Memory>
+        requires { t.0 < length self.now }
+        ensures { IfOk result (λ marks. AreNeeded self.now t.0 marks.items) }
+    {
+        let mut marks = vec![in alloc; false; t.0 as usize]?;
+        self.mark_needed(&mut marks, t);
+        Ok(marks)
+    }
+
+    /// Marks what a type is made of, itself left out.
+    fn mark_needed(&self, marks: &mut [bool], t: TypeId)
+        requires t_in { t.0 < length self.now }
+        requires unmarked { marks.old ≡ replicate t.0 false }
+        ensures { AreNeeded self.now t.0 marks.new }
+    {
+        mark_parts(marks, self.view(t));
+        let mut n = t.0;
+        'types: while n > 0 {
+            n -= 1;
+            self.spread(marks, TypeId(n));
+        }
+    }
+
+    /// Marks the parts of a type that is marked.
+    fn spread(&self, marks: &mut [bool], n: TypeId)
+        requires n_in { n.0 < length self.now }
+        requires has_mark { n.0 < length marks.old }
+        ensures { AreSpread self.now n.0 marks.old marks.new }
+    {
+        let term = self.view(n);
+        if marks[n.0 as usize] {
+            mark_parts(marks, term);
+        }
+    }
+
+    /// The numbers here of the marked types of the other arena, which `t` is made of.
+    fn make_needed(
         &mut self,
         alloc: Global,
         from: &TypeArena,
-        fields: &[Field],
-        whole: TypeId,
+        t: TypeId,
+        needed: &[bool],
         actuals: &[Actual],
-    ) -> Result<Sequence<Field>, Memory>
-        requires whole_in { whole.0 < length from.now }
-        requires parts { FieldsBelow whole.0 fields.now }
+    ) -> Result<Vec<TypeId>, Memory>
+        requires t_in { t.0 < length from.now }
+        requires needed { AreNeeded from.now t.0 needed.now }
         requires actuals_in { ActualsBelow (length self.old) actuals.now }
-        ensures of_types { IfOk result (λ made. fields_at (types_of self.new) made ≡ fields_substituted (actuals_at (types_of self.old) actuals.now) (fields_at (types_of from.now) fields.now)) }
-        ensures within { IfOk result (λ made. FieldsBelow (length self.new) made) }
+        ensures made { IfOk result (λ table. ArePartsMade from.now actuals.now self.new table.items t.0) }
         ensures kept { Grows self.old self.new }
     {
-        let mut made = Vec::new(alloc);
-        for field in fields {
-            let of = self.carry(alloc, from, field.of, actuals)?;
-            made.push(Field {
-                name: field.name.copy(alloc)?,
-                of,
-            })?;
+        let mut table = Vec::new(alloc);
+        for n in 0..t.0 {
+            let wanted = needed[n as usize];
+            let made = self.make_if(alloc, from, TypeId(n), wanted, table.as_slice(), actuals)?;
+            table.push(made)?;
         }
-        Ok(Sequence::from_vec(made))
+        Ok(table)
     }
 
-    #[cycle(carry)]
-    fn carry_signals(
+    /// The number here of a type of the other arena, if it is wanted.
+    fn make_if(
         &mut self,
         alloc: Global,
         from: &TypeArena,
-        signals: &[Exception],
-        whole: TypeId,
+        n: TypeId,
+        wanted: bool,
+        table: &[TypeId],
         actuals: &[Actual],
-    ) -> Result<Sequence<Exception>, Memory>
-        requires whole_in { whole.0 < length from.now }
-        requires parts { SignalsBelow whole.0 signals.now }
+    ) -> Result<TypeId, Memory>
+        requires n_in { n.0 < length from.now }
         requires actuals_in { ActualsBelow (length self.old) actuals.now }
-        ensures of_types { IfOk result (λ made. signals_at (types_of self.new) made ≡ signals_substituted (actuals_at (types_of self.old) actuals.now) (signals_at (types_of from.now) signals.now)) }
-        ensures within { IfOk result (λ made. SignalsBelow (length self.new) made) }
+        requires parts { wanted ≡ true → ArePartsMade from.now actuals.now self.old table.now n.0 }
+        ensures of_type { IfOk result (λ id. wanted ≡ true → type_at (types_of self.new) id ≡ substituted (actuals_at (types_of self.old) actuals.now) (type_at (types_of from.now) n)) }
+        ensures within { IfOk result (λ id. wanted ≡ true → id.0 < length self.new) }
         ensures kept { Grows self.old self.new }
     {
-        let mut made = Vec::new(alloc);
-        for signal in signals {
-            let objects = self.carry_types(alloc, from, signal.objects.as_slice(), whole, actuals)?;
-            made.push(Exception {
-                name: signal.name.copy(alloc)?,
-                objects,
-            })?;
+        if wanted {
+            self.make(alloc, from, n, table, actuals)
+        } else {
+            Ok(n)
         }
-        Ok(Sequence::from_vec(made))
     }
 
-    #[cycle(carry)]
-    fn carry_heading(
+    /// The number here of a type of the other arena, over the numbers of its parts.
+    fn make(
         &mut self,
         alloc: Global,
         from: &TypeArena,
-        heading: &Heading,
-        whole: TypeId,
+        n: TypeId,
+        table: &[TypeId],
         actuals: &[Actual],
-    ) -> Result<Heading, Memory>
-        requires whole_in { whole.0 < length from.now }
-        requires parts { HeadingBelow whole.0 heading.now }
+    ) -> Result<TypeId, Memory>
+        requires n_in { n.0 < length from.now }
         requires actuals_in { ActualsBelow (length self.old) actuals.now }
-        ensures args { IfOk result (λ made. types_at (types_of self.new) made.args ≡ types_substituted (actuals_at (types_of self.old) actuals.now) (types_at (types_of from.now) heading.now.args)) }
-        ensures results { IfOk result (λ made. types_at (types_of self.new) made.results ≡ types_substituted (actuals_at (types_of self.old) actuals.now) (types_at (types_of from.now) heading.now.results)) }
-        ensures signals { IfOk result (λ made. signals_at (types_of self.new) made.signals ≡ signals_substituted (actuals_at (types_of self.old) actuals.now) (signals_at (types_of from.now) heading.now.signals)) }
-        ensures within { IfOk result (λ made. HeadingBelow (length self.new) made) }
+        requires parts { ArePartsMade from.now actuals.now self.old table.now n.0 }
+        ensures of_type { IfOk result (λ id. type_at (types_of self.new) id ≡ substituted (actuals_at (types_of self.old) actuals.now) (type_at (types_of from.now) n)) }
+        ensures within { IfOk result (λ id. id.0 < length self.new) }
         ensures kept { Grows self.old self.new }
     {
-        let args = self.carry_types(alloc, from, heading.args.as_slice(), whole, actuals)?;
-        let results = self.carry_types(alloc, from, heading.results.as_slice(), whole, actuals)?;
-        let signals = self.carry_signals(alloc, from, heading.signals.as_slice(), whole, actuals)?;
-        Ok(Heading {
-            args,
-            results,
-            signals,
-        })
-    }
-
-    #[cycle(carry)]
-    fn carry_actuals(
-        &mut self,
-        alloc: Global,
-        from: &TypeArena,
-        inner: &[Actual],
-        whole: TypeId,
-        actuals: &[Actual],
-    ) -> Result<Sequence<Actual>, Memory>
-        requires whole_in { whole.0 < length from.now }
-        requires parts { ActualsBelow whole.0 inner.now }
-        requires actuals_in { ActualsBelow (length self.old) actuals.now }
-        ensures of_types { IfOk result (λ made. actuals_at (types_of self.new) made ≡ actuals_substituted (actuals_at (types_of self.old) actuals.now) (actuals_at (types_of from.now) inner.now)) }
-        ensures within { IfOk result (λ made. ActualsBelow (length self.new) made) }
-        ensures kept { Grows self.old self.new }
-    {
-        let mut made = Vec::new(alloc);
-        for actual in inner {
-            made.push(self.carry_actual(alloc, from, actual, whole, actuals)?)?;
+        let term = from.view(n);
+        match put_in(term, actuals) {
+            Some(id) => Ok(id),
+            None => self.intern(renumbered(alloc, table, actuals, term)?),
         }
-        Ok(Sequence::from_vec(made))
     }
+}
 
-    #[cycle(carry)]
-    fn carry_actual(
-        &mut self,
-        alloc: Global,
-        from: &TypeArena,
-        actual: &Actual,
-        whole: TypeId,
-        actuals: &[Actual],
-    ) -> Result<Actual, Memory>
-        requires whole_in { whole.0 < length from.now }
-        requires parts { ActualBelow whole.0 actual.now }
-        requires actuals_in { ActualsBelow (length self.old) actuals.now }
-        ensures of_types { IfOk result (λ made. (rest : Actuals) → let given = actuals_at (types_of self.old) actuals.now in actual_at (types_of self.new) made (actuals_substituted given rest) ≡ actuals_substituted given (actual_at (types_of from.now) actual.now rest)) }
-        ensures within { IfOk result (λ made. ActualBelow (length self.new) made) }
-        ensures kept { Grows self.old self.new }
-    {
-        match actual {
-            Actual::Of(id) => Ok(Actual::Of(self.carry(alloc, from, *id, actuals)?)),
-            Actual::Const(c) => Ok(Actual::Const(c.copy(alloc)?)),
-            Actual::ConstParam(n) => constant_actual(alloc, actuals, *n),
-        }
+/// The actual that is put in for the whole term, if it is a parameter that has one of its kind.
+fn put_in(term: &Term, actuals: &[Actual]) -> Option<TypeId>
+    ensures put { MatchOption result (Stays actuals.now term.now) (λ id. (types source : List CluType) → type_at types id ≡ substituted (actuals_at types actuals.now) (type_of source term.now)) }
+    ensures below { IfSome result (λ id. (m : ℕ) → ActualsBelow m actuals.now → id.0 < m) }
+{
+    match term {
+        Term::Param(n) => type_actual(actuals, *n),
+        _ => None,
     }
 }

@@ -1,49 +1,14 @@
 //! Equal copies of terms, of the parts of a specification and of an arena. The only error of each copy is
-//! want of memory.
+//! want of memory. A term is copied as one whose parts keep their numbers.
 
 ghost use Rattle.std.specs.Prelude.{◌≡◌, IfOk};
 
 use crate::TypeArena;
+use crate::renumbered::{heading, renumbered, signal};
 use crate::spec::{Demand, Form, OpSpec, Spec};
-use crate::term::{Actual, Exception, Field, Heading, Term, TypeId};
+use crate::term::{Actual, Exception, Field, Heading, Term};
 use clu_base::{Memory, Sequence};
 use std::alloc::Global;
-
-fn copy_ids(alloc: Global, ids: &[TypeId]) -> Result<Sequence<TypeId>, Memory>
-    ensures { IfOk result (λ copied. copied ≡ ids.now) }
-{
-    Ok(Sequence::from_vec(ids.to_vec(alloc)?))
-}
-
-fn copy_fields(alloc: Global, fields: &[Field]) -> Result<Sequence<Field>, Memory>
-    ensures { IfOk result (λ copied. copied ≡ fields.now) }
-{
-    let mut copied = Vec::new(alloc);
-    for field in fields {
-        copied.push(field.copy(alloc)?)?;
-    }
-    Ok(Sequence::from_vec(copied))
-}
-
-fn copy_signals(alloc: Global, signals: &[Exception]) -> Result<Sequence<Exception>, Memory>
-    ensures { IfOk result (λ copied. copied ≡ signals.now) }
-{
-    let mut copied = Vec::new(alloc);
-    for signal in signals {
-        copied.push(signal.copy(alloc)?)?;
-    }
-    Ok(Sequence::from_vec(copied))
-}
-
-fn copy_actuals(alloc: Global, actuals: &[Actual]) -> Result<Sequence<Actual>, Memory>
-    ensures { IfOk result (λ copied. copied ≡ actuals.now) }
-{
-    let mut copied = Vec::new(alloc);
-    for actual in actuals {
-        copied.push(actual.copy(alloc)?)?;
-    }
-    Ok(Sequence::from_vec(copied))
-}
 
 fn copy_demands(alloc: Global, demands: &[Demand]) -> Result<Sequence<Demand>, Memory>
     ensures { IfOk result (λ copied. copied ≡ demands.now) }
@@ -82,10 +47,7 @@ impl Exception {
     pub fn copy(&self, alloc: Global) -> Result<Exception, Memory>
         ensures { IfOk result (λ copied. copied ≡ self.now) }
     {
-        Ok(Exception {
-            name: self.name.copy(alloc)?,
-            objects: copy_ids(alloc, self.objects.as_slice())?,
-        })
+        signal(alloc, &[], self)
     }
 }
 
@@ -94,11 +56,7 @@ impl Heading {
     pub fn copy(&self, alloc: Global) -> Result<Heading, Memory>
         ensures { IfOk result (λ copied. copied ≡ self.now) }
     {
-        Ok(Heading {
-            args: copy_ids(alloc, self.args.as_slice())?,
-            results: copy_ids(alloc, self.results.as_slice())?,
-            signals: copy_signals(alloc, self.signals.as_slice())?,
-        })
+        heading(alloc, &[], self)
     }
 }
 
@@ -120,28 +78,7 @@ impl Term {
     pub fn copy(&self, alloc: Global) -> Result<Term, Memory>
         ensures { IfOk result (λ copied. copied ≡ self.now) }
     {
-        match self {
-            Term::Null => Ok(Term::Null),
-            Term::Bool => Ok(Term::Bool),
-            Term::Int => Ok(Term::Int),
-            Term::Char => Ok(Term::Char),
-            Term::Str => Ok(Term::Str),
-            Term::Any => Ok(Term::Any),
-            Term::Stream => Ok(Term::Stream),
-            Term::Array(of) => Ok(Term::Array(*of)),
-            Term::Sequence(of) => Ok(Term::Sequence(*of)),
-            Term::Record(fields) => Ok(Term::Record(copy_fields(alloc, fields.as_slice())?)),
-            Term::Struct(fields) => Ok(Term::Struct(copy_fields(alloc, fields.as_slice())?)),
-            Term::Oneof(fields) => Ok(Term::Oneof(copy_fields(alloc, fields.as_slice())?)),
-            Term::Variant(fields) => Ok(Term::Variant(copy_fields(alloc, fields.as_slice())?)),
-            Term::Proc(heading) => Ok(Term::Proc(heading.copy(alloc)?)),
-            Term::Iter(heading) => Ok(Term::Iter(heading.copy(alloc)?)),
-            Term::Cluster(name, actuals) => Ok(Term::Cluster(
-                name.copy(alloc)?,
-                copy_actuals(alloc, actuals.as_slice())?,
-            )),
-            Term::Param(n) => Ok(Term::Param(*n)),
-        }
+        renumbered(alloc, &[], &[], self)
     }
 }
 

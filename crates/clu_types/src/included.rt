@@ -1,9 +1,9 @@
 //! Inclusion of types: which objects may stand where a type is wanted.
 
-ghost use Rattle.std.specs.Prelude.{◌≡◌, ◌↔◌, ◌<◌, length, IsTrue};
+ghost use Rattle.std.specs.Prelude.{◌≡◌, ◌↔◌, ◌<◌, length, IsTrue, MatchOption};
 ghost use Rattle.clu_types.specs.Arena.{type_at, types_of};
 ghost use Rattle.clu_types.specs.Included.{Included, IsNarrower};
-ghost use Rattle.clu_types.specs.Narrower.{HasException, AreExceptionsOf, IsNarrowerHeading};
+ghost use Rattle.clu_types.specs.Narrower.{HasException, AreExceptionsOf, AreAmongThese, IsNarrowerHeading};
 
 use crate::TypeArena;
 use crate::term::{Exception, Heading, Term, TypeId};
@@ -49,22 +49,46 @@ fn is_narrower_heading(narrow: &Heading, wide: &Heading) -> bool
         && are_exceptions_of(narrow.signals.as_slice(), wide.signals.as_slice())
 }
 
+/// Each search goes on from the exception that was found last, so lists that ascend by name are walked once.
 fn are_exceptions_of(few: &[Exception], many: &[Exception]) -> bool
     ensures { IsTrue result ↔ AreExceptionsOf few.now many.now }
 {
-    match few {
-        [] => true,
-        [first, rest @ ..] => has_exception(many, first) && are_exceptions_of(rest, many),
+    let mut left = many;
+    for wanted in few {
+        match after_wanted(left, many, wanted) {
+            Some(rest) => left = rest,
+            None => return false,
+        }
+    }
+    true
+}
+
+/// What comes after the wanted exception among those that are left, or else among all.
+fn after_wanted<'a>(
+    left: &'a [Exception],
+    many: &'a [Exception],
+    wanted: &Exception,
+) -> Option<&'a [Exception]>
+    requires { AreAmongThese left.now many.now }
+    ensures { MatchOption result (HasException wanted.now many.now → ⊥) (λ rest. HasException wanted.now many.now × AreAmongThese rest.now many.now) }
+{
+    match after(left, wanted) {
+        Some(rest) => Some(rest),
+        None => after(many, wanted),
     }
 }
 
-fn has_exception(many: &[Exception], wanted: &Exception) -> bool
-    ensures { IsTrue result ↔ HasException wanted.now many.now }
+/// What comes after the wanted exception.
+fn after<'a>(mut many: &'a [Exception], wanted: &Exception) -> Option<&'a [Exception]>
+    ensures { MatchOption result (HasException wanted.now many.entry.now → ⊥) (λ rest. HasException wanted.now many.entry.now × AreAmongThese rest.now many.entry.now) }
 {
-    match many {
-        [] => false,
-        [first, rest @ ..] => is_same(first, wanted) || has_exception(rest, wanted),
+    while let [first, rest @ ..] = many {
+        if is_same(first, wanted) {
+            return Some(rest);
+        }
+        many = rest;
     }
+    None
 }
 
 fn is_same(a: &Exception, b: &Exception) -> bool

@@ -7,6 +7,8 @@ mod arena;
 mod carry;
 mod copy;
 mod included;
+mod marks;
+mod renumbered;
 mod spec;
 mod specs;
 mod term;

@@ -38,7 +38,7 @@ pub enum Actual {
 
 /// A type constructor with its parts (CLU Reference Manual, section 5). Fields and signals ascend by name.
 /// `Param(n)` is the n-th parameter of the module, from 1.
-#[derive(Debug, Drop, PartialEq, Eq, Hash)]
+#[derive(Drop, PartialEq, Eq, Hash)]
 pub enum Term {
     Null,
     Bool,

@@ -1,0 +1,7 @@
+use Rattle.std.proofs.Common.{◌≡◌, IfOk, subst}
+use Rattle.clu_types.specs.declared.term.Exception.{Exception}
+use Rattle.clu_types.proofs.Copying.{signal_stays}
+use Rattle.clu_types.proofs.term.Exception.copy.Goals as goal
+
+pub returns : goal.returns
+returns c = subst (λ (x : Exception). IfOk c.signal.result (λ copied. copied ≡ x)) (signal_stays c.args.self.now) c.signal.ensures

@@ -1,0 +1,7 @@
+use Rattle.std.proofs.Common.{◌≡◌, IfOk, subst}
+use Rattle.clu_types.specs.declared.term.Term.{Term}
+use Rattle.clu_types.proofs.Copying.{term_stays}
+use Rattle.clu_types.proofs.term.Term.copy.Goals as goal
+
+pub returns : goal.returns
+returns c = subst (λ (x : Term). IfOk c.renumbered.result (λ copied. copied ≡ x)) (term_stays c.args.self.now) c.renumbered.ensures
