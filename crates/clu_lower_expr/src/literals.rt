@@ -3,8 +3,9 @@
 use crate::errors::LowerError;
 use crate::lowering::Lowering;
 use clu_base::{Const, ObjConst};
+use clu_core::Checked;
 use clu_literal::{char_byte, string_bytes};
-use clu_wir::WExpr;
+use clu_wir::{HoleKind, WExpr};
 
 /// The word of the literal of this spelling.
 pub fn literal(out: &mut Lowering, spelling: &[u8]) -> Result<WExpr, LowerError> {
@@ -34,8 +35,24 @@ fn int_literal(digits: &[u8]) -> Result<WExpr, LowerError> {
     }
 }
 
+/// The word of the constant at this place among those of the file. A long one that is named again is not looked up by its
+/// bytes again.
+pub fn named_constant(out: &mut Lowering, c: &Checked, place: u32) -> Result<WExpr, LowerError> {
+    if let Some(number) = out.named_constant(place) {
+        return Ok(WExpr::Hole(HoleKind::Constant, number));
+    }
+    let Some(known) = c.constants.get(place as usize) else {
+        return Err(LowerError::NotYet);
+    };
+    let word = constant(out, known)?;
+    if let WExpr::Hole(HoleKind::Constant, number) = &word {
+        out.note_constant(place, *number)?;
+    }
+    Ok(word)
+}
+
 /// The word of a constant: a small one is in the code, a string and a parameter are the linker's.
-pub fn constant(out: &mut Lowering, constant: &ObjConst) -> Result<WExpr, LowerError> {
+fn constant(out: &mut Lowering, constant: &ObjConst) -> Result<WExpr, LowerError> {
     match constant {
         ObjConst::Param(n) => out.constant(ObjConst::Param(*n)),
         ObjConst::Value(value) => match value {

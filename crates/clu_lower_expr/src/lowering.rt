@@ -26,6 +26,8 @@ pub struct Lowering {
     /// Texts of uses, and constants, each once, in the order in which they are met.
     uses: IndexSet<Bytes>,
     constants: IndexSet<ObjConst>,
+    /// By the places of the file's constants that are named, their numbers among these.
+    constant_numbers: IndexMap<u32, u32>,
     /// Texts of types, and the place of each that is asked for alone.
     types: Vec<Bytes>,
     type_places: IndexMap<Bytes, u32>,
@@ -44,6 +46,7 @@ impl Lowering {
             statements: Vec::new(alloc),
             uses: IndexSet::new(alloc),
             constants: IndexSet::new(alloc),
+            constant_numbers: IndexMap::new(alloc),
             types: Vec::new(alloc),
             type_places: IndexMap::new(alloc),
             variables: IndexMap::new(alloc),
@@ -52,9 +55,9 @@ impl Lowering {
         }
     }
 
-    /// The routine. What it takes comes in its first slots. No contract shows yet that it takes no more than its nodes
-    /// allow: it is tested.
-    pub fn finish(self, name: Bytes, args: u32, nodes: u32) -> Result<WRoutine, LowerError>
+    /// The routine, which is taken out. What it takes comes in its first slots. No contract shows yet that it takes no
+    /// more than its nodes allow: it is tested.
+    pub fn finish(&mut self, name: Bytes, args: u32, nodes: u32) -> Result<WRoutine, LowerError>
         ensures named { IfOk result (IsNamed name args nodes) }
         ensures bounded { IfOk result IsBounded }
     {
@@ -65,19 +68,20 @@ impl Lowering {
         Ok(routine)
     }
 
-    fn made(self, name: Bytes, args: u32, nodes: u32) -> Result<WRoutine, LowerError>
+    fn made(&mut self, name: Bytes, args: u32, nodes: u32) -> Result<WRoutine, LowerError>
         ensures { IfOk result (IsNamed name args nodes) }
     {
-        let alloc = self.alloc;
+        let uses = listed(self.alloc, &mut self.uses)?;
+        let constants = listed(self.alloc, &mut self.constants)?;
         Ok(WRoutine {
             name,
             args,
             slots: self.most,
-            body: self.statements,
+            body: mem::replace(&mut self.statements, Vec::new(self.alloc)),
             nodes,
-            uses: listed(alloc, self.uses)?,
-            constants: listed(alloc, self.constants)?,
-            types: self.types,
+            uses,
+            constants,
+            types: mem::replace(&mut self.types, Vec::new(self.alloc)),
         })
     }
 
@@ -125,6 +129,17 @@ impl Lowering {
     pub fn constant(&mut self, constant: ObjConst) -> Result<WExpr, LowerError> {
         let (number, _) = self.constants.insert_full(constant)?;
         Ok(WExpr::Hole(HoleKind::Constant, place(number)?))
+    }
+
+    /// The number of the file's constant at this place, if it was noted.
+    pub fn named_constant(&self, place: u32) -> Option<u32> {
+        self.constant_numbers.get(&place).copied()
+    }
+
+    /// Notes the number of the file's constant at this place.
+    pub fn note_constant(&mut self, place: u32, number: u32) -> Result<(), LowerError> {
+        self.constant_numbers.insert(place, number)?;
+        Ok(())
     }
 
     /// The word of a string.
@@ -196,10 +211,10 @@ fn place(number: usize) -> Result<u32, LowerError> {
     u32::try_from(number).or(Err(LowerError::NotYet))
 }
 
-/// The items of a set, in their order.
+/// The items of a set, in their order, taken out.
 fn listed<T: Eq + Hash + Drop>(
     alloc: Global,
-    mut items: IndexSet<T>,
+    items: &mut IndexSet<T>,
 ) -> Result<Vec<T>, LowerError> {
     let mut list = Vec::new(alloc);
     for item in items.drain(..) {
