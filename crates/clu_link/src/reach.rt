@@ -126,7 +126,7 @@ fn start_of(alloc: Global, lib: &Library, start: &Bytes) -> Result<Member, LinkE
 }
 
 /// Whether it is a procedure without parameters, arguments and results.
-fn is_start(spec: &Spec) -> bool
+pub fn is_start(spec: &Spec) -> bool
     ensures { result ≡ is_start spec.now }
 {
     spec.kinds.as_slice().is_empty() && is_start_form(&spec.form)
