@@ -4,11 +4,13 @@ use crate::calls::ask_call;
 use crate::check::{Role, index_base, is_type_kind};
 use crate::constructors::{ask_elems, ask_field, ask_fields};
 use crate::literals::ask_literal;
-use crate::names::{ask_force, ask_instance, ask_name, ask_oper_of, ask_parameterized};
+use crate::names::{
+    ask_applied, ask_force, ask_instance, ask_name, ask_oper_of, ask_parameterized,
+};
 use crate::sugar::{ask_fetch, ask_get, ask_infix, ask_prefix};
 use crate::type_rules::{ask_constant, ask_type};
 use crate::up_down::{ask_down, ask_up};
-use clu_base::{Bytes, Rule};
+use clu_base::{Bytes, Place, Rule};
 use clu_core::Context;
 use clu_equates::{CheckError, Scope, Wanted, node_at, refuse};
 use clu_rules::{ask_lengths, ask_range};
@@ -35,11 +37,12 @@ pub fn ask(
         Role::Part => ask_part(c, tree, scope, n, seen),
         Role::Constant(wanted) => ask_whole(c, tree, scope, n, wanted),
         Role::Instance => ask_instance(scope, node),
+        Role::Applied => ask_applied(scope, node),
         Role::Type => Err(CheckError::NotYet),
     }
 }
 
-/// The rules at a type. Where an expression is wanted a type is V14.
+/// The rules at a type. Where an expression is wanted a type is V14, unless it violates a rule before that.
 fn ask_as_type(
     c: &mut Context,
     tree: &Tree,
@@ -48,11 +51,21 @@ fn ask_as_type(
     role: Role,
     seen: &mut IndexSet<Bytes>,
 ) -> Result<(), CheckError> {
-    ask_type(c, tree, scope, n, seen)?;
+    let asked = ask_type(c, tree, scope, n, seen);
     match role {
-        Role::Operand => refuse(Rule::ResultCount, node_at(tree, n)?.place),
-        Role::Part => refuse(Rule::ResultCount, node_at(tree, n)?.place),
-        _ => Ok(()),
+        Role::Operand | Role::Part => no_object(asked, node_at(tree, n)?.place),
+        _ => asked,
+    }
+}
+
+fn no_object(asked: Result<(), CheckError>, place: Place) -> Result<(), CheckError> {
+    match asked {
+        Err(CheckError::Refused(refused)) if refused.rule.number() < Rule::ResultCount.number() => {
+            Err(CheckError::Refused(refused))
+        }
+        Err(CheckError::Memory) => Err(CheckError::Memory),
+        Err(CheckError::NotYet) => Err(CheckError::NotYet),
+        _ => refuse(Rule::ResultCount, place),
     }
 }
 

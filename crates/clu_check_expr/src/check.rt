@@ -36,6 +36,8 @@ pub enum Role {
     Type,
     /// The name under an Index that gives it actual parameters: no type, and no rule but V4 and V5.
     Instance,
+    /// The same where the Index is an expression: a type's name is V14.
+    Applied,
 }
 
 /// The type of an expression that has exactly one result.
@@ -124,7 +126,7 @@ fn child_role(
             None => Ok(operand_in(role)),
             Some(module) => {
                 if k == 0 {
-                    Ok(Role::Instance)
+                    Ok(applied_in(role))
                 } else {
                     Ok(Role::Constant(actual_wanted(c, module, k - 1)))
                 }
@@ -168,6 +170,13 @@ fn operand_in(role: Role) -> Role {
     match role {
         Role::Operand => Role::Operand,
         _ => Role::Part,
+    }
+}
+
+fn applied_in(role: Role) -> Role {
+    match role {
+        Role::Operand | Role::Part => Role::Applied,
+        _ => Role::Instance,
     }
 }
 

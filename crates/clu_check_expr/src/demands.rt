@@ -48,28 +48,65 @@ fn is_need_met(
     types: &mut TypeArena,
     met: &mut IndexSet<Met>,
 ) -> Result<bool, CheckError> {
-    let found = Met {
+    let before = met.len();
+    let mut open = Vec::new(alloc);
+    open.push(Need {
+        of: need.of,
+        op: need.op.copy(alloc)?,
+        wanted: need.wanted,
+    })?;
+    let all = are_open_met(alloc, &mut open, given, specs, types, met)?;
+    if !all {
+        met.truncate(before);
+    }
+    Ok(all)
+}
+
+/// Whether all needs of the list are met, and all that come of them: on a list, since types nest as deep as a file allows.
+fn are_open_met(
+    alloc: Global,
+    open: &mut Vec<Need>,
+    given: &[Demand],
+    specs: &Specs,
+    types: &mut TypeArena,
+    met: &mut IndexSet<Met>,
+) -> Result<bool, CheckError> {
+    for _ in 0..u64::MAX {
+        let Some(need) = open.pop() else {
+            return Ok(true);
+        };
+        if !ask_open(alloc, &need, open, given, specs, types, met)? {
+            return Ok(false);
+        }
+    }
+    Err(CheckError::NotYet)
+}
+
+/// Whether the type has the needed operation; what that asks is asked later. Notes the need as met, as it is if those are.
+fn ask_open(
+    alloc: Global,
+    need: &Need,
+    open: &mut Vec<Need>,
+    given: &[Demand],
+    specs: &Specs,
+    types: &mut TypeArena,
+    met: &mut IndexSet<Met>,
+) -> Result<bool, CheckError> {
+    let asked = Met {
         of: need.of,
         op: need.op.copy(alloc)?,
         wanted: need.wanted,
     };
-    if met.contains(&found) {
+    if !met.insert(asked)? {
         return Ok(true);
     }
-    let Some(asked) = asked_by(alloc, need, given, specs, types)? else {
-        return Ok(false);
-    };
-    for part in &asked {
-        // What an operation asks is asked of the parts of its type, which have smaller numbers.
-        if part.of.0 >= need.of.0 {
-            return Err(CheckError::NotYet);
+    match asked_by(alloc, need, given, specs, types)? {
+        Some(mut parts) => {
+            open.append(&mut parts)?;
+            Ok(true)
         }
-        if !is_need_met(alloc, part, given, specs, types, met)? {
-            return Ok(false);
-        }
+        None => Ok(false),
     }
-    met.insert(found)?;
-    Ok(true)
 }
 
 /// What the needed operation asks, if the type has one of a type included in the wanted one.

@@ -8,7 +8,7 @@ use clu_base::{Bytes, Refused, Rule};
 use clu_core::Context;
 use clu_equates::{
     CheckError, Means, Scope, Settled, Value, Wanted, inner_equates, node_at, only_child, refuse,
-    settle_equates,
+    settle_declared, settle_equates,
 };
 use clu_tree::{Node, NodeKind, Tree};
 use indexmap::IndexMap;
@@ -35,8 +35,30 @@ pub fn enter_equates(
     scope: &mut Scope,
     equates: &[u32],
 ) -> Result<(), CheckError> {
+    let places = settle_equates(c.alloc, tree, scope, &mut c.types, equates)?;
+    enter_settled(c, tree, scope, places.as_slice())
+}
+
+/// The same of so many equates from this place of the scope's list on, whose names are in scope.
+pub fn enter_declared(
+    c: &mut Context,
+    tree: &Tree,
+    scope: &mut Scope,
+    first: usize,
+    count: usize,
+) -> Result<(), CheckError> {
+    let places = settle_declared(c.alloc, tree, scope, &mut c.types, first, count)?;
+    enter_settled(c, tree, scope, places.as_slice())
+}
+
+fn enter_settled(
+    c: &mut Context,
+    tree: &Tree,
+    scope: &mut Scope,
+    places: &[usize],
+) -> Result<(), CheckError> {
     let variable = first_variable(c);
-    enter(c, tree, scope, equates, variable, DEPTH)?;
+    check_settled(c, tree, scope, places, variable, DEPTH)?;
     Ok(())
 }
 
@@ -46,20 +68,19 @@ fn first_variable(c: &Context) -> u32 {
     params.saturating_add(1)
 }
 
-/// Those that have a value by their structure are checked by all rules, each behind those that it names.
-/// Gives what came of each.
+/// Equates at these places of the scope's list, which have a value by their structure, are checked by all rules, each
+/// after those that it names. Gives what came of each.
 #[cycle(right_sides)]
-fn enter(
+fn check_settled(
     c: &mut Context,
     tree: &Tree,
     scope: &mut Scope,
-    equates: &[u32],
+    places: &[usize],
     variable: u32,
     depth: u32,
 ) -> Result<Answers, CheckError> {
-    let places = settle_equates(c.alloc, tree, scope, &mut c.types, equates)?;
     let mut answers = Answers::new(c.alloc);
-    for place in places.as_slice() {
+    for place in places {
         let right = right_side(tree, scope, *place)?;
         let checked = check_right_side(c, tree, scope, right, variable, depth);
         if !answers.note(right, checked)? {
@@ -198,7 +219,8 @@ fn check_inside(
 ) -> Result<(), CheckError> {
     let equates = inner_equates(c.alloc, tree, set)?;
     let inner = variable.saturating_add(1);
-    let answers = enter(c, tree, scope, equates.as_slice(), inner, depth)?;
+    let places = settle_equates(c.alloc, tree, scope, &mut c.types, equates.as_slice())?;
+    let answers = check_settled(c, tree, scope, places.as_slice(), inner, depth)?;
     let mut asks = Asks::new(c.alloc);
     for child in set.children.as_slice() {
         let part = node_at(tree, *child)?;

@@ -63,7 +63,7 @@ pub fn find_operation(
     c: &mut Context,
     of: TypeId,
     op: &Bytes,
-) -> Result<Option<Found>, CheckError> {
+) -> Result<Option<Box<Found>>, CheckError> {
     match term(&c.types, of)? {
         Term::Param(n) => {
             let n = *n;
@@ -74,15 +74,18 @@ pub fn find_operation(
     }
 }
 
-fn find_given(c: &Context, n: u32, op: &Bytes) -> Result<Option<Found>, CheckError> {
+/// In a box, so that a proof about who owns it need not follow each part.
+fn boxed(alloc: Global, of: TypeId, op: OpRef, asked: Asked) -> Result<Box<Found>, CheckError> {
+    let operation = Operation { of, op };
+    Ok(Box::new(alloc, Found { operation, asked })?)
+}
+
+fn find_given(c: &Context, n: u32, op: &Bytes) -> Result<Option<Box<Found>>, CheckError> {
     match given(c.unit.demands.as_slice(), n, op) {
-        Some(demand) => Ok(Some(Found {
-            operation: Operation {
-                of: demand.wanted,
-                op: OpRef::Param(n, op.copy(c.alloc)?),
-            },
-            asked: Asked::Nothing,
-        })),
+        Some(demand) => {
+            let op = OpRef::Param(n, op.copy(c.alloc)?);
+            Ok(Some(boxed(c.alloc, demand.wanted, op, Asked::Nothing)?))
+        }
         None => Ok(None),
     }
 }
@@ -97,7 +100,11 @@ pub fn given<'a>(demands: &'a [Demand], n: u32, op: &Bytes) -> Option<&'a Demand
     None
 }
 
-fn find_in_cluster(c: &mut Context, of: TypeId, op: &Bytes) -> Result<Option<Found>, CheckError> {
+fn find_in_cluster(
+    c: &mut Context,
+    of: TypeId,
+    op: &Bytes,
+) -> Result<Option<Box<Found>>, CheckError> {
     let Some(instance) = instance_of(c.alloc, &c.types, of)? else {
         return Ok(None);
     };
@@ -109,13 +116,8 @@ fn find_in_cluster(c: &mut Context, of: TypeId, op: &Bytes) -> Result<Option<Fou
     };
     let actuals = instance.actuals.as_slice();
     let routine = routine_type(c.alloc, &mut c.types, &spec.types, routine, actuals)?;
-    Ok(Some(Found {
-        operation: Operation {
-            of: routine,
-            op: OpRef::Cluster(of, op.copy(c.alloc)?),
-        },
-        asked: Asked::Where,
-    }))
+    let op = OpRef::Cluster(of, op.copy(c.alloc)?);
+    Ok(Some(boxed(c.alloc, routine, op, Asked::Where)?))
 }
 
 /// The specification of a module as it is seen from the unit: the unit's own cluster has all its routines.
@@ -140,7 +142,7 @@ pub fn op_named<'a>(spec: &'a Spec, op: &Bytes) -> Option<&'a OpSpec> {
     }
 }
 
-fn find_builtin(c: &mut Context, of: TypeId, op: &Bytes) -> Result<Option<Found>, CheckError> {
+fn find_builtin(c: &mut Context, of: TypeId, op: &Bytes) -> Result<Option<Box<Found>>, CheckError> {
     if !c.types.contains(of) {
         return Err(CheckError::NotYet);
     }
@@ -152,11 +154,6 @@ fn find_builtin(c: &mut Context, of: TypeId, op: &Bytes) -> Result<Option<Found>
     } else {
         intern(&mut c.types, Term::Proc(builtin.heading))?
     };
-    Ok(Some(Found {
-        operation: Operation {
-            of: routine,
-            op: OpRef::Builtin(of, op.copy(c.alloc)?),
-        },
-        asked: Asked::Needs(builtin.needs),
-    }))
+    let op = OpRef::Builtin(of, op.copy(c.alloc)?);
+    Ok(Some(boxed(c.alloc, routine, op, Asked::Needs(builtin.needs))?))
 }

@@ -5,7 +5,7 @@ use crate::check::type_of;
 use crate::operations::operation;
 use crate::routines::raise_failure;
 use crate::type_rules::{actuals_of, constant_term};
-use clu_base::{Bytes, ObjConst, Place, Rule, Sequence};
+use clu_base::{Bytes, Place, Rule, Sequence};
 use clu_core::{Context, OpRef};
 use clu_equates::{
     Bound, CheckError, Means, Scope, Settled, Value, first_name, intern, node_at, refuse,
@@ -27,11 +27,10 @@ pub fn ask_name(c: &mut Context, scope: &Scope, n: u32, node: &Node) -> Result<(
         }
         Means::ConstParam(param, of) => {
             c.note_type(n, of);
-            c.note_constant(n, ObjConst::Param(param));
-            Ok(())
+            Ok(c.note_parameter(n, param)?)
         }
         Means::TypeParam(_) => refuse(Rule::ResultCount, node.place),
-        Means::Equate(_) => ask_equated(c, n, node.place, bound),
+        Means::Equate(equate) => ask_equated(c, n, node.place, equate, bound),
         Means::Routine(_) => ask_own_routine(c, n, node.place, name),
         Means::Module(true) => refuse(Rule::ResultCount, node.place),
         Means::Module(false) => ask_module(c, n, node.place, name),
@@ -47,7 +46,13 @@ fn unbound(name: &Bytes, of_stream: Rule) -> Rule {
     }
 }
 
-fn ask_equated(c: &mut Context, n: u32, place: Place, bound: &Bound) -> Result<(), CheckError> {
+fn ask_equated(
+    c: &mut Context,
+    n: u32,
+    place: Place,
+    equate: u32,
+    bound: &Bound,
+) -> Result<(), CheckError> {
     match &bound.settled {
         None => Err(CheckError::NotYet),
         Some(Settled::Circular) => refuse(Rule::CircularEquate, place),
@@ -57,14 +62,12 @@ fn ask_equated(c: &mut Context, n: u32, place: Place, bound: &Bound) -> Result<(
             Value::Set(_) => refuse(Rule::ResultCount, place),
             Value::ConstParam(param, of) => {
                 c.note_type(n, *of);
-                c.note_constant(n, ObjConst::Param(*param));
-                Ok(())
+                Ok(c.note_parameter(n, *param)?)
             }
             Value::Const(constant) => {
                 let of = intern(&mut c.types, constant_term(constant))?;
                 c.note_type(n, of);
-                c.note_constant(n, ObjConst::Value(constant.copy(c.alloc)?));
-                Ok(())
+                Ok(c.note_constant(n, equate, constant)?)
             }
         },
     }
@@ -132,6 +135,15 @@ pub fn ask_instance(scope: &Scope, node: &Node) -> Result<(), CheckError> {
         Ok(())
     } else {
         refuse(Rule::UnknownName, node.place)
+    }
+}
+
+/// The same where the Index is an expression: V14 of a type besides; of a module's name the Index is asked.
+pub fn ask_applied(scope: &Scope, node: &Node) -> Result<(), CheckError> {
+    ask_instance(scope, node)?;
+    match scope.find(first_name(node)?) {
+        Some(bound) if matches!(bound.means, Means::Module(_)) => Ok(()),
+        _ => refuse(Rule::ResultCount, node.place),
     }
 }
 

@@ -22,7 +22,7 @@ pub fn operation(
     };
     match asked_fault(c, &found)? {
         Some(rule) => refuse(rule, place),
-        None => Ok(found.operation),
+        None => Ok(Box::into_inner(found).operation),
     }
 }
 
@@ -74,10 +74,10 @@ pub fn single(types: &[TypeId]) -> Result<TypeId, CheckError> {
 }
 
 /// Notes an invocation that violates no rule, and gives the types of its results.
-pub fn finish(c: &mut Context, node: u32, found: Found) -> Result<Vec<TypeId>, CheckError> {
+pub fn finish(c: &mut Context, node: u32, found: Box<Found>) -> Result<Vec<TypeId>, CheckError> {
     let of = found.operation.of;
     raise_signals(c, of)?;
-    c.note_op(node, found.operation.op);
+    c.note_op(node, Box::into_inner(found).operation.op);
     results_of(c, of)
 }
 

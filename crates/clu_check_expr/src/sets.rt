@@ -3,7 +3,7 @@
 use clu_base::{Bytes, Rule, Sequence};
 use clu_core::Context;
 use clu_equates::{CheckError, Means, Scope, first_name, refuse, set_demands};
-use clu_rules::ask_lengths;
+use clu_rules::{ask_lengths, is_stream};
 use clu_tree::{Node, Tree};
 use clu_types::{Demand, TypeId};
 use std::alloc::Global;
@@ -122,7 +122,7 @@ pub fn ask_set(scope: &Scope, set: &Node, begun: &BegunSet) -> Result<(), CheckE
     let [variable, asked] = set.names.as_slice() else {
         return Err(CheckError::NotYet);
     };
-    if scope.find(asked).is_none() {
+    if scope.find(asked).is_none() && !is_stream(asked) {
         return refuse(Rule::UnknownName, set.place);
     }
     if begun.twice {

@@ -70,7 +70,8 @@ fn is_string(c: &Context, n: u32) -> Result<bool, CheckError> {
     }
 }
 
-/// A type that is one word: `real` is V10, `cvt` and a `rep` that is not in scope V31.
+/// A type that is one word: `real` is V10, `cvt` V31. A `rep` that is not in scope is V31 too, but in a cluster,
+/// which has none, V9.
 fn ask_simple(
     c: &mut Context,
     tree: &Tree,
@@ -86,9 +87,17 @@ fn ask_simple(
         return refuse(Rule::CvtPlace, node.place);
     }
     if word == b"rep".as_slice() && scope.find(&node.value).is_none() {
-        return refuse(Rule::CvtPlace, node.place);
+        return refuse(missing_rep(c), node.place);
     }
     note_denoted(c, tree, scope, n)
+}
+
+fn missing_rep(c: &Context) -> Rule {
+    if c.unit.cluster.is_some() {
+        Rule::NotType
+    } else {
+        Rule::CvtPlace
+    }
 }
 
 /// V5, V7 and V9 of a type; notes what it denotes.

@@ -4,16 +4,17 @@
 ghost use Rattle.std.specs.Prelude.{OnOk};
 ghost use Rattle.clu_rules.specs.Rules.{IsClosed};
 
-use crate::entering::{Walk, enter_module, enter_routine};
+use crate::entering::{Walk, enter_definition, enter_routine};
 use crate::heading::{heading_of, type_in_heading};
 use crate::nodes::{children_of, is_rep};
+use crate::settling::settle;
 use crate::specification::is_iter;
-use crate::units::{open_routine, open_unit};
+use crate::units::{inside_type, note_rep, open_cluster, open_routine, open_unit};
 use clu_base::Rule;
 use clu_check_expr::check_constant;
 use clu_check_stmt::{check_body, check_owns};
 use clu_core::{Context, RoutineUnit};
-use clu_equates::{CheckError, Means, Scope, first_name, node_at};
+use clu_equates::{CheckError, Scope, first_name, node_at};
 use clu_rules::{Module, ask, ask_end, ask_lengths, ask_owns_size, ask_size};
 use clu_tree::{Node, NodeKind, Tree};
 use clu_types::{Spec, TypeId};
@@ -38,7 +39,9 @@ pub fn body(
 {
     let base = scope.len();
     open_unit(c, spec)?;
-    let args = enter_module(c, tree, scope, module, Walk::Bodies)?;
+    settle(c, tree, scope, module.equates, Walk::Bodies)?;
+    open_cluster(c, spec)?;
+    let args = enter_definition(c, tree, scope, module.node, Walk::Bodies)?;
     match module.node.kind {
         NodeKind::Cluster => cluster_body(c, tree, scope, module.node, spec)?,
         _ => {
@@ -97,14 +100,6 @@ fn check_reps(
     Ok(reps)
 }
 
-fn note_rep(c: &mut Context, rep: TypeId) {
-    if let Some(cluster) = &mut c.unit.cluster {
-        if cluster.rep.is_none() {
-            cluster.rep = Some(rep);
-        }
-    }
-}
-
 fn inner_body(
     c: &mut Context,
     tree: &Tree,
@@ -135,10 +130,7 @@ fn routine_body(
 {
     let node = routine.node;
     let cvt = inside_type(c);
-    let heading = heading_of(c, tree, scope, node, cvt)?;
-    for (n, of) in heading.args.as_slice().iter().enumerate() {
-        scope.redeclare(args.saturating_add(n), Means::Variable(*of), true);
-    }
+    let heading = heading_of(c, tree, scope, node, args, cvt)?;
     c.unit.routine = Some(RoutineUnit {
         iter: is_iter(node),
         heading,
@@ -148,12 +140,4 @@ fn routine_body(
     ask_lengths(node)?;
     ask_end(node)?;
     ask_size(tree, routine.number, node)
-}
-
-// What `cvt` is in the body of a routine: the representation, or the cluster's type where that is missing.
-fn inside_type(c: &Context) -> Option<TypeId> {
-    match &c.unit.cluster {
-        Some(cluster) => Some(cluster.rep.unwrap_or(cluster.own)),
-        None => None,
-    }
 }

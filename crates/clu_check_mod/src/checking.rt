@@ -1,9 +1,10 @@
 //! The check of a file: the specifications of its modules, then the two walks, each of which takes module after
 //! module.
 
-ghost use Rattle.std.specs.Prelude.{◌≡◌, All, Some, IfOk, OnOk};
+ghost use Rattle.std.specs.Prelude.{◌≡◌, All, Some, IfOk, IfErr, OnOk};
 ghost use Rattle.clu_tree.specs.Nodes.{modules};
 ghost use Rattle.clu_rules.specs.Modules.{name_of, AreOf, BeginWithOwn};
+ghost use Rattle.clu_rules.specs.Refusals.{IsOfTree};
 ghost use Rattle.clu_rules.specs.Rules.{IsClosed, IsClosedAt};
 
 use crate::bodies::body;
@@ -13,7 +14,7 @@ use crate::specification::{exported, specification};
 use clu_base::Bytes;
 use clu_core::{Checked, Context};
 use clu_equates::{CheckError, Scope};
-use clu_rules::{Module, all_specs, module_at, names_before, own_specs};
+use clu_rules::{Module, all_specs, module_at, names_before, of_tree, own_specs};
 use clu_tree::Tree;
 use clu_types::{Spec, Specs};
 use indexmap::{IndexMap, IndexSet};
@@ -27,6 +28,8 @@ struct Work {
     scope: Scope,
     /// For each module of the file its specification with all routines of a cluster.
     own: Vec<Spec>,
+    /// In the end the specifications of all modules, those of the file first.
+    all: Vec<Spec>,
 }
 
 /// Checks a file under specifications; those of its own modules take the place of kept ones. Refused at the first
@@ -35,18 +38,40 @@ pub fn check(alloc: Global, tree: Tree, specs: &Specs) -> Result<Checked, CheckE
     ensures tree { IfOk result (λ checked. checked.tree ≡ tree) }
     ensures specs { IfOk result (λ checked. BeginWithOwn tree checked.specs.items) }
     ensures closed { OnOk result (All (IsClosedAt tree) (modules tree)) }
+    ensures refused { IfErr result (IsOfTree tree) }
 {
-    let c = walked(alloc, &tree, specs)?;
-    let specs = all_specs(alloc, &tree, &c.specs)?;
-    Ok(Checked {
+    match found(alloc, &tree, specs) {
+        Ok(work) => Ok(checked(tree, Box::into_inner(work))),
+        Err(error) => Err(of_tree(&tree, error)),
+    }
+}
+
+/// What both walks found out, with the specifications of all modules.
+fn found(alloc: Global, tree: &Tree, specs: &Specs) -> Result<Box<Work>, CheckError>
+    ensures specs { IfOk result (λ work. BeginWithOwn tree.now work.value.all.items) }
+    ensures closed { OnOk result (All (IsClosedAt tree.now) (modules tree.now)) }
+{
+    let mut work = walked(alloc, tree, specs)?;
+    work.all = all_specs(alloc, tree, &work.c.specs)?;
+    Ok(work)
+}
+
+/// The tree with what the walks found out of it.
+fn checked(tree: Tree, work: Work) -> Checked
+    ensures tree { result.tree ≡ tree }
+    ensures specs { result.specs ≡ work.all }
+{
+    let Work { c, all, .. } = work;
+    Checked {
         tree,
         types: c.types,
         type_of: c.type_of,
         op_of: c.op_of,
         denoted: c.denoted,
         constant_of: c.constant_of,
-        specs,
-    })
+        constants: c.constants,
+        specs: all,
+    }
 }
 
 /// The specification of a module of the tree, which its heading alone gives. Refused at the first node of the heading
@@ -77,14 +102,14 @@ pub fn specs_of(alloc: Global, tree: &Tree, specs: &Specs) -> Result<Vec<Spec>, 
     own_specs(alloc, tree, &work.c.specs)
 }
 
-/// The context behind both walks.
-fn walked(alloc: Global, tree: &Tree, specs: &Specs) -> Result<Context, CheckError>
+/// What both walks found out.
+fn walked(alloc: Global, tree: &Tree, specs: &Specs) -> Result<Box<Work>, CheckError>
     ensures { OnOk result (All (IsClosedAt tree.now) (modules tree.now)) }
 {
     let mut work = begin(alloc, tree, specs)?;
     walk_headings(&mut work, tree)?;
     walk_bodies(&mut work, tree)?;
-    Ok(work.c)
+    Ok(work)
 }
 
 /// The first walk: the headings of all modules.
@@ -158,14 +183,21 @@ fn walk_body(
 }
 
 /// Brings all modules into scope and their specifications into a context.
-fn begin(alloc: Global, tree: &Tree, specs: &Specs) -> Result<Work, CheckError> {
-    let mut work = Work {
+fn begin(alloc: Global, tree: &Tree, specs: &Specs) -> Result<Box<Work>, CheckError> {
+    let mut work = nothing_known(alloc, tree, specs)?;
+    enter_and_specify(&mut work, tree, specs)?;
+    Ok(work)
+}
+
+/// In a box, so that a proof about who owns it need not follow each part.
+fn nothing_known(alloc: Global, tree: &Tree, specs: &Specs) -> Result<Box<Work>, CheckError> {
+    let work = Work {
         c: context(alloc, tree, specs)?,
         scope: Scope::new(alloc),
         own: Vec::new(alloc),
+        all: Vec::new(alloc),
     };
-    enter_and_specify(&mut work, tree, specs)?;
-    Ok(work)
+    Ok(Box::new(alloc, work)?)
 }
 
 fn context(alloc: Global, tree: &Tree, specs: &Specs) -> Result<Context, CheckError> {

@@ -2,10 +2,10 @@
 //! (CLU Reference Manual, sections 4.2 and 7.2).
 
 use crate::nodes::children_of;
-use crate::settling::settle;
+use crate::settling::{settle, settle_entered};
 use clu_base::Bytes;
 use clu_core::Context;
-use clu_equates::{CheckError, Means, Scope, first_name, intern, node_at};
+use clu_equates::{CheckError, Means, Scope, declare_equates, first_name, intern, node_at};
 use clu_rules::{Module, is_stream, module_at};
 use clu_tree::{Node, NodeKind, Tree};
 use clu_types::{Form, ParamKind, Specs, Term, TypeId};
@@ -22,7 +22,7 @@ pub enum Walk {
     Bodies,
 }
 
-/// Brings all modules into scope: the kept ones, then those of the file.
+/// Brings all modules into scope: the kept ones, then those of the file. Of two of one name in it the first counts.
 pub fn enter_modules(
     alloc: Global,
     tree: &Tree,
@@ -30,12 +30,23 @@ pub fn enter_modules(
     specs: &Specs,
 ) -> Result<(), CheckError> {
     enter_kept(alloc, scope, specs)?;
+    let first = scope.len();
     for module in tree.modules() {
         let module = module_at(tree, *module)?;
-        let is_cluster = module.node.kind == NodeKind::Cluster;
-        enter_one(alloc, scope, module.name, is_cluster)?;
+        if !is_from(scope, module.name, first) {
+            let is_cluster = module.node.kind == NodeKind::Cluster;
+            enter_one(alloc, scope, module.name, is_cluster)?;
+        }
     }
     Ok(())
+}
+
+// Whether what the name denotes stands at this place of the scope's list or after it.
+fn is_from(scope: &Scope, name: &Bytes, first: usize) -> bool {
+    match scope.place_of(name) {
+        Some(place) => place >= first,
+        None => false,
+    }
 }
 
 fn enter_kept(alloc: Global, scope: &mut Scope, specs: &Specs) -> Result<(), CheckError> {
@@ -103,8 +114,22 @@ fn enter_parameters(
             let kind = c.unit.kinds.as_slice().get(number as usize).copied();
             number = number.saturating_add(1);
             let means = parameter(c, number, kind)?;
-            scope.declare(c.alloc, name, means)?;
+            declare_first(c.alloc, scope, name, means)?;
         }
+    }
+    Ok(())
+}
+
+// Brings a name into scope, unless the module has defined it before: the first definition counts until the second one
+// is refused.
+fn declare_first(
+    alloc: Global,
+    scope: &mut Scope,
+    name: &Bytes,
+    means: Means,
+) -> Result<(), CheckError> {
+    if !scope.has_own(name) {
+        scope.declare(alloc, name, means)?;
     }
     Ok(())
 }
@@ -129,12 +154,13 @@ fn enter_cluster(
     walk: Walk,
 ) -> Result<usize, CheckError> {
     let first = scope.len();
+    let equates = children_of(c.alloc, tree, node, NodeKind::Equate)?;
+    let count = declare_equates(c.alloc, tree, scope, equates.as_slice())?;
     for routine in children_of(c.alloc, tree, node, NodeKind::Routine)? {
         let name = first_name(node_at(tree, routine)?)?;
-        scope.declare(c.alloc, name, Means::Routine(routine))?;
+        declare_first(c.alloc, scope, name, Means::Routine(routine))?;
     }
-    let equates = children_of(c.alloc, tree, node, NodeKind::Equate)?;
-    settle(c, tree, scope, equates.as_slice(), walk)?;
+    settle_entered(c, tree, scope, first, count, walk)?;
     Ok(first)
 }
 
@@ -166,9 +192,9 @@ fn declare_all(
     Ok(())
 }
 
-/// Brings the arguments and the equates of a routine into scope. The types of the arguments, which may name the
-/// equates, are given afterwards: until then they are `any`. Gives the place in the scope's list of the first
-/// argument.
+/// Brings the equates and the arguments of a routine into scope. The types of the arguments, which may name the
+/// equates, are given afterwards: until then they are `any`. An argument hides an equate of its name. Gives the place in
+/// the scope's list of the first argument.
 pub fn enter_routine(
     c: &mut Context,
     tree: &Tree,
@@ -177,15 +203,57 @@ pub fn enter_routine(
     walk: Walk,
 ) -> Result<usize, CheckError> {
     let first = scope.len();
+    let equates = children_of(c.alloc, tree, routine, NodeKind::Equate)?;
+    let count = declare_equates(c.alloc, tree, scope, equates.as_slice())?;
+    let args = scope.len();
     let any = intern(&mut c.types, Term::Any)?;
     for decl in children_of(c.alloc, tree, routine, NodeKind::Decl)? {
-        for name in node_at(tree, decl)?.names.as_slice() {
-            let means = Means::Variable(any);
-            let place = scope.declare(c.alloc, name, means)?;
-            scope.redeclare(place, means, true);
+        enter_arguments(c.alloc, scope, node_at(tree, decl)?, any)?;
+    }
+    settle_entered(c, tree, scope, first, count, walk)?;
+    Ok(args)
+}
+
+fn enter_arguments(
+    alloc: Global,
+    scope: &mut Scope,
+    decl: &Node,
+    of: TypeId,
+) -> Result<(), CheckError> {
+    for name in decl.names.as_slice() {
+        let means = Means::Variable(of);
+        let place = scope.declare(alloc, name, means)?;
+        scope.redeclare(place, means, true);
+    }
+    Ok(())
+}
+
+/// Takes the arguments of a routine, from this place on, out of sight: each is seen from the end of its Decl on.
+pub fn conceal_arguments(
+    tree: &Tree,
+    scope: &mut Scope,
+    routine: &Node,
+    first: usize,
+) -> Result<(), CheckError> {
+    let mut count = 0usize;
+    for child in routine.children.as_slice() {
+        let part = node_at(tree, *child)?;
+        if part.kind == NodeKind::Decl {
+            count = count.saturating_add(part.names.as_slice().len());
         }
     }
-    let equates = children_of(c.alloc, tree, routine, NodeKind::Equate)?;
-    settle(c, tree, scope, equates.as_slice(), walk)?;
-    Ok(first)
+    // The last one first, since an argument may hide an earlier one of its name.
+    for place in (first..first.saturating_add(count)).rev() {
+        scope.conceal(place);
+    }
+    Ok(())
+}
+
+/// The arguments of a Decl, from this place on, come into sight with their type.
+pub fn reveal_arguments(scope: &mut Scope, first: usize, decl: &Node, of: TypeId) {
+    for n in 0..decl.names.as_slice().len() {
+        let place = first.saturating_add(n);
+        scope.redeclare(place, Means::Variable(of), true);
+        scope.reveal(place);
+    }
 }

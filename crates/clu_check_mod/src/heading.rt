@@ -1,6 +1,7 @@
 //! The heading of a routine as a type has it: arguments, results and signals, which ascend by name and leave
 //! `failure` out. No rule is asked: the nodes of the heading are walked elsewhere.
 
+use crate::entering::{conceal_arguments, reveal_arguments};
 use crate::nodes::is_cvt;
 use clu_base::{Bytes, Rule, Sequence};
 use clu_core::Context;
@@ -10,22 +11,25 @@ use clu_types::{Exception, Heading, TypeId};
 use indexmap::IndexMap;
 use std::alloc::Global;
 
-/// The heading of a routine whose names are in scope. `cvt` is the type that the word stands for, if it may stand
-/// there. Refused where a type denotes nothing.
+/// The heading of a routine whose names are in scope, its arguments from the place `first` on. `cvt` is the type that the
+/// word stands for, if it may stand there. Each argument is seen after its Decl alone, with its type. Refused where a type
+/// denotes nothing.
 pub fn heading_of(
     c: &mut Context,
     tree: &Tree,
-    scope: &Scope,
+    scope: &mut Scope,
     routine: &Node,
+    first: usize,
     cvt: Option<TypeId>,
 ) -> Result<Heading, CheckError> {
+    conceal_arguments(tree, scope, routine, first)?;
     let mut args = Vec::new(c.alloc);
     let mut results = Vec::new(c.alloc);
     let mut signals = IndexMap::new(c.alloc);
     for child in routine.children.as_slice() {
         let child = node_at(tree, *child)?;
         match child.kind {
-            NodeKind::Decl => add_args(c, tree, scope, child, cvt, &mut args)?,
+            NodeKind::Decl => add_args(c, tree, scope, child, first, cvt, &mut args)?,
             NodeKind::Results => add_types(c, tree, scope, child, cvt, &mut results)?,
             NodeKind::Signals => add_signals(c, tree, scope, child, cvt, &mut signals)?,
             _ => {}
@@ -42,8 +46,9 @@ pub fn heading_of(
 fn add_args(
     c: &mut Context,
     tree: &Tree,
-    scope: &Scope,
+    scope: &mut Scope,
     decl: &Node,
+    first: usize,
     cvt: Option<TypeId>,
     args: &mut Vec<TypeId>,
 ) -> Result<(), CheckError> {
@@ -51,6 +56,7 @@ fn add_args(
         return Err(CheckError::NotYet);
     };
     let of = type_in_heading(c, tree, scope, *of, cvt)?;
+    reveal_arguments(scope, first.saturating_add(args.len()), decl, of);
     for _ in decl.names.as_slice() {
         args.push(of)?;
     }

@@ -1,16 +1,20 @@
 //! The first walk: the headings of modules in post-order, with the rules at their nodes.
 
-use crate::entering::{Walk, enter_definition, enter_own, enter_routine};
+use crate::entering::{
+    Walk, conceal_arguments, enter_definition, enter_own, enter_routine, reveal_arguments,
+};
 use crate::heading::is_failure;
 use crate::nodes::{children_of, is_cvt, is_rep};
 use crate::settling::settle;
 use crate::specification::{export_names, kind_of};
-use crate::units::{open_routine, open_unit};
+use crate::units::{inside_type, note_rep, open_cluster, open_routine, open_unit};
 use crate::wheres::check_where;
 use clu_base::{Bytes, Rule};
 use clu_check_expr::{check_constant, check_type};
 use clu_core::Context;
-use clu_equates::{CheckError, Scope, first_name, node_at, refuse, term};
+use clu_equates::{
+    CheckError, Scope, Settled, Value, first_name, node_at, only_child, refuse, term,
+};
 use clu_rules::{Module, ask_lengths, define, define_all, is_stream};
 use clu_tree::{Node, NodeKind, Tree};
 use clu_types::{Spec, Term, TypeId};
@@ -23,6 +27,8 @@ struct Names {
     defined: IndexSet<Bytes>,
     /// Those of the cluster's routines, also of routines that come later.
     routines: IndexSet<Bytes>,
+    /// Those of the arguments of the routine.
+    args: IndexSet<Bytes>,
 }
 
 /// Asks the rules at the nodes of a module's heading. `specs` is its specification with all routines, `seen` has the
@@ -37,22 +43,41 @@ pub fn heading(
 ) -> Result<(), CheckError> {
     let base = scope.len();
     open_unit(c, spec)?;
-    let mut names = Names {
-        defined: IndexSet::new(c.alloc),
-        routines: IndexSet::new(c.alloc),
-    };
-    settle(c, tree, scope, module.equates, Walk::Headings)?;
-    for equate in module.equates {
-        check_equate(c, tree, scope, *equate, &mut names)?;
-    }
-    let first = enter_definition(c, tree, scope, module.node, Walk::Headings)?;
-    match module.node.kind {
-        NodeKind::Cluster => cluster_heading(c, tree, scope, module.node, spec, &mut names)?,
-        _ => routine_heading(c, tree, scope, module.node, first, &mut names)?,
-    }
+    let mut names = no_names(c)?;
+    walk_module(c, tree, scope, module, spec, &mut names)?;
     ask_module(c, module, &names, seen)?;
     scope.leave(base);
     Ok(())
+}
+
+// In a box, so that a proof about who owns it need not follow each part.
+fn no_names(c: &Context) -> Result<Box<Names>, CheckError> {
+    let names = Names {
+        defined: IndexSet::new(c.alloc),
+        routines: IndexSet::new(c.alloc),
+        args: IndexSet::new(c.alloc),
+    };
+    Ok(Box::new(c.alloc, names)?)
+}
+
+fn walk_module(
+    c: &mut Context,
+    tree: &Tree,
+    scope: &mut Scope,
+    module: &Module<'_>,
+    spec: &Spec,
+    names: &mut Names,
+) -> Result<(), CheckError> {
+    settle(c, tree, scope, module.equates, Walk::Headings)?;
+    for equate in module.equates {
+        check_equate(c, tree, scope, *equate, names)?;
+    }
+    open_cluster(c, spec)?;
+    let first = enter_definition(c, tree, scope, module.node, Walk::Headings)?;
+    match module.node.kind {
+        NodeKind::Cluster => cluster_heading(c, tree, scope, module.node, spec, names),
+        _ => routine_heading(c, tree, scope, module.node, first, names),
+    }
 }
 
 // The right side of an Equate, then V4 and V6 there.
@@ -81,26 +106,54 @@ fn cluster_heading(
     spec: &Spec,
     names: &mut Names,
 ) -> Result<(), CheckError> {
+    enter_rep(c, scope)?;
     for child in cluster.children.as_slice() {
-        let part = node_at(tree, *child)?;
-        match part.kind {
-            NodeKind::Parm => check_parm(c, tree, scope, part, names)?,
-            NodeKind::Where => check_where(c, tree, scope, part)?,
-            NodeKind::Equate if is_rep(part) => {}
-            NodeKind::Equate => check_equate(c, tree, scope, *child, names)?,
-            NodeKind::Own => {
-                note_owns(c, tree, part, names)?;
-                enter_own(c, tree, scope, part)?;
-            }
-            _ => {}
+        cluster_part(c, tree, scope, *child, names)?;
+    }
+    for child in cluster.children.as_slice() {
+        note_routine(c, node_at(tree, *child)?, names)?;
+    }
+    for child in cluster.children.as_slice() {
+        inner_heading(c, tree, scope, node_at(tree, *child)?, spec, names)?;
+    }
+    Ok(())
+}
+
+// Notes what `rep` denotes, if that violates no rule.
+fn enter_rep(c: &mut Context, scope: &Scope) -> Result<(), CheckError> {
+    let rep = Bytes::from_slice(c.alloc, b"rep".as_slice())?;
+    if let Some(bound) = scope.find(&rep) {
+        if let Some(Settled::Value(Value::Of(of))) = &bound.settled {
+            note_rep(c, *of);
         }
     }
-    for routine in children_of(c.alloc, tree, cluster, NodeKind::Routine)? {
-        let name = first_name(node_at(tree, routine)?)?;
-        names.routines.insert(name.copy(c.alloc)?)?;
+    Ok(())
+}
+
+fn cluster_part(
+    c: &mut Context,
+    tree: &Tree,
+    scope: &mut Scope,
+    n: u32,
+    names: &mut Names,
+) -> Result<(), CheckError> {
+    let part = node_at(tree, n)?;
+    match part.kind {
+        NodeKind::Parm => check_parm(c, tree, scope, part, names),
+        NodeKind::Where => check_where(c, tree, scope, part),
+        NodeKind::Equate if is_rep(part) => Ok(()),
+        NodeKind::Equate => check_equate(c, tree, scope, n, names),
+        NodeKind::Own => {
+            note_owns(c, tree, part, names)?;
+            enter_own(c, tree, scope, part)
+        }
+        _ => Ok(()),
     }
-    for routine in children_of(c.alloc, tree, cluster, NodeKind::Routine)? {
-        inner_heading(c, tree, scope, node_at(tree, routine)?, spec, names)?;
+}
+
+fn note_routine(c: &Context, part: &Node, names: &mut Names) -> Result<(), CheckError> {
+    if part.kind == NodeKind::Routine {
+        names.routines.insert(first_name(part)?.copy(c.alloc)?)?;
     }
     Ok(())
 }
@@ -145,7 +198,7 @@ fn check_parm(
     }
 }
 
-// The heading of a routine of the cluster, then V6 at the Routine.
+// The heading of a routine of the cluster, then V6 at the Routine; other parts of the cluster ask nothing here.
 fn inner_heading(
     c: &mut Context,
     tree: &Tree,
@@ -154,6 +207,9 @@ fn inner_heading(
     spec: &Spec,
     names: &mut Names,
 ) -> Result<(), CheckError> {
+    if routine.kind != NodeKind::Routine {
+        return Ok(());
+    }
     let base = scope.len();
     let name = first_name(routine)?;
     open_routine(c, spec, name)?;
@@ -164,7 +220,7 @@ fn inner_heading(
 }
 
 // The nodes of a routine's heading, whose names are in scope, its arguments from the place `first` on. An argument is
-// seen behind its Decl alone.
+// seen after its Decl alone, with its type.
 fn routine_heading(
     c: &mut Context,
     tree: &Tree,
@@ -173,69 +229,59 @@ fn routine_heading(
     first: usize,
     names: &mut Names,
 ) -> Result<(), CheckError> {
-    let mut args = IndexSet::new(c.alloc);
-    conceal_arguments(c, tree, scope, routine, first)?;
+    conceal_arguments(tree, scope, routine, first)?;
+    names.args = IndexSet::new(c.alloc);
     for child in routine.children.as_slice() {
-        let part = node_at(tree, *child)?;
-        match part.kind {
-            NodeKind::Parm => check_parm(c, tree, scope, part, names)?,
-            NodeKind::Decl => {
-                let seen = first.saturating_add(args.len());
-                check_argument(c, tree, scope, part, names, &mut args)?;
-                reveal_arguments(scope, seen, part);
-            }
-            NodeKind::Results => check_types(c, tree, scope, part)?,
-            NodeKind::Signals => check_signals(c, tree, scope, part)?,
-            NodeKind::Where => check_where(c, tree, scope, part)?,
-            _ => {}
-        }
+        routine_part(c, tree, scope, node_at(tree, *child)?, first, names)?;
     }
     Ok(())
 }
 
-fn conceal_arguments(
-    c: &Context,
+fn routine_part(
+    c: &mut Context,
     tree: &Tree,
     scope: &mut Scope,
-    routine: &Node,
+    part: &Node,
     first: usize,
+    names: &mut Names,
 ) -> Result<(), CheckError> {
-    let mut count = 0usize;
-    for decl in children_of(c.alloc, tree, routine, NodeKind::Decl)? {
-        count = count.saturating_add(node_at(tree, decl)?.names.as_slice().len());
-    }
-    // The last one first, since an argument may hide an earlier one of its name.
-    for place in (first..first.saturating_add(count)).rev() {
-        scope.conceal(place);
-    }
-    Ok(())
-}
-
-// The arguments of a Decl, from this place on, come into sight.
-fn reveal_arguments(scope: &mut Scope, first: usize, decl: &Node) {
-    for n in 0..decl.names.as_slice().len() {
-        scope.reveal(first.saturating_add(n));
+    match part.kind {
+        NodeKind::Parm => check_parm(c, tree, scope, part, names),
+        NodeKind::Decl => {
+            let place = first.saturating_add(names.args.len());
+            let of = check_argument(c, tree, scope, part, names)?;
+            reveal_arguments(scope, place, part, of);
+            Ok(())
+        }
+        NodeKind::Results => check_types(c, tree, scope, part),
+        NodeKind::Signals => check_signals(c, tree, scope, part),
+        NodeKind::Where => check_where(c, tree, scope, part),
+        _ => Ok(()),
     }
 }
 
-// The type of an argument, then V4 and V6 at its Decl.
+// The type of an argument, as the body sees it, then V4 and V6 at its Decl.
 fn check_argument(
     c: &mut Context,
     tree: &Tree,
     scope: &Scope,
     decl: &Node,
-    names: &Names,
-    args: &mut IndexSet<Bytes>,
-) -> Result<(), CheckError> {
-    check_types(c, tree, scope, decl)?;
+    names: &mut Names,
+) -> Result<TypeId, CheckError> {
+    let n = only_child(decl)?;
+    let of = check_heading_type(c, tree, scope, n)?;
     ask_lengths(decl)?;
     for name in decl.names.as_slice() {
         if names.defined.contains(name) || names.routines.contains(name) {
             return refuse(Rule::DefinedTwice, decl.place);
         }
-        define(c.alloc, args, name, decl)?;
+        define(c.alloc, &mut names.args, name, decl)?;
     }
-    Ok(())
+    if is_cvt(node_at(tree, n)?) {
+        Ok(inside_type(c).unwrap_or(of))
+    } else {
+        Ok(of)
+    }
 }
 
 // The types that stand directly in a node of a heading.
@@ -268,16 +314,25 @@ fn check_signals(
 ) -> Result<(), CheckError> {
     let mut listed = IndexSet::new(c.alloc);
     for exception in signals.children.as_slice() {
-        let exception = node_at(tree, *exception)?;
-        let mut objects = Vec::new(c.alloc);
-        for child in exception.children.as_slice() {
-            objects.push(check_heading_type(c, tree, scope, *child)?)?;
-        }
-        ask_lengths(exception)?;
-        define_all(c.alloc, &mut listed, exception)?;
-        ask_failure(c, exception, objects.as_slice())?;
+        check_signal(c, tree, scope, node_at(tree, *exception)?, &mut listed)?;
     }
     Ok(())
+}
+
+fn check_signal(
+    c: &mut Context,
+    tree: &Tree,
+    scope: &Scope,
+    exception: &Node,
+    listed: &mut IndexSet<Bytes>,
+) -> Result<(), CheckError> {
+    let mut objects = Vec::new(c.alloc);
+    for child in exception.children.as_slice() {
+        objects.push(check_heading_type(c, tree, scope, *child)?)?;
+    }
+    ask_lengths(exception)?;
+    define_all(c.alloc, listed, exception)?;
+    ask_failure(c, exception, objects.as_slice())
 }
 
 // V26: `failure` with other objects than one string.

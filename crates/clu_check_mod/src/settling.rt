@@ -2,9 +2,9 @@
 
 use crate::entering::Walk;
 use crate::specification::had;
-use clu_check_expr::enter_equates;
+use clu_check_expr::{enter_declared, enter_equates};
 use clu_core::Context;
-use clu_equates::{CheckError, Scope, set_demands, settle_equates};
+use clu_equates::{CheckError, Scope, set_demands, settle_declared, settle_equates};
 use clu_tree::Tree;
 use clu_types::Demand;
 use std::alloc::Global;
@@ -27,6 +27,27 @@ pub fn settle(
             Ok(())
         }
         Walk::Headings | Walk::Bodies => enter_equates(c, tree, scope, equates),
+    }
+}
+
+/// The same of so many equates from this place of the scope's list on, whose names are in scope.
+pub fn settle_entered(
+    c: &mut Context,
+    tree: &Tree,
+    scope: &mut Scope,
+    first: usize,
+    count: usize,
+    walk: Walk,
+) -> Result<(), CheckError> {
+    if count == 0 {
+        return Ok(());
+    }
+    match walk {
+        Walk::Specifications => {
+            let _ = settle_declared(c.alloc, tree, scope, &mut c.types, first, count)?;
+            Ok(())
+        }
+        Walk::Headings | Walk::Bodies => enter_declared(c, tree, scope, first, count),
     }
 }
 

@@ -29,35 +29,36 @@ pub fn specification(
     ensures { IfOk result (λ spec. spec.name ≡ «module».now.name.now) }
 {
     let base = scope.len();
-    enter_with_kinds(c, tree, scope, module)?;
+    let args = enter_with_kinds(c, tree, scope, module)?;
     let spec = match module.node.kind {
         NodeKind::Cluster => cluster_spec(c, tree, scope, module)?,
-        _ => routine_spec(c, tree, scope, module)?,
+        _ => routine_spec(c, tree, scope, module, args)?,
     };
     scope.leave(base);
     Ok(spec)
 }
 
 // Brings the names of the module into scope and gives the unit the kinds of its parameters. Those may be written by
-// equates, and equates may name parameters: so the names are entered twice where a parameter is no type.
+// equates, and equates may name parameters: so the names are entered twice where a parameter is no type. Gives the place
+// in the scope's list of the first argument of a routine.
 fn enter_with_kinds(
     c: &mut Context,
     tree: &Tree,
     scope: &mut Scope,
     module: &Module<'_>,
-) -> Result<(), CheckError> {
+) -> Result<usize, CheckError> {
     let base = scope.len();
     let parms = children_of(c.alloc, tree, module.node, NodeKind::Parm)?;
     c.unit = Unit::new(c.alloc, module.name.copy(c.alloc)?);
     c.unit.kinds = Sequence::from_vec(all_types(c.alloc, tree, parms.as_slice())?);
-    enter_module(c, tree, scope, module, Walk::Specifications)?;
+    let args = enter_module(c, tree, scope, module, Walk::Specifications)?;
     let kinds = kinds_of(c, tree, scope, parms.as_slice())?;
-    if c.unit.kinds.as_slice() != kinds.as_slice() {
-        c.unit.kinds = Sequence::from_vec(kinds);
-        scope.leave(base);
-        enter_module(c, tree, scope, module, Walk::Specifications)?;
+    if c.unit.kinds.as_slice() == kinds.as_slice() {
+        return Ok(args);
     }
-    Ok(())
+    c.unit.kinds = Sequence::from_vec(kinds);
+    scope.leave(base);
+    enter_module(c, tree, scope, module, Walk::Specifications)
 }
 
 // As many kinds as there are parameters.
@@ -127,10 +128,11 @@ fn routine_spec(
     tree: &Tree,
     scope: &mut Scope,
     module: &Module<'_>,
+    args: usize,
 ) -> Result<Spec, CheckError>
     ensures { IfOk result (λ spec. spec.name ≡ «module».now.name.now) }
 {
-    let op = op_spec(c, tree, scope, module.node, None, true)?;
+    let op = op_spec(c, tree, scope, module.node, args, None, true)?;
     let op = match op {
         Some(op) => op,
         None => bare(c.alloc, module.node)?,
@@ -190,17 +192,32 @@ fn cluster_ops(
     own: TypeId,
     types: &mut TypeArena,
 ) -> Result<Vec<OpSpec>, CheckError> {
-    let mut ops = IndexMap::new(c.alloc);
-    for routine in children_of(c.alloc, tree, cluster, NodeKind::Routine)? {
-        let base = scope.len();
-        let routine = node_at(tree, routine)?;
-        enter_routine(c, tree, scope, routine, Walk::Specifications)?;
-        if let Some(op) = op_spec(c, tree, scope, routine, Some(own), false)? {
-            note_op(c, &mut ops, &op, types)?;
+    let mut ops = Box::new(c.alloc, IndexMap::new(c.alloc))?;
+    for child in cluster.children.as_slice() {
+        let part = node_at(tree, *child)?;
+        if part.kind == NodeKind::Routine {
+            note_routine(c, tree, scope, part, own, &mut ops, types)?;
         }
-        scope.leave(base);
     }
-    ascending(c.alloc, ops)
+    ascending(c.alloc, Box::into_inner(ops))
+}
+
+fn note_routine(
+    c: &mut Context,
+    tree: &Tree,
+    scope: &mut Scope,
+    routine: &Node,
+    own: TypeId,
+    ops: &mut IndexMap<Bytes, OpSpec>,
+    types: &mut TypeArena,
+) -> Result<(), CheckError> {
+    let base = scope.len();
+    let args = enter_routine(c, tree, scope, routine, Walk::Specifications)?;
+    if let Some(op) = op_spec(c, tree, scope, routine, args, Some(own), false)? {
+        note_op(c, ops, &op, types)?;
+    }
+    scope.leave(base);
+    Ok(())
 }
 
 // Notes an operation, with types of the arena, if it is the first of its name.
@@ -226,19 +243,21 @@ fn ascending(alloc: Global, mut ops: IndexMap<Bytes, OpSpec>) -> Result<Vec<OpSp
     Ok(listed)
 }
 
-// A routine whose names are in scope, or nothing where its heading denotes nothing.
+// A routine whose names are in scope, its arguments from the place `args` on, or nothing where its heading denotes
+// nothing.
 fn op_spec(
     c: &mut Context,
     tree: &Tree,
     scope: &mut Scope,
     routine: &Node,
+    args: usize,
     own: Option<TypeId>,
     is_module: bool,
 ) -> Result<Option<OpSpec>, CheckError> {
     let demands = demands_of(c, tree, scope, routine)?;
     let name = first_name(routine)?;
     note_sets(c, &demands, if is_module { None } else { Some(name) })?;
-    let heading = heading_of(c, tree, scope, routine, own);
+    let heading = heading_of(c, tree, scope, routine, args, own);
     match had(heading)? {
         Some(heading) => Ok(Some(OpSpec {
             name: name.copy(c.alloc)?,

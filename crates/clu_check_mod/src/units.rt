@@ -6,25 +6,47 @@ use clu_core::{ClusterUnit, Context, Unit};
 use clu_equates::{CheckError, intern};
 use clu_types::{Actual, Demand, Form, OpSpec, ParamKind, Spec, Term, TypeId};
 
-/// Makes a module the context's own. Its specification has all routines of a cluster.
+/// Makes a module the context's own, as its leading equates are in it: round them is no cluster. Its specification has all
+/// routines of a cluster.
 pub fn open_unit(c: &mut Context, spec: &Spec) -> Result<(), CheckError> {
     c.unit = Unit::new(c.alloc, spec.name.copy(c.alloc)?);
     c.unit.kinds = Sequence::from_vec(spec.kinds.as_slice().to_vec(c.alloc)?);
-    match &spec.form {
-        Form::Routine(op) => {
-            c.unit.demands = carried_demands(c, &spec.types, op.demands.as_slice())?;
-        }
-        Form::Cluster(demands, _) => {
-            c.unit.demands = carried_demands(c, &spec.types, demands.as_slice())?;
-            let own = own_type(c)?;
-            c.unit.cluster = Some(ClusterUnit {
-                own,
-                rep: None,
-                inner: spec.copy(c.alloc)?,
-            });
-        }
+    let demands = match &spec.form {
+        Form::Routine(op) => op.demands.as_slice(),
+        Form::Cluster(demands, _) => demands.as_slice(),
+    };
+    c.unit.demands = carried_demands(c, &spec.types, demands)?;
+    Ok(())
+}
+
+/// Puts the cluster, if the context's module is one, round what comes next.
+pub fn open_cluster(c: &mut Context, spec: &Spec) -> Result<(), CheckError> {
+    if matches!(spec.form, Form::Cluster(_, _)) {
+        let own = own_type(c)?;
+        c.unit.cluster = Some(ClusterUnit {
+            own,
+            rep: None,
+            inner: spec.copy(c.alloc)?,
+        });
     }
     Ok(())
+}
+
+/// Notes the type that `rep` denotes, if no other one was noted.
+pub fn note_rep(c: &mut Context, rep: TypeId) {
+    if let Some(cluster) = &mut c.unit.cluster {
+        if cluster.rep.is_none() {
+            cluster.rep = Some(rep);
+        }
+    }
+}
+
+/// What `cvt` is to the body of a routine: the representation, or the cluster's type where that is missing.
+pub fn inside_type(c: &Context) -> Option<TypeId> {
+    match &c.unit.cluster {
+        Some(cluster) => Some(cluster.rep.unwrap_or(cluster.own)),
+        None => None,
+    }
 }
 
 /// The type of the cluster that is the context's module, with its own parameters as actuals.

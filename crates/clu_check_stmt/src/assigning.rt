@@ -4,7 +4,7 @@ use clu_base::{Bytes, Rule};
 use clu_check_expr::{CallUse, check_call, check_expr, invoke};
 use clu_core::Context;
 use clu_equates::{CheckError, Means, Scope, included, node_at, refuse};
-use clu_rules::ask_lengths;
+use clu_rules::{ask_lengths, is_stream};
 use clu_tree::{Node, NodeKind, Tree};
 use clu_types::TypeId;
 
@@ -52,7 +52,7 @@ pub fn check_targets(
     ask_lengths(node)?;
     let names = node.names.as_slice();
     for name in names {
-        if scope.find(name).is_none() {
+        if scope.find(name).is_none() && !is_stream(name) {
             return refuse(Rule::UnknownName, node.place);
         }
     }

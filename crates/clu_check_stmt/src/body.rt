@@ -109,8 +109,8 @@ fn begin(
     scope: &Scope,
     arms: &mut Arms,
     node: &Node,
-) -> Result<Frame, CheckError> {
-    let mut frame = Frame::new(c.alloc, scope.len());
+) -> Result<Box<Frame>, CheckError> {
+    let mut frame = Box::new(c.alloc, Frame::new(c.alloc, scope.len()))?;
     match node.kind {
         NodeKind::While | NodeKind::For => c.loops = c.loops.saturating_add(1),
         NodeKind::Resignal => frame.raised.exchange(c),
@@ -264,7 +264,7 @@ fn end(
     c: &mut Context,
     scope: &mut Scope,
     node: &Node,
-    mut frame: Frame,
+    mut frame: Box<Frame>,
 ) -> Result<Vec<TypeId>, CheckError> {
     match node.kind {
         NodeKind::Except => end_except(c, &mut frame)?,

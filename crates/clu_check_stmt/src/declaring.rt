@@ -166,10 +166,13 @@ pub fn check_given(
     Ok(())
 }
 
-/// Brings variables into scope.
+/// Brings variables into scope. What an arm defines for the second time is refused after its body; until then the first
+/// one counts.
 pub fn bind(c: &Context, scope: &mut Scope, variables: &Variables) -> Result<(), CheckError> {
     for (name, of) in variables.iter() {
-        scope.declare(c.alloc, name, Means::Variable(*of))?;
+        if !scope.has_own(name) {
+            scope.declare(c.alloc, name, Means::Variable(*of))?;
+        }
     }
     Ok(())
 }

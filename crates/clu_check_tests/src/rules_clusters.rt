@@ -34,8 +34,9 @@ pub const ROWS: &str = "\
     1:1:V31 c = cluster is f rep = null rep = int f = proc () end f end c\0\
     1:19:V31 p = proc () end p c = cluster is f t = int f = proc () end f end d\0\
     1:30:V28 c = cluster is f f = proc () break end f end c\0\
-    1:31:V31 c = cluster is f f = proc (x: rep) end f end c\0\
-    1:33:V31 c = cluster is f f = proc () x: rep end f end c\0\
+    1:31:V9 c = cluster is f f = proc (x: rep) end f end c\0\
+    1:33:V9 c = cluster is f f = proc () x: rep end f end c\0\
+    1:36:V15 c = cluster is f f = proc (x: cvt) x := 1 end f end c\0\
     % V32: `up` and `down` inside a cluster, on a rep object and on an object of its type.\0\
     1:23:V32 p = proc () x: any := up(1) end p\0\
     1:23:V32 p = proc () x: any := down(1) end p\0\

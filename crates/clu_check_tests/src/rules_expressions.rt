@@ -22,6 +22,14 @@ pub const ROWS: &str = "\
     box\0\
     2:13:V14 p = proc (a: array[int])\nx: any := a[int]\nend p\0\
     2:11:V14 p = proc ()\nx: any := stream\nend p\0\
+    % Directly under an Index; the name of a module alone is left to the Index.\0\
+    1:31:V14 t = int p = proc () x: int := t[1] end p\0\
+    1:23:V14 p = proc () x: any := stream[int] end p\0\
+    1:30:V14 p = proc () x: char := \"xyz\"[any] end p\0\
+    1:28:V14 p = proc () x: char := \"x\"[cvt] end p\0\
+    1:31:V19 start_up = proc () t1 = stream[int] end start_up\0\
+    1:13:V15 p = proc () stream := 1 end p\0\
+    1:17:V9 p = proc () s = {t | stream has f: int} end p\0\
     2:14:V14 p = proc ()\nx: any := box[int]\nend p box = cluster [t: type] is equal rep = int equal = proc \
     (x, y: cvt) returns (bool) where t has equal: proctype (t, t) returns (bool) return (x = y) end equal \
     end box\0\

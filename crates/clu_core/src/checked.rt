@@ -20,8 +20,10 @@ pub struct Checked {
     pub op_of: Vec<Option<OpRef>>,
     /// For each node of a type outside equates, the type that it denotes.
     pub denoted: Vec<Option<TypeId>>,
-    /// For each name that stands for a constant in an expression, that constant.
-    pub constant_of: Vec<Option<ObjConst>>,
+    /// For each name that stands for a constant in an expression, the place of that constant in `constants`.
+    pub constant_of: Vec<Option<u32>>,
+    /// Constants that names stand for, that of an equate once however often it is named.
+    pub constants: Vec<ObjConst>,
     /// The specifications of the file's modules in the order of the text, and behind them, ascending
     /// by name, those of all other modules under which it was checked.
     pub specs: Vec<Spec>,
@@ -45,6 +47,7 @@ impl Checked {
         ensures op_of { IfOk result (λ checked. checked.op_of.items ≡ replicate (length tree) None) }
         ensures denoted { IfOk result (λ checked. checked.denoted.items ≡ replicate (length tree) None) }
         ensures constant_of { IfOk result (λ checked. checked.constant_of.items ≡ replicate (length tree) None) }
+        ensures constants { IfOk result (λ checked. checked.constants.items ≡ []) }
         ensures specs { IfOk result (λ checked. checked.specs.items ≡ []) }
         ensures refused { IfErr result (λ e. e ≡ error.Memory tree) }
     {
@@ -57,8 +60,17 @@ impl Checked {
                 op_of: tables.op_of,
                 denoted: tables.denoted,
                 constant_of: tables.constant_of,
+                constants: Vec::new(alloc),
                 specs: Vec::new(alloc),
             }),
+        }
+    }
+
+    /// The constant that this node stands for, if it is a name of one.
+    pub fn constant_at(&self, node: u32) -> Option<&ObjConst> {
+        match self.constant_of.get(node as usize) {
+            Some(Some(place)) => self.constants.get(*place as usize),
+            _ => None,
         }
     }
 }

@@ -3,9 +3,9 @@
 use crate::op_ref::OpRef;
 use crate::tables::Tables;
 use crate::unit::Unit;
-use clu_base::{Bytes, Memory, ObjConst};
+use clu_base::{Bytes, Const, Memory, ObjConst};
 use clu_types::{Exception, Specs, TypeArena, TypeId};
-use indexmap::IndexSet;
+use indexmap::{IndexMap, IndexSet};
 use std::alloc::Global;
 
 /// A demand that an `in` clause alone makes.
@@ -32,8 +32,12 @@ pub struct Context {
     pub op_of: Vec<Option<OpRef>>,
     /// For each node of a type that was walked, the type that it denotes.
     pub denoted: Vec<Option<TypeId>>,
-    /// For each name that stands for a constant in an expression, that constant.
-    pub constant_of: Vec<Option<ObjConst>>,
+    /// For each name that stands for a constant in an expression, the place of that constant in `constants`.
+    pub constant_of: Vec<Option<u32>>,
+    /// Constants that names stand for, that of an equate once however often it is named.
+    pub constants: Vec<ObjConst>,
+    /// By Equate nodes, the places of their constants in `constants`.
+    equated: IndexMap<u32, u32>,
     /// The specifications of all modules, those of the file in the place of kept ones.
     pub specs: Specs,
     /// The demands of the file's modules that `in` clauses alone make.
@@ -57,6 +61,8 @@ impl Context {
             op_of: tables.op_of,
             denoted: tables.denoted,
             constant_of: tables.constant_of,
+            constants: Vec::new(alloc),
+            equated: IndexMap::new(alloc),
             specs,
             set_demands: IndexSet::new(alloc),
             unit: Unit::new(alloc, name),
@@ -89,10 +95,52 @@ impl Context {
         self.denoted.get(node as usize).copied().flatten()
     }
 
-    /// Notes the constant that a name stands for.
-    pub fn note_constant(&mut self, node: u32, constant: ObjConst) {
+    /// Notes the constant parameter that a name stands for.
+    pub fn note_parameter(&mut self, node: u32, number: u32) -> Result<(), Memory> {
+        let place = self.keep(ObjConst::Param(number))?;
+        self.note_place(node, place);
+        Ok(())
+    }
+
+    /// Notes the constant that a name stands for, which is that of an Equate node.
+    pub fn note_constant(
+        &mut self,
+        node: u32,
+        equate: u32,
+        constant: &Const,
+    ) -> Result<(), Memory> {
+        let place = match self.equated.get(&equate).copied() {
+            Some(place) => place,
+            None => self.keep_equated(equate, constant)?,
+        };
+        self.note_place(node, place);
+        Ok(())
+    }
+
+    fn keep_equated(&mut self, equate: u32, constant: &Const) -> Result<u32, Memory> {
+        let place = self.keep(ObjConst::Value(constant.copy(self.alloc)?))?;
+        self.equated.insert(equate, place)?;
+        Ok(place)
+    }
+
+    /// Keeps a constant after the others, and gives its place.
+    fn keep(&mut self, constant: ObjConst) -> Result<u32, Memory> {
+        let place = u32::try_from(self.constants.len()).unwrap_or(u32::MAX);
+        self.constants.push(constant)?;
+        Ok(place)
+    }
+
+    fn note_place(&mut self, node: u32, place: u32) {
         if let Some(slot) = self.constant_of.get_mut(node as usize) {
-            *slot = Some(constant);
+            *slot = Some(place);
+        }
+    }
+
+    /// The constant that a name stands for, if it was noted.
+    pub fn noted_constant(&self, node: u32) -> Option<&ObjConst> {
+        match self.constant_of.get(node as usize) {
+            Some(Some(place)) => self.constants.get(*place as usize),
+            _ => None,
         }
     }
 

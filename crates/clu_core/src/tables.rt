@@ -3,7 +3,7 @@
 ghost use Rattle.std.specs.Prelude.{◌≡◌, None, IfOk, replicate};
 
 use crate::op_ref::OpRef;
-use clu_base::{Memory, ObjConst};
+use clu_base::Memory;
 use clu_types::TypeId;
 use std::alloc::Global;
 
@@ -24,7 +24,7 @@ pub struct Tables {
     pub type_of: Vec<Option<TypeId>>,
     pub op_of: Vec<Option<OpRef>>,
     pub denoted: Vec<Option<TypeId>>,
-    pub constant_of: Vec<Option<ObjConst>>,
+    pub constant_of: Vec<Option<u32>>,
 }
 
 impl Tables {

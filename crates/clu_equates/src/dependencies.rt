@@ -3,10 +3,13 @@
 
 use crate::scope::Scope;
 use clu_base::Bytes;
-use clu_rules::{CheckError, node_at};
+use clu_rules::{CheckError, equate_name, first_name, node_at};
 use clu_tree::{Node, NodeKind, Tree};
-use indexmap::IndexSet;
+use indexmap::IndexMap;
 use std::alloc::Global;
+
+/// The names that type sets bind for their own inside, each with the first node of the outermost of these sets.
+type Inner = IndexMap<Bytes, u32>;
 
 /// Notes the equates that a node names, of those from the place `first` of the scope's list on; they
 /// are numbered from 0.
@@ -19,17 +22,80 @@ pub fn note_named(
     named: &mut Vec<u32>,
 ) -> Result<(), CheckError> {
     let from = first_leaf(tree, node)?;
-    let inner = inner_names(alloc, tree, from, node)?;
-    for n in from..=node {
-        if let Some(name) = denoting_name(node_at(tree, n)?) {
-            if !inner.contains(name) {
-                if let Some(equate) = number_of(scope, name, first) {
-                    named.push(equate)?;
-                }
+    let mut inner = IndexMap::new(alloc);
+    // Backwards, so that a type set is met before what stands in it.
+    for n in (from..node.saturating_add(1)).rev() {
+        note_at(alloc, tree, scope, n, first, &mut inner, named)?;
+    }
+    Ok(())
+}
+
+/// Notes the equate that this node names, or the names that it binds.
+fn note_at(
+    alloc: Global,
+    tree: &Tree,
+    scope: &Scope,
+    n: u32,
+    first: usize,
+    inner: &mut Inner,
+    named: &mut Vec<u32>,
+) -> Result<(), CheckError> {
+    let node = node_at(tree, n)?;
+    if node.kind == NodeKind::TypeSet {
+        return bind_inside(alloc, tree, scope, n, node, inner);
+    }
+    if let Some(name) = denoting_name(node) {
+        if !is_bound(inner, name, n) {
+            if let Some(equate) = number_of(scope, name, first) {
+                named.push(equate)?;
             }
         }
     }
     Ok(())
+}
+
+/// Binds the variable of a type set and its equates. An equate whose name the module has defined before
+/// defines nothing.
+fn bind_inside(
+    alloc: Global,
+    tree: &Tree,
+    scope: &Scope,
+    n: u32,
+    set: &Node,
+    inner: &mut Inner,
+) -> Result<(), CheckError> {
+    let from = first_leaf(tree, n)?;
+    bind(alloc, inner, set, from, n)?;
+    for child in set.children.as_slice() {
+        let part = node_at(tree, *child)?;
+        if part.kind == NodeKind::Equate && !scope.has_own(equate_name(part)) {
+            bind(alloc, inner, part, from, n)?;
+        }
+    }
+    Ok(())
+}
+
+/// Binds the first name of a node from the node `from` to the type set `n`, unless a set round it does.
+fn bind(
+    alloc: Global,
+    inner: &mut Inner,
+    node: &Node,
+    from: u32,
+    n: u32,
+) -> Result<(), CheckError> {
+    let name = first_name(node)?;
+    if !is_bound(inner, name, n) {
+        inner.insert(name.copy(alloc)?, from)?;
+    }
+    Ok(())
+}
+
+/// Whether a type set round this node, all of which were met, binds the name.
+fn is_bound(inner: &Inner, name: &Bytes, n: u32) -> bool {
+    match inner.get(name) {
+        Some(from) => *from <= n,
+        None => false,
+    }
 }
 
 /// The number of the equate that a name denotes, if it is one of those from the place `first` on.
@@ -56,26 +122,4 @@ fn denoting_name(node: &Node) -> Option<&Bytes> {
         NodeKind::Simple if node.value.as_slice() == b"rep".as_slice() => Some(&node.value),
         _ => None,
     }
-}
-
-/// The names that type sets among these nodes define for their own inside.
-fn inner_names(
-    alloc: Global,
-    tree: &Tree,
-    from: u32,
-    to: u32,
-) -> Result<IndexSet<Bytes>, CheckError> {
-    let mut inner = IndexSet::new(alloc);
-    for n in from..=to {
-        let node = node_at(tree, n)?;
-        match node.kind {
-            NodeKind::TypeSet | NodeKind::Equate => {
-                if let Some(name) = node.names.as_slice().first() {
-                    inner.insert(name.copy(alloc)?)?;
-                }
-            }
-            _ => {}
-        }
-    }
-    Ok(inner)
 }

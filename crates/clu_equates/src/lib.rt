@@ -17,6 +17,6 @@ mod value;
 pub use crate::arena::{carry, included, intern, subst, term};
 pub use crate::scope::{Bound, Means, Scope, Settled};
 pub use crate::sets::{inner_equates, set_demands};
-pub use crate::settling::{settle_equates, wanted_of};
+pub use crate::settling::{declare_equates, settle_declared, settle_equates, wanted_of};
 pub use crate::value::{Value, Wanted, value_of, value_with};
 pub use clu_rules::{CheckError, first_name, node_at, only_child, refuse};

@@ -11,7 +11,7 @@ use std::alloc::Global;
 
 /// Brings the names of these Equate nodes, which stand together, into scope, with what they unfold to.
 /// A name that the module has defined before isn't brought in again. Gives the places in the scope's
-/// list of those that have a value, each behind those that it names. Nothing is refused: the errors are want of
+/// list of those that have a value, each after those that it names. Nothing is refused: the errors are out of
 /// memory, and NotYet where a node is none of the tree.
 pub fn settle_equates(
     alloc: Global,
@@ -21,22 +21,39 @@ pub fn settle_equates(
     equates: &[u32],
 ) -> Result<Vec<usize>, CheckError> {
     let first = scope.len();
-    let mut states = Vec::new(alloc);
+    let count = declare_equates(alloc, tree, scope, equates)?;
+    settle_declared(alloc, tree, scope, types, first, count)
+}
+
+/// The first half of that: the names come into scope, and are settled later. Gives how many these are.
+pub fn declare_equates(
+    alloc: Global,
+    tree: &Tree,
+    scope: &mut Scope,
+    equates: &[u32],
+) -> Result<usize, CheckError> {
+    let mut count = 0usize;
     for node in equates {
         let name = equate_name(node_at(tree, *node)?);
         if !scope.has_own(name) {
             scope.declare(alloc, name, Means::Equate(*node))?;
-            states.push(State::New)?;
+            count = count.saturating_add(1);
         }
     }
-    let mut settling = Settling {
-        first,
-        states,
-        next: 0,
-        begun: Vec::new(alloc),
-        named: Vec::new(alloc),
-        order: Vec::new(alloc),
-    };
+    Ok(count)
+}
+
+/// The second half: so many equates from the place `first` of the scope's list on are settled. Names that came into
+/// scope after them are seen in them.
+pub fn settle_declared(
+    alloc: Global,
+    tree: &Tree,
+    scope: &mut Scope,
+    types: &mut TypeArena,
+    first: usize,
+    count: usize,
+) -> Result<Vec<usize>, CheckError> {
+    let mut settling = begun_settling(alloc, first, count)?;
     for _ in 0..steps_at_most(tree) {
         if settling.is_over() {
             break;
@@ -44,6 +61,21 @@ pub fn settle_equates(
         settling.step(alloc, tree, scope, types)?;
     }
     Ok(settling.order)
+}
+
+fn begun_settling(alloc: Global, first: usize, count: usize) -> Result<Settling, CheckError> {
+    let mut states = Vec::new(alloc);
+    for _ in 0..count {
+        states.push(State::New)?;
+    }
+    Ok(Settling {
+        first,
+        states,
+        next: 0,
+        begun: Vec::new(alloc),
+        named: Vec::new(alloc),
+        order: Vec::new(alloc),
+    })
 }
 
 /// No equates are settled in more steps: one for each to begin, one to end, one for each name.

@@ -1,6 +1,6 @@
 //! A file of which nothing is known yet, what is noted of its nodes, and copies of references to operations.
 
-use clu_base::{Bytes, Memory, ObjConst, Sequence};
+use clu_base::{Bytes, Const, Memory, ObjConst, Sequence};
 use clu_core::{Checked, Context, OpRef};
 use clu_tree::Tree;
 use clu_types::{Actual, Specs, TypeId};
@@ -30,12 +30,14 @@ fn knows_nothing_at_first(rt: HostRuntime) {
 }
 
 /// Node 3 is none of the tree.
-fn note(c: &mut Context) {
+fn note(c: &mut Context) -> Result<(), Memory> {
     c.note_type(2, TypeId(5));
     c.note_type(3, TypeId(7));
     c.note_denoted(1, TypeId(6));
     c.note_op(0, OpRef::Stored);
-    c.note_constant(1, ObjConst::Param(3));
+    c.note_parameter(0, 3)?;
+    c.note_constant(1, 7, &Const::Int(5))?;
+    c.note_constant(2, 7, &Const::Int(5))
 }
 
 fn has_types(c: &Context) -> bool {
@@ -53,17 +55,20 @@ fn has_operation(c: &Context) -> bool {
 }
 
 fn has_constant(c: &Context) -> bool {
-    matches!(
-        c.constant_of.as_slice().get(1),
-        Some(Some(ObjConst::Param(3)))
-    )
+    matches!(c.noted_constant(0), Some(ObjConst::Param(3)))
+        && matches!(c.noted_constant(1), Some(ObjConst::Value(Const::Int(5))))
+        && matches!(c.constant_of.as_slice(), [Some(0), Some(1), Some(1)])
 }
 
 /// Whether the context of a module p has what is noted then, and had no type before.
 fn is_noted(c: &mut Context) -> bool {
     let was_new = c.unit.name.as_slice() == b"p".as_slice() && c.noted_type(2).is_none();
-    note(c);
-    was_new && has_types(c) && has_denoted_types(c) && has_operation(c) && has_constant(c)
+    was_new
+        && note(c).is_ok()
+        && has_types(c)
+        && has_denoted_types(c)
+        && has_operation(c)
+        && has_constant(c)
 }
 
 /// The same of a new context for three nodes.

@@ -11,9 +11,8 @@ use clu_wir::WExpr;
 
 /// The word of what a Name stands for.
 pub fn name(out: &mut Lowering, c: &Checked, n: u32, node: &Node) -> Result<WExpr, LowerError> {
-    match c.constant_of.get(n as usize) {
-        Some(Some(known)) => return constant(out, known),
-        _ => {}
+    if let Some(known) = c.constant_at(n) {
+        return constant(out, known);
     }
     if operation_of(c, n).is_some() {
         return node_operation(out, c, n);

@@ -20,18 +20,33 @@ pub fn refuse<T>(rule: Rule, place: Place) -> Result<T, CheckError> {
 }
 
 impl From<Memory> for CheckError {
+    ghost use Rattle.clu_rules.specs.declared.errors.CheckError.{CheckError};
+    ghost use Rattle.std.specs.Prelude.{◌≡◌};
+
+    ghost from_gives = { λ _ e. e ≡ CheckError.Memory };
+
     fn from(_error: Memory) -> CheckError {
         CheckError::Memory
     }
 }
 
 impl From<AllocError> for CheckError {
+    ghost use Rattle.clu_rules.specs.declared.errors.CheckError.{CheckError};
+    ghost use Rattle.std.specs.Prelude.{◌≡◌};
+
+    ghost from_gives = { λ _ e. e ≡ CheckError.Memory };
+
     fn from(_error: AllocError) -> CheckError {
         CheckError::Memory
     }
 }
 
 impl<T: Drop> From<AllocFailed<T>> for CheckError {
+    ghost use Rattle.clu_rules.specs.declared.errors.CheckError.{CheckError};
+    ghost use Rattle.std.specs.Prelude.{◌≡◌};
+
+    ghost from_gives = { λ _ e. e ≡ CheckError.Memory };
+
     fn from(_error: AllocFailed<T>) -> CheckError {
         CheckError::Memory
     }

@@ -1,8 +1,8 @@
 //! The specifications of a file's modules, found by their names, and of the others.
 
-ghost use Rattle.std.specs.Prelude.{◌≡◌, IfOk};
+ghost use Rattle.std.specs.Prelude.{◌≡◌, IfOk, Some};
 ghost use Rattle.clu_tree.specs.Nodes.{modules};
-ghost use Rattle.clu_rules.specs.Modules.{AreOf, BeginWithOwn};
+ghost use Rattle.clu_rules.specs.Modules.{AreOf, AreKept, BeginWithOwn, kept_spec};
 
 use crate::errors::CheckError;
 use crate::modules::module_at;
@@ -23,9 +23,10 @@ pub fn all_specs(alloc: Global, tree: &Tree, specs: &Specs) -> Result<Vec<Spec>,
     Ok(all)
 }
 
-/// The specifications of the tree's modules, in the order of the text.
+/// The specifications of the tree's modules, in the order of the text: those that are kept under their names.
 pub fn own_specs(alloc: Global, tree: &Tree, specs: &Specs) -> Result<Vec<Spec>, CheckError>
-    ensures { IfOk result (λ own. AreOf tree.now (modules tree.now) own.items) }
+    ensures named { IfOk result (λ own. AreOf tree.now (modules tree.now) own.items) }
+    ensures kept { IfOk result (λ own. AreKept tree.now specs.now (modules tree.now) own.items) }
 {
     let mut own = Vec::new(alloc);
     let numbers = tree.modules();
@@ -37,7 +38,8 @@ pub fn own_specs(alloc: Global, tree: &Tree, specs: &Specs) -> Result<Vec<Spec>,
 }
 
 fn spec_named(alloc: Global, specs: &Specs, name: &Bytes) -> Result<Spec, CheckError>
-    ensures { IfOk result (λ spec. spec.name ≡ name.now) }
+    ensures named { IfOk result (λ spec. spec.name ≡ name.now) }
+    ensures kept { IfOk result (λ spec. kept_spec specs.now name.now ≡ Some spec) }
 {
     match specs.get(name) {
         Some(spec) => Ok(spec.copy(alloc)?),

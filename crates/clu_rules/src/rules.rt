@@ -1,6 +1,6 @@
 //! Rules that ask for names, sizes and loops alone.
 
-ghost use Rattle.std.specs.Prelude.{◌≡◌, ◌<◌, ◌==◌, OnErr, OnOk, false};
+ghost use Rattle.std.specs.Prelude.{◌≡◌, ◌<◌, ◌==◌, OnErr, OnOk, true, false};
 ghost use Rattle.std.specs.List.{list_any};
 ghost use Rattle.std.specs.Str.{bytes_eq};
 ghost use Rattle.indexmap.specs.IndexSet.{contains};
@@ -69,7 +69,8 @@ pub fn define(
     name: &Bytes,
     node: &Node,
 ) -> Result<(), CheckError>
-    ensures { OnOk result (contains bytes_eq defined.old name.now ≡ false) }
+    ensures new { OnOk result (contains bytes_eq defined.old name.now ≡ false) }
+    ensures defined { OnOk result (contains bytes_eq defined.new name.now ≡ true) }
 {
     ask(defined.contains(name), Rule::DefinedTwice, node)?;
     defined.insert(name.copy(alloc)?)?;

@@ -1,8 +1,8 @@
 use Rattle.std.proofs.Common.{◌+◌, ◌*◌}
 use Rattle.clu_check_expr.proofs.equates.+right_sides.Given as goal
 
-abbrev pub decreases-enter : goal.decreases-enter
-decreases-enter l = 5 * l.depth + 1
+abbrev pub decreases-check_settled : goal.decreases-check_settled
+decreases-check_settled l = 5 * l.depth + 1
 
 abbrev pub decreases-check_right_side : goal.decreases-check_right_side
 decreases-check_right_side l = 5 * l.depth
