@@ -1,15 +1,16 @@
 //! Linking: from a library and a start to an image.
 
-ghost use Rattle.std.specs.Prelude.{◌≡◌, IfOk, OnOk};
+ghost use Rattle.std.specs.Prelude.{◌≡◌, IfErr, IfOk, OnOk};
 ghost use Rattle.clu_library.specs.Contents.{spec_of};
-ghost use Rattle.clu_link.specs.Starts.{AreUnset, MayStart};
+ghost use Rattle.clu_link.specs.Starts.{AreUnset, IsStartRefusal, MayStart};
 
 use crate::collecting::collect;
 use crate::errors::LinkError;
 use crate::filling::code_words;
+use crate::member::Member;
 use crate::places::{Places, lay_out};
 use crate::program::{Code, Program};
-use crate::reach::{RoutineName, reach};
+use crate::reach::{RoutineName, reach, start_of};
 use crate::tables::fixed_part;
 use crate::texts::{Texts, collect_texts};
 use clu_base::Bytes;
@@ -26,13 +27,37 @@ pub struct Linked {
     pub modules: Vec<Bytes>,
 }
 
-/// Links the program that starts with the procedure `start`.
+/// Links the program that starts with the procedure `start`. `NoModule` only if no specification is kept of it, and
+/// `BadStart` only if the kept one is no procedure without parameters, arguments and results.
 pub fn link(alloc: Global, lib: &Library, start: &Bytes) -> Result<Linked, LinkError>
     ensures started { OnOk result (MayStart (spec_of lib.now start.now)) }
+    ensures refused { IfErr result (λ e. IsStartRefusal e start.now (spec_of lib.now start.now)) }
     ensures entry { IfOk result (λ linked. linked.image.entry ≡ 0) }
     ensures unset { IfOk result (λ linked. AreUnset linked.image.area) }
 {
-    let reached = reach(alloc, lib, start)?;
+    let first = start_of(alloc, lib, start)?;
+    match link_from(alloc, lib, first) {
+        Ok(linked) => Ok(linked),
+        Err(error) => Err(after_start(error, lib, start)),
+    }
+}
+
+/// A refusal of a program whose start is right.
+fn after_start(error: LinkError, lib: &Library, start: &Bytes) -> LinkError
+    ensures { IsStartRefusal result start.now (spec_of lib.now start.now) }
+{
+    match error {
+        LinkError::NoModule(_) | LinkError::BadStart(_) => LinkError::NotYet,
+        other => other,
+    }
+}
+
+/// Links the program whose first instance is this one.
+fn link_from(alloc: Global, lib: &Library, first: Member) -> Result<Linked, LinkError>
+    ensures entry { IfOk result (λ linked. linked.image.entry ≡ 0) }
+    ensures unset { IfOk result (λ linked. AreUnset linked.image.area) }
+{
+    let reached = reach(alloc, lib, first)?;
     let modules = modules_of(alloc, &reached.routines)?;
     let program = collect(alloc, reached)?;
     let texts = collect_texts(alloc, &program)?;

@@ -3,7 +3,7 @@
 ghost use Rattle.std.specs.Prelude.{◌≡◌, ◌≤◌, IfErr, IfOk, IfSome, OnOk};
 ghost use Rattle.indexmap.specs.IndexSet.{index_set_len};
 ghost use Rattle.clu_library.specs.Contents.{spec_of};
-ghost use Rattle.clu_link.specs.Starts.{IsRefusal, MayStart, is_start, is_start_form};
+ghost use Rattle.clu_link.specs.Starts.{IsRefusal, IsStartRefusal, MayStart, is_start, is_start_form};
 
 use crate::bounds::{cluster_variables, fits, weight};
 use crate::denoting::{Use, uses_of};
@@ -96,12 +96,10 @@ struct Parts {
     types: Vec<TypeId>,
 }
 
-/// What the program from this start reaches. The refusals are all those of `LinkError`.
-pub fn reach<'a>(alloc: Global, lib: &'a Library, start: &Bytes) -> Result<Reached<'a>, LinkError>
-    ensures started { OnOk result (MayStart (spec_of lib.now start.now)) }
+/// What the program with this first instance reaches. The refusals are those of `LinkError` that come after the start.
+pub fn reach<'a>(alloc: Global, lib: &'a Library, first: Member) -> Result<Reached<'a>, LinkError>
     ensures few { IfOk result (λ reached. index_set_len reached.members ≤ 4096) }
 {
-    let first = start_of(alloc, lib, start)?;
     let mut work = Work::new(alloc, lib);
     match work.visit_all(alloc, first) {
         Ok(()) => work.finish(),
@@ -110,9 +108,10 @@ pub fn reach<'a>(alloc: Global, lib: &'a Library, start: &Bytes) -> Result<Reach
 }
 
 /// The instance with which a program starts.
-fn start_of(alloc: Global, lib: &Library, start: &Bytes) -> Result<Member, LinkError>
+pub fn start_of(alloc: Global, lib: &Library, start: &Bytes) -> Result<Member, LinkError>
     ensures started { OnOk result (MayStart (spec_of lib.now start.now)) }
     ensures refused { IfErr result (λ e. IsRefusal e start.now (spec_of lib.now start.now)) }
+    ensures among_all { IfErr result (λ e. IsStartRefusal e start.now (spec_of lib.now start.now)) }
 {
     let name = start.copy(alloc)?;
     match lib.spec(start) {
