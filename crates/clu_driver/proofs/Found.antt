@@ -1,23 +1,27 @@
 -- What holds of the content that was read holds of the file.
-use Rattle.std.proofs.Common.{◌≡◌, ◌≤◌, ◌<◌, ◌+◌, ◌∙◌, refl, ap, sym, inr, subst, arith, length, take, List, All, ℕ, IfErr, IfSome, Option, Some, None, Result, option_map, min}
+use Rattle.std.proofs.Common.{◌≡◌, ◌≤◌, ◌<◌, ◌+◌, ◌∙◌, ap, sym, inr, subst, arith, length, take, List, All, ℕ, IfErr, IfOk, Option, Some, None, Result, Ok, Err, min}
 use Rattle.std.proofs.lemmas.List.{length-take, take_all}
 use Rattle.clu_base.specs.Outside.{Files}
 use Rattle.clu_rules.specs.Rules.{IsClosedAt}
 use Rattle.clu_image.specs.Faults.{IsRefusal, fault_of}
 use Rattle.clu_base.specs.declared.errors.FormatError.TheVariants.{Bad, Memory}
 use Rattle.clu_base.specs.declared.errors.FormatError.{FormatError}
+use Rattle.clu_base.specs.declared.tokens.Place.{Place}
 use Rattle.clu_base.specs.declared.tokens.Token.{Token}
-use Rattle.clu_printer.specs.Printed.{IsPrinted}
+use Rattle.clu_parser.specs.Parsing as parser
+use Rattle.clu_parser.specs.declared.errors.ParseError.{ParseError}
+use Rattle.clu_parser.specs.declared.errors.ParseError.TheVariants as parse
 use Rattle.clu_tree.specs.Nodes.{modules}
 use Rattle.clu_tree.specs.declared.node.Node.{Node}
 use Rattle.clu_words.specs.Command.{Limits}
 use Rattle.rv_isa.specs.Image.{Contents}
-use Rattle.clu_driver.specs.Commands.{GoShows, IsPrintOf, NotPut, PutShows}
+use Rattle.clu_driver.specs.Commands.{GoShows, NotPut, PutShows}
 use Rattle.clu_driver.specs.Found.{IsFound}
 use Rattle.clu_driver.specs.Sources.{IsAccepted, IsParsed, IsRefusedBy, IsSource, NotCompiled, NotMade, NotParsed, NotSource}
 use Rattle.clu_driver.specs.World.{Streams, World, world_of}
 use Rattle.clu_driver.specs.declared.outcome.Outcome.{Outcome}
 use Rattle.clu_driver.specs.declared.outcome.Outcome.TheVariants as outcome
+use Rattle.clu_driver.specs.declared.sources.Parsed.{Parsed}
 
 pub fault_found : (files : Option Files) (name bytes : List ℕ) (at : ℕ) → IsFound files name (λ b. b ≡ bytes) → fault_of bytes ≡ Some at → IsFound files name (λ b. fault_of b ≡ Some at)
 fault_found None name bytes at found fault = tt
@@ -54,28 +58,6 @@ pub made_not : (how : Outcome) (name bytes : List ℕ) (tokens : List Token) (no
     → NotMade how name nodes → NotCompiled how name files faults faults'
 made_not how name bytes tokens nodes files faults faults' found source made = inr (nodes, found_with (λ b. IsParsed b nodes) files name bytes found (tokens, source), made)
 
--- the printer's text of what was read is that of the file
-pub found_print : (files : Option Files) (name bytes text : List ℕ) (tokens : List Token) (nodes : List Node) → IsFound files name (λ b. b ≡ bytes) → IsSource bytes tokens nodes → IsPrinted bytes tokens text
-    → IsFound files name (λ b. IsPrintOf b text)
-found_print files name bytes text tokens nodes found source printed = found_with (λ b. IsPrintOf b text) files name bytes found (tokens, nodes, source, printed)
-
--- what a store tells of a file's first bytes
-taken_of : (file : Option (List ℕ)) (most : ℕ) (first : List ℕ) → option_map (take most) file ≡ Some first → (bytes : List ℕ) × (file ≡ Some bytes) × (take most bytes ≡ first)
-taken_of None most first is = cc
-taken_of (Some bytes) most first is = (bytes, refl, cc)
-
-pub taken_found : (files : Option Files) (name : List ℕ) (most : ℕ) (first : List ℕ) → IfSome files (λ all. option_map (take most) (all name) ≡ Some first) → IsFound files name (λ b. take most b ≡ first)
-taken_found None name most first is = tt
-taken_found (Some all) name most first is = taken_of (all name) most first is
-
-none_of : (file : Option (List ℕ)) (most : ℕ) → option_map (take most) file ≡ None → file ≡ None
-none_of None most is = refl
-none_of (Some bytes) most is = cc
-
-pub none_taken : (files : Option Files) (name : List ℕ) (most : ℕ) → IfSome files (λ all. option_map (take most) (all name) ≡ None) → IfSome files (λ all. all name ≡ None)
-none_taken None name most is = tt
-none_taken (Some all) name most is = none_of (all name) most is
-
 -- the first bytes of a file, which are no more than a source may have, are all of it
 short_whole : (most : ℕ) (bytes : List ℕ) → length (take (most + 1) bytes) ≤ most → take (most + 1) bytes ≡ bytes
 short_whole most bytes short = take_all (most + 1) bytes (short_below most bytes short)
@@ -102,3 +84,24 @@ not_parsed (outcome.Refused n r) name first files faults faults' found why = (wh
 not_parsed (outcome.SourceTooLarge n) name first files faults faults' found why = (why.0, found_large files name first 1048576 found why.1)
 not_parsed outcome.Memory name first files faults faults' found why = tt
 not_parsed _ name first files faults faults' found why = elim why [ ]
+
+-- so the file of a source that was parsed has its bytes
+pub found_source : (result : Result Parsed Outcome) (first name : List ℕ) (files : Option Files) → IsFound files name (λ b. take 1048577 b ≡ first)
+    → IfOk result (λ source. source.bytes.items ≡ first) → IfOk result (λ source. IsSource source.bytes.items source.tokens.items source.tree)
+    → IfOk result (λ source. IsFound files name (λ b. b ≡ source.bytes.items))
+found_source (Err how) first name files found same parsed = tt
+found_source (Ok source) first name files found same parsed =
+    let P : List ℕ → Type 0 = λ f. IsFound files name (λ b. take 1048577 b ≡ f) in
+    found_whole files name source.bytes.items 1048576 (subst P (sym same) found) parsed.small
+
+pub refused_source : (result : Result Parsed Outcome) (first name : List ℕ) (files : Option Files) (faults faults' : ℕ) → IsFound files name (λ b. take 1048577 b ≡ first)
+    → IfErr result (λ how. NotSource how name first) → IfErr result (λ how. NotParsed how name files faults faults')
+refused_source (Ok source) first name files faults faults' found why = tt
+refused_source (Err how) first name files faults faults' found why = not_parsed how name first files faults faults' found why
+
+-- the parser's refusal of what was lexed and read is one of the source
+pub deep_fault : (bytes read : List ℕ) (tokens lexed : List Token) (error : ParseError) (place : Place) → error ≡ parse.TooDeep place → read ≡ bytes → lexed ≡ tokens
+    → parser.IsFault read lexed error → parser.IsFault bytes tokens (parse.TooDeep place)
+deep_fault bytes read tokens lexed error place is same_bytes same_tokens fault =
+    subst (λ t. parser.IsFault bytes t (parse.TooDeep place)) same_tokens
+    (subst (λ b. parser.IsFault b lexed (parse.TooDeep place)) same_bytes (subst (λ e. parser.IsFault read lexed e) is fault))

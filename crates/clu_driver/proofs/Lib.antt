@@ -3,4 +3,3 @@ pub mod FailureText
 pub mod Found
 pub mod Repeated
 pub mod Runs
-pub mod Unbuilt

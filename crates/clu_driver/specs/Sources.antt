@@ -1,14 +1,16 @@
 -- Which sources are accepted, and why one is not or is not compiled.
-use Rattle.std.specs.Prelude.{◌≡◌, ◌<◌, ◌≤◌, ◌⊎◌, ℕ, List, All, Contains, Option, None, codes, find, length, map}
+use Rattle.std.specs.Prelude.{◌≡◌, ◌<◌, ◌≤◌, ◌⊎◌, ℕ, List, All, Option, None, codes, find, length}
 use Rattle.std.specs.Str.{bytes_eq}
 use Rattle.clu_base.specs.Outside.{Files}
-use Rattle.clu_base.specs.Rules.{number_of}
 use Rattle.clu_base.specs.declared.rules.Refused.{Refused}
 use Rattle.clu_base.specs.declared.rules.Rule.TheVariants as rule
 use Rattle.clu_base.specs.declared.tokens.Token.{Token}
 use Rattle.clu_link.specs.Starts.{IsBadStart}
 use Rattle.clu_rules.specs.Modules.{AreOf}
+use Rattle.clu_rules.specs.Refusals.{IsOfTree}
 use Rattle.clu_rules.specs.Rules.{IsClosedAt}
+use Rattle.clu_rules.specs.declared.errors.CheckError.{CheckError}
+use Rattle.clu_rules.specs.declared.errors.CheckError.TheVariants as check
 use Rattle.clu_lexer.specs.Tokens.{Tokens}
 use Rattle.clu_lexer.specs.Tokens as lexer
 use Rattle.clu_lexer.specs.declared.tokens.LexError.TheVariants as lex
@@ -58,13 +60,17 @@ NotParsed (outcome.Refused n r) name files faults faults' = (n.now ≡ name) × 
 NotParsed (outcome.SourceTooLarge n) name files faults faults' = (n.now ≡ name) × IsFound files name (λ bytes. 1048576 < length bytes)
 NotParsed how name files faults faults' = NotRead how name files faults faults'
 
--- the refusal is by a rule on modules, at the place of a node of the tree. No definition says yet which rule it is
-abbrev pub IsRefusedIn : List Node → Refused → Type 0
-IsRefusedIn nodes r = (4 ≤ number_of r.rule) × Contains (map (λ n. n.place) nodes) r.place
+-- what a refusal by the check comes to
+abbrev pub IsRefusalOf : CheckError → Outcome → List ℕ → Type 0
+IsRefusalOf (check.Refused r) (outcome.Refused n told) name = (n.now ≡ name) × (told ≡ r)
+IsRefusalOf (check.Refused r) _ name = ⊥
+IsRefusalOf check.Memory how name = how ≡ outcome.Memory
+IsRefusalOf check.NotYet how name = how ≡ outcome.NotYet
 
--- why a tree is not accepted
+-- why a tree is not accepted: a rule on modules is refused at the place of one of its nodes, or memory was. No definition says
+-- yet which rule it is, nor when NotYet comes
 abbrev pub NotAccepted : Outcome → List ℕ → List Node → Type 0
-NotAccepted (outcome.Refused n r) name nodes = (n.now ≡ name) × IsRefusedIn nodes r
+NotAccepted (outcome.Refused n r) name nodes = (n.now ≡ name) × IsOfTree nodes (check.Refused r)
 NotAccepted outcome.Memory name nodes = Unit {0}
 NotAccepted outcome.NotYet name nodes = Unit {0}
 NotAccepted _ name nodes = ⊥

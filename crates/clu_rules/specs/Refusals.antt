@@ -1,5 +1,5 @@
 -- What a refusal of the checks speaks of.
-use Rattle.std.specs.Prelude.{◌≡◌, ◌≤◌, ◌&&◌, ◌==◌, ◌×◌, Bool, true, List}
+use Rattle.std.specs.Prelude.{◌≡◌, ◌≤◌, ◌&&◌, ◌==◌, Bool, true, List}
 use Rattle.std.specs.List.{list_any}
 use Rattle.clu_base.specs.Rules.{number_of}
 use Rattle.clu_base.specs.declared.tokens.Place.{Place}
