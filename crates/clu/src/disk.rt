@@ -1,6 +1,6 @@
 //! The files of the system as a store. It tells no contents, since others may change a disk.
 
-ghost use Rattle.std.specs.Prelude.{◌≡◌, ◌≤◌, ℕ, Option, None};
+ghost use Rattle.std.specs.Prelude.{◌≡◌, ◌≤◌, ℕ, Err, Option, None};
 ghost use Rattle.clu_base.specs.Outside.{Rose};
 
 use clu_base::{Store, StoreError};
@@ -11,9 +11,6 @@ use std::rt::Files;
 
 /// The most bytes of a file that is read whole; a larger one is a fault.
 const FILE_LIMIT: usize = 1 << 30;
-
-/// How often a call that a signal interrupted is made in all.
-const TRIES: u32 = 64;
 
 /// The files that the runtime reaches.
 #[derive(Drop)]
@@ -36,6 +33,24 @@ impl<'a, R: Files> Disk<'a, R> {
         self.faults = self.faults.saturating_add(1);
         StoreError::Failed
     }
+
+    // The first bytes of a file, `most` of them or all if there are fewer.
+    fn first(
+        &mut self,
+        alloc: Global,
+        name: &str,
+        most: usize,
+    ) -> Result<Option<Vec<u8>>, StoreError>
+        ensures counts { self.old.faults ≤ self.new.faults }
+        ensures failed { result ≡ Err StoreError.Failed → Rose self.old.faults self.new.faults }
+    {
+        match read_first(self.rt, alloc, name, most) {
+            Ok(bytes) => Ok(Some(bytes)),
+            Err(error) if error.kind() == ErrorKind::NotFound => Ok(None),
+            Err(error) if error.kind() == ErrorKind::OutOfMemory => Err(StoreError::Memory),
+            Err(_) => Err(self.failed()),
+        }
+    }
 }
 
 impl<R: Files> Store for Disk<'_, R> {
@@ -44,13 +59,18 @@ impl<R: Files> Store for Disk<'_, R> {
     ghost faults = { λ d. d.faults };
 
     fn get(&mut self, alloc: Global, name: &str) -> Result<Option<Vec<u8>>, StoreError> {
-        match self.first(alloc, name, FILE_LIMIT + 1)? {
-            Some(bytes) if bytes.len() > FILE_LIMIT => Err(self.failed()),
-            found => Ok(found),
+        match self.first(alloc, name, FILE_LIMIT + 1) {
+            Ok(Some(bytes)) if bytes.len() > FILE_LIMIT => Err(self.failed()),
+            read => read,
         }
     }
 
-    fn get_first(&mut self, alloc: Global, name: &str, most: usize) -> Result<Option<Vec<u8>>, StoreError> {
+    fn get_first(
+        &mut self,
+        alloc: Global,
+        name: &str,
+        most: usize,
+    ) -> Result<Option<Vec<u8>>, StoreError> {
         self.first(alloc, name, most)
     }
 
@@ -63,13 +83,12 @@ impl<R: Files> Store for Disk<'_, R> {
     }
 }
 
-fn content<R: Files>(rt: &R, alloc: Global, name: &str) -> io::Result<Vec<u8>> {
+// Each call of the system that a signal interrupts is tried again, a bounded number of times, by the calls of std that are
+// used here.
+fn read_first<R: Files>(rt: &R, alloc: Global, name: &str, most: usize) -> io::Result<Vec<u8>> {
     let mut bytes = Vec::new(alloc);
-    let mut file = File::open(rt, name)?.take(FILE_LIMIT + 1);
+    let mut file = File::open(rt, name)?.take(most as u64);
     file.read_to_end(&mut bytes)?;
-    if bytes.len() as u64 > FILE_LIMIT {
-        return Err(io::Error::from(ErrorKind::FileTooLarge));
-    }
     Ok(bytes)
 }
 

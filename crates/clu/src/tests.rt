@@ -32,6 +32,8 @@ fn disk_keeps_files_and_counts_faults(rt: HostRuntime) -> Result<(), Fail> {
     assert_eq!(rt; disk.put(alloc, name, b"second"), Ok(()));
     let found = disk.get(alloc, name).map_err(|_| "get failed")?;
     assert_eq!(rt; found.ok_or("no file")?.as_slice(), b"second".as_slice());
+    let first = disk.get_first(alloc, name, 3).map_err(|_| "get failed")?;
+    assert_eq!(rt; first.ok_or("no file")?.as_slice(), b"sec".as_slice());
     fs::remove_file(&rt, name)?;
     let absent = disk.get(alloc, name).map_err(|_| "get failed")?;
     assert!(rt; absent.is_none());

@@ -1,12 +1,13 @@
 -- What a status alone says, by the outcome that has it.
 use Rattle.std.proofs.Common.{◌≡◌, ◌≢◌, ◌⊎◌, ◌∙◌, ℕ, List, [], Option, Some, None, inl, inr, refl, sym, ap, subst, arith}
 use Rattle.clu_base.proofs.Written.{appended-nil}
-use Rattle.clu_base.specs.Outside.{appended}
+use Rattle.clu_base.specs.Outside.{Files, appended}
 use Rattle.clu_words.specs.Command.{Meant}
 use Rattle.clu_words.specs.Command as command
 use Rattle.clu_driver.specs.Commands.{CluShows, CommandShows, NotPut, PutShows}
 use Rattle.clu_driver.specs.Outcome.{IsTold, line_of, status_of, text_of}
 use Rattle.clu_driver.specs.Shows.{Reported, RunShows}
+use Rattle.clu_driver.specs.Sources.{NotCompiled}
 use Rattle.clu_driver.specs.World.{World}
 use Rattle.clu_driver.specs.declared.outcome.Outcome.{Outcome}
 use Rattle.clu_driver.specs.declared.outcome.Outcome.TheVariants as outcome
@@ -18,10 +19,15 @@ usage_of outcome.Done is = cc
 usage_of (outcome.Failure text) is = cc
 usage_of _ is = cc
 
+-- no source comes to Usage
+not_compiled : {name : List ℕ} {files : Option Files} {faults faults' : ℕ} → NotCompiled outcome.Usage name files faults faults' → ⊥
+not_compiled (inl unread) = unread
+not_compiled (inr unmade) = elim unmade.2 [ inl refused ↦ refused | inr unbuilt ↦ unbuilt.1.2 ]
+
 -- only words that are no command come to Usage
 usage_shown : (meant : Option Meant) (before after : World) → CommandShows meant outcome.Usage before after → meant ≡ None
 usage_shown None before after shown = refl
-usage_shown (Some (command.go file image limits peep trace)) before after (inl refused) = elim refused.0 [ ]
+usage_shown (Some (command.go file image limits peep trace)) before after (inl refused) = elim (not_compiled refused.0) [ ]
 usage_shown (Some (command.go file image limits peep trace)) before after (inr put) = elim put.1.3 [ inl notput ↦ elim notput.0 [ ] | inr ran ↦ elim ran.1.ends [ ] ]
 usage_shown (Some (command.exec image limits)) before after (inl refused) = elim refused.0 [ ]
 usage_shown (Some (command.exec image limits)) before after (inr ran) = elim ran.1.2.ends [ ]
@@ -33,7 +39,7 @@ usage_shown (Some (command.link a b d)) before after shown = cc
 usage_shown (Some (command.run a b l)) before after shown = cc
 usage_shown (Some (command.list a)) before after shown = cc
 usage_shown (Some (command.asm a b)) before after shown = cc
-usage_shown (Some (command.print a)) before after shown = elim shown.1.1 [ inl refused ↦ elim refused.0 [ ] | inr written ↦ elim written [ ] ]
+usage_shown (Some (command.print a)) before after shown = elim shown.1.1 [ inl refused ↦ elim refused.0 [ ] | inr written ↦ elim written.2 [ ] ]
 usage_shown (Some (command.xref a)) before after shown = cc
 
 -- the status is the outcome's, or the line could not be written

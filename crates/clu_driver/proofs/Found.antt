@@ -1,21 +1,27 @@
 -- What holds of the content that was read holds of the file.
-use Rattle.std.proofs.Common.{◌≡◌, ◌≤◌, ◌<◌, ◌⊎◌, ◌∙◌, ap, sym, inl, inr, subst, length, List, All, ℕ, IfErr, Option, Some, None, Result}
+use Rattle.std.proofs.Common.{◌≡◌, ◌≤◌, ◌<◌, ◌+◌, ◌∙◌, ap, sym, inr, subst, arith, length, take, List, All, ℕ, IfErr, IfOk, Option, Some, None, Result, Ok, Err, min}
+use Rattle.std.proofs.lemmas.List.{length-take, take_all}
 use Rattle.clu_base.specs.Outside.{Files}
-use Rattle.clu_base.specs.Rules.{number_of}
 use Rattle.clu_rules.specs.Rules.{IsClosedAt}
 use Rattle.clu_image.specs.Faults.{IsRefusal, fault_of}
 use Rattle.clu_base.specs.declared.errors.FormatError.TheVariants.{Bad, Memory}
 use Rattle.clu_base.specs.declared.errors.FormatError.{FormatError}
+use Rattle.clu_base.specs.declared.tokens.Place.{Place}
+use Rattle.clu_base.specs.declared.tokens.Token.{Token}
+use Rattle.clu_parser.specs.Parsing as parser
+use Rattle.clu_parser.specs.declared.errors.ParseError.{ParseError}
+use Rattle.clu_parser.specs.declared.errors.ParseError.TheVariants as parse
 use Rattle.clu_tree.specs.Nodes.{modules}
 use Rattle.clu_tree.specs.declared.node.Node.{Node}
 use Rattle.clu_words.specs.Command.{Limits}
 use Rattle.rv_isa.specs.Image.{Contents}
 use Rattle.clu_driver.specs.Commands.{GoShows, NotPut, PutShows}
 use Rattle.clu_driver.specs.Found.{IsFound}
-use Rattle.clu_driver.specs.Sources.{IsAccepted, IsParsed, IsRefusedBy, NotAccepted, NotBuilt, NotCompiled, NotParsed, NotSource}
+use Rattle.clu_driver.specs.Sources.{IsAccepted, IsParsed, IsRefusedBy, IsSource, NotCompiled, NotMade, NotParsed, NotSource}
 use Rattle.clu_driver.specs.World.{Streams, World, world_of}
 use Rattle.clu_driver.specs.declared.outcome.Outcome.{Outcome}
 use Rattle.clu_driver.specs.declared.outcome.Outcome.TheVariants as outcome
+use Rattle.clu_driver.specs.declared.sources.Parsed.{Parsed}
 
 pub fault_found : (files : Option Files) (name bytes : List ℕ) (at : ℕ) → IsFound files name (λ b. b ≡ bytes) → fault_of bytes ≡ Some at → IsFound files name (λ b. fault_of b ≡ Some at)
 fault_found None name bytes at found fault = tt
@@ -44,50 +50,58 @@ found_with P None name bytes found p = tt
 found_with P (Some all) name bytes found p = (found.0, found.1, subst P (sym found.2) p)
 
 -- a file that was parsed to this tree, which the check accepted, is accepted
-pub found_accepted : (files : Option Files) (name bytes : List ℕ) (nodes : List Node) → IsFound files name (λ b. b ≡ bytes) → IsParsed bytes nodes → All (IsClosedAt nodes) (modules nodes) → IsFound files name IsAccepted
-found_accepted files name bytes nodes found parsed closed = found_with IsAccepted files name bytes found (nodes, parsed, closed)
+pub found_accepted : (files : Option Files) (name bytes : List ℕ) (tokens : List Token) (nodes : List Node) → IsFound files name (λ b. b ≡ bytes) → IsSource bytes tokens nodes → All (IsClosedAt nodes) (modules nodes) → IsFound files name IsAccepted
+found_accepted files name bytes tokens nodes found source closed = found_with IsAccepted files name bytes found (nodes, (tokens, source), closed)
 
-pub not_parsed : (how : Outcome) (name bytes : List ℕ) (files : Option Files) (faults faults' : ℕ) → IsFound files name (λ b. b ≡ bytes) → NotSource how name bytes → NotParsed how name files faults faults'
-not_parsed (outcome.Refused n r) name bytes files faults faults' found why = (why.0, found_with (λ b. IsRefusedBy b r) files name bytes found why.1)
-not_parsed (outcome.SourceTooLarge n) name bytes files faults faults' found why = (why.0, found_with (λ b. 1048576 < length b) files name bytes found why.1)
-not_parsed outcome.Memory name bytes files faults faults' found why = tt
-not_parsed _ name bytes files faults faults' found why = elim why [ ]
+-- a file that was parsed to this tree, which is not compiled, is not compiled
+pub made_not : (how : Outcome) (name bytes : List ℕ) (tokens : List Token) (nodes : List Node) (files : Option Files) (faults faults' : ℕ) → IsFound files name (λ b. b ≡ bytes) → IsSource bytes tokens nodes
+    → NotMade how name nodes → NotCompiled how name files faults faults'
+made_not how name bytes tokens nodes files faults faults' found source made = inr (nodes, found_with (λ b. IsParsed b nodes) files name bytes found (tokens, source), made)
 
--- what a file shows, it shows of a wider property too
-found_as : (P Q : List ℕ → Type 0) (files : Option Files) (name : List ℕ) → ((bytes : List ℕ) → P bytes → Q bytes) → IsFound files name P → IsFound files name Q
-found_as P Q None name f found = tt
-found_as P Q (Some all) name f found = (found.0, found.1, f found.0 found.2)
+-- the first bytes of a file, which are no more than a source may have, are all of it
+short_whole : (most : ℕ) (bytes : List ℕ) → length (take (most + 1) bytes) ≤ most → take (most + 1) bytes ≡ bytes
+short_whole most bytes short = take_all (most + 1) bytes (short_below most bytes short)
+  where
+    short_below : (most : ℕ) (bytes : List ℕ) → length (take (most + 1) bytes) ≤ most → length bytes ≤ most + 1
+    short_below most bytes short = let cut = length-take (most + 1) bytes in omega (arith, cut, short)
 
-pub parsed_not : (how : Outcome) (name : List ℕ) (files : Option Files) (faults faults' : ℕ) → NotParsed how name files faults faults' → NotCompiled how name files faults faults'
-parsed_not (outcome.Refused n r) name files faults faults' why =
-    (why.0, found_as (λ b. IsRefusedBy b r) (λ b. IsRefusedBy b r ⊎ (4 ≤ number_of r.rule)) files name (λ b is. inl is) why.1)
-parsed_not (outcome.NoModule n) name files faults faults' why = elim why [ ]
-parsed_not (outcome.BadStart n) name files faults faults' why = elim why [ ]
-parsed_not outcome.TooManyInstances name files faults faults' why = elim why [ ]
-parsed_not outcome.ProgramTooLarge name files faults faults' why = elim why [ ]
-parsed_not outcome.LibraryFull name files faults faults' why = elim why [ ]
-parsed_not outcome.NotYet name files faults faults' why = elim why [ ]
-parsed_not _ name files faults faults' why = why
+pub found_whole : (files : Option Files) (name first : List ℕ) (most : ℕ) → IsFound files name (λ b. take (most + 1) b ≡ first) → length first ≤ most → IsFound files name (λ b. b ≡ first)
+found_whole None name first most found short = tt
+found_whole (Some all) name first most found short =
+    let P : List ℕ → Type 0 = λ f. length f ≤ most in
+    (found.0, found.1, sym (short_whole most found.0 (subst P (sym found.2) short)) ∙ found.2)
 
-accepted_not : (how : Outcome) (name bytes : List ℕ) (files : Option Files) (faults faults' : ℕ) → IsFound files name (λ b. b ≡ bytes) → NotAccepted how name → NotCompiled how name files faults faults'
-accepted_not (outcome.Refused n r) name bytes files faults faults' found why =
-    (why.0, found_as (λ b. b ≡ bytes) (λ b. IsRefusedBy b r ⊎ (4 ≤ number_of r.rule)) files name (λ b is. inr why.1) found)
-accepted_not outcome.Memory name bytes files faults faults' found why = tt
-accepted_not outcome.NotYet name bytes files faults faults' found why = tt
-accepted_not _ name bytes files faults faults' found why = elim why [ ]
+-- if they are more, the file has more
+pub found_large : (files : Option Files) (name first : List ℕ) (most : ℕ) → IsFound files name (λ b. take (most + 1) b ≡ first) → most < length first → IsFound files name (λ b. most < length b)
+found_large None name first most found large = tt
+found_large (Some all) name first most found large = (found.0, found.1, longer most found.0 first found.2 large)
+  where
+    longer : (most : ℕ) (bytes first : List ℕ) → take (most + 1) bytes ≡ first → most < length first → most < length bytes
+    longer most bytes first is large = let cut = length-take (most + 1) bytes in let same = ap length is in omega (arith, cut, same, large)
 
--- an accepted file that is not built is not compiled
-built_not : (how : Outcome) (name : List ℕ) (files : Option Files) (faults faults' : ℕ) → IsFound files name IsAccepted → NotBuilt how → NotCompiled how name files faults faults'
-built_not (outcome.NoModule n) name files faults faults' accepted why = (why, accepted)
-built_not (outcome.BadStart n) name files faults faults' accepted why = (why, accepted)
-built_not outcome.TooManyInstances name files faults faults' accepted why = accepted
-built_not outcome.ProgramTooLarge name files faults faults' accepted why = accepted
-built_not outcome.LibraryFull name files faults faults' accepted why = accepted
-built_not outcome.Memory name files faults faults' accepted why = tt
-built_not outcome.NotYet name files faults faults' accepted why = tt
-built_not _ name files faults faults' accepted why = elim why [ ]
+pub not_parsed : (how : Outcome) (name first : List ℕ) (files : Option Files) (faults faults' : ℕ) → IsFound files name (λ b. take 1048577 b ≡ first) → NotSource how name first → NotParsed how name files faults faults'
+not_parsed (outcome.Refused n r) name first files faults faults' found why = (why.0, found_with (λ b. IsRefusedBy b r) files name first (found_whole files name first 1048576 found why.1.0) why.1)
+not_parsed (outcome.SourceTooLarge n) name first files faults faults' found why = (why.0, found_large files name first 1048576 found why.1)
+not_parsed outcome.Memory name first files faults faults' found why = tt
+not_parsed _ name first files faults faults' found why = elim why [ ]
 
-pub refused_not : (how : Outcome) (name bytes : List ℕ) (nodes : List Node) (files : Option Files) (faults faults' : ℕ) → IsFound files name (λ b. b ≡ bytes) → IsParsed bytes nodes
-    → NotAccepted how name ⊎ (NotBuilt how × All (IsClosedAt nodes) (modules nodes)) → NotCompiled how name files faults faults'
-refused_not how name bytes nodes files faults faults' found parsed (inl refused) = accepted_not how name bytes files faults faults' found refused
-refused_not how name bytes nodes files faults faults' found parsed (inr unbuilt) = built_not how name files faults faults' (found_accepted files name bytes nodes found parsed unbuilt.1) unbuilt.0
+-- so the file of a source that was parsed has its bytes
+pub found_source : (result : Result Parsed Outcome) (first name : List ℕ) (files : Option Files) → IsFound files name (λ b. take 1048577 b ≡ first)
+    → IfOk result (λ source. source.bytes.items ≡ first) → IfOk result (λ source. IsSource source.bytes.items source.tokens.items source.tree)
+    → IfOk result (λ source. IsFound files name (λ b. b ≡ source.bytes.items))
+found_source (Err how) first name files found same parsed = tt
+found_source (Ok source) first name files found same parsed =
+    let P : List ℕ → Type 0 = λ f. IsFound files name (λ b. take 1048577 b ≡ f) in
+    found_whole files name source.bytes.items 1048576 (subst P (sym same) found) parsed.small
+
+pub refused_source : (result : Result Parsed Outcome) (first name : List ℕ) (files : Option Files) (faults faults' : ℕ) → IsFound files name (λ b. take 1048577 b ≡ first)
+    → IfErr result (λ how. NotSource how name first) → IfErr result (λ how. NotParsed how name files faults faults')
+refused_source (Ok source) first name files faults faults' found why = tt
+refused_source (Err how) first name files faults faults' found why = not_parsed how name first files faults faults' found why
+
+-- the parser's refusal of what was lexed and read is one of the source
+pub deep_fault : (bytes read : List ℕ) (tokens lexed : List Token) (error : ParseError) (place : Place) → error ≡ parse.TooDeep place → read ≡ bytes → lexed ≡ tokens
+    → parser.IsFault read lexed error → parser.IsFault bytes tokens (parse.TooDeep place)
+deep_fault bytes read tokens lexed error place is same_bytes same_tokens fault =
+    subst (λ t. parser.IsFault bytes t (parse.TooDeep place)) same_tokens
+    (subst (λ b. parser.IsFault b lexed (parse.TooDeep place)) same_bytes (subst (λ e. parser.IsFault read lexed e) is fault))

@@ -1,15 +1,18 @@
 -- What each command shows of its outcome.
 use Rattle.std.specs.Prelude.{◌≡◌, ◌≤◌, ◌⊎◌, ℕ, List, Option, Some, None, IfSome, option_map}
 use Rattle.clu_base.specs.Outside.{Files, GrewWithin, IsTorn, Rose, appended, with_file}
+use Rattle.clu_base.specs.declared.tokens.Token.{Token}
 use Rattle.clu_image.specs.Faults.{fault_of}
 use Rattle.clu_image.specs.ImageFile.{IsFileOf, image_bytes}
+use Rattle.clu_printer.specs.Printed.{IsPrinted}
+use Rattle.clu_tree.specs.declared.node.Node.{Node}
 use Rattle.clu_words.specs.Command.{Limits, Meant}
 use Rattle.clu_words.specs.Command as command
 use Rattle.rv_isa.specs.Image.{Contents}
 use Rattle.clu_driver.specs.Found.{IsFound, NotRead}
 use Rattle.clu_driver.specs.Generated.{generated_text}
 use Rattle.clu_driver.specs.Shows.{RunShows}
-use Rattle.clu_driver.specs.Sources.{IsAccepted, NotCompiled, NotParsed}
+use Rattle.clu_driver.specs.Sources.{IsAccepted, IsSource, NotCompiled, NotParsed}
 use Rattle.clu_driver.specs.World.{IsUnrun, IsUntouched, World, world_of}
 use Rattle.clu_driver.specs.declared.outcome.Outcome.{Outcome}
 use Rattle.clu_driver.specs.declared.outcome.Outcome.TheVariants as outcome
@@ -29,6 +32,10 @@ NotPut _ name bytes files files' faults faults' = ⊥
 abbrev pub IsPut : List ℕ → List ℕ → Option Files → Option Files → Type 0
 IsPut name bytes files files' = files' ≡ option_map (λ all. with_file all name bytes) files
 
+-- a file of this image was put, from which the same image is loaded
+abbrev pub IsImagePut : List ℕ → Contents → Option Files → Option Files → Type 0
+IsImagePut name image files files' = IsFileOf (image_bytes image) image × IsPut name (image_bytes image) files files'
+
 -- exec: the image was refused and nothing changed, or it was run and no file changed
 abbrev pub ExecShows : Outcome → List ℕ → Limits → World → World → Type 0
 ExecShows how name limits before after =
@@ -40,7 +47,7 @@ ExecShows how name limits before after =
 abbrev pub PutShows : Outcome → List ℕ → Contents → Limits → World → World → Type 0
 PutShows how name image limits before after =
     (NotPut how name (image_bytes image) before.files after.files before.store_faults after.store_faults × IsUnrun before.streams after.streams)
-    ⊎ (IsPut name (image_bytes image) before.files after.files × RunShows how image limits before.streams after.streams)
+    ⊎ (IsImagePut name image before.files after.files × RunShows how image limits before.streams after.streams)
 
 -- go: the source was refused and nothing changed, or it was accepted and an image was put and run
 abbrev pub GoShows : Outcome → List ℕ → List ℕ → Limits → World → World → Type 0
@@ -55,17 +62,26 @@ GenShows outcome.Done n written written' faults faults' = written' ≡ appended 
 GenShows outcome.WriteFault n written written' faults faults' = Rose faults faults' × GrewWithin written written' (generated_text n)
 GenShows _ n written written' faults faults' = ⊥
 
--- a text was written, or some first bytes of it
-abbrev pub TextShows : Outcome → Option (List ℕ) → ℕ → Option (List ℕ) → ℕ → Type 0
-TextShows outcome.Done written faults written' faults' = (text : List ℕ) × (written' ≡ appended written text)
-TextShows outcome.WriteFault written faults written' faults' = Rose faults faults' × ((text : List ℕ) × GrewWithin written written' text)
-TextShows _ written faults written' faults' = ⊥
+-- the text is what the printer makes of a source of these bytes
+abbrev pub IsPrintOf : List ℕ → List ℕ → Type 0
+IsPrintOf bytes text = (tokens : List Token) × (nodes : List Node) × IsSource bytes tokens nodes × IsPrinted bytes tokens text
 
--- print: the source was refused and nothing changed, or a text was written and no file changed
+-- a text was written, or some first bytes of it
+abbrev pub TextShows : Outcome → List ℕ → Option (List ℕ) → ℕ → Option (List ℕ) → ℕ → Type 0
+TextShows outcome.Done text written faults written' faults' = written' ≡ appended written text
+TextShows outcome.WriteFault text written faults written' faults' = Rose faults faults' × GrewWithin written written' text
+TextShows _ text written faults written' faults' = ⊥
+
+-- the printed text of the file was written, or some first bytes of it
+abbrev pub PrintShows : Outcome → List ℕ → Option Files → Option (List ℕ) → ℕ → Option (List ℕ) → ℕ → Type 0
+PrintShows how file files written faults written' faults' =
+    (text : List ℕ) × IsFound files file (λ bytes. IsPrintOf bytes text) × TextShows how text written faults written' faults'
+
+-- print: no file changed, and the source was refused and nothing written, or its text was written
 abbrev pub PrintedShows : Outcome → List ℕ → Option Files → ℕ → Option (List ℕ) → ℕ → Option Files → ℕ → Option (List ℕ) → ℕ → Type 0
 PrintedShows how file files store_faults written faults files' store_faults' written' faults' =
     (files' ≡ files)
-    × ((NotParsed how file files store_faults store_faults' × (written' ≡ written)) ⊎ TextShows how written faults written' faults')
+    × ((NotParsed how file files store_faults store_faults' × (written' ≡ written)) ⊎ PrintShows how file files written faults written' faults')
 
 -- what the command that the words are shows of the outcome
 abbrev pub CommandShows : Option Meant → Outcome → World → World → Type 0

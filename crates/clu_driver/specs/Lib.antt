@@ -4,5 +4,4 @@ pub mod Generated
 pub mod Outcome
 pub mod Shows
 pub mod Sources
-pub mod Unbuilt
 pub mod World

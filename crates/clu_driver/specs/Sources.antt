@@ -1,11 +1,16 @@
 -- Which sources are accepted, and why one is not or is not compiled.
-use Rattle.std.specs.Prelude.{◌≡◌, ◌<◌, ◌≤◌, ◌⊎◌, ℕ, List, All, Option, codes, length}
+use Rattle.std.specs.Prelude.{◌≡◌, ◌<◌, ◌≤◌, ◌⊎◌, ℕ, List, All, Option, None, codes, find, length}
+use Rattle.std.specs.Str.{bytes_eq}
 use Rattle.clu_base.specs.Outside.{Files}
-use Rattle.clu_base.specs.Rules.{number_of}
 use Rattle.clu_base.specs.declared.rules.Refused.{Refused}
 use Rattle.clu_base.specs.declared.rules.Rule.TheVariants as rule
 use Rattle.clu_base.specs.declared.tokens.Token.{Token}
+use Rattle.clu_link.specs.Starts.{IsBadStart}
+use Rattle.clu_rules.specs.Modules.{AreOf}
+use Rattle.clu_rules.specs.Refusals.{IsOfTree}
 use Rattle.clu_rules.specs.Rules.{IsClosedAt}
+use Rattle.clu_rules.specs.declared.errors.CheckError.{CheckError}
+use Rattle.clu_rules.specs.declared.errors.CheckError.TheVariants as check
 use Rattle.clu_lexer.specs.Tokens.{Tokens}
 use Rattle.clu_lexer.specs.Tokens as lexer
 use Rattle.clu_lexer.specs.declared.tokens.LexError.TheVariants as lex
@@ -13,26 +18,34 @@ use Rattle.clu_parser.specs.Parsing as parser
 use Rattle.clu_parser.specs.declared.errors.ParseError.TheVariants as parse
 use Rattle.clu_tree.specs.Nodes.{modules}
 use Rattle.clu_tree.specs.declared.node.Node.{Node}
+use Rattle.clu_types.specs.declared.spec.Spec.{Spec}
 use Rattle.clu_driver.specs.Found.{IsFound, NotRead}
 use Rattle.clu_driver.specs.declared.outcome.Outcome.{Outcome}
 use Rattle.clu_driver.specs.declared.outcome.Outcome.TheVariants as outcome
 
--- the bytes are a file of the grammar, and these nodes are its tree
+-- the bytes are no more than a source may have and a file of the grammar: these are its tokens, and these nodes its tree
+pub record IsSource (bytes : List ℕ) (tokens : List Token) (nodes : List Node) : Type 0 where
+  pub small : length bytes ≤ 1048576
+  pub tokens_are : Tokens bytes tokens
+  pub tree_is : parser.IsTreeOf bytes tokens nodes
+
+-- the same, whatever its tokens are
 abbrev pub IsParsed : List ℕ → List Node → Type 0
-IsParsed bytes nodes = (tokens : List Token) × Tokens bytes tokens × parser.IsTreeOf bytes tokens nodes
+IsParsed bytes nodes = (tokens : List Token) × IsSource bytes tokens nodes
 
 -- the bytes are a file of the grammar, and at the routine or cluster of none of its modules V4 or V34 is violated
 abbrev pub IsAccepted : List ℕ → Type 0
 IsAccepted bytes = (nodes : List Node) × IsParsed bytes nodes × All (IsClosedAt nodes) (modules nodes)
 
--- the rule at this place is the first that the bytes break: no token begins there, the tokens begin
--- no file of the grammar with the one there, or the source is too deep there
+-- the bytes are no more than a source may have, and the rule at this place is the first that they break: no token begins
+-- there, the tokens begin no file of the grammar with the one there, or the source is too deep there
 abbrev pub IsRefusedBy : List ℕ → Refused → Type 0
 IsRefusedBy bytes r =
-    ((r.rule ≡ rule.Token) × lexer.IsFault bytes (lex.Token r.place))
+    (length bytes ≤ 1048576)
+    × (((r.rule ≡ rule.Token) × lexer.IsFault bytes (lex.Token r.place))
     ⊎ ((tokens : List Token) × Tokens bytes tokens
     × (((r.rule ≡ rule.Syntax) × parser.IsFault bytes tokens (parse.Syntax r.place))
-    ⊎ ((r.rule ≡ rule.TooDeep) × parser.IsFault bytes tokens (parse.TooDeep r.place))))
+    ⊎ ((r.rule ≡ rule.TooDeep) × parser.IsFault bytes tokens (parse.TooDeep r.place)))))
 
 -- why bytes are no source that is parsed
 abbrev pub NotSource : Outcome → List ℕ → List ℕ → Type 0
@@ -47,32 +60,47 @@ NotParsed (outcome.Refused n r) name files faults faults' = (n.now ≡ name) × 
 NotParsed (outcome.SourceTooLarge n) name files faults faults' = (n.now ≡ name) × IsFound files name (λ bytes. 1048576 < length bytes)
 NotParsed how name files faults faults' = NotRead how name files faults faults'
 
--- a tree of which the check gave a refusal. That it is one of the rules on modules is all that is known of it: no definition
--- ties it to the bytes yet
-abbrev pub NotAccepted : Outcome → List ℕ → Type 0
-NotAccepted (outcome.Refused n r) name = (n.now ≡ name) × (4 ≤ number_of r.rule)
-NotAccepted outcome.Memory name = Unit {0}
-NotAccepted outcome.NotYet name = Unit {0}
-NotAccepted _ name = ⊥
+-- what a refusal by the check comes to
+abbrev pub IsRefusalOf : CheckError → Outcome → List ℕ → Type 0
+IsRefusalOf (check.Refused r) (outcome.Refused n told) name = (n.now ≡ name) × (told ≡ r)
+IsRefusalOf (check.Refused r) _ name = ⊥
+IsRefusalOf check.Memory how name = how ≡ outcome.Memory
+IsRefusalOf check.NotYet how name = how ≡ outcome.NotYet
 
--- why an accepted file is not built
-abbrev pub NotBuilt : Outcome → Type 0
-NotBuilt (outcome.NoModule n) = n.now ≡ codes "start_up"
-NotBuilt (outcome.BadStart n) = n.now ≡ codes "start_up"
-NotBuilt outcome.TooManyInstances = Unit {0}
-NotBuilt outcome.ProgramTooLarge = Unit {0}
-NotBuilt outcome.LibraryFull = Unit {0}
-NotBuilt outcome.Memory = Unit {0}
-NotBuilt outcome.NotYet = Unit {0}
-NotBuilt _ = ⊥
+-- why a tree is not accepted: a rule on modules is refused at the place of one of its nodes, or memory was. No definition says
+-- yet which rule it is, nor when NotYet comes
+abbrev pub NotAccepted : Outcome → List ℕ → List Node → Type 0
+NotAccepted (outcome.Refused n r) name nodes = (n.now ≡ name) × IsOfTree nodes (check.Refused r)
+NotAccepted outcome.Memory name nodes = Unit {0}
+NotAccepted outcome.NotYet name nodes = Unit {0}
+NotAccepted _ name nodes = ⊥
 
--- why a source file is not compiled: it was not parsed, it was refused by a rule on modules, or it was accepted and not built
+-- of these specifications, the first of the module with which a program starts
+abbrev pub start_in : List Spec → Option Spec
+start_in specs = find (λ s. bytes_eq s.name (codes "start_up")) specs
+
+-- why modules with these specifications are not built: none of them is the start or that is one with which no program may
+-- start, the program or the library is too large, or memory was refused. No definition says yet when NotYet comes
+abbrev pub NotBuilt : Outcome → List Spec → Type 0
+NotBuilt (outcome.NoModule n) specs = (n.now ≡ codes "start_up") × (start_in specs ≡ None)
+NotBuilt (outcome.BadStart n) specs = (n.now ≡ codes "start_up") × IsBadStart (start_in specs)
+NotBuilt outcome.TooManyInstances specs = Unit {0}
+NotBuilt outcome.ProgramTooLarge specs = Unit {0}
+NotBuilt outcome.LibraryFull specs = Unit {0}
+NotBuilt outcome.Memory specs = Unit {0}
+NotBuilt outcome.NotYet specs = Unit {0}
+NotBuilt _ specs = ⊥
+
+-- the tree is accepted, and its modules, with these specifications in the order of the text, are not built
+abbrev pub IsUnbuilt : Outcome → List Node → Type 0
+IsUnbuilt how nodes = All (IsClosedAt nodes) (modules nodes) × ((specs : List Spec) × AreOf nodes (modules nodes) specs × NotBuilt how specs)
+
+-- why a tree is not compiled
+abbrev pub NotMade : Outcome → List ℕ → List Node → Type 0
+NotMade how name nodes = NotAccepted how name nodes ⊎ IsUnbuilt how nodes
+
+-- why a source file is not compiled: it was not parsed, or it was, and its tree is not compiled
 abbrev pub NotCompiled : Outcome → List ℕ → Option Files → ℕ → ℕ → Type 0
-NotCompiled (outcome.Refused n r) name files faults faults' = (n.now ≡ name) × IsFound files name (λ bytes. IsRefusedBy bytes r ⊎ (4 ≤ number_of r.rule))
-NotCompiled (outcome.NoModule n) name files faults faults' = NotBuilt (outcome.NoModule n) × IsFound files name IsAccepted
-NotCompiled (outcome.BadStart n) name files faults faults' = NotBuilt (outcome.BadStart n) × IsFound files name IsAccepted
-NotCompiled outcome.TooManyInstances name files faults faults' = IsFound files name IsAccepted
-NotCompiled outcome.ProgramTooLarge name files faults faults' = IsFound files name IsAccepted
-NotCompiled outcome.LibraryFull name files faults faults' = IsFound files name IsAccepted
-NotCompiled outcome.NotYet name files faults faults' = Unit {0}
-NotCompiled how name files faults faults' = NotParsed how name files faults faults'
+NotCompiled how name files faults faults' =
+    NotParsed how name files faults faults'
+    ⊎ ((nodes : List Node) × IsFound files name (λ bytes. IsParsed bytes nodes) × NotMade how name nodes)

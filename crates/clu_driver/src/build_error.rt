@@ -1,7 +1,8 @@
 //! Why an accepted file is not built.
 
+ghost use Rattle.std.specs.Prelude.{List};
+ghost use Rattle.clu_types.specs.declared.spec.Spec.{Spec};
 ghost use Rattle.clu_driver.specs.Sources.{NotBuilt};
-ghost use Rattle.clu_driver.specs.Unbuilt.{ComesTo, LinkComesTo};
 
 use crate::outcome::Outcome;
 use clu_base::Memory;
@@ -12,16 +13,15 @@ use clu_lower_ctl::LowerError;
 use rv_select::SelectError;
 use std::alloc::{AllocError, AllocFailed};
 
-/// The module with which a program starts.
-pub const START: &str = "start_up";
-
-/// Why an accepted file is not built.
-#[derive(Debug, Drop)]
+/// Why an accepted file with a start is not built.
+#[derive(Clone, Copy)]
 pub enum BuildError {
     /// It has more modules than a library.
     LibraryFull,
-    /// Its program was not linked.
-    Link(LinkError),
+    /// Its program has more instances than an image.
+    TooManyInstances,
+    /// Its program is larger than an image.
+    ProgramTooLarge,
     /// Memory was refused.
     Memory,
     /// It is not compiled yet.
@@ -29,41 +29,17 @@ pub enum BuildError {
 }
 
 impl BuildError {
-    /// What the refusal comes to. That a body is missing, stale or a misfit is no outcome of the file: its own modules
-    /// were entered just before.
-    pub fn outcome(&self) -> Outcome<'static>
-        ensures comes { ComesTo self.now result }
-        ensures refused { NotBuilt result }
+    /// What the refusal comes to.
+    pub fn outcome<'a>(self) -> Outcome<'a>
+        ensures { (specs : List Spec) → NotBuilt result specs }
     {
         match self {
             BuildError::LibraryFull => Outcome::LibraryFull,
-            BuildError::Link(error) => link_outcome(error),
+            BuildError::TooManyInstances => Outcome::TooManyInstances,
+            BuildError::ProgramTooLarge => Outcome::ProgramTooLarge,
             BuildError::Memory => Outcome::Memory,
             BuildError::NotYet => Outcome::NotYet,
         }
-    }
-}
-
-// The same where the program was not linked.
-fn link_outcome(error: &LinkError) -> Outcome<'static>
-    ensures comes { LinkComesTo error.now result }
-    ensures refused { NotBuilt result }
-{
-    match error {
-        LinkError::NoModule(_) => Outcome::NoModule(START),
-        LinkError::BadStart(_) => Outcome::BadStart(START),
-        LinkError::TooManyInstances => Outcome::TooManyInstances,
-        LinkError::ProgramTooLarge => Outcome::ProgramTooLarge,
-        LinkError::Memory => Outcome::Memory,
-        LinkError::NoBody(_)
-        | LinkError::Stale {
-            name: _,
-            by: _,
-            changed: _,
-            checked: _,
-        }
-        | LinkError::Misfit(_)
-        | LinkError::NotYet => Outcome::NotYet,
     }
 }
 
@@ -123,7 +99,24 @@ impl From<SelectError> for BuildError {
 }
 
 impl From<LinkError> for BuildError {
+    // That a body is missing, stale or a misfit is no outcome of the file: its own modules were entered just before, and it
+    // was asked for its start.
     fn from(error: LinkError) -> BuildError {
-        BuildError::Link(error)
+        match error {
+            LinkError::TooManyInstances => BuildError::TooManyInstances,
+            LinkError::ProgramTooLarge => BuildError::ProgramTooLarge,
+            LinkError::Memory => BuildError::Memory,
+            LinkError::NoModule(_)
+            | LinkError::BadStart(_)
+            | LinkError::NoBody(_)
+            | LinkError::Stale {
+                name: _,
+                by: _,
+                changed: _,
+                checked: _,
+            }
+            | LinkError::Misfit(_)
+            | LinkError::NotYet => BuildError::NotYet,
+        }
     }
 }

@@ -1,38 +1,92 @@
 //! From an accepted file to its image: its modules are entered into an empty library and linked from `start_up`.
 
-ghost use Rattle.std.specs.Prelude.{IfErr};
-ghost use Rattle.clu_driver.specs.Sources.{NotBuilt};
+ghost use Rattle.std.specs.Prelude.{◌≡◌, IfErr, codes, length, take};
+ghost use Rattle.std.specs.Option.{option_copied};
+ghost use Rattle.std.specs.Str.{bytes_eq};
+ghost use Rattle.clu_tree.specs.Nodes.{modules};
+ghost use Rattle.clu_driver.specs.Sources.{NotBuilt, start_in};
 
-use crate::build_error::{BuildError, START};
-use crate::entering::{Text, ascending, enter_bodies, enter_specs};
+use crate::build_error::BuildError;
+use crate::entering::{Text, enter};
 use crate::outcome::Outcome;
 use clu_base::Bytes;
 use clu_core::Checked;
 use clu_library::Library;
-use clu_link::link;
+use clu_link::{is_start, link};
+use clu_types::Spec;
 use rv_isa::Image;
 use std::alloc::Global;
 
+/// The module with which a program starts.
+const START: &str = "start_up";
+
 /// The image of an accepted file.
-pub fn image_of_modules(
+pub fn image_of_modules<'a>(
     alloc: Global,
     text: Text<'_>,
     c: &Checked,
-) -> Result<Image, Outcome<'static>>
-    ensures { IfErr result NotBuilt }
+) -> Result<Image, Outcome<'a>>
+    ensures { IfErr result (λ how. NotBuilt how (take (length (modules c.now.tree)) c.now.specs.items)) }
 {
-    match linked(alloc, text, c) {
-        Ok(image) => Ok(image),
+    match library_of(alloc, text, c) {
+        Ok(library) => image_from(alloc, &library, own_specs(c)),
         Err(error) => Err(error.outcome()),
     }
 }
 
-fn linked(alloc: Global, text: Text<'_>, c: &Checked) -> Result<Image, BuildError> {
-    let mut library = Library::empty(alloc);
-    let modules = ascending(alloc, c)?;
-    enter_specs(alloc, &mut library, c, &modules)?;
-    enter_bodies(alloc, &mut library, text, c, &modules)?;
+/// The specifications of the file's own modules.
+fn own_specs(c: &Checked) -> &[Spec]
+    ensures { result.now ≡ take (length (modules c.now.tree)) c.now.specs.items }
+{
+    let specs = c.specs.as_slice();
+    let (own, _) = specs.split_at(c.tree.modules().len().min(specs.len()));
+    own
+}
+
+/// The library in which nothing is kept but the modules of the file.
+fn library_of(alloc: Global, text: Text<'_>, c: &Checked) -> Result<Box<Library>, BuildError> {
+    let mut library = Box::new(alloc, Library::empty(alloc))?;
+    enter(alloc, &mut library, text, c)?;
+    Ok(library)
+}
+
+/// The image of the program of a library that keeps modules with these specifications.
+fn image_from<'a>(alloc: Global, library: &Library, own: &[Spec]) -> Result<Image, Outcome<'a>>
+    ensures { IfErr result (λ how. NotBuilt how own.now) }
+{
+    match may_start(own) {
+        Ok(()) => match linked(alloc, library) {
+            Ok(image) => Ok(image),
+            Err(error) => Err(error.outcome()),
+        },
+        Err(how) => Err(how),
+    }
+}
+
+/// Whether a program may start, as the linker asks it of the library. Asked of the file itself, a refusal speaks of the
+/// file.
+fn may_start<'a>(own: &[Spec]) -> Result<(), Outcome<'a>>
+    ensures { IfErr result (λ how. NotBuilt how own.now) }
+{
+    match start_of(own) {
+        None => Err(Outcome::NoModule(START)),
+        Some(spec) if is_start(spec) => Ok(()),
+        Some(_) => Err(Outcome::BadStart(START)),
+    }
+}
+
+/// The first specification of the module with which a program starts.
+fn start_of(own: &[Spec]) -> Option<&Spec>
+    ensures { option_copied result ≡ start_in own.now }
+{
+    own.iter().find(
+        |spec| -> bool
+            ensures { result ≡ bytes_eq spec.now.now.name (codes "start_up") }
+        { spec.name.as_slice() == START.as_bytes() },
+    )
+}
+
+fn linked(alloc: Global, library: &Library) -> Result<Image, BuildError> {
     let start = Bytes::from_slice(alloc, START.as_bytes())?;
-    let linked = link(alloc, &library, &start)?;
-    Ok(linked.image)
+    Ok(link(alloc, library, &start)?.image)
 }

@@ -1,26 +1,26 @@
 //! The command `go`: checks a source, links it, puts its image and runs it.
 
-ghost use Rattle.std.specs.Prelude.{◌≡◌, ◌≤◌, ◌⊎◌, All, IfErr, OnOk};
+ghost use Rattle.std.specs.Prelude.{◌≡◌, ◌≤◌, All, IfErr, OnOk, length, take};
 ghost use Rattle.clu_rules.specs.Rules.{IsClosedAt};
 ghost use Rattle.clu_image.specs.ImageFile.{image_bytes};
 ghost use Rattle.clu_tree.specs.Nodes.{modules};
 ghost use Rattle.clu_words.specs.Command.{seen_limits};
-ghost use Rattle.clu_driver.specs.Commands.{GoShows, IsPut, NotPut, PutShows};
-ghost use Rattle.clu_driver.specs.Sources.{IsAccepted, NotAccepted, NotBuilt, NotCompiled};
+ghost use Rattle.clu_driver.specs.Commands.{GoShows, IsImagePut, NotPut, PutShows};
+ghost use Rattle.clu_driver.specs.Sources.{IsAccepted, NotBuilt, NotCompiled, NotMade};
 ghost use Rattle.clu_driver.specs.Found.{IsFound};
 ghost use Rattle.clu_driver.specs.Shows.{Reported};
 ghost use Rattle.clu_driver.specs.World.{streams_of, world_of};
 
 use crate::building::image_of_modules;
+use crate::checking::checked;
 use crate::entering::Text;
 use crate::file::put;
 use crate::outcome::{Outcome, report};
 use crate::running::run;
 use crate::sources::{Parsed, parse_file};
-use clu_base::{Refused, Sink, Source, Store};
-use clu_check_mod::{CheckError, check};
+use clu_base::{Sink, Source, Store, Token};
+use clu_core::Checked;
 use clu_image::store;
-use clu_types::Specs;
 use clu_words::RunLimits;
 use rv_isa::Image;
 use std::alloc::Global;
@@ -87,41 +87,32 @@ fn compiled<'a, F: Store>(alloc: Global, file: &'a str, files: &mut F) -> Result
     }
 }
 
-// The image of a source, checked over no specifications.
+// The image of a source.
 fn image_of<'a>(alloc: Global, name: &'a str, source: Parsed) -> Result<Image, Outcome<'a>>
     ensures accepted { OnOk result (All (IsClosedAt source.tree) (modules source.tree)) }
-    ensures refused { IfErr result (λ how. NotAccepted how name.now ⊎ (NotBuilt how × All (IsClosedAt source.tree) (modules source.tree))) }
+    ensures refused { IfErr result (λ how. NotMade how name.now source.tree) }
 {
     let Parsed {
         bytes,
         tokens,
         tree,
     } = source;
-    match check(alloc, tree, &Specs::new(alloc)) {
-        Ok(checked) => {
-            let text = Text {
-                bytes: &bytes,
-                tokens: &tokens,
-            };
-            match image_of_modules(alloc, text, &checked) {
-                Ok(image) => Ok(image),
-                Err(how) => Err(how),
-            }
-        }
-        Err(CheckError::Refused(refused)) => Err(not_accepted(name, refused)),
-        Err(CheckError::Memory) => Err(Outcome::Memory),
-        Err(CheckError::NotYet) => Err(Outcome::NotYet),
+    match checked(alloc, name, tree) {
+        Ok(checked) => built(alloc, &bytes, &tokens, &checked),
+        Err(how) => Err(how),
     }
 }
 
-// The outcome of a refusal by the check, which asks the rules behind the third.
-fn not_accepted<'a>(name: &'a str, refused: Refused) -> Outcome<'a>
-    ensures { NotAccepted result name.now }
+// The image of an accepted source.
+fn built<'a>(
+    alloc: Global,
+    bytes: &[u8],
+    tokens: &[Token],
+    c: &Checked,
+) -> Result<Image, Outcome<'a>>
+    ensures { IfErr result (λ how. NotBuilt how (take (length (modules c.now.tree)) c.now.specs.items)) }
 {
-    if refused.rule.number() < 4 {
-        return Outcome::NotYet;
-    }
-    Outcome::Refused(name, refused)
+    image_of_modules(alloc, Text { bytes, tokens }, c)
 }
 
 // Puts the image under its name.
@@ -132,7 +123,7 @@ fn put_image<'a, F: Store>(
     files: &mut F,
 ) -> Result<(), Outcome<'a>>
     ensures counts { F.faults files.old ≤ F.faults files.new }
-    ensures done { OnOk result (IsPut name.now (image_bytes image.now) (F.files files.old) (F.files files.new)) }
+    ensures done { OnOk result (IsImagePut name.now image.now (F.files files.old) (F.files files.new)) }
     ensures refused { IfErr result (λ how. NotPut how name.now (image_bytes image.now) (F.files files.old) (F.files files.new) (F.faults files.old) (F.faults files.new)) }
 {
     match store(alloc, image) {

@@ -1,6 +1,6 @@
 //! Reading and putting the files that the words name.
 
-ghost use Rattle.std.specs.Prelude.{◌≡◌, ◌≤◌, IfErr, IfOk, OnOk};
+ghost use Rattle.std.specs.Prelude.{◌≡◌, ◌≤◌, IfErr, IfOk, OnOk, take};
 ghost use Rattle.clu_driver.specs.Commands.{IsPut, NotPut};
 ghost use Rattle.clu_driver.specs.Found.{IsFound, NotRead};
 
@@ -20,6 +20,26 @@ pub fn content<'a, F: Store>(
     ensures refused { IfErr result (λ how. NotRead how name.now (F.files files.old) (F.faults files.old) (F.faults files.new)) }
 {
     match files.get(alloc, name) {
+        Ok(Some(bytes)) => Ok(bytes),
+        Ok(None) => Err(Outcome::NoFile(name)),
+        Err(StoreError::Failed) => Err(Outcome::FileFault(name)),
+        Err(StoreError::Memory) => Err(Outcome::Memory),
+    }
+}
+
+/// The first bytes of a file, `most` of them or all if there are fewer. The outcomes are `NoFile`, `FileFault` and `Memory`.
+pub fn first_content<'a, F: Store>(
+    alloc: Global,
+    name: &'a str,
+    most: usize,
+    files: &mut F,
+) -> Result<Vec<u8>, Outcome<'a>>
+    ensures counts { F.faults files.old ≤ F.faults files.new }
+    ensures kept { F.files files.new ≡ F.files files.old }
+    ensures found { IfOk result (λ first. IsFound (F.files files.old) name.now (λ bytes. take most bytes ≡ first.items)) }
+    ensures refused { IfErr result (λ how. NotRead how name.now (F.files files.old) (F.faults files.old) (F.faults files.new)) }
+{
+    match files.get_first(alloc, name, most) {
         Ok(Some(bytes)) => Ok(bytes),
         Ok(None) => Err(Outcome::NoFile(name)),
         Err(StoreError::Failed) => Err(Outcome::FileFault(name)),

@@ -4,6 +4,7 @@
 
 mod build_error;
 mod building;
+mod checking;
 mod compiling;
 mod entering;
 mod executing;

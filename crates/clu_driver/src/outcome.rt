@@ -10,7 +10,7 @@ use clu_base::{Failed, Place, Refused, Rule, Sink, write_all};
 use itoa::Buffer;
 
 /// How a command ended. A name is that of a file as the words give it.
-#[derive(Clone, Copy, Debug)]
+#[derive(Clone, Copy)]
 pub enum Outcome<'a> {
     /// The command was done, or the program returned.
     Done,

@@ -1,7 +1,8 @@
 //! The command `print`: writes a source in its one layout.
 
-ghost use Rattle.std.specs.Prelude.{◌≡◌, ◌≤◌, IfErr};
-ghost use Rattle.clu_driver.specs.Commands.{PrintedShows, TextShows};
+ghost use Rattle.std.specs.Prelude.{◌≡◌, ◌≤◌, IfErr, IfOk};
+ghost use Rattle.clu_driver.specs.Commands.{IsPrintOf, PrintedShows, TextShows};
+ghost use Rattle.clu_driver.specs.Found.{IsFound};
 ghost use Rattle.clu_driver.specs.Sources.{NotParsed};
 ghost use Rattle.clu_driver.specs.Shows.{Reported};
 
@@ -38,6 +39,7 @@ fn printed_text<'a, F: Store>(
 ) -> Result<Bytes, Outcome<'a>>
     ensures counts { F.faults files.old ≤ F.faults files.new }
     ensures kept { F.files files.new ≡ F.files files.old }
+    ensures printed { IfOk result (λ text. IsFound (F.files files.old) file.now (λ bytes. IsPrintOf bytes text)) }
     ensures refused { IfErr result (λ how. NotParsed how file.now (F.files files.old) (F.faults files.old) (F.faults files.new)) }
 {
     let source = parse_file(alloc, file, files)?;
@@ -49,7 +51,7 @@ fn printed_text<'a, F: Store>(
 
 // Writes a text to the output and reports how that ended.
 fn write_text<K: Sink, E: Sink>(text: &[u8], output: &mut K, errors: &mut E) -> u8
-    ensures told { Reported (λ how. TextShows how (K.written output.old) (K.faults output.old) (K.written output.new) (K.faults output.new))
+    ensures told { Reported (λ how. TextShows how text.now (K.written output.old) (K.faults output.old) (K.written output.new) (K.faults output.new))
         result (E.written errors.old) (E.written errors.new) (E.faults errors.old) (E.faults errors.new) }
 {
     match write_all(output, text) {

@@ -2,9 +2,9 @@
 
 ghost use Rattle.std.specs.Prelude.{◌≡◌, ◌≤◌, IfErr, IfOk};
 ghost use Rattle.clu_driver.specs.Found.{IsFound};
-ghost use Rattle.clu_driver.specs.Sources.{IsParsed, NotParsed, NotSource};
+ghost use Rattle.clu_driver.specs.Sources.{IsSource, NotParsed, NotSource};
 
-use crate::file::content;
+use crate::file::first_content;
 use crate::outcome::Outcome;
 use clu_base::{Place, Refused, Rule, Store, Token};
 use clu_lexer::{LexError, lex};
@@ -23,7 +23,7 @@ pub struct Parsed {
     pub tree: Tree,
 }
 
-/// The source file of this name, parsed. The outcomes are `NoFile`, `FileFault`, `SourceTooLarge`,
+/// The source file of this name, parsed; no more of it is read than shows that it is too large. The outcomes are `NoFile`, `FileFault`, `SourceTooLarge`,
 /// `Refused` by one of the rules V1 to V3, and `Memory`.
 pub fn parse_file<'a, F: Store>(
     alloc: Global,
@@ -33,17 +33,17 @@ pub fn parse_file<'a, F: Store>(
     ensures counts { F.faults files.old ≤ F.faults files.new }
     ensures kept { F.files files.new ≡ F.files files.old }
     ensures found { IfOk result (λ source. IsFound (F.files files.old) name.now (λ bytes. bytes ≡ source.bytes.items)) }
-    ensures parsed { IfOk result (λ source. IsParsed source.bytes.items source.tree) }
+    ensures parsed { IfOk result (λ source. IsSource source.bytes.items source.tokens.items source.tree) }
     ensures refused { IfErr result (λ how. NotParsed how name.now (F.files files.old) (F.faults files.old) (F.faults files.new)) }
 {
-    let bytes = content(alloc, name, files)?;
+    let bytes = first_content(alloc, name, SOURCE_LIMIT + 1, files)?;
     source(alloc, name, bytes)
 }
 
 // The source of these bytes.
 fn source<'a>(alloc: Global, name: &'a str, bytes: Vec<u8>) -> Result<Parsed, Outcome<'a>>
     ensures same { IfOk result (λ source. source.bytes.items ≡ bytes.items) }
-    ensures parsed { IfOk result (λ source. IsParsed source.bytes.items source.tree) }
+    ensures parsed { IfOk result (λ source. IsSource source.bytes.items source.tokens.items source.tree) }
     ensures refused { IfErr result (λ how. NotSource how name.now bytes.items) }
 {
     if bytes.len() > SOURCE_LIMIT {

@@ -23,3 +23,4 @@ mod type_words;
 
 pub use crate::errors::LinkError;
 pub use crate::linking::{Linked, link};
+pub use crate::reach::is_start;

@@ -125,7 +125,7 @@ pub fn start_of(alloc: Global, lib: &Library, start: &Bytes) -> Result<Member, L
 }
 
 /// Whether it is a procedure without parameters, arguments and results.
-fn is_start(spec: &Spec) -> bool
+pub fn is_start(spec: &Spec) -> bool
     ensures { result ≡ is_start spec.now }
 {
     spec.kinds.as_slice().is_empty() && is_start_form(&spec.form)

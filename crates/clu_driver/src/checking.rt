@@ -1,0 +1,43 @@
+//! The check of a source's tree, and what a refusal by it comes to.
+
+ghost use Rattle.std.specs.Prelude.{◌≡◌, All, IfErr, IfOk, OnOk};
+ghost use Rattle.clu_rules.specs.Modules.{BeginWithOwn};
+ghost use Rattle.clu_rules.specs.Refusals.{IsOfTree};
+ghost use Rattle.clu_rules.specs.Rules.{IsClosedAt};
+ghost use Rattle.clu_tree.specs.Nodes.{modules};
+ghost use Rattle.clu_driver.specs.Sources.{IsRefusalOf, NotAccepted};
+
+use crate::outcome::Outcome;
+use clu_check_mod::{CheckError, check};
+use clu_core::Checked;
+use clu_tree::Tree;
+use clu_types::Specs;
+use std::alloc::Global;
+
+/// The tree of the source `name`, checked over no specifications. The outcomes are `Refused` by one of the rules V4 to
+/// V37, `Memory` and `NotYet`.
+pub fn checked<'a>(alloc: Global, name: &'a str, tree: Tree) -> Result<Box<Checked>, Outcome<'a>>
+    ensures tree { IfOk result (λ checked. checked.value.tree ≡ tree) }
+    ensures specs { IfOk result (λ checked. BeginWithOwn tree checked.value.specs.items) }
+    ensures closed { OnOk result (All (IsClosedAt tree) (modules tree)) }
+    ensures refused { IfErr result (λ how. NotAccepted how name.now tree) }
+{
+    match check(alloc, tree, &Specs::new(alloc)) {
+        Ok(checked) => match Box::new(alloc, checked) {
+            Ok(checked) => Ok(checked),
+            Err(_) => Err(Outcome::Memory),
+        },
+        Err(error) => Err(refusal(name, error)),
+    }
+}
+
+// The outcome of a refusal by the check.
+fn refusal<'a>(name: &'a str, error: CheckError) -> Outcome<'a>
+    ensures { IsRefusalOf error result name.now }
+{
+    match error {
+        CheckError::Refused(refused) => Outcome::Refused(name, refused),
+        CheckError::Memory => Outcome::Memory,
+        CheckError::NotYet => Outcome::NotYet,
+    }
+}
