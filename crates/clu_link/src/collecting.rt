@@ -17,58 +17,70 @@ use clu_rt_text::{Operation, routine};
 use clu_types::{Actual, TypeArena, TypeId};
 use indexmap::{IndexMap, IndexSet};
 use std::alloc::Global;
+use std::boxed::Box;
+use std::mem;
 
 /// The program of what was reached.
-pub fn collect<'a>(alloc: Global, reached: Reached<'a>) -> Result<Program<'a>, LinkError> {
-    let Reached {
-        types,
-        members,
-        instances,
-        routines,
-        operations,
-        clusters,
-    } = reached;
-    let mut program = Program {
-        types,
-        codes: codes_of(alloc, routines)?,
+pub fn collect<'a>(
+    alloc: Global,
+    reached: &mut Reached<'a>,
+) -> Result<Box<Program<'a>>, LinkError> {
+    let mut program = Box::new(alloc, begun(alloc, reached))?;
+    add_codes(alloc, &mut program.codes, &mut reached.routines)?;
+    add_clusters(&mut program.clusters, &mut reached.clusters)?;
+    add_callables(alloc, &mut program, reached)?;
+    Ok(program)
+}
+
+/// A program with the types of what was reached, and nothing else yet.
+fn begun<'a>(alloc: Global, reached: &mut Reached<'a>) -> Program<'a> {
+    Program {
+        types: mem::replace(&mut reached.types, TypeArena::new(alloc)),
+        codes: Vec::new(alloc),
         callables: Vec::new(alloc),
-        clusters: clusters.into_values().collect(alloc)?,
-    };
-    match add_callables(alloc, &mut program, &members, instances, &operations) {
-        Ok(()) => Ok(program),
-        Err(error) => Err(error),
+        clusters: Vec::new(alloc),
     }
 }
 
-/// The parts of the runtime, and behind them the routines.
-fn codes_of<'a>(
+/// Adds the parts of the runtime, and after them the routines.
+fn add_codes<'a>(
     alloc: Global,
-    routines: IndexMap<RoutineName, Code<'a>>,
-) -> Result<Vec<Code<'a>>, LinkError> {
-    let mut codes = Vec::new(alloc);
+    codes: &mut Vec<Code<'a>>,
+    routines: &mut IndexMap<RoutineName, Code<'a>>,
+) -> Result<(), LinkError> {
     for part in runtime_parts(alloc)? {
         codes.push(Code::Made(part))?;
     }
-    for code in routines.into_values() {
+    for (_, code) in routines.drain(..) {
         codes.push(code)?;
     }
-    Ok(codes)
+    Ok(())
 }
 
-/// Adds the instances, and behind them the operations.
+/// Adds for each cluster instance how many own variables it has.
+fn add_clusters(
+    counts: &mut Vec<u64>,
+    clusters: &mut IndexMap<TypeId, u64>,
+) -> Result<(), LinkError> {
+    for (_, count) in clusters.drain(..) {
+        counts.push(count)?;
+    }
+    Ok(())
+}
+
+/// Adds the instances, and after them the operations.
 fn add_callables(
     alloc: Global,
     program: &mut Program<'_>,
-    members: &IndexSet<Member>,
-    instances: Vec<Instance>,
-    operations: &IndexSet<Member>,
+    reached: &mut Reached<'_>,
 ) -> Result<(), LinkError> {
-    let count = instances.len();
-    for instance in instances {
+    let count = reached.instances.len();
+    let members = &reached.members;
+    for instance in reached.instances.drain(..) {
         add_instance(alloc, program, members, instance, count)?;
     }
     let mut placed = IndexMap::new(alloc);
-    add_operations(alloc, program, operations, &mut placed)
+    add_operations(alloc, program, &reached.operations, &mut placed)
 }
 
 /// Adds an instance, which is the next callable.

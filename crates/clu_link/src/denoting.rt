@@ -34,20 +34,29 @@ enum Sort {
     Operation,
 }
 
-/// What the uses of these texts denote, with actual parameters put in; None where one of them denotes nothing.
+/// Whether it is asked that the operations are there which a built-in operation needs.
+#[derive(Clone, Copy, Debug, PartialEq, Eq)]
+pub enum Needs {
+    Asked,
+    /// It was asked of the operation whose code has the use, and that needs no less.
+    Met,
+}
+
+/// What the uses of these texts denote, with actual parameters put in; None if one of them denotes nothing.
 pub fn uses_of(
     alloc: Global,
     lib: &Library,
     types: &mut TypeArena,
     texts: &[Bytes],
     actuals: &[Actual],
+    needs: Needs,
 ) -> Result<Option<Vec<Use>>, LinkError> {
     let mut uses = Vec::new(alloc);
     for text in texts {
         let Some(member) = member_of(alloc, types, text, actuals)? else {
             return Ok(None);
         };
-        match sort_of(alloc, lib, types, &member)? {
+        match sort_of(alloc, lib, types, &member, needs)? {
             Some(Sort::Instance) => uses.push(Use::Instance(member))?,
             Some(Sort::Operation) => uses.push(Use::Operation(member))?,
             None => return Ok(None),
@@ -62,6 +71,7 @@ fn sort_of(
     lib: &Library,
     types: &mut TypeArena,
     member: &Member,
+    needs: Needs,
 ) -> Result<Option<Sort>, LinkError> {
     match member {
         Member::Module(name, actuals) => {
@@ -73,7 +83,7 @@ fn sort_of(
         },
         Member::Op(of, op) => match is_cluster(lib, types, *of)? {
             Some(is_kept) => Ok(instance_if(is_kept)),
-            None => sort_of_operation(alloc, lib, types, *of, op),
+            None => sort_of_operation(alloc, lib, types, *of, op, needs),
         },
         Member::ForceOf(_) => Ok(Some(Sort::Operation)),
     }
@@ -153,6 +163,7 @@ fn sort_of_operation(
     types: &mut TypeArena,
     of: TypeId,
     op: &Bytes,
+    needs: Needs,
 ) -> Result<Option<Sort>, LinkError>
     ensures { IfOk result (IsSortOf (operation (type_at (types_of types.old) of) op.now)) }
 {
@@ -162,7 +173,7 @@ fn sort_of_operation(
     let Some(built) = heading(alloc, types, of, op)? else {
         return Ok(None);
     };
-    if are_met(alloc, lib, types, built.needs.as_slice())? {
+    if are_met(alloc, lib, types, built.needs.as_slice(), needs)? {
         Ok(Some(sort_of_built(&built)))
     } else {
         Ok(None)
@@ -187,7 +198,11 @@ fn are_met(
     lib: &Library,
     types: &mut TypeArena,
     needs: &[Need],
+    asked: Needs,
 ) -> Result<bool, LinkError> {
+    if asked == Needs::Met {
+        return Ok(true);
+    }
     for need in needs {
         if !meets(
             alloc,

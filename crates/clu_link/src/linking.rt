@@ -57,9 +57,9 @@ fn link_from(alloc: Global, lib: &Library, first: Member) -> Result<Linked, Link
     ensures entry { IfOk result (λ linked. linked.image.entry ≡ 0) }
     ensures unset { IfOk result (λ linked. AreUnset linked.image.area) }
 {
-    let reached = reach(alloc, lib, first)?;
+    let mut reached = reach(alloc, lib, first)?;
     let modules = modules_of(alloc, &reached.routines)?;
-    let program = collect(alloc, reached)?;
+    let program = collect(alloc, &mut reached)?;
     let texts = collect_texts(alloc, &program)?;
     let places = lay_out(alloc, &program, &texts)?;
     let image = image_of(alloc, &program, &texts, &places)?;

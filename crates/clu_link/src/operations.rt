@@ -4,6 +4,7 @@
 use crate::errors::LinkError;
 use clu_base::{Bytes, Sequence};
 use clu_builtin::{Builtin, heading};
+use clu_equates::intern;
 use clu_frames::flatten;
 use clu_handlers::Regions;
 use clu_object::ObjRoutine;
@@ -46,25 +47,24 @@ pub fn type_of_force(
     types: &mut TypeArena,
     of: TypeId,
 ) -> Result<TypeId, LinkError> {
-    if !types.contains(of) {
-        return Err(LinkError::NotYet);
-    }
     let any = types.intern(Term::Any)?;
+    let heading = force_heading(alloc, any, of)?;
+    Ok(intern(types, Term::Proc(heading))?)
+}
+
+fn force_heading(alloc: Global, any: TypeId, of: TypeId) -> Result<Heading, LinkError> {
+    let args = vec![in alloc; any]?;
+    let results = vec![in alloc; of]?;
     let signal = Exception {
         name: Bytes::from_slice(alloc, b"wrong_type")?,
         objects: Sequence::from_vec(Vec::new(alloc)),
     };
-    let heading = Heading {
-        args: Sequence::from_vec(vec![in alloc; any]?),
-        results: Sequence::from_vec(vec![in alloc; of]?),
-        signals: Sequence::from_vec(vec![in alloc; signal]?),
-    };
-    let term = Term::Proc(heading);
-    if types.holds(&term) {
-        Ok(types.intern(term)?)
-    } else {
-        Err(LinkError::NotYet)
-    }
+    let signals = vec![in alloc; signal]?;
+    Ok(Heading {
+        args: Sequence::from_vec(args),
+        results: Sequence::from_vec(results),
+        signals: Sequence::from_vec(signals),
+    })
 }
 
 /// The words of a routine in word code.

@@ -6,7 +6,7 @@ ghost use Rattle.clu_library.specs.Contents.{spec_of};
 ghost use Rattle.clu_link.specs.Starts.{IsRefusal, IsStartRefusal, MayStart, is_start, is_start_form};
 
 use crate::bounds::{cluster_variables, fits, weight};
-use crate::denoting::{Use, uses_of};
+use crate::denoting::{Needs, Use, uses_of};
 use crate::errors::LinkError;
 use crate::member::Member;
 use crate::operation_codes::{Family, family_of};
@@ -23,6 +23,7 @@ use clu_types::{Actual, Spec, TypeArena, TypeId};
 use clu_wir::WRoutine;
 use indexmap::{IndexMap, IndexSet};
 use std::alloc::Global;
+use std::boxed::Box;
 
 /// The most instances of a program.
 const MAX_INSTANCES: usize = 4096;
@@ -83,7 +84,7 @@ pub struct Reached<'a> {
 #[derive(Drop)]
 struct Work<'a> {
     lib: &'a Library,
-    reached: Reached<'a>,
+    reached: Box<Reached<'a>>,
     no_body: Option<Bytes>,
     misfit: Option<Bytes>,
     weight: u64,
@@ -97,10 +98,14 @@ struct Parts {
 }
 
 /// What the program with this first instance reaches. The refusals are those of `LinkError` that come after the start.
-pub fn reach<'a>(alloc: Global, lib: &'a Library, first: Member) -> Result<Reached<'a>, LinkError>
-    ensures few { IfOk result (λ reached. index_set_len reached.members ≤ 4096) }
+pub fn reach<'a>(
+    alloc: Global,
+    lib: &'a Library,
+    first: Member,
+) -> Result<Box<Reached<'a>>, LinkError>
+    ensures few { IfOk result (λ reached. index_set_len reached.value.members ≤ 4096) }
 {
-    let mut work = Work::new(alloc, lib);
+    let mut work = Work::new(alloc, lib)?;
     match work.visit_all(alloc, first) {
         Ok(()) => work.finish(),
         Err(error) => Err(error),
@@ -165,39 +170,33 @@ fn variables_of(object: &Object) -> u64 {
     count
 }
 
-/// What a routine uses and names with these actual parameters; None where it names what is not there.
+/// What a routine uses and names with these actual parameters; None if it names what is not there.
 fn parts_of(
     alloc: Global,
     lib: &Library,
     types: &mut TypeArena,
     routine: &ObjRoutine,
     actuals: &[Actual],
+    needs: Needs,
 ) -> Result<Option<Parts>, LinkError> {
     let Some(named) = types_of(alloc, types, routine.types.as_slice(), actuals)? else {
         return Ok(None);
     };
-    match uses_of(alloc, lib, types, routine.uses.as_slice(), actuals)? {
+    match uses_of(alloc, lib, types, routine.uses.as_slice(), actuals, needs)? {
         Some(uses) => Ok(Some(Parts { uses, types: named })),
         None => Ok(None),
     }
 }
 
 impl<'a> Work<'a> {
-    fn new(alloc: Global, lib: &'a Library) -> Work<'a> {
-        Work {
+    fn new(alloc: Global, lib: &'a Library) -> Result<Work<'a>, LinkError> {
+        Ok(Work {
             lib,
-            reached: Reached {
-                types: TypeArena::new(alloc),
-                members: IndexSet::new(alloc),
-                instances: Vec::new(alloc),
-                routines: IndexMap::new(alloc),
-                operations: IndexSet::new(alloc),
-                clusters: IndexMap::new(alloc),
-            },
+            reached: Box::new(alloc, Reached::new(alloc))?,
             no_body: None,
             misfit: None,
             weight: 0,
-        }
+        })
     }
 
     /// Visits the first instance and, in the order in which they are reached, all others.
@@ -307,7 +306,14 @@ impl<'a> Work<'a> {
             actuals,
         } = kept;
         let types = &mut self.reached.types;
-        match parts_of(alloc, self.lib, types, routine, actuals.as_slice())? {
+        match parts_of(
+            alloc,
+            self.lib,
+            types,
+            routine,
+            actuals.as_slice(),
+            Needs::Asked,
+        )? {
             Some(parts) => {
                 let heavier = weight(routine, actuals.as_slice());
                 self.weight = self.weight.saturating_add(heavier);
@@ -353,7 +359,14 @@ impl<'a> Work<'a> {
     ) -> Result<(), LinkError> {
         let routine = code_of(alloc, &made)?;
         let types = &mut self.reached.types;
-        match parts_of(alloc, self.lib, types, &routine, actuals.as_slice())? {
+        match parts_of(
+            alloc,
+            self.lib,
+            types,
+            &routine,
+            actuals.as_slice(),
+            Needs::Met,
+        )? {
             Some(parts) => {
                 let heavier = weight(&routine, actuals.as_slice());
                 self.weight = self.weight.saturating_add(heavier);
@@ -365,8 +378,8 @@ impl<'a> Work<'a> {
     }
 
     /// What was reached, if nothing is wrong with it.
-    fn finish(self) -> Result<Reached<'a>, LinkError>
-        ensures { IfOk result (λ reached. index_set_len reached.members ≤ 4096) }
+    fn finish(self) -> Result<Box<Reached<'a>>, LinkError>
+        ensures { IfOk result (λ reached. index_set_len reached.value.members ≤ 4096) }
     {
         let Work {
             lib: _,
@@ -388,6 +401,17 @@ impl<'a> Work<'a> {
 }
 
 impl<'a> Reached<'a> {
+    fn new(alloc: Global) -> Reached<'a> {
+        Reached {
+            types: TypeArena::new(alloc),
+            members: IndexSet::new(alloc),
+            instances: Vec::new(alloc),
+            routines: IndexMap::new(alloc),
+            operations: IndexSet::new(alloc),
+            clusters: IndexMap::new(alloc),
+        }
+    }
+
     /// Adds an instance that was reached, and what it uses.
     fn add(
         &mut self,

@@ -16,12 +16,12 @@ pub const RUNTIME_TABLE: u64 = 32;
 
 /// The parts of the runtime, each at its number.
 pub fn runtime_parts(alloc: Global) -> Result<Vec<ObjRoutine>, LinkError> {
-    Ok(vec![in alloc;
-        start_part(alloc)?,
-        search_part(alloc)?,
-        bind_part(alloc)?,
-        unnamed_part(alloc)?,
-    ]?)
+    let mut parts = Vec::new(alloc);
+    parts.push(start_part(alloc)?)?;
+    parts.push(search_part(alloc)?)?;
+    parts.push(bind_part(alloc)?)?;
+    parts.push(unnamed_part(alloc)?)?;
+    Ok(parts)
 }
 
 /// The bytes of the table of regions.

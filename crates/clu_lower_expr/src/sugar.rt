@@ -171,14 +171,36 @@ fn not_operation(
 /// `r.s := e` and `a[i] := e`: the operation of the statement's node over its children.
 pub fn sugar_statement(out: &mut Lowering, c: &Checked, n: u32) -> Result<(), LowerError> {
     let operation = node_operation(out, c, n)?;
-    let seen = seen_at(out, c, n)?;
     let free = out.taken();
     let node = node_at(&c.tree, n)?;
+    let operands = bound_children(out, c, n, node, free)?;
+    let call = WStmt::Call(operation, operands, Vec::new(out.alloc));
+    out.push(call)
+}
+
+/// The values of a node's children, bound to the formals of its operation.
+fn bound_children(
+    out: &mut Lowering,
+    c: &Checked,
+    n: u32,
+    node: &Node,
+    free: u32,
+) -> Result<Vec<WExpr>, LowerError> {
     let mut operands = Vec::new(out.alloc);
     for child in node.children.as_slice() {
         operands.push(lower_expr(out, c, *child)?)?;
     }
-    let operands = bind_operands(out, c, n, node, seen.as_ref(), operands, free)?;
-    let call = WStmt::Call(operation, operands, Vec::new(out.alloc));
-    out.push(call)
+    bound_operands(out, c, n, node, operands, free)
+}
+
+fn bound_operands(
+    out: &mut Lowering,
+    c: &Checked,
+    n: u32,
+    node: &Node,
+    operands: Vec<WExpr>,
+    free: u32,
+) -> Result<Vec<WExpr>, LowerError> {
+    let seen = seen_at(out, c, n)?;
+    bind_operands(out, c, n, node, seen.as_ref(), operands, free)
 }
