@@ -7,6 +7,8 @@ mod answers;
 #[cfg(test)]
 mod contexts;
 #[cfg(test)]
+mod deep_types;
+#[cfg(test)]
 mod kept_specs;
 #[cfg(test)]
 mod large_tests;

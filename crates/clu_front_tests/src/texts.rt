@@ -139,7 +139,7 @@ pub const NUMBERS: &str = "\
     1 struct[x:int,y:int]\0";
 
 /// How many rows `INCLUSIONS` has.
-pub const INCLUSIONS_COUNT: usize = 11;
+pub const INCLUSIONS_COUNT: usize = 14;
 
 /// Whether the first type is included in the second.
 pub const INCLUSIONS: &str = "\
