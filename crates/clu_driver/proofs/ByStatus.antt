@@ -20,14 +20,14 @@ usage_of (outcome.Failure text) is = cc
 usage_of _ is = cc
 
 -- no source comes to Usage
-not_compiled : {name : List ℕ} {files : Option Files} {faults faults' : ℕ} → NotCompiled outcome.Usage name files faults faults' → ⊥
-not_compiled (inl unread) = unread
-not_compiled (inr unmade) = elim unmade.2 [ inl refused ↦ refused | inr unbuilt ↦ unbuilt.1.2 ]
+not_compiled : (name : List ℕ) (files : Option Files) (faults faults' : ℕ) → NotCompiled outcome.Usage name files faults faults' → ⊥
+not_compiled name files faults faults' (inl unread) = unread
+not_compiled name files faults faults' (inr unmade) = elim unmade.2 [ inl refused ↦ refused | inr unbuilt ↦ unbuilt.1.2 ]
 
 -- only words that are no command come to Usage
 usage_shown : (meant : Option Meant) (before after : World) → CommandShows meant outcome.Usage before after → meant ≡ None
 usage_shown None before after shown = refl
-usage_shown (Some (command.go file image limits peep trace)) before after (inl refused) = elim (not_compiled refused.0) [ ]
+usage_shown (Some (command.go file image limits peep trace)) before after (inl refused) = elim (not_compiled file before.files before.store_faults after.store_faults refused.0) [ ]
 usage_shown (Some (command.go file image limits peep trace)) before after (inr put) = elim put.1.3 [ inl notput ↦ elim notput.0 [ ] | inr ran ↦ elim ran.1.ends [ ] ]
 usage_shown (Some (command.exec image limits)) before after (inl refused) = elim refused.0 [ ]
 usage_shown (Some (command.exec image limits)) before after (inr ran) = elim ran.1.2.ends [ ]
