@@ -1,7 +1,7 @@
 //! The parts of clusters: V31 to V33.
 
 /// How many rows `ROWS` has besides comments.
-pub const COUNT: usize = 43;
+pub const COUNT: usize = 44;
 
 /// Rows that each end with byte 0: the place and rule of the refusal, or `ok`, and behind a blank the source.
 /// A row that begins with `%` is a comment.

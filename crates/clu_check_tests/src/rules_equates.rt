@@ -2,7 +2,7 @@
 //! for where a cluster's actual parameter or a type is wanted.
 
 /// How many rows `GROUPS` has besides comments.
-pub const COUNT: usize = 139;
+pub const COUNT: usize = 138;
 
 /// What stands in a source for each `#`, how often, and rows as in the other tables.
 pub const GROUPS: [(&str, usize, &str); 9] = [
