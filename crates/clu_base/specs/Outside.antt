@@ -10,7 +10,7 @@ next_count n = min (n + 1) (2 ^ 64 - 1)
 abbrev pub Rose : ℕ → ℕ → Type 0
 Rose before after = after < 2 ^ 64 - 1 → before < after
 
--- what was written, with these bytes behind it, where it is told
+-- what was written, with these bytes after it, where it is told
 unfoldable pub appended : Option (List ℕ) → List ℕ → Option (List ℕ)
 appended None bytes = None
 appended (Some written) bytes = Some (written ++ bytes)

@@ -31,7 +31,7 @@ impl Model for Bytes {
 }
 
 impl Bytes {
-    /// A copy of the given bytes. The only error is want of memory.
+    /// A copy of the given bytes. The only error is that memory runs out.
     pub fn from_slice(alloc: Global, b: &[u8]) -> Result<Bytes, Memory>
         ensures { IfOk result (λ copy. copy ≡ b.now) }
     {
@@ -60,7 +60,7 @@ impl Bytes {
         self.items.as_slice()
     }
 
-    /// An equal byte string of its own. The only error is want of memory.
+    /// An equal byte string of its own. The only error is that memory runs out.
     pub fn copy(&self, alloc: Global) -> Result<Bytes, Memory>
         ensures { IfOk result (λ copy. copy ≡ self.now) }
     {

@@ -18,7 +18,7 @@ pub enum Const {
 }
 
 impl Const {
-    /// An equal constant of its own. The only error is want of memory.
+    /// An equal constant of its own. The only error is that memory runs out.
     pub fn copy(&self, alloc: Global) -> Result<Const, Memory>
         ensures { IfOk result (λ copied. copied ≡ self.now) }
     {

@@ -1,4 +1,4 @@
-//! The errors that crates share: want of memory, a call of the outside that failed, and bytes
+//! The errors that crates share: memory that runs out, a call of the outside that failed, and bytes
 //! that are not of a format.
 
 ghost use Rattle.std.specs.Prelude.{◌≡◌};

@@ -41,7 +41,7 @@ pub fn u64_at(b: &[u8], at: usize) -> Option<u64>
     Some(LittleEndian::read_u64(&b[at..]))
 }
 
-/// Appends the two bytes of a number. The only error is want of memory, which leaves `out`
+/// Appends the two bytes of a number. The only error is that memory runs out, which leaves `out`
 /// unchanged.
 pub fn u16_add(out: &mut Vec<u8>, n: u16) -> Result<(), Memory>
     ensures added { OnOk result (out.new.items ≡ out.old.items ++ little_bytes 2 n) }
@@ -53,7 +53,7 @@ pub fn u16_add(out: &mut Vec<u8>, n: u16) -> Result<(), Memory>
     Ok(())
 }
 
-/// Appends the four bytes of a number. The only error is want of memory, which leaves `out`
+/// Appends the four bytes of a number. The only error is that memory runs out, which leaves `out`
 /// unchanged.
 pub fn u32_add(out: &mut Vec<u8>, n: u32) -> Result<(), Memory>
     ensures added { OnOk result (out.new.items ≡ out.old.items ++ little_bytes 4 n) }
@@ -65,7 +65,7 @@ pub fn u32_add(out: &mut Vec<u8>, n: u32) -> Result<(), Memory>
     Ok(())
 }
 
-/// Appends the eight bytes of a number. The only error is want of memory, which leaves `out`
+/// Appends the eight bytes of a number. The only error is that memory runs out, which leaves `out`
 /// unchanged.
 pub fn u64_add(out: &mut Vec<u8>, n: u64) -> Result<(), Memory>
     ensures added { OnOk result (out.new.items ≡ out.old.items ++ little_bytes 8 n) }

@@ -71,7 +71,7 @@ impl Model for MemSink {
 impl MemSink {
     /// An empty sink that takes at most `room` bytes in all and at most `piece` of them at once.
     /// The calls whose numbers, from 0, are in `failing` fail and take nothing, and so does a
-    /// call where the room is used up. The only error is want of memory for the room.
+    /// call where the room is used up. The only error is that memory for the room runs out.
     pub fn new(
         alloc: Global,
         room: usize,

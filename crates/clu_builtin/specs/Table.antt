@@ -221,7 +221,7 @@ abbrev pub or_else : Option Operation → Option Operation → Option Operation
 or_else None other = other
 or_else (Some operation) other = Some operation
 
--- the table with the name of a selector behind each name
+-- the table with the name of a selector after each name
 abbrev pub with_selector : List ℕ → Table → Table
 with_selector selector [] = []
 with_selector selector ((name, operation) ∷ rest) = (name ++ selector, operation) ∷ with_selector selector rest

@@ -28,7 +28,7 @@ pub struct Builtin {
 }
 
 /// The built-in operation of this name that a type has (CLU Reference Manual, appendix II): None exactly where the
-/// table has none. The only error is want of memory; the arena may have grown then.
+/// table has none. The only error is that memory runs out; the arena may have grown then.
 pub fn heading(
     alloc: Global,
     types: &mut TypeArena,

@@ -57,7 +57,7 @@ fn row_before<'a>(rows: &'a [Row], selector: &Bytes, op: &Bytes) -> Option<&'a R
     }
 }
 
-/// Whether a name is this front with this rest behind it.
+/// Whether a name is this front with this rest after it.
 fn is_joined(front: &[u8], rest: &[u8], name: &[u8]) -> bool
     ensures { result ≡ bytes_eq (front.now ++ rest.now) name.now }
 {

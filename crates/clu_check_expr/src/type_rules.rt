@@ -10,7 +10,7 @@ use clu_tree::{Node, NodeKind, Tree};
 use clu_types::{Actual, ParamKind, Term};
 use indexmap::IndexSet;
 
-/// The rules behind V4 at a node of a type, whose children were walked. Its siblings before it have these selectors
+/// The rules after V4 at a node of a type, whose children were walked. Its siblings before it have these selectors
 /// or exceptions, to which a FieldT or Exc adds its own.
 pub fn ask_type(
     c: &mut Context,
@@ -123,7 +123,7 @@ pub fn known_value(
     value_with(c.alloc, tree, scope, &mut c.types, known, n, wanted)
 }
 
-/// The rules behind V4 and V10 at an expression node that stands as the right side of an Equate or as an actual
+/// The rules after V4 and V10 at an expression node that stands as the right side of an Equate or as an actual
 /// parameter. Its children were walked.
 pub fn ask_constant(
     c: &mut Context,

@@ -270,7 +270,7 @@ fn exported_at(
     }
 }
 
-// In ascending order each one comes behind those before it, so that none is moved.
+// In ascending order each one comes after those before it, so that none is moved.
 fn add_all(specs: &mut Specs, mut seen: IndexMap<Bytes, Spec>) -> Result<(), CheckError> {
     seen.sort_keys()?;
     for (_, spec) in seen.drain(..) {

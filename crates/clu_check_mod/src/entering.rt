@@ -74,7 +74,7 @@ fn enter_one(
 }
 
 /// Brings the names of a module into scope: its leading equates, its parameters, whose kinds the context
-/// has, and the names of its routine or cluster. Gives the place in the scope's list of what stands behind
+/// has, and the names of its routine or cluster. Gives the place in the scope's list of what stands after
 /// the parameters: of a routine its arguments.
 pub fn enter_module(
     c: &mut Context,

@@ -160,7 +160,7 @@ fn part_at<'a>(tree: &'a Tree, children: &[u32], k: usize) -> Option<&'a Node> {
     }
 }
 
-/// Whether the child stands behind the value of the node, the `else` of an If.
+/// Whether the child stands after the value of the node, the `else` of an If.
 fn is_behind(node: &Node, child: &Node) -> bool {
     match node.value_token {
         Some(token) => child.first > token,
@@ -212,7 +212,7 @@ fn define_run(
     Ok(())
 }
 
-/// Behind the k-th child: the parameters, arguments and variables that come into scope there.
+/// After the k-th child: the parameters, arguments and variables that come into scope there.
 fn behind_child(
     alloc: Global,
     tree: &Tree,
@@ -263,7 +263,7 @@ fn define_decls(alloc: Global, tree: &Tree, met: &mut Met, node: &Node) -> Resul
     Ok(())
 }
 
-/// Behind the children: a body ends, or the variables of a declaration come into scope.
+/// After the children: a body ends, or the variables of a declaration come into scope.
 fn end(alloc: Global, tree: &Tree, met: &mut Met, node: &Node, base: usize) -> Result<(), Memory> {
     match node.kind {
         NodeKind::Declare | NodeKind::Init | NodeKind::Own => {

@@ -383,7 +383,7 @@ fn exports(alloc: Global, node: &Node) -> Result<IndexSet<Bytes>, CheckError> {
     Ok(names)
 }
 
-/// The exports of a Cluster, which stand between its name and the one behind `end`.
+/// The exports of a Cluster, which stand between its name and the one after `end`.
 pub fn export_names(node: &Node) -> &[Bytes] {
     match node.names.as_slice().split_first() {
         Some((_, rest)) => match rest.split_last() {

@@ -107,7 +107,7 @@ pub fn open_arms(
     Ok(())
 }
 
-/// Closes the `when` arms of an except behind its statement.
+/// Closes the `when` arms of an except after its statement.
 pub fn close_arms(tree: &Tree, arms: &mut Arms, except: &Node) -> Result<(), CheckError> {
     for child in except.children.as_slice() {
         let when = node_at(tree, *child)?;

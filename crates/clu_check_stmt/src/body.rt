@@ -1,5 +1,5 @@
-//! The walk over the statements of a routine, in post-order: what comes before a child, behind a child
-//! and behind all children of each kind of statement.
+//! The walk over the statements of a routine, in post-order: what comes before a child, after a child
+//! and after all children of each kind of statement.
 
 use crate::arms::{Arms, close_arms, open_arms};
 use crate::branches::{check_tag_arm, check_tagcase};
@@ -147,7 +147,7 @@ fn reach(
     }
 }
 
-/// Before an equate, a statement or an arm: the body behind the node's value begins, or the variables of
+/// Before an equate, a statement or an arm: the body after the node's value begins, or the variables of
 /// a loop or an arm come into scope.
 fn begin_part(
     c: &Context,
@@ -228,7 +228,7 @@ fn reach_type(
     Ok(())
 }
 
-/// Behind a statement or an arm that is a child: what the node round it asks of an arm, and what the
+/// After a statement or an arm that is a child: what the node round it asks of an arm, and what the
 /// statement of an Except raises.
 fn pass(
     c: &mut Context,
@@ -258,7 +258,7 @@ fn pass(
     }
 }
 
-/// Behind the children: the body ends, and the rules at the node are asked. Gives the types of the
+/// After the children: the body ends, and the rules at the node are asked. Gives the types of the
 /// variables that the node declares.
 fn end(
     c: &mut Context,
@@ -281,7 +281,7 @@ fn end(
     Ok(types)
 }
 
-/// The rules at a node with bodies, behind them.
+/// The rules at a node with bodies, after them.
 fn end_body(c: &mut Context, scope: &Scope, node: &Node, frame: &Frame) -> Result<(), CheckError> {
     match node.kind {
         NodeKind::While => {

@@ -30,7 +30,7 @@ fn tag_of<'a>(tags: &'a [Field], name: &Bytes) -> Option<&'a Field> {
     }
 }
 
-/// The rules at an arm of a tagcase behind its body: V4, V6 of its variable, and V15 and V22, which an
+/// The rules at an arm of a tagcase after its body: V4, V6 of its variable, and V15 and V22, which an
 /// arm of a tagcase on no oneof or variant doesn't violate.
 pub fn check_tag_arm(
     c: &Context,
@@ -94,7 +94,7 @@ fn check_tag_types(
     Ok(())
 }
 
-/// The rules at a Tagcase behind its arms: V21, and V22 where a tag is left without `others`.
+/// The rules at a Tagcase after its arms: V21, and V22 where a tag is left without `others`.
 pub fn check_tagcase(c: &Context, node: &Node, frame: &Frame) -> Result<(), CheckError> {
     let Some(tags) = tags_of(c, frame)? else {
         return refuse(Rule::NotTagged, node.place);

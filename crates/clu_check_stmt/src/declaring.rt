@@ -43,7 +43,7 @@ pub fn check_own(
 }
 
 /// Whether a Name below the node is that of a formal argument. The nodes below it come right before
-/// it, and begin at or behind its first token.
+/// it, and begin at or after its first token.
 fn names_formal(tree: &Tree, scope: &Scope, n: u32, first: u32) -> Result<bool, CheckError> {
     for below in (0..n).rev() {
         let node = node_at(tree, below)?;
@@ -105,7 +105,7 @@ fn one_variable(
     Ok(variables)
 }
 
-/// Decls, with a Call behind them or none.
+/// Decls, with a Call after them or none.
 fn several_variables(
     c: &mut Context,
     tree: &Tree,

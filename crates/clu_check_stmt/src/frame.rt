@@ -14,7 +14,7 @@ pub struct Frame {
     pub names: usize,
     /// The first child that was not done together with an earlier one.
     pub next: usize,
-    /// Whether the body behind the node's value was begun.
+    /// Whether the body after the node's value was begun.
     pub behind_value: bool,
     /// The variables of a loop or an arm, and whether they are in scope.
     pub variables: Variables,

@@ -10,7 +10,7 @@ use clu_tree::Node;
 use clu_types::{Term, TypeId};
 use indexmap::IndexSet;
 
-/// The rules at a When behind its body: V4, V23 and V24. Notes its names as taken.
+/// The rules at a When after its body: V4, V23 and V24. Notes its names as taken.
 pub fn check_when(
     c: &Context,
     when: &Node,
@@ -61,7 +61,7 @@ fn takes_raised(
     Ok(true)
 }
 
-/// The rules at an Others behind its body: V4, V6 of its variable, and V23 where it can't name a string.
+/// The rules at an Others after its body: V4, V6 of its variable, and V23 where it can't name a string.
 pub fn check_others(
     c: &mut Context,
     scope: &Scope,
@@ -91,7 +91,7 @@ pub fn end_except(c: &mut Context, frame: &mut Frame) -> Result<(), CheckError> 
     frame.raised.pass_on(c, &frame.seen)
 }
 
-/// The rules at a Resignal behind its statement: V4, V25 and V26. What it doesn't name goes on.
+/// The rules at a Resignal after its statement: V4, V25 and V26. What it doesn't name goes on.
 pub fn end_resignal(c: &mut Context, node: &Node, frame: &mut Frame) -> Result<(), CheckError> {
     frame.raised.exchange(c);
     ask_lengths(node)?;

@@ -29,7 +29,7 @@ pub fn check_loop_call(
     Ok(())
 }
 
-/// The rules at a For behind its body: V4 and V5 of names that it doesn't declare, V14, V15 and V36.
+/// The rules at a For after its body: V4 and V5 of names that it doesn't declare, V14, V15 and V36.
 pub fn check_for(c: &Context, scope: &Scope, node: &Node, frame: &Frame) -> Result<(), CheckError> {
     if node.names.as_slice().is_empty() {
         check_given(c, &frame.variables, frame.types.as_slice(), node.place)?;
@@ -42,7 +42,7 @@ pub fn check_for(c: &Context, scope: &Scope, node: &Node, frame: &Frame) -> Resu
     Ok(())
 }
 
-/// V16 at a While or an If behind its bodies: each condition is a bool.
+/// V16 at a While or an If after its bodies: each condition is a bool.
 pub fn check_conditions(c: &Context, node: &Node, frame: &Frame) -> Result<(), CheckError> {
     for of in frame.types.as_slice() {
         if !matches!(term(&c.types, *of)?, Term::Bool) {

@@ -51,7 +51,7 @@ pub fn is_statement(kind: NodeKind) -> bool {
         )
 }
 
-/// Whether a child stands behind the word or mark that is the node's value: the body behind `else`.
+/// Whether a child stands after the word or mark that is the node's value: the body after `else`.
 pub fn is_behind_value(node: &Node, child: &Node) -> bool {
     match node.value_token {
         Some(token) => child.first > token,

@@ -3,7 +3,7 @@
 /// How many rows `ROWS` has besides comments.
 pub const COUNT: usize = 76;
 
-/// Rows that each end with byte 0: the place and rule of the refusal, or `ok`, and behind a blank the source.
+/// Rows that each end with byte 0: the place and rule of the refusal, or `ok`, and after a blank the source.
 /// A row that begins with `%` is a comment.
 pub const ROWS: &str = "\
     % V21: `tagcase` on no oneof or variant; its arms then violate nothing.\0\

@@ -4,7 +4,7 @@
 /// How many rows `ROWS` has besides comments.
 pub const COUNT: usize = 72;
 
-/// Rows that each end with byte 0: the place and rule of the refusal, or `ok`, and behind a blank the source.
+/// Rows that each end with byte 0: the place and rule of the refusal, or `ok`, and after a blank the source.
 /// A row that begins with `%` is a comment.
 pub const ROWS: &str = "\
     2:15:V1 start_up = proc ()\n  \

@@ -1,4 +1,4 @@
-//! Programs of flat code with exceptions, each behind how it ends and what it writes.
+//! Programs of flat code with exceptions, each after how it ends and what it writes.
 
 /// How many rows `ARMS` has.
 pub const ARMS_COUNT: usize = 4;
@@ -248,7 +248,7 @@ region 2 2 - failure/4/4
 pub const SEARCHES_COUNT: usize = 2;
 
 /// Searches within their steps. First a raise in the last of 300 regions that lie side by side, with 601 cuts. Before
-/// the search come 9 steps of the start, 11 to enter, 600 in the regions and 12 to raise, and behind it 10 to the
+/// the search come 9 steps of the start, 11 to enter, 600 in the regions and 12 to raise, and after it 10 to the
 /// end. Ten times at most 12 steps halve the cuts, and 25 are for the rest: 632 + 145 + 10. Then the longest name:
 /// 221 bytes of text within 2048 steps, besides 32 before the search and 20 at the end.
 pub const SEARCHES: &str = "

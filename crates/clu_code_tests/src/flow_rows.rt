@@ -1,4 +1,4 @@
-//! Programs of flat code with calls, loops over iterators and the primitives, each behind how it ends and what it
+//! Programs of flat code with calls, loops over iterators and the primitives, each after how it ends and what it
 //! writes.
 
 /// How many rows `CALLS` has.

@@ -1,4 +1,4 @@
-//! Bodies of routines in word code, each behind what comes of it: the steps and the regions, or ` refused`.
+//! Bodies of routines in word code, each after what comes of it: the steps and the regions, or ` refused`.
 
 /// How many rows `ROWS` has.
 pub const COUNT: usize = 28;

@@ -107,7 +107,7 @@ fn put_made(
     }
 }
 
-/// Writes the steps of a routine and behind them its regions, or that it is refused without a region.
+/// Writes the steps of a routine and after them its regions, or that it is refused without a region.
 fn put_flattened(
     alloc: Global,
     text: &mut String,

@@ -150,7 +150,7 @@ write 900\0\
 save_byte 900\0\
 bind 900 901 902";
 
-/// Whether a step has no more words than are counted of it; behind it stands a label.
+/// Whether a step has no more words than are counted of it; after it stands a label.
 fn is_counted(alloc: Global, step: &str) -> Result<bool, Fail> {
     let mut program = Program::new(alloc);
     begin(&mut program, step)?;
@@ -232,8 +232,8 @@ fn put_ends_of(text: &mut String, code: &[u32]) -> Result<(), Fail> {
 const FAR_COUNT: usize = 3;
 
 /// Jumps reach 2^18 - 1 words on and 2^18 words back. A move has two words, and to enter with 200 arguments takes 13
-/// words and two for each: behind the first jump stand 634 * 413 + 150 * 2 = 2^18 - 2 words, and the last one is at
-/// word 2^18. Then another word stands before label 0, and another jump back behind that one.
+/// words and two for each: after the first jump stand 634 * 413 + 150 * 2 = 2^18 - 2 words, and the last one is at
+/// word 2^18. Then another word stands before label 0, and another jump back after that one.
 const FAR: &str = "\
 label 1; jump 0; 634*enter 200; 150*move 0 0; label 0; jump 1; jump 1 gives 7fdff06f 8000006f\0\
 label 1; jump 0; 634*enter 200; 150*move 0 0; jump 1; label 0 gives refused\0\

@@ -35,7 +35,7 @@ struct Layout {
     texts: Vec<Text>,
 }
 
-/// The image of the parts and the routines behind them, which starts at the first of these.
+/// The image of the parts and the routines after them, which starts at the first of these.
 pub fn linked(alloc: Global, objects: &[ObjRoutine]) -> Result<Image, Fail> {
     let mut layout = Layout {
         alloc,
@@ -101,7 +101,7 @@ impl Layout {
         }
     }
 
-    /// The table of the runtime stands behind the descriptors of so many routines.
+    /// The table of the runtime stands after the descriptors of so many routines.
     fn place_runtime(&mut self, count: u64) -> Result<(), Fail> {
         let failure = self.text(b"failure")?;
         let unhandled = self.text(b"unhandled exception: ")?;

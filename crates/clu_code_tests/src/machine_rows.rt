@@ -94,7 +94,7 @@ fence does nothing: 0ff0000f 1 2 gives 0 10010 2";
 /// How many rows `ENDINGS` has.
 pub const ENDINGS_COUNT: usize = 30;
 
-/// What a row shows, two words of code, and how their run ends. Behind the code stand eight bytes of the fixed part and
+/// What a row shows, two words of code, and how their run ends. After the code stand eight bytes of the fixed part and
 /// eight of data.
 pub const ENDINGS: &str = "\
 no instruction: 00000000 00000000 gives bad instruction 10000\0\

@@ -188,7 +188,7 @@ fn hello(alloc: Global, fixed: &[u8], area: &[u8]) -> Result<Box<Run>, Fail> {
     Run::silent(alloc, &image, Vec::new(alloc))
 }
 
-/// Whether it writes its text within six steps and then returns, also when it is run once more behind its end.
+/// Whether it writes its text within six steps and then returns, also when it is run once more after its end.
 fn greets(run: &mut Run) -> bool {
     run.run(6) == Ending::StepsSpent
         && run.output.bytes() == b"hi\n".as_slice()

@@ -141,7 +141,7 @@ fn holes_cover_their_words(rt: HostRuntime) -> Result<(), Fail> {
     Ok(())
 }
 
-/// Two holes over the same words, over words that overlap, and one behind the other.
+/// Two holes over the same words, over words that overlap, and one after the other.
 #[test]
 fn holes_are_apart(rt: HostRuntime) -> Result<(), Fail> {
     let code = [LUI, ADDI, LUI, ADDI];

@@ -96,7 +96,7 @@ fn gives(alloc: Global, operation: &str) -> Result<String, Fail> {
     outcome(alloc, text.as_str())
 }
 
-/// What an operation writes is what stands behind it.
+/// What an operation writes is what stands after it.
 fn keep_operation(alloc: Global, row: &str) -> Result<(), Fail> {
     let (operation, due) = row.split_once(" gives").unwrap_or((row, ""));
     let found = gives(alloc, operation)?;

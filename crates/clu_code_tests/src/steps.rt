@@ -1,4 +1,4 @@
-//! Steps of flat code as text: a name, and behind blanks the numbers, of which those that are not there are 0.
+//! Steps of flat code as text: a name, and after blanks the numbers, of which those that are not there are 0.
 
 use crate::text::{first_word, kind, number_at, operation, small, small_at};
 use clu_frames::Flat;

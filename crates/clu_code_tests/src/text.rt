@@ -26,7 +26,7 @@ pub fn first_word(text: &str) -> &str {
     text.split(' ').next().unwrap_or("")
 }
 
-/// A number in decimal digits, or in hexadecimal ones behind `0x`; the greatest where it is none.
+/// A number in decimal digits, or in hexadecimal ones after `0x`; the greatest where it is none.
 pub fn number(word: &str) -> u64 {
     match word.strip_prefix("0x") {
         Some(digits) => u64::from_str_radix(digits, 16).unwrap_or(u64::MAX),

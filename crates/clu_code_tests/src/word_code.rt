@@ -1,4 +1,4 @@
-//! Word code from text. Behind what a statement or an expression is made of stands what is made of it: `slot 1; word 5;
+//! Word code from text. After what a statement or an expression is made of stands what is made of it: `slot 1; word 5;
 //! add; set 0` is one statement. A list of statements begins at `begin` and ends where a statement takes it.
 
 use crate::text::{first_word, kind, number, number_at, operation, small, small_at};
@@ -286,7 +286,7 @@ fn put_slots(slots: &mut Vec<u32>, item: &str, place: usize) -> Result<(), Fail>
     Ok(())
 }
 
-/// Appends the words of a text behind the first one.
+/// Appends the words of a text after the first one.
 fn put_names(alloc: Global, names: &mut Vec<Bytes>, item: &str) -> Result<(), Fail> {
     for name in item.split(' ').skip(1) {
         names.push(Bytes::from_slice(alloc, name.as_bytes())?)?;

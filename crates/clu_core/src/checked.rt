@@ -24,7 +24,7 @@ pub struct Checked {
     pub constant_of: Vec<Option<u32>>,
     /// Constants that names stand for, that of an equate once however often it is named.
     pub constants: Vec<ObjConst>,
-    /// The specifications of the file's modules in the order of the text, and behind them, ascending
+    /// The specifications of the file's modules in the order of the text, and after them, ascending
     /// by name, those of all other modules under which it was checked.
     pub specs: Vec<Spec>,
 }
@@ -39,7 +39,7 @@ impl Checked {
     ghost use Rattle.clu_core.specs.declared.checked.CoreError.TheVariants as error;
 
     /// A file of which nothing is known yet: no types, no specifications, and nothing at any node. The only
-    /// error is want of memory.
+    /// error is that memory runs out.
     pub fn new(alloc: Global, tree: Tree) -> Result<Checked, CoreError>
         ensures tree { IfOk result (λ checked. checked.tree ≡ tree) }
         ensures types { IfOk result (λ checked. checked.types ≡ []) }

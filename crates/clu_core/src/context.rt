@@ -51,7 +51,7 @@ pub struct Context {
 
 impl Context {
     /// A context for a tree of so many nodes, under these specifications, in a module of this name. The only error
-    /// is want of memory.
+    /// is that memory runs out.
     pub fn new(alloc: Global, nodes: usize, specs: Specs, name: Bytes) -> Result<Context, Memory> {
         let tables = Tables::new(alloc, nodes)?;
         Ok(Context {

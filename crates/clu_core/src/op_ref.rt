@@ -22,7 +22,7 @@ pub enum OpRef {
 }
 
 impl OpRef {
-    /// An equal reference of its own. The only error is want of memory.
+    /// An equal reference of its own. The only error is that memory runs out.
     pub fn copy(&self, alloc: Global) -> Result<OpRef, Memory>
         ensures { IfOk result (λ copied. copied ≡ self.now) }
     {

@@ -7,7 +7,7 @@ use clu_base::Memory;
 use clu_types::TypeId;
 use std::alloc::Global;
 
-/// A table of so many entries, each None. The only error is want of memory.
+/// A table of so many entries, each None. The only error is that memory runs out.
 pub fn unknown<T: Drop>(alloc: Global, nodes: usize) -> Result<Vec<Option<T>>, Memory>
     ensures { IfOk result (λ table. table.items ≡ replicate nodes None) }
 {
@@ -28,7 +28,7 @@ pub struct Tables {
 }
 
 impl Tables {
-    /// The tables of so many nodes, of which nothing is known yet. The only error is want of memory.
+    /// The tables of so many nodes, of which nothing is known yet. The only error is that memory runs out.
     pub fn new(alloc: Global, nodes: usize) -> Result<Tables, Memory>
         ensures type_of { IfOk result (λ tables. tables.type_of.items ≡ replicate nodes None) }
         ensures op_of { IfOk result (λ tables. tables.op_of.items ≡ replicate nodes None) }

@@ -58,7 +58,7 @@ usage_only meant before after status old new faults faults' r two = elim (status
   | inr is ↦ let no : 23 ≡ 2 = sym is ∙ two in absurd (omega (arith, no))
 ]
 
--- words that are no command come to Usage or to want of memory
+-- words that are no command come to Usage or run out of memory
 none_shown : (meant : Option Meant) (before after : World) (how : Outcome) → meant ≡ None → CluShows meant how before after → (how ≡ outcome.Usage) ⊎ (how ≡ outcome.Memory)
 none_shown meant before after how none (inl memory) = inr memory.0
 none_shown None before after how none (inr shown) = inl shown.0

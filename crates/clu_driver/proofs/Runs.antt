@@ -115,7 +115,7 @@ has_text image limits old m left written left' written' e start did' answer =
     let there = did.does [] [] in
     text_by m.ended m.state _ did.added _ e answer there.1 (λ now same x ended. ended_with_text limits.steps _ now x refl same ended)
 
--- a run never comes to want of memory
+-- a run never runs out of memory
 pub shown : (how : Outcome) (image : Contents) (limits : Limits) (before after : Streams) → Ran how image limits before after → RunShows how image limits before after
 shown outcome.Memory image limits before after ran = elim ran.ends [ ]
 shown _ image limits before after ran = ran

@@ -12,7 +12,7 @@ piece_text piece.Start = codes "start_up = proc ()\nx: int := 1\n"
 piece_text piece.Call = codes "x := m"
 piece_text piece.End = codes "stream$putl(stream$primary_output(), int$unparse(x))\nend start_up\n"
 
--- the rest of procedure number k behind its heading
+-- the rest of procedure number k after its heading
 abbrev pub end_text : ℕ → List ℕ
 end_text k = (piece_text piece.Body ++ decimal k) ++ 10 ∷ []
 

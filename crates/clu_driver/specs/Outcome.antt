@@ -86,7 +86,7 @@ rule_text rule = (mark_text mark.Rule ++ decimal (number_of rule)) ++ (mark_text
 abbrev pub refused_text : List ℕ → Refused → List ℕ
 refused_text name r = place_text name r.place ++ rule_text r.rule
 
--- what the line tells behind it: a text or a name, an address, a number
+-- what the line tells after it: a text or a name, an address, a number
 abbrev pub detail_of : Outcome → List ℕ
 detail_of (outcome.Failure d) = d.now
 detail_of (outcome.BadInstruction d) = hexadecimal_of d

@@ -72,7 +72,7 @@ fn write_procedure<K: Sink>(k: u64, output: &mut K) -> Result<(), Failed>
     write_end(k, output)
 }
 
-// The rest of a procedure behind its heading.
+// The rest of a procedure after its heading.
 #[tactic(auto, using(clu_base::proofs::Written::laws))]
 fn write_end<K: Sink>(k: u64, output: &mut K) -> Result<(), Failed>
     ensures counts { K.faults output.old ≤ K.faults output.new }
@@ -95,7 +95,7 @@ fn write_call<K: Sink>(k: u64, output: &mut K) -> Result<(), Failed>
     write_all(output, b"(x)\n")
 }
 
-// A piece and a number behind it.
+// A piece and a number after it.
 #[tactic(auto, using(clu_base::proofs::Written::laws))]
 fn write_numbered<K: Sink>(piece: Piece, k: u64, output: &mut K) -> Result<(), Failed>
     ensures counts { K.faults output.old ≤ K.faults output.new }

@@ -189,7 +189,7 @@ impl Mark {
     }
 }
 
-// A mark and a number behind it.
+// A mark and a number after it.
 #[tactic(auto, using(clu_base::proofs::Written::laws))]
 fn write_numbered<E: Sink>(errors: &mut E, mark: Mark, n: u64) -> Result<(), Failed>
     ensures counts { E.faults errors.old ≤ E.faults errors.new }
@@ -248,7 +248,7 @@ fn write_refused<E: Sink>(errors: &mut E, name: &str, refused: &Refused) -> Resu
     write_rule(errors, refused.rule)
 }
 
-// What the line tells of this outcome, behind its text.
+// What the line tells of this outcome, after its text.
 #[tactic(auto, using(clu_base::proofs::Written::laws))]
 fn write_detail<E: Sink>(errors: &mut E, outcome: &Outcome<'_>) -> Result<(), Failed>
     ensures counts { E.faults errors.old ≤ E.faults errors.new }

@@ -32,7 +32,7 @@ pub fn clu<S: Source, K: Sink, E: Sink, F: Store>(
         result (E.written errors.old) (E.written errors.new) (E.faults errors.old) (E.faults errors.new) }
 
     // Status 2 comes exactly where the words are no command, but for a line that could not be
-    // written and for want of memory.
+    // written and when memory runs out.
     ensures usage_only { result ≡ 2 → command_of (map string_bytes words.now) ≡ None }
     ensures usage_always { command_of (map string_bytes words.now) ≡ None → (result ≡ 2) ⊎ ((result ≡ 23) ⊎ (result ≡ 25)) }
 

@@ -1,5 +1,5 @@
 //! Which equates of a group the right side of an equate names. The nodes below a node are those from
-//! its first leaf on, since each node comes behind its children in the order of the text.
+//! its first leaf on, since each node comes after its children in the order of the text.
 
 use crate::scope::Scope;
 use clu_base::Bytes;

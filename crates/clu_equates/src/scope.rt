@@ -33,7 +33,7 @@ pub enum Means {
 pub enum Settled {
     /// A type, a type set or a constant.
     Value(Value),
-    /// It, or an equate behind it, violates a rule.
+    /// It, or an equate after it, violates a rule.
     Bad,
     /// The unfolding meets itself.
     Circular,
@@ -82,7 +82,7 @@ impl Scope {
         self.names.len()
     }
 
-    /// Adds a name and gives its place in the list, from 0. The only error is want of memory.
+    /// Adds a name and gives its place in the list, from 0. The only error is that memory runs out.
     pub fn declare(&mut self, alloc: Global, name: &Bytes, means: Means) -> Result<usize, Memory> {
         let at = self.names.len();
         let place = u32::try_from(at).unwrap_or(u32::MAX).saturating_add(1);
@@ -177,14 +177,14 @@ impl Scope {
     }
 
     /// Whether the text of a value, in a specification, is longer than that of an equated value may be:
-    /// 65,536 bytes. The errors are want of memory, and NotYet where the type is none of the arena.
+    /// 65,536 bytes. The errors are that memory runs out, and NotYet where the type is none of the arena.
     pub fn is_too_long(&mut self, types: &TypeArena, value: &Value) -> Result<bool, CheckError>
         ensures { IfOk result (λ long. IsTooLong value.now long) }
     {
         self.lengths.is_too_long(types, value)
     }
 
-    /// Notes the demands of the type set of this TypeSet node. The only error is want of memory.
+    /// Notes the demands of the type set of this TypeSet node. The only error is that memory runs out.
     pub fn add_set(&mut self, node: u32, demands: Sequence<Demand>) -> Result<(), Memory> {
         self.sets.insert(node, demands)?;
         Ok(())

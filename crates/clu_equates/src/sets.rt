@@ -12,7 +12,7 @@ use std::collections::BTreeMap;
 
 /// The demands that a TypeSet node makes on its variable, ascending by name, by its structure alone: the
 /// variable is the type parameter of this number. The scope is as before. Refused by V5, V7 and V9 at a type in
-/// it; the other errors are want of memory, and NotYet where a node is none of the tree.
+/// it; the other errors are that memory runs out, and NotYet where a node is none of the tree.
 pub fn set_demands(
     alloc: Global,
     tree: &Tree,
@@ -49,7 +49,7 @@ fn inner_demands(
     demands_of(alloc, wanted, variable)
 }
 
-/// The Equate nodes that stand directly in a node. The errors are want of memory, and NotYet where a child is
+/// The Equate nodes that stand directly in a node. The errors are that memory runs out, and NotYet where a child is
 /// none of the tree.
 pub fn inner_equates(alloc: Global, tree: &Tree, node: &Node) -> Result<Vec<u32>, CheckError> {
     let mut equates = Vec::new(alloc);

@@ -1,4 +1,4 @@
-//! What the unfolding of equates that stand together comes to. Each one is settled behind those that it
+//! What the unfolding of equates that stand together comes to. Each one is settled after those that it
 //! names, on a stack of our own, since chains of equates are as long as a file allows.
 
 use crate::dependencies::note_named;

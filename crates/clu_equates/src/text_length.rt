@@ -84,7 +84,7 @@ impl TextLengths {
         length
     }
 
-    /// `t,t,`, each type with one mark behind it.
+    /// `t,t,`, each type with one mark after it.
     fn of_types(&self, ids: &[TypeId]) -> u64 {
         let mut length = 0u64;
         for id in ids {

@@ -22,7 +22,7 @@ pub enum Value {
 }
 
 impl Value {
-    /// An equal value of its own. The only error is want of memory.
+    /// An equal value of its own. The only error is that memory runs out.
     pub fn copy(&self, alloc: Global) -> Result<Value, Memory> {
         match self {
             Value::Of(id) => Ok(Value::Of(*id)),
@@ -56,7 +56,7 @@ impl Wanted {
 const DEEPEST: u32 = 201;
 
 /// The value of a type node or of a constant expression (CLU Reference Manual, sections 7.2 and 13.2). Refused
-/// by V5, V7, V8 and V9 alone. The other errors are want of memory, and NotYet where an equate in scope is not
+/// by V5, V7, V8 and V9 alone. The other errors are that memory runs out, and NotYet where an equate in scope is not
 /// settled, or a node is none of the tree.
 pub fn value_of(
     alloc: Global,

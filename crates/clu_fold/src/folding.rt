@@ -87,7 +87,7 @@ pub fn prefix_operator(spelling: &[u8]) -> Option<Prefix> {
     }
 }
 
-/// What an infix operator gives for two constants, if it gives one. The only error is want of memory.
+/// What an infix operator gives for two constants, if it gives one. The only error is that memory runs out.
 pub fn fold(left: Const, operator: Operator, right: &Const) -> Result<Option<Const>, Memory>
     ensures { IfOk result (λ folded. IsFolded left operator right.now folded) }
 {

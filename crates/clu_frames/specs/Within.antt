@@ -9,7 +9,7 @@ abbrev pub mark_within : ℕ → ℕ → Bool
 mark_within frame mark = nat_lt mark (frame + FOOT)
 
 -- whether a frame of so many slots has those that a step names; the first of several words that may be none may also be
--- the slot behind the last
+-- the slot after the last
 abbrev pub is_within : ℕ → Flat → Bool
 is_within frame (flat.Move to from) = nat_lt to frame && nat_lt from frame
 is_within frame (flat.Word to word) = nat_lt to frame

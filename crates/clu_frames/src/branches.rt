@@ -28,7 +28,7 @@ impl Steps<'_> {
     }
 
     /// Calls an iterator. The first slot of work keeps the top of the stack round the loop's body. The call goes on at the
-    /// Jump behind it when the iterator ends, and at the Take behind that when it yields.
+    /// Jump after it when the iterator ends, and at the Take after that when it yields.
     pub fn begin_turns(
         &mut self,
         routine: &WExpr,

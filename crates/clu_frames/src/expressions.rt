@@ -49,7 +49,7 @@ impl Steps<'_> {
     }
 }
 
-/// The first slot of work behind an operand.
+/// The first slot of work after an operand.
 pub fn behind(operand: &WExpr, work: u32) -> Result<u32, FrameError> {
     match operand {
         WExpr::Slot(_) => Ok(work),

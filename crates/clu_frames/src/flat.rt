@@ -3,7 +3,7 @@
 use clu_base::{Bytes, ObjConst};
 use clu_wir::{HoleKind, WOp};
 
-/// A step of flat code. Numbers of slots count the frame's words behind its foot; a slot holds one word.
+/// A step of flat code. Numbers of slots count the frame's words after its foot; a slot holds one word.
 ///
 /// Two words travel with a jump from one routine to another, and `Take`, `Pass` or some `Result` are the first steps where
 /// they arrive: a value, and the address of words side by side, which stay as they are until something is pushed on the
@@ -16,9 +16,9 @@ pub enum Flat {
     Word(u32, u64),
     /// To a slot what the linker knows: the item of this kind and number.
     Hole(u32, HoleKind, u32),
-    /// To the first slot the word so many bytes behind the address in the second.
+    /// To the first slot the word so many bytes after the address in the second.
     Load(u32, u32, i32),
-    /// So many bytes behind the address in the first slot, the word of the second.
+    /// So many bytes after the address in the first slot, the word of the second.
     Save(u32, i32, u32),
     /// To the first slot the operation on the words of the other two.
     Bin(WOp, u32, u32, u32),
@@ -36,9 +36,9 @@ pub enum Flat {
     Bind(u32, u32, u32),
     /// Raises here the failure of a variable that names no object, where the word of the slot is 0.
     Need(u32),
-    /// Calls the routine whose descriptor's address is in the slot, with the arguments in the slots behind it. Its
-    /// results are the words that travel back. A call of an iterator has a Jump to the end of its loop behind it, and
-    /// behind that the loop's body, to which a Yield comes.
+    /// Calls the routine whose descriptor's address is in the slot, with the arguments in the slots after it. Its
+    /// results are the words that travel back. A call of an iterator has a Jump to the end of its loop after it, and
+    /// after that the loop's body, to which a Yield comes.
     Invoke(u32),
     /// Yields the words in the slots from this one on: pushes a record of where to go on, or ends the run where the
     /// stack has no room for it, and goes to the body of the loop in the caller's frame. There the value that travels is
@@ -48,13 +48,13 @@ pub enum Flat {
     Resume(u32),
     /// To the first slot the value that travelled, then to the second the address.
     Take(u32, u32),
-    /// To a slot the word so many bytes behind the address that travelled, which goes on travelling.
+    /// To a slot the word so many bytes after the address that travelled, which goes on travelling.
     Result(u32, i32),
     /// Cuts the stack to the top that is in this word of the frame.
     Cut(u32),
     /// Ends the routine; the words that travel are its results, in the slots from this one on.
     Leave(u32),
-    /// Raises here the exception whose name is in the slot, with its objects in the slots behind it. At the arm that
+    /// Raises here the exception whose name is in the slot, with its objects in the slots after it. At the arm that
     /// takes it the value that travels is the name, and the words are the objects.
     Raise(u32),
     /// Ends the routine and raises where it was called, else as Raise.

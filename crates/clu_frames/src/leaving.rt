@@ -21,7 +21,7 @@ impl Steps<'_> {
         self.push(Flat::Jump(turns.next))
     }
 
-    /// Puts the name of an exception into `work` and its objects behind it.
+    /// Puts the name of an exception into `work` and its objects after it.
     fn exception(&mut self, name: &Bytes, objects: &[WExpr], work: u32) -> Result<(), FrameError> {
         self.push_name(work, name)?;
         self.set_row(above(work, 1)?, objects)

@@ -19,7 +19,7 @@ impl Steps<'_> {
         self.push(Flat::Save(to, offset(bytes)?, from))
     }
 
-    /// Calls a routine, with its descriptor's address in `work` and its arguments behind it.
+    /// Calls a routine, with its descriptor's address in `work` and its arguments after it.
     pub fn invoke(
         &mut self,
         routine: &WExpr,

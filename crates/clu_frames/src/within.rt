@@ -14,7 +14,7 @@ fn is_word(mark: u32, frame: u32) -> bool
 
 impl Flat {
     /// Whether a frame of so many slots has those that the step names. Where a step names the first of several words that
-    /// may be none, it may also be the slot behind the last.
+    /// may be none, it may also be the slot after the last.
     pub fn is_within(&self, frame: u32) -> bool
         ensures { result ≡ step_within frame self.now }
     {

@@ -55,7 +55,7 @@ fn answer(
     }
 }
 
-/// What stands before the first blank, and what stands behind it.
+/// What stands before the first blank, and what stands after it.
 pub fn parts(row: &str) -> (&str, &str) {
     match row.split_once(' ') {
         Some(parts) => parts,

@@ -8,7 +8,7 @@ pub const TALLY: &str =
 /// How many rows `SPECIFICATIONS` has.
 pub const SPECIFICATIONS_COUNT: usize = 61;
 
-/// Texts of specifications behind `ok`, and texts that are none behind the length of the longest front that begins one.
+/// Texts of specifications after `ok`, and texts that are none after the length of the longest front that begins one.
 pub const SPECIFICATIONS: &str = "\
     ok tally=cluster[type] where #1 has equal:proctype(#1,#1)returns(bool) is;note:proc(#1,#1)returns(int)\0\
     ok p=proc()\0\
@@ -75,7 +75,7 @@ pub const SPECIFICATIONS: &str = "\
 /// How many rows `TYPES` has.
 pub const TYPES_COUNT: usize = 15;
 
-/// The same of types. Behind the last of all names no selector can follow, so its comma is refused.
+/// The same of types. After the last of all names no selector can follow, so its comma is refused.
 pub const TYPES: &str = "\
     ok array[#4294967295]\0\
     0 \0\

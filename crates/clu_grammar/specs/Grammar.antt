@@ -59,7 +59,7 @@ productions r.Modules =
     take (s.Idn ∷ []) (begin ∷ begin ∷ note ∷ t s.Equal ∷ n r.Definition ∷ n r.Modules ∷ []) ∷
     otherwise [] ∷
     []
--- Module = {Equate} (Routine / Cluster); Def stands behind idn "="
+-- Module = {Equate} (Routine / Cluster); Def stands after idn "="
 productions r.Definition =
     take (s.Proc ∷ []) (note ∷ n r.Parms ∷ n r.Proc ∷ close k.Module ∷ []) ∷
     take (s.Iter ∷ []) (note ∷ n r.Parms ∷ n r.Iter ∷ close k.Module ∷ []) ∷
@@ -106,7 +106,7 @@ productions r.Routine =
     take (s.Proc ∷ []) (note ∷ n r.Proc ∷ []) ∷
     take (s.Iter ∷ []) (note ∷ n r.Iter ∷ []) ∷
     []
--- Parm = idn# ":" (type-word / type); Names is idn# behind its first idn
+-- Parm = idn# ":" (type-word / type); Names is idn# after its first idn
 productions r.Parms =
     take (s.LeftBracket ∷ []) (t s.Idn ∷ begin ∷ note ∷ n r.ParmRest ∷ n r.ParmsRest ∷ t s.RightBracket ∷ []) ∷
     otherwise [] ∷
@@ -270,7 +270,7 @@ productions r.BodyIdn =
     take (s.Equal ∷ []) (n r.EquateRest ∷ n r.Body ∷ []) ∷
     otherwise (n r.StmtByIdn ∷ []) ∷
     []
--- {stmt}: Stmts all, StmtsW what doesn't begin with an idn, Next behind a stmt
+-- {stmt}: Stmts all, StmtsW what doesn't begin with an idn, Next after a stmt
 productions r.Stmts =
     take (s.Idn ∷ []) (begin ∷ note ∷ n r.StmtByIdn ∷ []) ∷
     otherwise (n r.StmtsByWord ∷ []) ∷
@@ -290,7 +290,7 @@ productions r.StmtsByWord =
     peek body_ends [] ∷
     otherwise (n r.Primary ∷ n r.PostfixStmt ∷ []) ∷
     []
--- Resignal = stmt resignal idn#; Except = stmt except {When} [Others] end; one ";" behind each stmt
+-- Resignal = stmt resignal idn#; Except = stmt except {When} [Others] end; one ";" after each stmt
 productions r.AfterStmt =
     take (s.Semicolon ∷ []) (n r.AfterSemicolon ∷ []) ∷
     otherwise (n r.AfterSemicolon ∷ []) ∷
@@ -300,7 +300,7 @@ productions r.AfterSemicolon =
     take (s.Except ∷ []) (wrap ∷ n r.Whens ∷ t s.End ∷ close k.Except ∷ n r.AfterStmt ∷ []) ∷
     otherwise (n r.Stmts ∷ []) ∷
     []
--- a stmt that begins with an idn, behind it
+-- a stmt that begins with an idn, after it
 productions r.StmtByIdn =
     take (s.Colon ∷ []) (n r.AnyType ∷ n r.DeclOne ∷ []) ∷
     take (s.Comma ∷ []) (t s.Idn ∷ note ∷ n r.Names ∷ n r.StmtByNames ∷ []) ∷
@@ -326,7 +326,7 @@ productions r.DeclEnd =
     take (s.Comma ∷ []) (wrap ∷ t s.Idn ∷ begin ∷ note ∷ n r.DeclRest ∷ n r.DeclsRest ∷ t s.Assign ∷ n r.Call ∷ close k.Init ∷ n r.AfterStmt ∷ []) ∷
     otherwise (wrap ∷ close k.Declare ∷ n r.AfterStmt ∷ []) ∷
     []
--- SetField = primary "." idn ":=" expr; CallS = Call; PostS behind a primary that can't be a stmt, MoreS behind a Call
+-- SetField = primary "." idn ":=" expr; CallS = Call; PostS after a primary that can't be a stmt, MoreS after a Call
 productions r.PostfixStmt =
     take (s.LeftBracket ∷ []) (wrap ∷ n r.IndexStmt ∷ []) ∷
     otherwise (n r.SelectorStmt ∷ []) ∷
@@ -360,7 +360,7 @@ productions r.IndexEndStmt =
     take (s.Assign ∷ []) (n r.Expr ∷ close k.SetIndex ∷ n r.AfterStmt ∷ []) ∷
     otherwise (close k.Index ∷ n r.PostfixStmt ∷ []) ∷
     []
--- the same inside the "[" behind a stmt's first idn, which may be a NameT's
+-- the same inside the "[" after a stmt's first idn, which may be a NameT's
 productions r.BaseIndexStmt =
     peek type_words (n r.WordType ∷ n r.BaseIndexTypeStmt ∷ []) ∷
     otherwise (n r.Operand ∷ n r.Operators ∷ n r.BaseIndexOneStmt ∷ []) ∷
@@ -502,7 +502,7 @@ productions r.SelectorExpr =
     take (s.LeftParen ∷ []) (wrap ∷ n r.Arguments ∷ t s.RightParen ∷ close k.Call ∷ n r.PostfixExpr ∷ []) ∷
     otherwise [] ∷
     []
--- a primary that must be a Call (For, Init, Own): PostC behind one that is none, MoreC behind a Call
+-- a primary that must be a Call (For, Init, Own): PostC after one that is none, MoreC after a Call
 productions r.Call =
     take (s.Idn ∷ []) (begin ∷ note ∷ n r.IdnCall ∷ []) ∷
     otherwise (n r.Primary ∷ n r.PostfixCall ∷ []) ∷

@@ -43,7 +43,7 @@ note = item.Action action.Note
 abbrev pub close : NodeKind → Item
 close kind = item.Action (action.Close kind)
 
--- a name, unless the bracket behind it closes before a `$`
+-- a name, unless the bracket after it closes before a `$`
 abbrev pub base : Item
 base = item.Action action.Base
 

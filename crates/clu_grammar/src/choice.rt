@@ -11,7 +11,7 @@ use clu_lexer::Symbol;
 /// What a parser does at a nonterminal.
 #[derive(Clone, Copy)]
 pub enum Choice {
-    /// The next symbol is taken, and the items are to be read behind it.
+    /// The next symbol is taken, and the items are to be read after it.
     Take(&'static [Item]),
     /// The items are to be read.
     Go(&'static [Item]),

@@ -256,7 +256,7 @@ pub const SELECTOR_EXPR: [Row; 3] = [
     Otherwise(&[]),
 ];
 
-// a primary that must be a Call (For, Init, Own): PostC behind one that is none, MoreC behind a Call
+// a primary that must be a Call (For, Init, Own): PostC after one that is none, MoreC after a Call
 pub const CALL: [Row; 2] = [
     Take(&[S::Idn], &[A(Open), A(Note), N(R::IdnCall)]),
     Otherwise(&[N(R::Primary), N(R::PostfixCall)]),

@@ -130,7 +130,7 @@ pub enum Nonterminal {
     ElemsLow,
 }
 
-/// What the parser does to the tree behind a symbol.
+/// What the parser does to the tree after a symbol.
 #[derive(Clone, Copy)]
 pub enum Action {
     /// A node begins at the symbol just taken.
@@ -143,7 +143,7 @@ pub enum Action {
     Note,
     /// The innermost open node is whole, of this kind, and ends with the symbol just taken.
     Close(NodeKind),
-    /// A `[` behind an identifier was taken. If it closes before a `$`, the identifier names a
+    /// A `[` after an identifier was taken. If it closes before a `$`, the identifier names a
     /// type, and nothing is done; else the innermost open node is closed as a Name, which a new
     /// node holds.
     Base,

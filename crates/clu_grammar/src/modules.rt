@@ -40,7 +40,7 @@ pub const MODULES: [Row; 2] = [
     Otherwise(&[]),
 ];
 
-// Module = {Equate} (Routine / Cluster); Def stands behind idn "="
+// Module = {Equate} (Routine / Cluster); Def stands after idn "="
 pub const DEFINITION: [Row; 4] = [
     Take(
         &[S::Proc],
@@ -215,7 +215,7 @@ pub const ROUTINE: [Row; 2] = [
     Take(&[S::Iter], &[A(Note), N(R::Iter)]),
 ];
 
-// Parm = idn# ":" (type-word / type); Names is idn# behind its first idn
+// Parm = idn# ":" (type-word / type); Names is idn# after its first idn
 pub const PARMS: [Row; 2] = [
     Take(
         &[S::LeftBracket],

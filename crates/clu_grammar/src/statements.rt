@@ -21,7 +21,7 @@ pub const BODY_IDN: [Row; 2] = [
     Otherwise(&[N(R::StmtByIdn)]),
 ];
 
-// {stmt}: Stmts all, StmtsW what doesn't begin with an idn, Next behind a stmt
+// {stmt}: Stmts all, StmtsW what doesn't begin with an idn, Next after a stmt
 pub const STMTS: [Row; 2] = [
     Take(&[S::Idn], &[A(Open), A(Note), N(R::StmtByIdn)]),
     Otherwise(&[N(R::StmtsByWord)]),
@@ -142,7 +142,7 @@ pub const STMTS_BY_WORD: [Row; 13] = [
     Otherwise(&[N(R::Primary), N(R::PostfixStmt)]),
 ];
 
-// Resignal = stmt resignal idn#; Except = stmt except {When} [Others] end; one ";" behind each stmt
+// Resignal = stmt resignal idn#; Except = stmt except {When} [Others] end; one ";" after each stmt
 pub const AFTER_STMT: [Row; 2] = [
     Take(&[S::Semicolon], &[N(R::AfterSemicolon)]),
     Otherwise(&[N(R::AfterSemicolon)]),
@@ -173,7 +173,7 @@ pub const AFTER_SEMICOLON: [Row; 3] = [
     Otherwise(&[N(R::Stmts)]),
 ];
 
-// a stmt that begins with an idn, behind it
+// a stmt that begins with an idn, after it
 pub const STMT_BY_IDN: [Row; 6] = [
     Take(&[S::Colon], &[N(R::AnyType), N(R::DeclOne)]),
     Take(
@@ -249,7 +249,7 @@ pub const DECL_END: [Row; 2] = [
     Otherwise(&[A(Wrap), A(Close(K::Declare)), N(R::AfterStmt)]),
 ];
 
-// SetField = primary "." idn ":=" expr; CallS = Call; PostS behind a primary that can't be a stmt, MoreS behind a Call
+// SetField = primary "." idn ":=" expr; CallS = Call; PostS after a primary that can't be a stmt, MoreS after a Call
 pub const POSTFIX_STMT: [Row; 2] = [
     Take(&[S::LeftBracket], &[A(Wrap), N(R::IndexStmt)]),
     Otherwise(&[N(R::SelectorStmt)]),
@@ -328,7 +328,7 @@ pub const INDEX_END_STMT: [Row; 2] = [
     Otherwise(&[A(Close(K::Index)), N(R::PostfixStmt)]),
 ];
 
-// the same inside the "[" behind a stmt's first idn, which may be a NameT's
+// the same inside the "[" after a stmt's first idn, which may be a NameT's
 pub const BASE_INDEX_STMT: [Row; 2] = [
     Peek(&TYPE_WORDS, &[N(R::WordType), N(R::BaseIndexTypeStmt)]),
     Otherwise(&[N(R::Operand), N(R::Operators), N(R::BaseIndexOneStmt)]),

@@ -84,7 +84,7 @@ innermost_same (r ∷ rs) before n pc place next clear le lt =
     ap (λ (t : Bool). innermost_behind (cond t n before) (suc n) rs pc) (round_same r pc place next le lt clear.0 clear.1)
     ∙ innermost_same rs (cond (is_round r place) n before) (suc n) pc place next clear.2 le lt
 
--- How many bounds are behind a place.
+-- How many bounds are after a place.
 
 abbrev over : ℕ → ℕ → ℕ
 over pc bound = cond (nat_lt pc bound) 1 0

@@ -39,7 +39,7 @@ pub record AreCuts (rs : List Region) (cuts : List Cut) : Type 0 where
   pub few : length cuts ≤ 2 * length rs + 1
   pub innermost : (pc : ℕ) → pc < 2 ^ 32 → named_at cuts pc ≡ innermost rs pc
 
--- The next bound behind a place, where a region begins or behind one, or the number of places.
+-- The next bound after a place, where a region begins or after one, or the number of places.
 abbrev pub nearer : ℕ → ℕ → ℕ → ℕ
 nearer next pc bound = if nat_lt pc bound && nat_lt bound next then bound else next
 

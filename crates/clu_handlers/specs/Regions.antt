@@ -19,7 +19,7 @@ is_in first last (Some r) = nat_le r.first first && nat_le last r.last
 
 -- Whether a region may be added to these, of which outer ones come before those inside them: its parent is there and
 -- holds its range, and each region that is neither the parent nor one round the parent lies wholly outside the range.
--- It is asked of the regions behind the parent. Those before it that are not round it lie outside its range already.
+-- It is asked of the regions after the parent. Those before it that are not round it lie outside its range already.
 abbrev pub can_add : List Region → ℕ → ℕ → Option ℕ → Bool
 can_add rs first last None = nat_le first last && list_all (is_apart first last) rs
 can_add rs first last (Some p) = nat_le first last && (is_in first last (slice_get rs p) && list_all (is_apart first last) (drop (suc p) rs))

@@ -25,7 +25,7 @@ fn innermost(regions: &[Region], pc: u32) -> u32
     innermost
 }
 
-/// A bound behind a place, if it comes before the next one that is known.
+/// A bound after a place, if it comes before the next one that is known.
 fn nearer(next: u64, pc: u32, bound: u64) -> u64
     ensures { result ≡ nearer next pc bound }
 {
@@ -36,7 +36,7 @@ fn nearer(next: u64, pc: u32, bound: u64) -> u64
     }
 }
 
-/// The first bound behind a place: where a region begins, or the place behind one. Where there is none, the number
+/// The first bound after a place: where a region begins, or the place after one. Where there is none, the number
 /// of places.
 fn next_bound(regions: &[Region], pc: u32) -> u64
     ensures { result ≡ next_bound regions.now pc }
@@ -51,7 +51,7 @@ fn next_bound(regions: &[Region], pc: u32) -> u64
 
 impl Regions {
     /// The cuts of the code. From the place of a cut to that of the next one its region is the innermost. The only error
-    /// is want of memory.
+    /// is that memory runs out.
     pub fn cuts(&self, alloc: Global) -> Result<Vec<Cut>, Memory>
         ensures { IfOk result (λ cuts. AreCuts self.now cuts.items) }
     {

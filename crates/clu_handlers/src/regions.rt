@@ -116,7 +116,7 @@ impl Regions {
         }
     }
 
-    /// Adds a region, and answers its number. The only error is want of memory, and then nothing was added.
+    /// Adds a region, and answers its number. The only error is that memory runs out, and then nothing was added.
     pub fn insert(&mut self, region: Region) -> Result<u32, Memory>
         requires fits { IsTrue (can_add self.old region.first region.last region.parent) }
         requires few { length self.old + 1 < 2 ^ 32 }

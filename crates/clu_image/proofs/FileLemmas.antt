@@ -52,7 +52,7 @@ three_parts b at m n within =
       all = rw (m_is, n_is, rest) (whole ∙ ap (λ (r : List ℕ). take m (drop at b) ++ r) left ∙ sym (append_assoc (take m (drop at b)) (take n (drop (at + m) b)) (drop (at + m + n) b)));
     }
 
--- one more number behind those that were read
+-- one more number after those that were read
 pub numbers_more : (ns bytes : List ℕ) (n i : ℕ) → flat_map number_bytes ns ≡ take (4 * i) bytes
     → number_bytes n ≡ take 4 (drop (4 * i) bytes) → flat_map number_bytes (ns ++ n ∷ []) ≡ take (4 * (i + 1)) bytes
 numbers_more ns bytes n i before here =

@@ -13,7 +13,7 @@ use Rattle.rv_isa.specs.Image.{max_words, max_bytes}
 abbrev pub is_version : ℕ → Bool
 is_version n = n == 1 || n == 2
 
--- a size of the fixed part or the data, behind parts of so many bytes
+-- a size of the fixed part or the data, after parts of so many bytes
 abbrev pub is_size : ℕ → ℕ → Bool
 is_size before n = n % 8 == 0 && nat_le (before + n) max_bytes
 
@@ -95,7 +95,7 @@ abbrev pub IsFault : Option ℕ → FormatError → Type 0
 IsFault None e = ⊥
 IsFault (Some at) e = e ≡ Bad at
 
--- a reader refuses bytes at their first fault, and bytes without one for want of memory alone
+-- a reader refuses bytes at their first fault, and bytes without one only when memory runs out
 abbrev pub IsRefusal : Option ℕ → FormatError → Type 0
 IsRefusal None e = e ≡ Memory
 IsRefusal (Some at) e = e ≡ Bad at

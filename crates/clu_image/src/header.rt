@@ -91,7 +91,7 @@ fn is_version(n: u32) -> bool
     n == 1 || n == 2
 }
 
-/// Whether the fixed part or the data may have this size, behind parts of so many bytes.
+/// Whether the fixed part or the data may have this size, after parts of so many bytes.
 fn is_size(before: u32, n: u32) -> bool
     ensures { result ≡ is_size before n }
 {

@@ -14,8 +14,8 @@ use rv_isa::Image;
 use std::alloc::Global;
 
 /// The image of a file of version 1 or 2. Refuses other bytes with the place of the first field that
-/// is missing, cut or out of its range, or of the first byte after the end; `FormatError::Memory` is
-/// want of memory alone.
+/// is missing, cut or out of its range, or of the first byte after the end; `FormatError::Memory` comes
+/// only when memory runs out.
 pub fn load(alloc: Global, b: &[u8]) -> Result<Image, FormatError>
     ensures file { IfOk result (IsFileOf b.now) }
     ensures good { OnOk result (fault_of b.now ≡ None) }
@@ -67,7 +67,7 @@ impl<'a> Parts<'a> {
     }
 }
 
-/// The numbers of four bytes each. The only error is want of memory.
+/// The numbers of four bytes each. The only error is that memory runs out.
 fn numbers(alloc: Global, bytes: &[u8]) -> Result<Vec<u32>, Memory>
     requires { length bytes.now % 4 ≡ 0 }
     ensures count { IfOk result (λ numbers. 4 * vec_len numbers ≡ length bytes.now) }

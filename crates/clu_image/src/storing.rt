@@ -8,7 +8,7 @@ use clu_base::{Bytes, Memory, u32_add};
 use rv_isa::Image;
 use std::alloc::Global;
 
-/// The file of an image, version 2. The only error is want of memory.
+/// The file of an image, version 2. The only error is that memory runs out.
 pub fn store(alloc: Global, image: &Image) -> Result<Bytes, Memory>
     ensures bytes { IfOk result (λ b. b ≡ image_bytes image.now) }
     ensures file { IfOk result (λ b. IsFileOf b image.now) }
@@ -35,7 +35,7 @@ fn head(alloc: Global, image: &Image) -> Result<Vec<u8>, Memory>
     Ok(out)
 }
 
-/// Appends the bytes of numbers. The only error is want of memory.
+/// Appends the bytes of numbers. The only error is that memory runs out.
 fn numbers_add(out: &mut Vec<u8>, numbers: &[u32]) -> Result<(), Memory>
     ensures { OnOk result (out.new.items ≡ out.old.items ++ flat_map number_bytes numbers.now) }
 {

@@ -1,4 +1,4 @@
--- The token behind an offset, and the place there.
+-- The token after an offset, and the place there.
 use Rattle.std.proofs.Common.{◌≡◌, ℕ, suc, zero, ◌+◌, ◌-◌, ◌<◌, ◌≤◌, true, false, cond, ◌==◌, List, [], ◌∷◌, ◌++◌, length, take, drop, refl, sym, ap, ◌∙◌, arith, Some, None}
 use Rattle.std.proofs.lemmas.List.{take_rest, length-take-le, length-drop}
 use Rattle.std.proofs.Math.Seq.{take-add}
@@ -69,7 +69,7 @@ some_bytes bytes class (suc n) known = omega arith
 pub gap_is : (bytes : List ℕ) (from n : ℕ) → n ≡ gap_len false (take (length bytes - from) (drop from bytes)) → IsGap bytes from (from + n)
 gap_is bytes from n is = rw (take_rest bytes from) at (ap (λ k. from + k) (sym is))
 
--- the part of the bytes behind an offset, as the code cuts it
+-- the part of the bytes after an offset, as the code cuts it
 abbrev pub rest : List ℕ → ℕ → List ℕ
 rest bytes at = take (length bytes - at) (drop at bytes)
 

@@ -63,7 +63,7 @@ answer bytes at (Some t) known le rest =
       longest = λ m above within. elim (cases_lt at m) [ inl less ↦ rest m less within | inr more ↦ known.2 m above more ];
     }
 
--- the walk stops behind the byte at `at`
+-- the walk stops after the byte at `at`
 pub answer_stopped : (bytes : List ℕ) (at : ℕ) (best : Option (Kind × ℕ)) → Best bytes at best → at < length bytes → next (state_after bytes at) (get_or bytes at 0) ≡ state.Stop → MatchOption best (NoToken class_of bytes) (λ t. IsLongest class_of bytes t.0 t.1)
 answer_stopped bytes at best known below stop =
     answer bytes at best known (omega arith) (λ m above within. none_stopped bytes (at + 1) (state_more bytes at below ∙ stop) m (omega arith))

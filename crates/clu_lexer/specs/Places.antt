@@ -2,7 +2,7 @@
 use Rattle.std.specs.Prelude.{ℕ, ◌+◌, ◌==◌, if◌then◌else◌, List, [], ◌∷◌, take}
 use Rattle.clu_base.specs.declared.tokens.Place.{Place}
 
--- the place behind one byte: byte 10 ends a line
+-- the place after one byte: byte 10 ends a line
 abbrev pub step : Place → ℕ → Place
 step p b = if b == 10 then record { line = p.line + 1; col = 1 } else record { line = p.line; col = p.col + 1 }
 

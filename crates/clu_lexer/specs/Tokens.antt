@@ -26,14 +26,14 @@ kind_of text = option_map (λ class. kind_in class text) (class_of text)
 abbrev pub IsGap : List ℕ → ℕ → ℕ → Type 0
 IsGap bytes from to = from + gap_len false (drop from bytes) ≡ to
 
--- the token is the first one behind the offset, and the longest there
+-- the token is the first one after the offset, and the longest there
 pub record IsToken (bytes : List ℕ) (from : ℕ) (t : Token) : Type 0 where
   pub gap : IsGap bytes from t.start
   pub forward : t.start < t.end
   pub longest : IsLongest kind_of (drop t.start bytes) t.kind (t.end - t.start)
   pub place : t.place ≡ place_at bytes t.start
 
--- behind the offset no token begins where one should, and this is the place
+-- after the offset no token begins where one should, and this is the place
 pub record IsBad (bytes : List ℕ) (from : ℕ) (place : Place) : Type 0 where
   pub at : ℕ
   pub gap : IsGap bytes from at
@@ -41,7 +41,7 @@ pub record IsBad (bytes : List ℕ) (from : ℕ) (place : Place) : Type 0 where
   pub none : NoToken kind_of (drop at bytes)
   pub place_is : place ≡ place_at bytes at
 
--- what follows behind the offset: a token, the end, or a fault
+-- what follows after the offset: a token, the end, or a fault
 abbrev pub IsNext : List ℕ → ℕ → Result (Option Token) Place → Type 0
 IsNext bytes from (Ok (Some t)) = IsToken bytes from t
 IsNext bytes from (Ok None) = IsGap bytes from (length bytes)

@@ -34,7 +34,7 @@ pub fn is_plain(closing: u8, b: u8) -> bool
     (b == b'\t' || (b' ' <= b && b != 127)) && b != b'\\' && b != closing
 }
 
-/// Whether the byte behind a backslash makes an escape of two bytes.
+/// Whether the byte after a backslash makes an escape of two bytes.
 pub fn is_escape_letter(b: u8) -> bool
     ensures { result ≡ is_escape_letter b }
 {

@@ -5,7 +5,7 @@ ghost use Rattle.clu_lexer.specs.Places.{place_after};
 
 use clu_base::Place;
 
-/// The place behind the bytes, which begin at `place`.
+/// The place after the bytes, which begin at `place`.
 pub fn advance(place: Place, bytes: &[u8]) -> Place
     requires lines { place.line + length bytes.now < 2 ^ 32 }
     requires columns { place.col + length bytes.now < 2 ^ 32 }

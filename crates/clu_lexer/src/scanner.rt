@@ -67,7 +67,7 @@ pub enum State {
     Stop,
 }
 
-/// The state behind the first byte.
+/// The state after the first byte.
 fn begin(b: u8) -> State
     ensures { result ≡ begin b }
 {
@@ -88,7 +88,7 @@ fn begin(b: u8) -> State
     }
 }
 
-/// The state behind the digits of a number.
+/// The state after the digits of a number.
 fn next_whole(b: u8) -> State
     ensures { result ≡ next State.Whole b }
 {
@@ -99,7 +99,7 @@ fn next_whole(b: u8) -> State
     }
 }
 
-/// The state behind digits with a point.
+/// The state after digits with a point.
 fn next_fraction(b: u8) -> State
     ensures { result ≡ next State.Fraction b }
 {
@@ -110,7 +110,7 @@ fn next_fraction(b: u8) -> State
     }
 }
 
-/// The state behind a number and `e`.
+/// The state after a number and `e`.
 fn next_exponent(b: u8) -> State
     ensures { result ≡ next State.Exponent b }
 {
@@ -121,7 +121,7 @@ fn next_exponent(b: u8) -> State
     }
 }
 
-/// The state behind `'`.
+/// The state after `'`.
 fn next_char(b: u8) -> State
     ensures { result ≡ next State.CharOpen b }
 {
@@ -131,7 +131,7 @@ fn next_char(b: u8) -> State
     }
 }
 
-/// The state behind `'` and a backslash.
+/// The state after `'` and a backslash.
 fn next_char_escape(b: u8) -> State
     ensures { result ≡ next State.CharEscape b }
 {
@@ -142,7 +142,7 @@ fn next_char_escape(b: u8) -> State
     }
 }
 
-/// The state behind `"` and characters.
+/// The state after `"` and characters.
 fn next_text(b: u8) -> State
     ensures { result ≡ next State.Text b }
 {
@@ -153,7 +153,7 @@ fn next_text(b: u8) -> State
     }
 }
 
-/// The state behind a backslash in a string literal.
+/// The state after a backslash in a string literal.
 fn next_text_escape(b: u8) -> State
     ensures { result ≡ next State.TextEscape b }
 {
@@ -164,7 +164,7 @@ fn next_text_escape(b: u8) -> State
     }
 }
 
-/// The state behind `~`.
+/// The state after `~`.
 fn next_tilde(b: u8) -> State
     ensures { result ≡ next State.Tilde b }
 {
@@ -181,7 +181,7 @@ fn only_if(test: bool, then: State) -> State
     if test { then } else { State::Stop }
 }
 
-/// The state behind one byte more.
+/// The state after one byte more.
 fn next(state: State, b: u8) -> State
     ensures { result ≡ next state b }
 {

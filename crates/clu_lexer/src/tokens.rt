@@ -44,7 +44,7 @@ fn kind_in(class: Kind, text: &[u8]) -> Kind
     }
 }
 
-/// The first token behind `from`, whose place is given; None where there is none up to the end.
+/// The first token after `from`, whose place is given; None where there is none up to the end.
 /// The error is the place at which bytes stand that begin no token.
 fn token_after(bytes: &[u8], from: usize, place: Place) -> Result<Option<Token>, Place>
     requires within { from ≤ length bytes.now }
@@ -98,7 +98,7 @@ pub fn lex(alloc: Global, bytes: &[u8]) -> Result<Vec<Token>, LexError>
     }
 }
 
-/// The place behind the last byte, where a fault at the end of the source is.
+/// The place after the last byte, where a fault at the end of the source is.
 pub fn end_place(bytes: &[u8]) -> Place
     requires { length bytes.now ≤ 1_048_576 }
     ensures { result ≡ place_at bytes.now (length bytes.now) }

@@ -20,7 +20,7 @@ trans = nat_list_cmp_total.trans
 back : (x y : List ℕ) → name_order x y ≡ Greater → name_order y x ≡ Less
 back x y e = nat_list_cmp_total.antisymm y x ∙ ap ordering_reverse e
 
--- a name before another comes before all behind it
+-- a name before another comes before all after it
 after_less : {X : Type 0} (f : X → List ℕ) (m n : List ℕ) (xs : List X) → name_order m n ≡ Less → ComeAfter f n xs → ComeAfter f m xs
 after_less f m n [] e h = tt
 after_less f m n (x ∷ xs) e h = (trans m n (f x) e h.0, after_less f m n xs e h.1)
@@ -78,7 +78,7 @@ further-found (Err i) x xs = refl
 same_name : (m n : List ℕ) → bytes_eq m n ≡ is_eq (name_order m n)
 same_name m n = sym (is_eq-slice_cmp m n)
 
--- no name behind a greater one is this
+-- no name after a greater one is this
 find_none : {X : Type 0} (f : X → List ℕ) (n : List ℕ) (xs : List X) → ComeAfter f n xs → find (λ x. bytes_eq (f x) n) xs ≡ None
 find_none f n [] h = refl
 find_none f n (x ∷ xs) h =

@@ -87,7 +87,7 @@ impl<T: Named> ByName<T> {
 }
 
 impl<T: Named + Drop> ByName<T> {
-    /// Adds an item; a kept one of its name is replaced. After want of memory the list is as before.
+    /// Adds an item; a kept one of its name is replaced. When memory runs out the list is as before.
     pub fn put(&mut self, item: T) -> Result<(), Memory>
         ensures ok { OnOk result (self.new ≡ with_item T.name_of self.old item) }
         ensures err { OnErr result (self.new ≡ self.old) }

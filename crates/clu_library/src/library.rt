@@ -151,7 +151,7 @@ impl Library {
     }
 
     /// Enters the body of a module whose specification is kept, as one that was checked at this revision. Each program
-    /// that reaches the module goes. After want of memory nothing has changed.
+    /// that reaches the module goes. When memory runs out nothing has changed.
     pub fn enter_body(&mut self, alloc: Global, name: &Bytes, b: Body) -> Result<(), Memory>
         requires { IsSome (spec_of self.old name.now) }
         ensures entered { OnOk result (self.new ≡ with_body self.old name.now b) }

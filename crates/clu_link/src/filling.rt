@@ -130,7 +130,7 @@ fn kind_of(number: u8) -> Option<HoleKind>
     }
 }
 
-/// Lets the LUI at this word and the ADDI behind it give a number.
+/// Lets the LUI at this word and the ADDI after it give a number.
 fn fill(words: &mut Vec<u32>, at: usize, number: u64) -> Result<(), LinkError> {
     let code = words.as_mut_slice();
     if number >= HOLE_LIMIT || code.len() < 2 || at > code.len() - 2 {

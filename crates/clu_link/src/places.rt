@@ -1,4 +1,4 @@
-//! Where the parts of a program lie: the code, behind it the fixed part, behind that the data.
+//! Where the parts of a program lie: the code, after it the fixed part, after that the data.
 
 use crate::bounds::{CELL, DESCRIPTOR, OWN_VARIABLE, cells, own_variables, string_bytes};
 use crate::errors::LinkError;
@@ -33,7 +33,7 @@ pub struct Places {
     pub own: Vec<u64>,
     /// For each cluster instance that of its first own variable.
     pub clusters: Vec<u64>,
-    /// That behind the data.
+    /// That after the data.
     pub end: u64,
 }
 

@@ -46,7 +46,7 @@ pub struct Program<'a> {
     pub types: TypeArena,
     /// The start part, the search part, the routines of modules and the operations.
     pub codes: Vec<Code<'a>>,
-    /// The instances, of which the first is the start, and behind them the operations.
+    /// The instances, of which the first is the start, and after them the operations.
     pub callables: Vec<Callable>,
     /// For each cluster instance how many own variables it has.
     pub clusters: Vec<u64>,

@@ -210,7 +210,7 @@ impl<'a> Work<'a> {
         Ok(())
     }
 
-    /// Visits the n-th instance; whether the one behind it is still to be visited. Where there are too many already,
+    /// Visits the n-th instance; whether the one after it is still to be visited. Where there are too many already,
     /// nothing that is found later changes the answer.
     fn visit_next(&mut self, alloc: Global, n: usize) -> Result<bool, LinkError> {
         match self.origin(alloc, n)? {

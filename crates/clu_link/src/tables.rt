@@ -134,7 +134,7 @@ fn add_constants(
     Ok(())
 }
 
-/// The addresses of so many own variables that lie one behind the other.
+/// The addresses of so many own variables that lie one after the other.
 fn add_own_cells(out: &mut Vec<u8>, first: u64, count: u64) -> Result<(), LinkError> {
     for n in 0..count {
         u64_add(out, first.saturating_add(n.saturating_mul(OWN_VARIABLE)))?;

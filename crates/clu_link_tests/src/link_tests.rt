@@ -324,7 +324,7 @@ fn found(bytes: &[u8], pattern: &[u8]) -> Option<usize> {
 }
 
 /// Whether the code of `p` is the last of the image's. The descriptor of the one use is in the second cell, 8 bytes
-/// behind the first.
+/// after the first.
 fn has_code(linked: &Linked) -> bool {
     let code = linked.image.code.as_slice();
     let last = code.len().saturating_sub(3);

@@ -89,7 +89,7 @@ fn lowers_a_procedure(rt: HostRuntime) -> Result<(), Fail> {
     assert_eq!(rt; p.slots, 9);
     assert!(rt; p.width() <= p.nodes.saturating_mul(2));
     assert_eq!(rt; p.uses.len(), 0);
-    // The signal, and the name and the text of the failure behind the last statement.
+    // The signal, and the name and the text of the failure after the last statement.
     assert_eq!(rt; p.constants.len(), 3);
     let own = p.types.first().ok_or("no own type")?;
     assert_eq!(rt; own.as_slice(), b"proctype(int,int)returns(int)".as_slice());

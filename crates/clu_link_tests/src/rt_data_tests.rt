@@ -10,7 +10,7 @@ use std::fmt::Write;
 use std::test::Fail;
 
 /// Rows that each end with byte 0: an operation, by its type and name, and how many arguments it takes, or `-` where no
-/// code is kept here; and behind commas its constants.
+/// code is kept here; and after commas its constants.
 const ROWS: &str = "\
 array create 1,bounds out of range,failure\0\
 array new 0\0\
@@ -120,7 +120,7 @@ fn pair_named(alloc: Global, types: &mut TypeArena, word: &str) -> Result<TypeId
 }
 
 /// Rows that each end with byte 0: an operation that uses those of two components, by its type and name, and how many
-/// arguments it takes, or `-` where there is none of this name; and behind commas its uses.
+/// arguments it takes, or `-` where there is none of this name; and after commas its uses.
 const SCHEMES: &str = "\
 struct equal 2,#1$equal,#2$equal\0\
 struct similar 2,#1$similar,#2$similar\0\

@@ -10,7 +10,7 @@ use std::fmt::Write;
 use std::test::Fail;
 
 /// Rows that each end with byte 0: an operation, by its type and name, and how many arguments it takes, or `-` where no
-/// code is kept here; and behind commas its constants.
+/// code is kept here; and after commas its constants.
 const ROWS: &str = "\
 null equal 2\0\
 null copy 1\0\

@@ -1,4 +1,4 @@
-//! Word code as the rows of tests have it: how many arguments it takes, and behind commas what it names.
+//! Word code as the rows of tests have it: how many arguments it takes, and after commas what it names.
 
 use clu_base::{Bytes, Const, ObjConst};
 use clu_wir::WRoutine;

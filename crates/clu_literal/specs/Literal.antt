@@ -38,7 +38,7 @@ abbrev pub front_code : List ℕ → ℕ
 front_code [] = 0
 front_code (letter ∷ bs) = letter_code letter
 
--- the code of the character whose escape stands behind a backslash
+-- the code of the character whose escape stands after a backslash
 abbrev pub escape_code : List ℕ → ℕ
 escape_code bs = if starts_with_code bs then digits_code bs else front_code bs
 
@@ -50,7 +50,7 @@ escape_len bs = if starts_with_code bs then 3 else 1
 abbrev pub as_byte : ℕ → Option ℕ
 as_byte code = if nat_lt code 256 then Some code else None
 
--- the byte and those behind it, if all are bytes
+-- the byte and those after it, if all are bytes
 unfoldable pub with_byte : Option ℕ → Option (List ℕ) → Option (List ℕ)
 with_byte None rest = None
 with_byte (Some b) None = None

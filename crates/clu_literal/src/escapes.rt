@@ -1,4 +1,4 @@
-//! Escapes: what stands behind a backslash, and the code of the character that it denotes.
+//! Escapes: what stands after a backslash, and the code of the character that it denotes.
 
 ghost use Rattle.std.specs.Prelude.{◌≡◌, ◌<◌, ◌^◌};
 ghost use Rattle.clu_literal.specs.Literal.{escape_code, escape_len, is_octal, letter_code, octal_code, starts_with_code};
@@ -51,7 +51,7 @@ fn starts_with_code(rest: &[u8]) -> bool
     }
 }
 
-/// The code of the character whose escape stands behind a backslash; 0 where nothing stands there.
+/// The code of the character whose escape stands after a backslash; 0 where nothing stands there.
 pub fn escape_code(rest: &[u8]) -> u16
     ensures { result ≡ escape_code rest.now }
 {
@@ -68,7 +68,7 @@ pub fn escape_code(rest: &[u8]) -> u16
     }
 }
 
-/// How many bytes belong to the escape behind the backslash.
+/// How many bytes belong to the escape after the backslash.
 pub fn escape_len(rest: &[u8]) -> usize
     ensures { result ≡ escape_len rest.now }
 {

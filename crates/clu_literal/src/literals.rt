@@ -9,7 +9,7 @@ use std::alloc::Global;
 
 /// The bytes that the string literal of this spelling denotes, or None where an octal code in it is
 /// above 377. The spelling has its marks, as in `"a\n"`, and is longer than what it denotes. The only
-/// error is want of memory.
+/// error is that memory runs out.
 pub fn string_bytes(alloc: Global, spelling: &[u8]) -> Result<Option<Bytes>, Memory>
     ensures denoted { IfOk result (λ found. found ≡ string_denoted spelling.now) }
     ensures short { IfOk result (λ found. IfSome found (λ bytes. length bytes ≤ length spelling.now - 1)) }
@@ -39,7 +39,7 @@ fn as_byte(code: u16) -> Option<u8>
     if code < 256 { Some(code as u8) } else { None }
 }
 
-/// The bytes of a string literal from behind its opening mark on.
+/// The bytes of a string literal from after its opening mark on.
 #[tactic(auto, using(crate::proofs::Taken::taken_laws))]
 fn text_bytes(alloc: Global, mut text: &[u8]) -> Result<Option<Bytes>, Memory>
     ensures denoted { IfOk result (λ found. found ≡ text_denoted 0 text.entry.now) }

@@ -1,4 +1,4 @@
-//! What is done before a child of a statement with arms, behind it, and at the statement's ends.
+//! What is done before a child of a statement with arms, after it, and at the statement's ends.
 
 use crate::handlers::{close_arm, close_guard, keep_declared, open_arm, open_guard};
 use crate::kinds::{is_behind_else, is_statement};
@@ -83,7 +83,7 @@ fn has_type(c: &Checked, arm: &Node) -> Result<bool, LowerError> {
     }
 }
 
-/// Behind a statement or an arm.
+/// After a statement or an arm.
 pub fn pass_armed(
     out: &mut Lowering,
     c: &Checked,
@@ -103,7 +103,7 @@ pub fn pass_armed(
     }
 }
 
-/// Behind the children.
+/// After the children.
 pub fn end_armed(out: &mut Lowering, node: &Node, frame: Frame) -> Result<(), LowerError> {
     out.leave(frame.in_scope);
     out.release(frame.taken);

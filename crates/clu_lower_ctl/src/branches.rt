@@ -1,4 +1,4 @@
-//! The branches of an If: each further condition and the body behind `else` stand in the second list of the statement
+//! The branches of an If: each further condition and the body after `else` stand in the second list of the statement
 //! before.
 
 use crate::walk::Frame;
@@ -15,7 +15,7 @@ pub struct Branch {
     body: Option<Vec<WStmt>>,
 }
 
-/// Begins the body behind a condition.
+/// Begins the body after a condition.
 pub fn open_branch(
     out: &mut Lowering,
     condition: WExpr,

@@ -34,7 +34,7 @@ struct Cluster<'a> {
     owns: &'a [u32],
 }
 
-/// The routines of a cluster, by the nodes of its module and its own, behind that which sets up its own variables, if it
+/// The routines of a cluster, by the nodes of its module and its own, after that which sets up its own variables, if it
 /// has any.
 pub fn cluster_routines(
     alloc: Global,
@@ -78,7 +78,7 @@ impl Cluster<'_> {
         declare_owns(out, c, self.owns, HoleKind::ClusterOwn)
     }
 
-    /// The routines of these nodes, behind that which sets up the own variables.
+    /// The routines of these nodes, after that which sets up the own variables.
     fn all_routines(
         &self,
         alloc: Global,

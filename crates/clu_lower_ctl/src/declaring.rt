@@ -67,7 +67,7 @@ fn new_variable(out: &mut Lowering, is_any: bool) -> Result<Variable, LowerError
     Ok(variable)
 }
 
-/// `a: t := e` and `a: t, b: u := f()`. The variables are in scope behind the statement.
+/// `a: t := e` and `a: t, b: u := f()`. The variables are in scope after the statement.
 pub fn initialize(out: &mut Lowering, c: &Checked, node: &Node) -> Result<(), LowerError> {
     match (node.names.as_slice(), node.children.as_slice()) {
         ([name], [of, value]) => initialize_one(out, c, name, *of, *value),

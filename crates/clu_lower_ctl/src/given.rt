@@ -102,7 +102,7 @@ fn give_restrict(
     }
 }
 
-/// The types in a set name its variable as a parameter behind those of the module, which stay as they are. Its actual
+/// The types in a set name its variable as a parameter after those of the module, which stay as they are. Its actual
 /// is the parameter that is in the set.
 fn actuals_of_set(out: &mut Lowering, spec: &Spec, param: u32) -> Result<Vec<Actual>, LowerError> {
     let types = &mut out.body.given_types;

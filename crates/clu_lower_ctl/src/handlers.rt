@@ -112,7 +112,7 @@ fn takes_failures(arm: &OpenArm) -> bool {
     false
 }
 
-/// Behind the statement: what it declares stays in scope behind the whole.
+/// After the statement: what it declares stays in scope after the whole.
 pub fn keep_declared(out: &Lowering, frame: &mut Frame) {
     frame.in_scope = out.in_scope();
     frame.taken = out.taken();
@@ -185,7 +185,7 @@ pub fn open_arm(
     }
 }
 
-/// The variables of a When name the objects that come. Those of type any are bound with the types that come behind them.
+/// The variables of a When name the objects that come. Those of type any are bound with the types that come after them.
 fn open_when(
     out: &mut Lowering,
     c: &Checked,
@@ -210,7 +210,7 @@ fn open_when(
 }
 
 /// Binds the objects in an arm's slots to type any where `any` says so. The address of the numbers of their types comes
-/// into one more slot, which is free behind this.
+/// into one more slot, which is free after this.
 fn bind_objects(out: &mut Lowering, any: &[bool], frame: &mut Frame) -> Result<(), LowerError> {
     let types = out.take()?;
     out.release(types);
@@ -228,7 +228,7 @@ fn bind_objects(out: &mut Lowering, any: &[bool], frame: &mut Frame) -> Result<(
 /// The bytes of a word.
 const WORD: u32 = 8;
 
-/// Binds the object in a slot, the number of whose type is so many bytes behind the address in another, to type any.
+/// Binds the object in a slot, the number of whose type is so many bytes after the address in another, to type any.
 fn bind_object(out: &mut Lowering, slot: u32, types: u32, distance: u32) -> Result<(), LowerError> {
     let address = Box::new(out.alloc, WExpr::Slot(types))?;
     let number = WExpr::Load(address, distance);

@@ -33,7 +33,7 @@ pub fn is_statement(kind: NodeKind) -> bool {
         )
 }
 
-/// Whether a child stands in the body behind the word `else`.
+/// Whether a child stands in the body after the word `else`.
 pub fn is_behind_else(node: &Node, child: &Node) -> bool {
     match node.value_token {
         Some(token) => child.first > token,

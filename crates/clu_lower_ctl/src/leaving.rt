@@ -59,7 +59,7 @@ pub fn signal(out: &mut Lowering, c: &Checked, node: &Node) -> Result<(), LowerE
     out.push(WStmt::Signal(name, objects))
 }
 
-/// The objects of an exception of the heading, and behind them the address of the numbers of their types. A failure, which
+/// The objects of an exception of the heading, and after them the address of the numbers of their types. A failure, which
 /// may come from anywhere, has its string alone.
 fn with_types(
     out: &Lowering,

@@ -45,7 +45,7 @@ pub fn open_turns(
     Ok(())
 }
 
-/// The slots to which the words of a yield go. Behind this the loop's variables name their objects.
+/// The slots to which the words of a yield go. After this the loop's variables name their objects.
 fn items(out: &mut Lowering, c: &Checked, node: &Node, call: u32) -> Result<Vec<u32>, LowerError> {
     let given = results_of(c, node_at(&c.tree, call)?)?;
     if node.names.as_slice().is_empty() {
@@ -72,7 +72,7 @@ fn declare_items(
     Ok(items)
 }
 
-/// The variables of one Decl, behind those that have their slots.
+/// The variables of one Decl, after those that have their slots.
 fn declare_some(
     out: &mut Lowering,
     c: &Checked,

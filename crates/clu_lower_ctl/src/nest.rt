@@ -16,7 +16,7 @@ pub struct Nest {
     /// The slots of the variables of the arm that is walked.
     pub slots: Vec<u32>,
     pub arms: Vec<WArm>,
-    /// Of a Tagcase: the slot of the tag, behind which that of the object is, and the type of what is selected.
+    /// Of a Tagcase: the slot of the tag, after which that of the object is, and the type of what is selected.
     pub tag: u32,
     pub of: Option<TypeId>,
     /// The arms of a Tagcase: their tags and lists.

@@ -59,7 +59,7 @@ pub fn declare_owns(
     Ok(())
 }
 
-/// Brings the variables of Decls into scope, numbered behind `last`; the answer is the last number.
+/// Brings the variables of Decls into scope, numbered after `last`; the answer is the last number.
 fn declare_several(
     out: &mut Lowering,
     c: &Checked,

@@ -14,7 +14,7 @@ use clu_types::{Field, Term, TypeId};
 use clu_wir::{WExpr, WOp, WStmt};
 use std::boxed::Box;
 
-/// The distance of the object behind the tag.
+/// The distance of the object after the tag.
 const OBJECT: u32 = 8;
 
 /// Takes the slots of the tag and of the object.

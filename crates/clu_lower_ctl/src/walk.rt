@@ -1,4 +1,4 @@
-//! The walk over the statements of a routine: what comes before a child, behind a child and behind all children of
+//! The walk over the statements of a routine: what comes before a child, after a child and after all children of
 //! each kind of statement with bodies.
 
 use crate::arms::{begin_armed, end_armed, is_armed, pass_armed, reach_armed};
@@ -28,7 +28,7 @@ pub struct Frame {
     /// How many variables were in scope and slots were taken before it.
     pub in_scope: usize,
     pub taken: u32,
-    /// Whether the body behind `else` was begun.
+    /// Whether the body after `else` was begun.
     pub behind_else: bool,
     /// Of an If: the branches that were begun.
     pub branches: Vec<Branch>,
@@ -92,7 +92,7 @@ fn begin(out: &mut Lowering, c: &Checked, node: &Node) -> Result<Frame, LowerErr
     Ok(frame)
 }
 
-/// Behind a child that is a statement or an arm.
+/// After a child that is a statement or an arm.
 fn pass(
     out: &mut Lowering,
     c: &Checked,
@@ -160,7 +160,7 @@ fn end_body(out: &mut Lowering, frame: &Frame) {
     out.release(frame.taken);
 }
 
-/// A condition: the body behind it is done where it is true.
+/// A condition: the body after it is done where it is true.
 fn reach_condition(
     out: &mut Lowering,
     c: &Checked,
@@ -189,7 +189,7 @@ fn leave_unless(out: &mut Lowering, condition: WExpr) -> Result<(), LowerError> 
     out.push(WStmt::If(condition, Vec::new(out.alloc), leaving))
 }
 
-/// Behind the children.
+/// After the children.
 fn end(out: &mut Lowering, c: &Checked, node: &Node, frame: Frame) -> Result<(), LowerError> {
     if is_armed(node.kind) {
         return end_armed(out, node, frame);

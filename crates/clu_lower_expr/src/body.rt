@@ -25,7 +25,7 @@ pub struct OpenArm {
     pub names: Vec<Bytes>,
     /// Whether it drops the objects.
     pub drops: bool,
-    /// Whether it binds objects to type any, and takes behind them the address of the numbers of their types.
+    /// Whether it binds objects to type any, and takes after them the address of the numbers of their types.
     pub binds: bool,
 }
 
@@ -75,7 +75,7 @@ impl Body {
         }
     }
 
-    /// Adds what a where clause gives, behind what others give, with these actuals put in, which are of the arena of
+    /// Adds what a where clause gives, after what others give, with these actuals put in, which are of the arena of
     /// what is given. Without actuals the parameters stay.
     pub fn give(
         &mut self,

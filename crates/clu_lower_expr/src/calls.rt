@@ -4,7 +4,7 @@ use crate::errors::LowerError;
 use crate::lowering::Lowering;
 use clu_wir::{WExpr, WStmt};
 
-/// Calls a routine with arguments; its only result goes into the slot behind the first `taken`, and slots behind that
+/// Calls a routine with arguments; its only result goes into the slot after the first `taken`, and slots after that
 /// are given back.
 pub fn call_for_one(
     out: &mut Lowering,

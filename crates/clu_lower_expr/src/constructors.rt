@@ -166,7 +166,7 @@ fn array(
 }
 
 /// Raises a failure unless the bounds of so many elements, and the int below the low one, are ints. Counted from the
-/// least int but one, the low bound is less than all ones without the elements behind the first.
+/// least int but one, the low bound is less than all ones without the elements after the first.
 fn test_low(out: &mut Lowering, low: WExpr, count: u64) -> Result<(), LowerError> {
     let counted = binary(out, WOp::Add, low, WExpr::Word(GREATEST))?;
     let most = WExpr::Word(0u64.wrapping_sub(count.max(1)));

@@ -44,7 +44,7 @@ pub fn bound_call(
     }
 }
 
-/// The same for one result, which goes into the first slot from `free` on; slots behind that are given back.
+/// The same for one result, which goes into the first slot from `free` on; slots after that are given back.
 pub fn invoke_for_one(
     out: &mut Lowering,
     c: &Checked,

@@ -14,7 +14,7 @@ use std::alloc::Global;
 use std::hash::Hash;
 use std::mem;
 
-/// A routine in the making. Slots are taken and given back like a stack: a statement's own slots stand behind those of
+/// A routine in the making. Slots are taken and given back like a stack: a statement's own slots stand after those of
 /// the variables in scope.
 #[derive(Drop)]
 pub struct Lowering {
@@ -148,14 +148,14 @@ impl Lowering {
         self.constant(ObjConst::Value(Const::Str(bytes)))
     }
 
-    /// Adds a type, by its text, behind all others; the answer is its place.
+    /// Adds a type, by its text, after all others; the answer is its place.
     pub fn add_type(&mut self, text: Bytes) -> Result<u32, LowerError> {
         let number = place(self.types.len())?;
         self.types.push(text)?;
         Ok(number)
     }
 
-    /// Adds types, by their texts, one behind the other; the answer is the place of the first.
+    /// Adds types, by their texts, one after the other; the answer is the place of the first.
     pub fn add_types(&mut self, texts: Vec<Bytes>) -> Result<u32, LowerError> {
         let first = place(self.types.len())?;
         for text in texts {
@@ -164,7 +164,7 @@ impl Lowering {
         Ok(first)
     }
 
-    /// The address of cells with the numbers of types, by their texts, one behind the other.
+    /// The address of cells with the numbers of types, by their texts, one after the other.
     pub fn type_cells(&mut self, texts: Vec<Bytes>) -> Result<WExpr, LowerError> {
         Ok(WExpr::Hole(HoleKind::TypeCell, self.add_types(texts)?))
     }

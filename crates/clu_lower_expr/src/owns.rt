@@ -43,7 +43,7 @@ impl Lowering {
         Ok(WExpr::Slot(slot))
     }
 
-    /// The word so many bytes behind the address in a slot.
+    /// The word so many bytes after the address in a slot.
     fn word_behind(&self, slot: u32, distance: u32) -> Result<WExpr, LowerError> {
         Ok(WExpr::Load(Box::new(self.alloc, WExpr::Slot(slot))?, distance))
     }

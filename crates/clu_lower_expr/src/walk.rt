@@ -1,4 +1,4 @@
-//! The walk over an expression: its parts from left to right, and the code behind them.
+//! The walk over an expression: its parts from left to right, and the code after them.
 
 use crate::binding::denoted_type;
 use crate::constructors::{elements, fields, is_constructor};
@@ -107,7 +107,7 @@ fn begin(out: &mut Lowering, node: &Node) -> Result<Frame, LowerError> {
     })
 }
 
-/// Behind a part.
+/// After a part.
 fn pass(
     out: &mut Lowering,
     node: &Node,
@@ -126,7 +126,7 @@ fn pass(
     Ok(())
 }
 
-/// Behind the parts.
+/// After the parts.
 fn end(
     out: &mut Lowering,
     c: &Checked,
@@ -161,7 +161,7 @@ fn only_value(mut values: Vec<WExpr>) -> Result<WExpr, LowerError> {
     values.pop().ok_or(LowerError::NotYet)
 }
 
-/// Behind both sides of `cand` or `cor`: the statements of the right side are done where the left side doesn't tell.
+/// After both sides of `cand` or `cor`: the statements of the right side are done where the left side doesn't tell.
 fn condition(
     out: &mut Lowering,
     node: &Node,

@@ -17,7 +17,7 @@ is_pair_of _ _ = false
 abbrev pub is_pair_at : List ℕ → ℕ → Bool
 is_pair_at code at = is_pair_of (slice_get code at) (slice_get code (at + 1))
 
--- whether each hole covers such words, from `least` on, each behind the words of the one before
+-- whether each hole covers such words, from `least` on, each after the words of the one before
 abbrev pub are_holes : List ℕ → ℕ → List Hole → Bool
 are_holes code least [] = true
 are_holes code least (h ∷ rest) = nat_le least h.at && is_pair_at code h.at && are_holes code (h.at + 2) rest

@@ -1,4 +1,4 @@
-//! Equal copies of objects and their parts. The only error of each copy is want of memory.
+//! Equal copies of objects and their parts. The only error of each copy is that memory runs out.
 
 ghost use Rattle.std.specs.Prelude.{◌≡◌, IfOk};
 

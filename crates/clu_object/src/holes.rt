@@ -26,7 +26,7 @@ fn has_pair(code: &[u32], at: usize) -> bool
     }
 }
 
-/// Whether each hole covers such words, each behind the words of the one before.
+/// Whether each hole covers such words, each after the words of the one before.
 fn are_holes(code: &[u32], holes: &[Hole]) -> bool
     ensures { result ≡ holes_of code.now 0 holes.now }
 {
@@ -78,7 +78,7 @@ fn are_named(counts: Counts, holes: &[Hole]) -> bool
 }
 
 impl ObjRoutine {
-    /// Whether each hole covers a LUI and an ADDI of one register, behind the words of the hole before it, and names an item
+    /// Whether each hole covers a LUI and an ADDI of one register, after the words of the hole before it, and names an item
     /// that the routine has: a use, a constant, a type or a code word. Own variables and parts of the runtime are not
     /// counted here.
     pub fn has_holes(&self) -> bool

@@ -32,7 +32,7 @@ pub struct ObjRoutine {
     pub regions: Sequence<Region>,
 }
 
-/// A LUI and behind it an ADDI of the same register, which are to give a number that the linker knows.
+/// A LUI and after it an ADDI of the same register, which are to give a number that the linker knows.
 #[derive(Clone, Copy, Debug, PartialEq, Eq)]
 pub struct Hole {
     /// The code word of the LUI, counted from 0.

@@ -149,7 +149,7 @@ finishes s (item.Nonterminal y ∷ front) _ at b to z (chosen n items alternativ
     let left' : begun_left (item.Nonterminal n ∷ front) (length b.begun) ≡ 1 = subst (λ (x : Nonterminal). begun_left (item.Nonterminal x ∷ front) (length b.begun) ≡ 1) name left in
     finishes s (alternative ++ front) (alternative ++ items) at b to z d (ap (λ (x : List Item). alternative ++ x) rest ∙ sym (append_assoc alternative front (item.Action (action.Close kind.File) ∷ []))) both.0 (both.1 ∙ left') ground more
 
--- a file's row behind its first action, without its last
+-- a file's row after its first action, without its last
 abbrev file_front : List Item
 file_front =
     item.Action action.Open ∷ item.Action action.Open ∷ item.Action action.Note ∷ item.Terminal symbol.Equal ∷ item.Nonterminal r.Definition ∷ item.Nonterminal r.Modules ∷ []

@@ -16,7 +16,7 @@ use Rattle.clu_grammar.proofs.Tests.{implies}
 use Rattle.clu_parser.specs.Steps.{begun_for, tops_for}
 use Rattle.clu_parser.proofs.Effects.{ends, begun_before, tops_before, makes_whole, notes_before}
 
--- how many nodes have begun behind an action
+-- how many nodes have begun after an action
 abbrev pub begun_after : Action → ℕ → ℕ
 begun_after action.Open b = b + 1
 begun_after action.Wrap b = b + 1

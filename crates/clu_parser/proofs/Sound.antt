@@ -20,7 +20,7 @@ differ_drop : (h : ℕ) (tops : List ℕ) → AllPairs ◌≢◌ tops → AllPai
 differ_drop h tops known i j d less below same =
     known (h + i) (h + j) d (omega arith) (omega (arith, length-drop h tops)) (sym (get_or-drop h tops i d) ∙ same ∙ get_or-drop h tops j d)
 
--- what comes before h isn't behind it
+-- what comes before h isn't after it
 apart : (h : ℕ) (tops : List ℕ) (c : ℕ) → h ≤ length tops → AllPairs ◌≢◌ tops → Contains (take h tops) c → Contains (drop h tops) c → ⊥
 apart h tops c inside known here there =
     let size : length (take h tops) ≡ h = length-take-le h tops inside in

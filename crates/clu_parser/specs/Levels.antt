@@ -35,7 +35,7 @@ abbrev pub level_from : ℕ → List Symbol → ℕ
 level_from level [] = level
 level_from level (s ∷ symbols) = level_from (level_behind level s) symbols
 
--- the level behind the first k symbols
+-- the level after the first k symbols
 abbrev pub level_at : List Symbol → ℕ → ℕ
 level_at symbols k = level_from 0 (take k symbols)
 

@@ -3,7 +3,7 @@ use Rattle.std.specs.Prelude.{◌≡◌, ℕ, ◌+◌, ◌-◌, List, [], ◌∷
 use Rattle.clu_tree.specs.declared.node.Node.{Node}
 use Rattle.clu_tree.specs.declared.node.NodeKind.TheVariants as kind
 
--- the nodes from the one number up to the other are the trees of these roots, one behind the other, and in each tree
+-- the nodes from the one number up to the other are the trees of these roots, one after the other, and in each tree
 -- the nodes below the root come before it and are, in the same way, the trees of its children
 pub data IsForest (nodes : List Node) : ℕ → List ℕ → ℕ → Type 0 where
   none : (at : ℕ) → IsForest nodes at [] at

@@ -43,7 +43,7 @@ abbrev pub is_dollar : List Symbol → Bool
 is_dollar [] = false
 is_dollar (s ∷ symbols) = sameb the_type s symbol.Dollar
 
--- behind so many further `[`, the bracket that is open closes before a `$`
+-- after so many further `[`, the bracket that is open closes before a `$`
 abbrev pub closes : ℕ → List Symbol → Bool
 closes depth [] = false
 closes zero (s ∷ symbols) =

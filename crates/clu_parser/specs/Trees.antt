@@ -128,7 +128,7 @@ abbrev pub then_wrapped : ℕ → Option Built → Option Built
 then_wrapped taken None = None
 then_wrapped taken (Some b) = wrapped taken b
 
--- what an action makes behind the token of this number
+-- what an action makes after the token of this number
 abbrev pub acted : Text → Action → ℕ → Built → Option Built
 acted s action.Open taken b = Some (opened taken taken (length b.tops) b)
 acted s action.Wrap taken b = wrapped taken b

@@ -6,7 +6,7 @@ use clu_base::Sequence;
 #[derive(Drop)]
 pub struct Begun {
     pub first: u32,
-    /// The token behind the node that this one wraps, else its first.
+    /// The token after the node that this one wraps, else its first.
     pub mark: u32,
     /// How many whole nodes stand before its children.
     pub height: usize,

@@ -63,7 +63,7 @@ impl Builder {
     }
 
     /// Does what the action says, where so many tokens have been taken, one at least. The error is
-    /// want of memory; nothing is known of the builder then.
+    /// that memory runs out; nothing is known of the builder then.
     pub fn act(
         &mut self,
         alloc: Global,

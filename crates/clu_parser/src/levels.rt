@@ -39,7 +39,7 @@ fn closes(symbol: Symbol) -> bool
     }
 }
 
-/// The level behind a symbol that is not above the deepest; a level does not fall below 0.
+/// The level after a symbol that is not above the deepest; a level does not fall below 0.
 fn level_behind(level: u32, symbol: Symbol) -> u32
     requires { level < 2 ^ 32 - 1 }
     ensures { result ≡ level_behind level symbol }

@@ -17,7 +17,7 @@ clings symbol.LeftBracket = true
 clings symbol.Dollar = true
 clings _ = false
 
--- none before a ( behind an identifier or a closing bracket
+-- none before a ( after an identifier or a closing bracket
 abbrev pub takes_arguments : Symbol → Bool
 takes_arguments symbol.Idn = true
 takes_arguments symbol.RightParen = true
@@ -25,7 +25,7 @@ takes_arguments symbol.RightBracket = true
 takes_arguments symbol.RightBrace = true
 takes_arguments _ = false
 
--- none behind ( [ { . $
+-- none after ( [ { . $
 abbrev pub holds : Symbol → Bool
 holds symbol.LeftParen = true
 holds symbol.LeftBracket = true

@@ -37,7 +37,7 @@ abbrev pub line_end : List ℕ → List ℕ
 line_end [] = []
 line_end (b ∷ bs) = 10 ∷ []
 
--- behind a prefix operator and at the front stands no blank
+-- after a prefix operator and at the front stands no blank
 abbrev pub blank_behind : Option Before → Symbol → List ℕ
 blank_behind None s = []
 blank_behind (Some b) s = if not b.is_prefix && blank_between b.symbol s then 32 ∷ [] else []
@@ -90,7 +90,7 @@ with_next bytes symbols lines n t m =
     if sameb the_type (symbol_at symbols n) symbol.Semicolon then m else
     with_token bytes t (symbol_at symbols n) (indent_at lines.begins n) (prefix_at lines.prefix n) m
 
--- what the tokens from this number on are printed as, behind what was printed before
+-- what the tokens from this number on are printed as, after what was printed before
 abbrev pub printed_behind : List ℕ → List Symbol → Lines → ℕ → List Token → Made → Made
 printed_behind bytes symbols lines n [] m = m
 printed_behind bytes symbols lines n (t ∷ ts) m = printed_behind bytes symbols lines (n + 1) ts (with_next bytes symbols lines n t m)

@@ -5,7 +5,7 @@ ghost use Rattle.clu_printer.specs.Blanks.{blank_between, clings, holds, is_argu
 
 use clu_lexer::Symbol;
 
-/// Whether a token never has a blank before it, but behind an integer literal.
+/// Whether a token never has a blank before it, but after an integer literal.
 fn clings(symbol: Symbol) -> bool
     ensures { result ≡ clings symbol }
 {

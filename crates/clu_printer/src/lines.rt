@@ -57,7 +57,7 @@ fn is_statement(kind: NodeKind) -> bool {
 }
 
 /// Whether the child's lines stand in a body of the node, and so further in than the node's own. In
-/// a tagcase these are the statements behind `others`.
+/// a tagcase these are the statements after `others`.
 fn is_in_body(node: NodeKind, child: NodeKind) -> bool {
     match node {
         NodeKind::Routine

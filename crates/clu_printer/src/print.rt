@@ -193,7 +193,7 @@ fn text_of(
 /// and identifiers in lower case. A line begins at each equate of a body or module, own
 /// declaration, routine, cluster, statement, arm, and at `except`, `elseif`, `else`, the `others`
 /// of a tagcase and `end`; it is indented by two blanks for each body that holds it. The tree is
-/// that of the tokens. The only error is want of memory.
+/// that of the tokens. The only error is that memory runs out.
 pub fn printed(alloc: Global, bytes: &[u8], tokens: &[Token], tree: &Tree) -> Result<Bytes, Memory>
     ensures { IfOk result (IsPrinted bytes.now tokens.now) }
 {

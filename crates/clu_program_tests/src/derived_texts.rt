@@ -4,7 +4,7 @@
 pub const TEXT_COUNT: usize = 13;
 
 /// Rows that each end with byte 0, with tabs between their parts: the type, the operation, what its routine uses, each
-/// behind a blank, and the text.
+/// after a blank, and the text.
 pub const TEXTS: &str = "\
     int\tfrom_to_by\t\tfrom_to_by = iter (a, b, s: int) yields (int) x: int := a while (s > 0 cand x <= b) cor (s < \
     0 cand x >= b) cor s = 0 do yield (x) x := x + s end except when overflow: end end from_to_by\0\

@@ -1,4 +1,4 @@
--- Operations that belong to a selector: its name stands behind theirs, as in get_size.
+-- Operations that belong to a selector: its name stands after theirs, as in get_size.
 use Rattle.std.specs.Prelude.{◌≡◌, ℕ, List, length, take}
 
 -- the first name is the second one, or stands before a selector in it

@@ -1,6 +1,6 @@
 //! The operations of arrays. An array is the address of six words: its low bound, the number of its elements, the room
 //! for elements, the place in the room of the first element, the address of the room, and one that is not used. The
-//! room is circular: behind its last word comes its first. New words of the store are 0.
+//! room is circular: after its last word comes its first. New words of the store are 0.
 
 ghost use Rattle.std.specs.Prelude.{◌≡◌, IfSome};
 
@@ -266,7 +266,7 @@ const REML: &[Step] = &[
     Step::Return(&[ELEMENT]),
 ];
 
-/// In slot 5 how many elements are kept. Here an index below the low bound is asked for, since the place behind the
+/// In slot 5 how many elements are kept. Here an index below the low bound is asked for, since the place after the
 /// last element is allowed.
 const TRIM: &[Step] = &[
     Step::When(Expr::Op(WOp::Slt, &Z, &ZERO), &[NEGATIVE_SIZE]),

@@ -1,5 +1,5 @@
 //! The operations of string over arrays of its characters. The layouts are those of `arrays` and of strings: the word of
-//! the size, and behind it the bytes, eight a word.
+//! the size, and after it the bytes, eight a word.
 
 use crate::arrays::{ELEMENT, FIND, FROM_FIRST, SIZE as ARRAY_SIZE, WRAP};
 use clu_rt_text::{Expr, Operation, Step, X, Y};
@@ -22,7 +22,7 @@ const SIZE: Expr = Expr::Load(&X, 0);
 
 const BYTES: Expr = Expr::Op(WOp::Add, &X, &EIGHT);
 
-/// The array's room is behind its six words, at the address in slot 4.
+/// The array's room is after its six words, at the address in slot 4.
 const S2AC: &[Step] = &[
     Step::Get(
         1,

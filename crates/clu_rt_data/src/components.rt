@@ -2,8 +2,8 @@
 //! depends on the type is two constants: of a record or a struct the distance of the component from the object's
 //! address, in bytes, and the words of the object; of a oneof or a variant the number of the tag among the tags.
 //!
-//! A record or a struct is the address of a word that is not used, behind which the components lie in the ascending
-//! order of their selectors. A oneof is the address of the number of its tag, behind which its object lies; a variant
+//! A record or a struct is the address of a word that is not used, after which the components lie in the ascending
+//! order of their selectors. A oneof is the address of the number of its tag, after which its object lies; a variant
 //! has a word more, which is not used.
 
 use clu_rt_text::{EQUAL, Expr, Operation, Step, X, Y, Z};

@@ -1,4 +1,4 @@
-//! What `force` does, one code for all types: an object of type any is the address of the number of its own type, behind
+//! What `force` does, one code for all types: an object of type any is the address of the number of its own type, after
 //! which its word lies.
 
 ghost use Rattle.std.specs.Prelude.{IfOk};
@@ -9,7 +9,7 @@ use clu_wir::{HoleKind, WExpr, WOp, WRoutine, WStmt};
 use std::alloc::Global;
 use std::boxed::Box;
 
-/// The distance of the word behind the number of the type.
+/// The distance of the word after the number of the type.
 const WORD: u32 = 8;
 
 /// The word code of `force`, whose only type, in its link table, is the one that is wanted. Its `nodes` are 0, since

@@ -11,7 +11,7 @@ use clu_wir::{HoleKind, Primitive, WExpr, WOp, WRoutine, WStmt};
 use std::alloc::Global;
 use std::boxed::Box;
 
-/// The routine of a plan, with this name. The only error is want of memory.
+/// The routine of a plan, with this name. The only error is that memory runs out.
 pub fn made(alloc: Global, plan: Plan, op: &Bytes) -> Result<WRoutine, Memory>
     ensures scheme { IfOk result (IsScheme op.now (in_32_bits (in_32_bits (8 * plan.count) + 8))) }
     ensures uses { IfOk result (λ code. length code.uses.items ≡ plan.count) }
@@ -25,7 +25,7 @@ pub fn made(alloc: Global, plan: Plan, op: &Bytes) -> Result<WRoutine, Memory>
     making.finish(op, plan)
 }
 
-/// How many arguments a routine takes and how many slots it has: behind the arguments what the comparison or the copy of
+/// How many arguments a routine takes and how many slots it has: after the arguments what the comparison or the copy of
 /// its components works with.
 fn frame(plan: Plan) -> (u32, u32) {
     match plan.deed {
@@ -147,7 +147,7 @@ impl Making {
         self.where_tag(4, tag, vec![in self.alloc; call, end]?)
     }
 
-    /// The components' copies in the slots behind the argument, then the new object in the slot behind them.
+    /// The components' copies in the slots after the argument, then the new object in the slot after them.
     fn copy_components(&mut self, count: u32) -> Result<(), Memory>
         ensures { OnOk result (length self.new.uses.items ≡ length self.old.uses.items + count) }
     {
@@ -167,7 +167,7 @@ impl Making {
         self.call(place, b"copy", vec![in self.alloc; component]?, slot)
     }
 
-    /// Puts each slot behind the argument into the new object, which is in the slot behind them.
+    /// Puts each slot after the argument into the new object, which is in the slot after them.
     fn put_components(&mut self, slot: u32) -> Result<(), Memory>
         ensures { self.new.uses ≡ self.old.uses }
     {
@@ -224,7 +224,7 @@ impl Making {
         self.add(call)
     }
 
-    /// Into a slot the word so many bytes behind the address in another.
+    /// Into a slot the word so many bytes after the address in another.
     fn set(&mut self, to: u32, from: u32, distance: u32) -> Result<(), Memory>
         ensures { self.new.uses ≡ self.old.uses }
     {
@@ -232,7 +232,7 @@ impl Making {
         self.add(WStmt::Set(to, value))
     }
 
-    /// The word in a slot so many bytes behind the address in another.
+    /// The word in a slot so many bytes after the address in another.
     fn put(&mut self, slot: u32, distance: u32, value: u32) -> Result<(), Memory>
         ensures { self.new.uses ≡ self.old.uses }
     {
@@ -288,7 +288,7 @@ fn used(alloc: Global, parameter: u32, op: &[u8]) -> Result<Bytes, Memory> {
     use_text(alloc, &types, &target)
 }
 
-/// The word so many bytes behind the address in a slot.
+/// The word so many bytes after the address in a slot.
 fn load(alloc: Global, slot: u32, distance: u32) -> Result<WExpr, Memory> {
     Ok(WExpr::Load(Box::new(alloc, WExpr::Slot(slot))?, distance))
 }

@@ -31,7 +31,7 @@ pub enum Shape {
 }
 
 /// The operation `op` of the type `of` as word code, where it is one that uses those of the type's components; else
-/// None. Its n-th use is an operation of its n-th parameter. The only error is want of memory.
+/// None. Its n-th use is an operation of its n-th parameter. The only error is that memory runs out.
 pub fn scheme(
     alloc: Global,
     types: &TypeArena,

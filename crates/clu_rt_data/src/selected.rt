@@ -19,7 +19,7 @@ pub struct Selected {
 }
 
 /// The operation `op` of the type `of`; None where the type has none whose code is kept here, or one that uses others.
-/// The only error is want of memory.
+/// The only error is that memory runs out.
 pub fn select_operation(
     alloc: Global,
     types: &TypeArena,
@@ -94,7 +94,7 @@ fn number(place: usize) -> Const {
     Const::Int(i64::try_from(place).unwrap_or(i64::MAX))
 }
 
-/// The operation of this name, and the place of the selector behind it, which is 0 where none belongs to it.
+/// The operation of this name, and the place of the selector after it, which is 0 where none belongs to it.
 fn with_selector(
     operations: &'static [Operation],
     fields: &[Field],
@@ -114,7 +114,7 @@ fn with_selector(
     None
 }
 
-/// The place of the selector that stands behind the name of the operation.
+/// The place of the selector that stands after the name of the operation.
 fn selector_of(operation: &Operation, fields: &[Field], name: &[u8]) -> Option<usize>
     ensures { IsSome result → begins operation.now.name.now name.now }
 {

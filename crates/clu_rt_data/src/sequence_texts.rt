@@ -25,7 +25,7 @@ const ELEMENTS: &[Step] = &[
     END,
 ];
 
-/// In slot 2 a place, in slot 3 how far behind the size its element is.
+/// In slot 2 a place, in slot 3 how far after the size its element is.
 const DISTANCE: Expr = Expr::Slot(3);
 
 const LEFT: Expr = Expr::Load(&Expr::Op(WOp::Add, &X, &DISTANCE), 0);

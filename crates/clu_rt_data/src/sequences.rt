@@ -1,4 +1,4 @@
-//! The operations of sequences. A sequence is the address of the word of its size, behind which its elements lie.
+//! The operations of sequences. A sequence is the address of the word of its size, after which its elements lie.
 
 ghost use Rattle.std.specs.Prelude.{◌≡◌, IfSome};
 
@@ -29,8 +29,8 @@ const MORE: Expr = Expr::Op(WOp::Add, &SIZE, &ONE);
 const FRONT: Expr = Expr::Op(WOp::Add, &X, &EIGHT);
 
 const Y_FRONT: Expr = Expr::Op(WOp::Add, &Y, &EIGHT);
-/// The address of the last element, which lies as many words behind the size as there are elements, and the address
-/// behind it.
+/// The address of the last element, which lies as many words after the size as there are elements, and the address
+/// after it.
 const LAST: Expr = Expr::Op(WOp::Add, &X, &Expr::Op(WOp::Sll, &SIZE, &THREE));
 
 const BEHIND: Expr = Expr::Op(WOp::Add, &LAST, &EIGHT);
@@ -184,7 +184,7 @@ const CONCAT: &[Step] = &[
     Step::Return(&[MADE]),
 ];
 
-/// How many elements are left from the element `y` on, which may be one behind the last.
+/// How many elements are left from the element `y` on, which may be one after the last.
 const SUBSEQ: &[Step] = &[
     Step::When(Expr::Op(WOp::Slt, &Z, &ZERO), &[NEGATIVE_SIZE]),
     Step::Unless(

@@ -13,7 +13,7 @@ use std::alloc::Global;
 
 /// The operation `op` of the type `of` as word code, where it is defined by a text; else None. Its uses are those of the
 /// text, in the order of the text, but for operations whose code stands in its place. Its `nodes` are the count of the
-/// text. The only error is want of memory.
+/// text. The only error is that memory runs out.
 pub fn derived(
     alloc: Global,
     types: &TypeArena,

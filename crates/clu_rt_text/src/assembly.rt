@@ -9,7 +9,7 @@ use clu_wir::{HoleKind, Primitive, WExpr, WOp, WRoutine, WStmt};
 use std::alloc::Global;
 use std::boxed::Box;
 
-/// A routine of an operation. The only error is want of memory.
+/// A routine of an operation. The only error is that memory runs out.
 pub fn routine(alloc: Global, operation: &Operation) -> Result<WRoutine, Memory>
     ensures code { IfOk result (λ code. IsCode operation.now.name.now code) }
     ensures args { IfOk result (λ code. code.args ≡ operation.now.args) }
@@ -129,7 +129,7 @@ impl Assembly {
         Ok(WStmt::Prim(primitive.number(), values, results))
     }
 
-    /// The name of an exception is one of the routine's constants. Behind its object comes the address of the number of
+    /// The name of an exception is one of the routine's constants. After its object comes the address of the number of
     /// that one's type; a failure, which may come from anywhere, has its string alone.
     fn signal(&mut self, name: &[u8], objects: &[Expr]) -> Result<WStmt, Memory> {
         let mut objects = self.expressions(objects)?;

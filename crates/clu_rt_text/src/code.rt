@@ -13,7 +13,7 @@ pub enum Expr {
     Text(&'static [u8]),
     /// A constant of the type whose operation it is, by its number from 1: the linker knows it.
     Known(u32),
-    /// The word so many bytes behind an address.
+    /// The word so many bytes after an address.
     Load(&'static Expr, u32),
     /// An operation on two words.
     Op(WOp, &'static Expr, &'static Expr),
@@ -24,7 +24,7 @@ pub enum Expr {
 pub enum Step {
     /// Puts a word into a slot.
     Set(u32, Expr),
-    /// Puts the last word so many bytes behind an address.
+    /// Puts the last word so many bytes after an address.
     Put(Expr, u32, Expr),
     /// Calls a primitive that has no result.
     Do(Primitive, &'static [Expr]),

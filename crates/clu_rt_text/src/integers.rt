@@ -22,7 +22,7 @@ const ONE: Expr = Expr::Word(1);
 
 const TEN: Expr = Expr::Word(10);
 
-/// What the operations work with behind their arguments.
+/// What the operations work with after their arguments.
 const R: Expr = Expr::Slot(2);
 
 const S: Expr = Expr::Slot(3);
@@ -161,7 +161,7 @@ const POWER: &[Step] = &[
 ];
 
 /// The string in slot 1, the size without its sign in slot 2, what is left of that in slot 3, and in slot 4 first the
-/// number of characters and then the address behind those that are still to be written, least digit first.
+/// number of characters and then the address after those that are still to be written, least digit first.
 const UNPARSE: &[Step] = &[
     Step::Get(1, Primitive::Allocate, &[Expr::Word(4)]),
     Step::Set(2, X),

@@ -18,7 +18,7 @@ use std::alloc::Global;
 
 /// The word code of the built-in operation `op` of the type `of`; None where the type has no such operation whose code
 /// is kept here. The routine uses no others and names no type but that of a string, and its `nodes` are 0, since limits on
-/// programs count no operations. The only error is want of memory.
+/// programs count no operations. The only error is that memory runs out.
 pub fn word_code(
     alloc: Global,
     types: &TypeArena,

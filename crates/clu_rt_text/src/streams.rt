@@ -78,7 +78,7 @@ const OUTPUT_ONLY: Step = Step::Unless(
     &[Step::Signal(b"not_possible", &[Expr::Text(b"cannot write")])],
 );
 
-/// A string's bytes begin behind the word of its size.
+/// A string's bytes begin after the word of its size.
 const WRITE: Step = Step::Do(
     Primitive::Write,
     &[Expr::Op(WOp::Add, &Y, &Expr::Word(8)), Expr::Load(&Y, 0)],

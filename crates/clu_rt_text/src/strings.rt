@@ -1,4 +1,4 @@
-//! The operations of string. A string is the address of the word of its size, behind which its bytes lie, eight a
+//! The operations of string. A string is the address of the word of its size, after which its bytes lie, eight a
 //! word; what is left of the last word is 0.
 
 ghost use Rattle.std.specs.Prelude.{◌≡◌, IfSome};
@@ -204,7 +204,7 @@ const FETCH: &[Step] = &[
     Step::Return(&[Z]),
 ];
 
-/// A place at which a part may begin is at most one behind the string.
+/// A place at which a part may begin is at most one after the string.
 const IN_BOUNDS: Step = Step::Unless(
     Expr::Op(
         WOp::Sltu,

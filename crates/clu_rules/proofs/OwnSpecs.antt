@@ -1,4 +1,4 @@
--- The specifications of the modules of a file, found by their names, and what stands behind them.
+-- The specifications of the modules of a file, found by their names, and what stands after them.
 use Rattle.std.proofs.Common.{◌≡◌, ℕ, List, [], ◌∷◌, ◌++◌, length, map, take, Option, Some, Bool, true, false, cond, find, refl, sym, ap, ◌∙◌}
 use Rattle.std.proofs.lemmas.List.{length-map}
 use Rattle.std.proofs.Math.Seq.{take-append_seam}
@@ -9,7 +9,7 @@ use Rattle.clu_tree.specs.Nodes.{modules}
 use Rattle.clu_types.specs.declared.spec.Spec.{Spec}
 use Rattle.clu_rules.specs.Modules.{name_of, AreOf, BeginWithOwn}
 
--- what stands behind the modules' own specifications makes no difference to them
+-- what stands after the modules' own specifications makes no difference to them
 pub BeginWithOwn_behind : (nodes : List Node) (own others : List Spec) → AreOf nodes (modules nodes) own → BeginWithOwn nodes (own ++ others)
 BeginWithOwn_behind nodes own others had =
     let many : length (modules nodes) ≡ length own = sym (length-map (modules nodes) (name_of nodes)) ∙ ap (λ (xs : List (Option (List ℕ))). length xs) had ∙ length-map own (λ (x : Spec). Some x.name) in

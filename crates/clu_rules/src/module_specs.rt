@@ -12,7 +12,7 @@ use clu_types::{Spec, Specs};
 use indexmap::IndexSet;
 use std::alloc::Global;
 
-/// The specifications of the tree's modules, in the order of the text, and behind them those of all other modules.
+/// The specifications of the tree's modules, in the order of the text, and after them those of all other modules.
 #[tactic(auto, using(crate::proofs::OwnSpecs::BeginWithOwn_behind))]
 pub fn all_specs(alloc: Global, tree: &Tree, specs: &Specs) -> Result<Vec<Spec>, CheckError>
     ensures { IfOk result (λ all. BeginWithOwn tree.now all.items) }

@@ -89,7 +89,7 @@ pub fn define_all(
     Ok(())
 }
 
-/// V34: the name behind `end` differs from that of the routine or cluster.
+/// V34: the name after `end` differs from that of the routine or cluster.
 pub fn ask_end(node: &Node) -> Result<(), CheckError>
     ensures { result ≡ end_answer node.now }
 {

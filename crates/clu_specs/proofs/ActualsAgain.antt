@@ -174,7 +174,7 @@ module _ (scope : Scope) (part : Reader CluType) (has : (of : Sort) (n : ℕ) �
   abbrev actuals_behind : ℕ → Actuals → List ℕ → Read Actuals
   actuals_behind n made bytes = behind_item (actuals_step scope part) comma n made bytes
 
-  -- an item, and those behind it
+  -- an item, and those after it
   actual_then : (n : ℕ) (made one given : Actuals) (text rest : List ℕ) → actual_read scope part (text ++ (more_actuals_text given ++ 93 ∷ rest)) ≡ Ok (one, more_actuals_text given ++ 93 ∷ rest)
       → actuals_behind n (actuals_joined made one) (more_actuals_text given ++ 93 ∷ rest) ≡ Ok (actuals_joined (actuals_joined made one) given, 93 ∷ rest)
       → several (actuals_step scope part) comma (suc n) made ((text ++ more_actuals_text given) ++ 93 ∷ rest) ≡ Ok (actuals_joined made (actuals_joined one given), 93 ∷ rest)

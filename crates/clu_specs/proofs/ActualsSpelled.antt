@@ -36,7 +36,7 @@ actuals_text (actual_type t rest) = type_text t ++ more_actuals_text rest
 actuals_text (actual_const c rest) = constant_text c ++ more_actuals_text rest
 actuals_text (actual_param n rest) = (37 ∷ decimal n) ++ more_actuals_text rest
 
--- and one behind them, if there are any
+-- and one after them, if there are any
 abbrev pub actuals_led : Actuals → List ℕ
 actuals_led no_actuals = []
 actuals_led (actual_type t rest) = (type_text t ++ more_actuals_text rest) ++ 44 ∷ []
@@ -67,7 +67,7 @@ more_actuals_joined (actual_type t a) b = ap (λ (x : List ℕ). 44 ∷ (type_te
 more_actuals_joined (actual_const c a) b = ap (λ (x : List ℕ). 44 ∷ (constant_text c ++ x)) (more_actuals_joined a b) ∙ ap (λ (x : List ℕ). 44 ∷ x) (sym (append_assoc (constant_text c) (more_actuals_text a) (more_actuals_text b)))
 more_actuals_joined (actual_param n a) b = ap (λ (x : List ℕ). 44 ∷ ((37 ∷ decimal n) ++ x)) (more_actuals_joined a b) ∙ ap (λ (x : List ℕ). 44 ∷ x) (sym (append_assoc (37 ∷ decimal n) (more_actuals_text a) (more_actuals_text b)))
 
--- one text behind others, and a comma between them
+-- one text after others, and a comma between them
 pub led_by : (text : List ℕ) (a b : Actuals) (rest : List ℕ) → HasActuals b → (text ++ more_actuals_text (actuals_joined a b)) ++ rest ≡ ((text ++ more_actuals_text a) ++ 44 ∷ []) ++ (actuals_text b ++ rest)
 led_by text a b rest h = ap (λ (x : List ℕ). (text ++ x) ++ rest) (more_actuals_joined a b ∙ ap (λ (x : List ℕ). more_actuals_text a ++ x) (more_some b h)) ∙ simp append_assoc
 
@@ -236,7 +236,7 @@ module _ (scope : Scope) where
           spelled = named.spelled ∙ ap (λ (x : List ℕ). a.0.0 ++ x) read.spelled ∙ sym (append_assoc a.0.0 (all_actuals_text b.0.0) b.0.1);
         })
 
-    -- behind a word of its own
+    -- after a word of its own
     abbrev pub WordRead : List ℕ → List ℕ → CluType → List ℕ → Type 0
     WordRead word bytes t rest = IsType scope t × (word ++ bytes ≡ type_text t ++ rest)
 

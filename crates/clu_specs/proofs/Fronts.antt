@@ -26,7 +26,7 @@ never x left e = cc
 pub at_once : {Begins : List ℕ → Type 0} (bytes : List ℕ) (left : ℕ) → length bytes ≡ left → Begins [] → Front Begins bytes left
 at_once bytes left e b = record { front = []; back = bytes; whole = refl; rest = e; begun = b }
 
--- behind a text that was read
+-- after a text that was read
 pub front_on : {In Out : List ℕ → Type 0} (u bytes rest : List ℕ) (left : ℕ) → bytes ≡ u ++ rest → Front In rest left → ((q : List ℕ) → In q → Out (u ++ q)) → Front Out bytes left
 front_on u bytes rest left e s f = record {
   front = u ++ s.front;
@@ -39,12 +39,12 @@ front_on u bytes rest left e s f = record {
 pub front_as : {In Out : List ℕ → Type 0} (bytes : List ℕ) (left : ℕ) → Front In bytes left → ((q : List ℕ) → In q → Out q) → Front Out bytes left
 front_as bytes left s f = record { front = s.front; back = s.back; whole = s.whole; rest = s.rest; begun = f s.front s.begun }
 
--- a step that was refused, or one behind it
+-- a step that was refused, or one after it
 pub and_fails : {A B : Type 0} (r : Result A ℕ) (f : A → Result B ℕ) (left : ℕ) → (r >>= f) ≡ Err left → (r ≡ Err left) ⊎ ((x : A) × (r ≡ Ok x) × (f x ≡ Err left))
 and_fails {A} {B} (Err at) f left e = let same : at ≡ left = same_left {A = B} (Err at) at left refl e in inl (rw same refl)
 and_fails (Ok x) f left e = inr (x, refl, e)
 
--- a text goes on behind the front
+-- a text goes on after the front
 pub shown : (u inner tail q rest : List ℕ) → inner ≡ q ++ rest → u ++ (inner ++ tail) ≡ (u ++ q) ++ (rest ++ tail)
 shown u inner tail q rest e = ap (λ (x : List ℕ). u ++ (x ++ tail)) e ∙ simp append_assoc
 
@@ -94,7 +94,7 @@ goes_wrong : {A : Type 0} (o : Option (List ℕ)) (x : A × List ℕ) (more : Li
 goes_wrong None x more left e = absurd (never x left e)
 goes_wrong (Some rest) x more left e = (rest, refl, e)
 
--- items in a row: what holds before each and behind each, and what comes of a refusal
+-- items in a row: what holds before each and after each, and what comes of a refusal
 module _ {A : Type 0} (step : A → List ℕ → Read A) (next : A → List ℕ → Option (List ℕ)) (Before After : A → List ℕ → Type 0) (Goal : ℕ → Type 0)
     (on : (made : A) (bytes : List ℕ) (more : A) (after : List ℕ) → Before made bytes → step made bytes ≡ Ok (more, after) → After more after)
     (again : (made : A) (bytes rest : List ℕ) → After made bytes → next made bytes ≡ Some rest → Before made rest)

@@ -44,7 +44,7 @@ pub record AllActualsBegun (scope : Scope) (q : List ℕ) : Type 0 where
   pub are : AreActuals scope a
   pub spelled : all_actuals_text a ≡ q ++ rest
 
--- the texts behind the words of types
+-- the texts after the words of types
 listing_text : (word : Listing) (t : CluType) → type_text (listing_type word t) ≡ keyword_text (keyword.Listing word) ++ 91 ∷ (type_text t ++ 93 ∷ [])
 listing_text listing.Array t = refl
 listing_text listing.Sequence t = refl
@@ -197,7 +197,7 @@ module _ (scope : Scope) (leads : Leads scope) where
               ])
         ]
 
-    -- behind a word of its own
+    -- after a word of its own
     abbrev Behind : List ℕ → List ℕ → Type 0
     Behind word q = TypeBegun scope (word ++ q)
 

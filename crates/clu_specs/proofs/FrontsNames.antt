@@ -86,7 +86,7 @@ free_long text le = false_from_ne_true (is_reserved text) (λ e. let plain = res
 free_low : (text : List ℕ) → is_reserved (text ++ 95 ∷ []) ≡ false
 free_low text = false_from_ne_true (is_reserved (text ++ 95 ∷ [])) (λ e. (reserved_plain (text ++ 95 ∷ []) e).1 (last_appended 0 text 95))
 
--- a name behind another goes on from the bytes
+-- a name after another goes on from the bytes
 pub record NameBegun (previous : List ℕ) (limit : ℕ) (q : List ℕ) : Type 0 where
   pub name : List ℕ
   pub rest : List ℕ
@@ -94,7 +94,7 @@ pub record NameBegun (previous : List ℕ) (limit : ℕ) (q : List ℕ) : Type 0
   pub after : is_before previous name ≡ true
   pub spelled : name ≡ q ++ rest
 
--- a name, or none, behind which another can come
+-- a name, or none, after which another can come
 pub record Earlier (previous : List ℕ) : Type 0 where
   pub letters : word_len previous ≡ length previous
   pub begins : is_named (previous ++ 95 ∷ []) ≡ true
@@ -311,7 +311,7 @@ module _ (previous : List ℕ) (limit : ℕ) (large : 200 ≤ limit) (p : Earlie
       (λ n b l r same. reserved_front bytes left (not-false (is_named (first_word bytes)) n) (not-false (is_before previous (take limit (first_word bytes))) b) (ltb-false limit (length (first_word bytes)) l) r same)
       e
 
--- the name with _ behind it
+-- the name with _ after it
 longer : (limit : ℕ) (name : List ℕ) → IsName limit name → length name < limit → IsName limit (name ++ 95 ∷ [])
 longer limit name n lt = record { begins = named_more name (95 ∷ []) n.begins; goes_on = low_goes name n.goes_on; short = omega (arith, length-append name (95 ∷ []), lt); free = free_low name }
 

@@ -162,7 +162,7 @@ module _ (kinds : List ParamKind) (few : length kinds ≤ 4294967295) where
   abbrev scope : Scope
   scope = scope_of kinds
 
-  -- a demand may come behind that of a parameter and a name
+  -- a demand may come after that of a parameter and a name
   record Ready (param : ℕ) (previous : List ℕ) : Type 0 where
     pub name : (previous ≡ []) ⊎ IsName 200 previous
     pub some : nat_le 1 (last_in scope sort.Type) ≡ true

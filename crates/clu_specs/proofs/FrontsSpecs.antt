@@ -30,7 +30,7 @@ use Rattle.clu_specs.proofs.FrontsRoutines.{word_front, parameters_front, where_
 abbrev plain : List ℕ → Bool → Operation
 plain name iter = record { name = name; iter = iter; args = no_types; results = no_types; signals = no_signals; demands = [] }
 
--- a routine behind its parameters goes on from the bytes
+-- a routine after its parameters goes on from the bytes
 record RoutineBegun (scope : Scope) (name : List ℕ) (iter : Bool) (q : List ℕ) : Type 0 where
   pub op : Operation
   pub rest : List ℕ
@@ -76,7 +76,7 @@ next_name name bytes rest e = elim (either (not (has_later name) || not (begins_
 ]
 
 module _ (scope : Scope) (previous : List ℕ) where
-  -- behind ; and a name
+  -- after ; and a name
   op_named : (q : List ℕ) → NameBegun previous 200 q → OpBegun scope previous (59 ∷ q)
   op_named q n =
       let text : List ℕ = 58 ∷ (codes "proc" ++ codes "()") in
@@ -149,7 +149,7 @@ module _ (kinds : List ParamKind) (few : length kinds ≤ 4294967295) (part : Re
             ])
       ]
 
-  -- an operation behind its name and word
+  -- an operation after its name and word
   op_in : (previous name : List ℕ) (iter : Bool) → IsName 200 name → is_before previous name ≡ true → (q : List ℕ) → RoutineBegun scope name iter q → OpBegun scope previous ((59 ∷ (name ++ 58 ∷ routine_word iter)) ++ q)
   op_in previous name iter is after q x =
       let same : op_text x.op ≡ 59 ∷ (name ++ 58 ∷ (routine_word iter ++ routine_text x.op)) = ap (λ (y : List ℕ). 59 ∷ (y ++ 58 ∷ (routine_word x.op.iter ++ routine_text x.op))) x.named ∙ ap (λ (y : Bool). 59 ∷ (name ++ 58 ∷ (routine_word y ++ routine_text x.op))) x.kind in
@@ -242,7 +242,7 @@ module _ (kinds : List ParamKind) (few : length kinds ≤ 4294967295) (part : Re
             ])
       ]
 
--- behind a name, from the =
+-- after a name, from the =
 record BodyBegun (name q : List ℕ) : Type 0 where
   pub kinds : List ParamKind
   pub shape : Shape
@@ -258,7 +258,7 @@ module _ (name : List ℕ) where
       ap (λ (y : Bool). routine_word y ++ (kinds_text kinds ++ routine_text x.op)) x.kind ∙ ap (λ (y : List ℕ). routine_word iter ++ (kinds_text kinds ++ y)) x.spelled in
       record { kinds = kinds; shape = routine x.op; rest = x.rest; few = few; shaped = (x.named, x.is); spelled = ap (λ (y : List ℕ). 61 ∷ y) (text ∙ simp append_assoc) }
 
-  -- with nothing behind the parameters
+  -- with nothing after the parameters
   plain_body : (kinds : List ParamKind) (iter : Bool) (q rest : List ℕ) → length kinds ≤ 4294967295 → routine_word iter ++ (kinds_text kinds ++ codes "()") ≡ q ++ rest → BodyBegun name q
   plain_body kinds iter q rest few e = record { kinds = kinds; shape = routine (plain name iter); rest = rest; few = few; shaped = (refl, (tt, tt, tt, tt)); spelled = ap (λ (y : List ℕ). 61 ∷ y) e }
 

@@ -172,7 +172,7 @@ module _ (scope : Scope) where
   last_signal_named no_signals before are = inl refl
   last_signal_named (signal_and n ts ss) before are = elim (last_signal_named ss n are.4) [ inl same ↦ inr (subst (IsName 200) (sym same) are.0) | inr is ↦ inr is ]
 
-  -- behind a comma that was taken
+  -- after a comma that was taken
   pub earlier_by : (last : List ℕ) → (last ≡ []) ⊎ IsName 200 last → has_later last ≡ true → Earlier last
   earlier_by last (inl same) later = subst Earlier (sym same) earlier_none
   earlier_by last (inr is) later = earlier_name last is later

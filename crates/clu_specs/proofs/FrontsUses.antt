@@ -33,11 +33,11 @@ module_left (cluster_of name given) left e = absurd (never (a_module name given)
 module_left _ left e = same_left {A = Used} (Err 0) 0 left refl e
 
 module _ (t : CluType) (is : IsType any_scope t) where
-  -- behind the type
+  -- after the type
   abbrev Behind : List ℕ → Type 0
   Behind q = UseBegun (type_text t ++ q)
 
-  -- behind the $
+  -- after the $
   named_front : (rest : List ℕ) (left : ℕ) → (name_after [] 204 rest >>= λ name. end_at (operation.Named name.0) name.1) ≡ Err left → Front (λ q. Behind (36 ∷ q)) rest left
   named_front rest left e =
       elim (and_fails (name_after [] 204 rest) (λ (name : List ℕ × List ℕ). end_at (operation.Named name.0) name.1) left e) [

@@ -27,7 +27,7 @@ pub stop_bracket : (rest : List ℕ) → is_stop rest ≡ true → behind 91 res
 stop_bracket [] e = refl
 stop_bracket (b ∷ rest) e = rw (not-true (b == 91) (and_parts (not (goes_on_name b)) (not (b == 91)) e).1) refl
 
--- one list behind another behind a third
+-- one list after another after a third
 pub types_joined_assoc : (a b c : CluTypes) → types_joined (types_joined a b) c ≡ types_joined a (types_joined b c)
 types_joined_assoc no_types b c = refl
 types_joined_assoc (type_and t a) b c = ap (type_and t) (types_joined_assoc a b c)
@@ -66,7 +66,7 @@ actuals_joined_none (actual_param n a) = ap (actual_param n) (actuals_joined_non
 
 -- a turn over a row, and its end
 module _ {A : Type 0} (step : A → List ℕ → Read A) (next : A → List ℕ → Option (List ℕ)) where
-  -- what comes behind an item
+  -- what comes after an item
   abbrev pub behind_item : ℕ → A → List ℕ → Read A
   behind_item n made bytes = go_on (next made bytes) (made, bytes) (λ rest. several step next n made rest)
 

@@ -17,7 +17,7 @@ module _ {X : Type 0} (text : X → List ℕ) where
   listed [] = []
   listed (x ∷ xs) = text x ++ more xs
 
-  -- with a comma behind them, if there are any
+  -- with a comma after them, if there are any
   abbrev pub led : List X → List ℕ
   led [] = []
   led (x ∷ xs) = (text x ++ more xs) ++ 44 ∷ []

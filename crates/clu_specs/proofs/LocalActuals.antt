@@ -171,7 +171,7 @@ int_local : (m n : ℕ) → Local m n (λ b. integer_at b >>= λ c. Ok (actual_c
 int_local m n = then_on (λ c b. Ok (actual_const (const.Int c) no_actuals, b)) (λ c b. Ok (actual_const (const.Int c) no_actuals, b)) integer_at integer_at m n (integer_local m n) (λ c. just m n (actual_const (const.Int c) no_actuals))
 
 module _ (scope : Scope) where
-  -- a parameter behind its mark
+  -- a parameter after its mark
   parameter_bound : (of : Sort) (c : ℕ) (bytes : List ℕ) → left_of (parameter_at scope of (c ∷ bytes) bytes) ≤ suc (length bytes)
   unfolding parameter_at
   parameter_bound of c bytes = elim (cases_Bool (nat_le 1 (last_in scope of))) [

@@ -174,7 +174,7 @@ module _ (previous : List ℕ) (limit : ℕ) (fits : 200 ≤ length previous →
     ])
   ]
 
-  -- where the word goes on behind the front
+  -- where the word goes on after the front
   over_like : (nm bs ls rs bt lt rt : Bool) (a0 b0 c0 d0 a1 b1 c1 d1 : ℕ) (s t word rest other behind : List ℕ) → (length s < b0 → bs ≡ true → bt ≡ true) → (length s < c0 → ls ≡ true → lt ≡ true) → d0 ≤ length s → length rest ≤ length s
       → length s < left_of (if nm then Err a0 else if bs then Err b0 else if ls then Err c0 else if rs then Err d0 else Ok (word, rest))
       → Like s t (if nm then Err a0 else if bs then Err b0 else if ls then Err c0 else if rs then Err d0 else Ok (word, rest)) (if nm then Err a1 else if bt then Err b1 else if lt then Err c1 else if rt then Err d1 else Ok (other, behind))
@@ -217,7 +217,7 @@ module _ (previous : List ℕ) (limit : ℕ) (fits : 200 ≤ length previous →
   pub name_local : (m n : ℕ) → Local m n (name_after previous limit) (name_after previous limit)
   name_local m n = record { bound = name_bound previous limit; like = λ p s t a d c. name_like p s t c }
 
--- at which bytes a word is refused that goes on behind them
+-- at which bytes a word is refused that goes on after them
 abbrev pub NameFault : ℕ → List ℕ → Type 0
 NameFault b p = (begins_name b ≡ false) ⊎ (200 < length (b ∷ p))
 

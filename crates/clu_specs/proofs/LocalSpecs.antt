@@ -74,7 +74,7 @@ module _ (scope : Scope) (m n : ℕ) where
       (then_on (λ asked b. literal_at (codes " has ") b >>= λ rest. name_from asked param previous rest) (λ asked b. literal_at (codes " has ") b >>= λ rest. name_from asked param previous rest) (number_at scope sort.Type (least_behind param previous)) (number_at scope sort.Type (least_behind param previous)) m n (number_local scope sort.Type (least_behind param previous) m n)
       (λ asked. fixed_then (name_from asked param previous) (name_from asked param previous) (codes " has ") m n m n (omega arith) (omega arith) (name_from_local asked param previous)))
 
--- an operation's word behind its semicolon
+-- an operation's word after its semicolon
 abbrev behind_semicolon : List ℕ → Reader (List ℕ × Bool)
 behind_semicolon previous b = name_after previous 200 b >>= λ name. literal_at (58 ∷ []) name.1 >>= λ rest. routine_word_read rest >>= λ iter. Ok ((name.0, iter.0), iter.1)
 

@@ -134,7 +134,7 @@ module _ (part other : Reader CluType) (m n : ℕ) (parts : Local m n part other
       (λ f. just m n (signals_joined made.0 (signal_and f.0 f.1 no_signals), f.0))) (no_signals, []))
       (λ x. just m n x.0)
 
-  -- behind a fixed part, so that one byte more is allowed
+  -- after a fixed part, so that one byte more is allowed
   arguments_inner : Local m n (λ b. arguments_by part (behind 41 b) b) (λ b. arguments_by other (behind 41 b) b)
   unfolding arguments_by
   arguments_inner = mark_local (arguments_by part) (arguments_by other) (λ b. Ok (no_types, b)) (λ b. Ok (no_types, b)) 41 m n closed_local (just m n no_types) (λ rest bytes. refl) (λ rest bytes. refl)

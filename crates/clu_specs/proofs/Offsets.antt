@@ -22,7 +22,7 @@ use Rattle.clu_specs.proofs.FrontsActuals.{whole_type_front}
 use Rattle.clu_specs.proofs.FrontsUses.{whole_use_front}
 use Rattle.clu_specs.proofs.FrontsSpecs.{whole_spec_front}
 
--- a whole text is refused alike, whatever comes behind the byte at the fault
+-- a whole text is refused alike, whatever comes after the byte at the fault
 abbrev pub RefusedAlike : {A : Type 0} → (List ℕ → Result A ℕ) → Type 0
 RefusedAlike whole = (p s t : List ℕ) (left : ℕ) → whole (p ++ s) ≡ Err left → length s < left → (at : ℕ) × (whole (p ++ t) ≡ Err at)
 

@@ -3,7 +3,7 @@ use Rattle.std.proofs.Common.{◌≡◌, ℕ, zero, suc, ◌==◌, ◌⊎◌, Bo
 use Rattle.std.proofs.lemmas.Bool.{eqb-true}
 use Rattle.clu_specs.specs.Reading.{◌>>=◌, Read, literal_at, behind, end_at, go_on, several}
 
--- a value with the bytes behind it is another
+-- a value with the bytes after it is another
 abbrev pub SameRead : (A : Type 0) → A × List ℕ → A × List ℕ → Type 0
 SameRead A x y = x ≡ y
 
@@ -54,7 +54,7 @@ behind_spelled m (b ∷ bytes) rest e =
     let same : b ≡ m = eqb-true b m h.0 in
     cc
 
--- a value, and a mark behind its text
+-- a value, and a mark after its text
 abbrev pub closing : {A : Type 0} → ℕ → A → List ℕ → Read A
 closing m x bytes = literal_at (m ∷ []) bytes >>= λ rest. Ok (x, rest)
 
@@ -77,7 +77,7 @@ went_on : {A : Type 0} (o : Option (List ℕ)) (x : A × List ℕ) (more : List 
 went_on None x more y e = inl (refl, cc)
 went_on (Some rest) x more y e = inr (rest, refl, e)
 
--- items in a row: what holds before each and behind each
+-- items in a row: what holds before each and after each
 module _ {A : Type 0} (step : A → List ℕ → Read A) (next : A → List ℕ → Option (List ℕ)) (Before After : A → List ℕ → Type 0)
     (on : (made : A) (bytes : List ℕ) (more : A) (after : List ℕ) → Before made bytes → step made bytes ≡ Ok (more, after) → After more after)
     (again : (made : A) (bytes rest : List ℕ) → After made bytes → next made bytes ≡ Some rest → Before made rest) where

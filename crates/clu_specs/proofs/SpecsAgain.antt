@@ -122,7 +122,7 @@ module _ (ks : List ParamKind) (depth : ℕ) where
   abbrev more_demands : List Demanded → List ℕ
   more_demands ds = flat_map (λ x. 44 ∷ demand_text x) ds
 
-  -- a demand may come behind that of a parameter and a name
+  -- a demand may come after that of a parameter and a name
   abbrev Follows : ℕ → List ℕ → Demanded → Type 0
   Follows param name d = (param < d.param) ⊎ ((param ≡ d.param) × (is_before name d.op ≡ true) × (has_later name ≡ true))
 

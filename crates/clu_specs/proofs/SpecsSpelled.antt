@@ -24,7 +24,7 @@ use Rattle.clu_specs.proofs.KindsSpelled.{more, listed, led, listed_joined, led_
 abbrev pub Follows : ℕ → List ℕ → ℕ → List ℕ → Type 0
 Follows param name asked op = (param < asked) ⊎ ((param ≡ asked) × (is_before name op ≡ true))
 
--- the parameter and the name of the last, behind those of the one before
+-- the parameter and the name of the last, after those of the one before
 abbrev pub last_demand : ℕ → List ℕ → List Demanded → ℕ × List ℕ
 last_demand param name [] = (param, name)
 last_demand param name (d ∷ ds) = last_demand d.param d.op ds
@@ -329,7 +329,7 @@ module _ (scope : Scope) (part : Reader CluType) (sound : Sound scope part) wher
         spelled = demands.1 ∙ ap (λ (x : List ℕ). demands_text a.0.0 ++ x) (literal_spelled (codes "is") a.0.1 b.0 b.1 ∙ ap (λ (x : List ℕ). codes "is" ++ x) ops.spelled);
       })
 
--- whole specifications, behind their names
+-- whole specifications, after their names
 pub record BodyRead (name bytes : List ℕ) (s : Specification) : Type 0 where
   pub named : s.name ≡ name
   pub few : length s.kinds ≤ 4294967295

@@ -18,7 +18,7 @@ pub record TypeRead (scope : Scope) (bytes : List ℕ) (t : CluType) (rest : Lis
 abbrev pub Sound : Scope → Reader CluType → Type 0
 Sound scope part = (bytes : List ℕ) (t : CluType) (rest : List ℕ) → part bytes ≡ Ok (t, rest) → TypeRead scope bytes t rest
 
--- types with a comma behind them, if there are any
+-- types with a comma after them, if there are any
 abbrev pub types_led : CluTypes → List ℕ
 types_led no_types = []
 types_led (type_and t ts) = (type_text t ++ more_types_text ts) ++ 44 ∷ []
@@ -64,7 +64,7 @@ pub fields_joined_some : (fs : Fields) (name : List ℕ) (t : CluType) → HasFi
 fields_joined_some no_fields name t = tt
 fields_joined_some (field_and n u fs) name t = tt
 
--- the last name, behind that of the selector before
+-- the last name, after that of the selector before
 abbrev pub last_field : List ℕ → Fields → List ℕ
 last_field before no_fields = before
 last_field before (field_and name t fs) = last_field name fs
@@ -227,7 +227,7 @@ module _ (scope : Scope) (part : Reader CluType) (sound : Sound scope part) wher
       let read : TypesRead scope bytes h.0.0 h.0.1 = types_spelled bytes h.0.0 h.0.1 h.1 in
       subst (λ (x : CluTypes). TypesRead scope bytes x (41 ∷ rest)) c.0 (subst (λ (x : List ℕ). TypesRead scope bytes h.0.0 x) c.1 read)
 
-  -- behind a word, with a closing parenthesis
+  -- after a word, with a closing parenthesis
   pub worded_spelled : (word bytes : List ℕ) (ts : CluTypes) (rest : List ℕ) → (literal_at word bytes >>= λ rest. closed_types_read part rest) ≡ Ok (ts, rest) → ListRead scope bytes word ts rest
   worded_spelled word bytes ts rest e =
       let h = and_then (literal_at word bytes) (λ (rest : List ℕ). closed_types_read part rest) (ts, rest) e in

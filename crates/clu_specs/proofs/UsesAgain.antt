@@ -43,7 +43,7 @@ force_again : operation_read (codes "$force") ≡ Ok operation.Force
 unfolding operation_read literal_at
 force_again = refl
 
--- a type, and what stands behind it
+-- a type, and what stands after it
 use_by : (t : CluType) (bytes behind_type : List ℕ) (op : Operation) → IsType any_scope t → bytes ≡ type_text t ++ 36 ∷ behind_type → operation_read (36 ∷ behind_type) ≡ Ok op → whole_use bytes ≡ Ok (operation_seen t op)
 unfolding whole_use
 use_by t bytes behind_type op h e r =

@@ -15,7 +15,7 @@ use Rattle.clu_specs.proofs.Fronts.{same_left, never}
 no_error : {Y : Type 0} (read : Result Y ℕ) (y : Y) (left : ℕ) → read ≡ Ok y → read ≡ Err left → ⊥
 no_error read y left p q = cc
 
--- a text that is read whole is refused for want of memory alone
+-- a text that is read whole is refused only when memory runs out
 pub refused : {Y : Type 0} (e : FormatError) (read : Result Y ℕ) (n : ℕ) (y : Y) → Fails e read → read ≡ Ok y → Fails (offset_error n e) (Ok y)
 refused error.Memory read n y f e = tt
 refused (error.Bad left) read n y f e = absurd (no_error read y left e f)
@@ -37,7 +37,7 @@ module _ {A B : Type 0} (made : A → B) where
     | inr h ↦ rw h.0 (let same : length x.1 ≡ left = same_left {A = A} (Err (length x.1)) (length x.1) left refl h.1 in rw same refl)
   ]
 
--- a specification over its parameters, where what stands behind them is read to the end
+-- a specification over its parameters, where what stands after them is read to the end
 module _ (name : List ℕ) (kinds : List ParamKind) (depth : ℕ) (bytes : List ℕ) (scope : Scope) (s : scope ≡ scope_of kinds) where
   abbrev routine_spec : Operation → Specification
   routine_spec op = record { name = name; kinds = kinds; shape = routine op }

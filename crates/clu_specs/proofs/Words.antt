@@ -62,7 +62,7 @@ chosen false x y z e = inr (refl, e)
 pub before_cons : (x y : ℕ) (a b : List ℕ) → is_before (x ∷ a) (y ∷ b) ≡ true → ((x ≡ y) × (is_before a b ≡ true)) ⊎ (x < y)
 before_cons x y a b e = elim (chosen (x == y) (is_before a b) (nat_lt x y) true e) [ inl h ↦ inl (eqb-true x y h.0, h.1) | inr h ↦ inr (ltb-true x y h.1) ]
 
--- where a name comes behind another of the greatest length, a byte of this can be replaced by a greater one
+-- where a name comes after another of the greatest length, a byte of this can be replaced by a greater one
 last_some : (a b : List ℕ) → is_before a b ≡ true → length b ≤ length a → word_len b ≡ length b → is_some (last_below_z a) ≡ true
 last_some a [] e le w = absurd (cc)
 last_some [] (y ∷ b) e le w = absurd (omega (arith, le))

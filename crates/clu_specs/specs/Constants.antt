@@ -35,7 +35,7 @@ word_constant text =
     if bytes_eq text (codes "false") then Some (const.Bool false) else
     None
 
--- a negative integer behind its - (45)
+-- a negative integer after its - (45)
 unfoldable pub negative_at : List ℕ → Result (ℤ × List ℕ) ℕ
 negative_at bytes = digits_at 9223372036854775808 bytes >>= λ x. Ok (negsuc (x.0 - 1), x.1)
 
@@ -65,7 +65,7 @@ abbrev pub string_step : Option (List ℕ) → List ℕ → Result (List ℕ × 
 string_step None made more = more
 string_step (Some after) made more = Ok (made, after)
 
--- the bytes up to a closing ", behind those that were made; n bounds how many there are
+-- the bytes up to a closing ", after those that were made; n bounds how many there are
 unfoldable pub string_at : ℕ → List ℕ → List ℕ → Result (List ℕ × List ℕ) ℕ
 string_at zero made bytes = Err (length bytes)
 string_at (suc n) made bytes = string_step (behind 34 bytes) made (byte_at bytes >>= λ x. string_at n (made ++ x.0 ∷ []) x.1)

@@ -69,7 +69,7 @@ module _ (scope : Scope) where
     AreTypes no_types = Unit {0}
     AreTypes (type_and t ts) = IsType t × AreTypes ts
 
-    -- in ascending order, behind that of the name before
+    -- in ascending order, after that of the name before
     pub AreFields : List ℕ → Fields → Type 0
     AreFields before no_fields = Unit {0}
     AreFields before (field_and name t fs) = IsName 200 name × (is_before before name ≡ true) × IsType t × AreFields name fs
@@ -90,7 +90,7 @@ IsUse (an_operation t name) = IsType any_scope t × IsName 204 name
 IsUse (own_set_up t) = IsType any_scope t
 IsUse (force_of t) = IsType any_scope t
 
--- demands behind that of a parameter and a name, in ascending order
+-- demands after that of a parameter and a name, in ascending order
 abbrev pub AreDemands : Scope → ℕ → List ℕ → List Demanded → Type 0
 AreDemands scope param name [] = Unit {0}
 AreDemands scope param name (d ∷ ds) =
@@ -100,7 +100,7 @@ AreDemands scope param name (d ∷ ds) =
 abbrev pub IsOperation : Scope → Operation → Type 0
 IsOperation scope op = AreTypes scope op.args × AreTypes scope op.results × AreSignals scope [] op.signals × AreDemands scope 0 [] op.demands
 
--- operations behind one of this name, in ascending order
+-- operations after one of this name, in ascending order
 abbrev pub AreOperations : Scope → List ℕ → List Operation → Type 0
 AreOperations scope name [] = Unit {0}
 AreOperations scope name (op ∷ ops) = IsName 200 op.name × (is_before name op.name ≡ true) × IsOperation scope op × AreOperations scope op.name ops

@@ -64,7 +64,7 @@ shared_with_later name = if nat_lt (length name) 200 then Some (length name) els
 abbrev pub has_later : List ℕ → Bool
 has_later name = is_some (shared_with_later name)
 
--- the name of at most limit bytes, behind previous, at the front
+-- the name of at most limit bytes, after previous, at the front
 unfoldable pub name_after : List ℕ → ℕ → List ℕ → Result (List ℕ × List ℕ) ℕ
 name_after previous limit bytes =
     let front = take limit (first_word bytes) in

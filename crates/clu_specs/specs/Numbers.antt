@@ -2,7 +2,7 @@
 use Rattle.std.specs.Prelude.{ℕ, zero, suc, ◌+◌, ◌*◌, ◌-◌, ◌/◌, Bool, ◌&&◌, ◌==◌, nat_le, not, if◌then◌else◌, List, [], ◌∷◌, length, Result, Ok, Err}
 use Rattle.std.specs.Char.{is_ascii_digit}
 
--- the number that the digits at the front make behind `read`; refused at the digit that exceeds the limit
+-- the number that the digits at the front make after `read`; refused at the digit that exceeds the limit
 abbrev pub digits_from : ℕ → ℕ → List ℕ → Result (ℕ × List ℕ) ℕ
 digits_from limit read [] = Ok (read, [])
 digits_from limit read (b ∷ bytes) =

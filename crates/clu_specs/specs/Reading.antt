@@ -8,7 +8,7 @@ abbrev pub ◌>>=◌ : {A B : Type 0} → Result A ℕ → (A → Result B ℕ) 
 (Ok x) >>= f = f x
 (Err left) >>= f = Err left
 
--- what is read, with the bytes behind it
+-- what is read, with the bytes after it
 abbrev pub Read : Type 0 → Type 0
 Read A = Result (A × List ℕ) ℕ
 
@@ -44,7 +44,7 @@ abbrev pub go_on : {A : Type 0} → Option (List ℕ) → A × List ℕ → (Lis
 go_on None x more = Ok x
 go_on (Some rest) x more = more rest
 
--- items in a row. `step` reads one behind those that were made, and `next` tells where another follows; n bounds how many
+-- items in a row. `step` reads one after those that were made, and `next` tells where another follows; n bounds how many
 unfoldable pub several : {A : Type 0} → (A → List ℕ → Read A) → (A → List ℕ → Option (List ℕ)) → ℕ → A → List ℕ → Read A
 several step next zero made bytes = Err (length bytes)
 several step next (suc n) made bytes = step made bytes >>= λ x. go_on (next x.0 x.1) x (λ rest. several step next n x.0 rest)

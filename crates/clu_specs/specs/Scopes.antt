@@ -18,7 +18,7 @@ is_of sort.Type _ = false
 is_of sort.Constant kind.OfType = false
 is_of sort.Constant _ = true
 
--- the greatest number of a parameter of the sort behind n others, of which it was `last`
+-- the greatest number of a parameter of the sort after n others, of which it was `last`
 abbrev pub last_from : Sort → ℕ → ℕ → List ParamKind → ℕ
 last_from s n last [] = last
 last_from s n last (k ∷ ks) = last_from s (n + 1) (if is_of s k then n + 1 else last) ks
@@ -48,7 +48,7 @@ begins_among of least n at (k ∷ ks) = if begins_here of least n at k then true
 abbrev pub begins_number : Scope → Sort → ℕ → ℕ → Bool
 begins_number s of least n = if s.alone then nat_lt 0 n && nat_le n 4294967295 else begins_among of least n 1 s.kinds
 
--- how many bytes are left behind the digits at the front that begin such a number, behind those that were read
+-- how many bytes are left after the digits at the front that begin such a number, after those that were read
 abbrev pub left_of_number : Scope → Sort → ℕ → ℕ → List ℕ → ℕ
 left_of_number s of least read [] = 0
 left_of_number s of least read (b ∷ bytes) =
@@ -64,7 +64,7 @@ accepted s of least (Err at) left = Err left
 unfoldable pub number_at : Scope → Sort → ℕ → List ℕ → Result (ℕ × List ℕ) ℕ
 number_at s of least bytes = accepted s of least (digits_at 4294967295 bytes) (left_of_number s of least 0 bytes)
 
--- the number behind a mark, which is refused where the text has no such parameter
+-- the number after a mark, which is refused where the text has no such parameter
 unfoldable pub parameter_at : Scope → Sort → List ℕ → List ℕ → Result (ℕ × List ℕ) ℕ
 parameter_at s of bytes behind_mark = if nat_le 1 (last_in s of) then number_at s of 1 behind_mark else Err (length bytes)
 

@@ -100,7 +100,7 @@ abbrev pub routine_word : Bool → List ℕ
 routine_word true = codes "iter"
 routine_word false = codes "proc"
 
--- a routine behind its parameters
+-- a routine after its parameters
 abbrev pub routine_text : Operation → List ℕ
 routine_text op = heading_text op.iter op.args op.results op.signals ++ demands_text op.demands
 

@@ -53,22 +53,22 @@ parameters_by (Some rest) bytes = kinds_read rest >>= λ ks. literal_at (93 ∷ 
 abbrev pub parameters_read : Reader (List ParamKind)
 parameters_read bytes = parameters_by (behind 91 bytes) bytes
 
--- the least parameter of a demand behind one
+-- the least parameter of a demand after one
 abbrev pub least_behind : ℕ → List ℕ → ℕ
 least_behind param name = if has_later name then param else param + 1
 
--- a demand's parameter and name behind those of another, up to the colon
+-- a demand's parameter and name after those of another, up to the colon
 unfoldable pub asked_read : Scope → ℕ → List ℕ → Reader (ℕ × List ℕ)
 asked_read scope param previous bytes =
     literal_at (35 ∷ []) bytes >>= λ rest. number_at scope sort.Type (least_behind param previous) rest >>= λ asked.
     literal_at (codes " has ") asked.1 >>= λ rest. name_after (if asked.0 == param then previous else []) 200 rest >>= λ name.
     literal_at (58 ∷ []) name.1 >>= λ rest. Ok ((asked.0, name.0), rest)
 
--- what the comma is followed by, where a demand behind that of a parameter and a name is possible
+-- what the comma is followed by, where a demand after that of a parameter and a name is possible
 abbrev pub next_demand : Scope → ℕ → List ℕ → List ℕ → Option (List ℕ)
 next_demand scope param name rest = if nat_le (least_behind param name) (last_in scope sort.Type) then behind 44 rest else None
 
--- an operation's name behind that of another, and whether it is an iterator
+-- an operation's name after that of another, and whether it is an iterator
 unfoldable pub operation_word_read : List ℕ → Reader (List ℕ × Bool)
 operation_word_read previous bytes =
     literal_at (59 ∷ []) bytes >>= λ rest. name_after previous 200 rest >>= λ name. literal_at (58 ∷ []) name.1 >>= λ rest.
@@ -79,7 +79,7 @@ abbrev pub next_operation : List ℕ → List ℕ → Option (List ℕ)
 next_operation name rest = if not (has_later name) || not (begins_with 59 rest) then None else Some rest
 
 module _ (scope : Scope) (part : Reader CluType) where
-  -- a demand behind that of a parameter and a name
+  -- a demand after that of a parameter and a name
   unfoldable pub demand_read : ℕ → List ℕ → Reader Demanded
   demand_read param previous bytes =
       asked_read scope param previous bytes >>= λ asked. part asked.1 >>= λ t. Ok (record { param = asked.0.0; op = asked.0.1; wanted = t.0 }, t.1)
@@ -100,13 +100,13 @@ module _ (scope : Scope) (part : Reader CluType) where
       if not (begins_with 32 bytes) || not (nat_le 1 (last_in scope sort.Type)) then Ok ([], bytes) else
       literal_at (codes " where ") bytes >>= λ rest. demands_read rest >>= λ ds. literal_at (32 ∷ []) ds.1 >>= λ rest. Ok (ds.0, rest)
 
-  -- a routine behind its parameters
+  -- a routine after its parameters
   unfoldable pub operation_read : List ℕ → Bool → Reader Operation
   operation_read name iter bytes =
       heading_read part iter bytes >>= λ h. all_demands_read h.1 >>= λ ds.
       Ok (record { name = name; iter = iter; args = h.0.0; results = h.0.1; signals = h.0.2; demands = ds.0 }, ds.1)
 
-  -- an operation behind that of a name
+  -- an operation after that of a name
   unfoldable pub named_operation_read : List ℕ → Reader Operation
   named_operation_read previous bytes = operation_word_read previous bytes >>= λ word. operation_read word.0.0 word.0.1 word.1
 
@@ -132,13 +132,13 @@ module _ (scope : Scope) (part : Reader CluType) where
   unfoldable pub last_form_read : List ℕ → Result Shape ℕ
   last_form_read bytes = cluster_form_read bytes >>= λ shape. end_at shape.0 shape.1
 
--- a routine's specification behind its parameters, to the end; types are nested so deep at most
+-- a routine's specification after its parameters, to the end; types are nested so deep at most
 abbrev pub routine_over : List ℕ → Bool → List ParamKind → ℕ → List ℕ → Result Specification ℕ
 routine_over name iter kinds depth bytes =
     operation_read (scope_of kinds) (type_read (scope_of kinds) depth) name iter bytes >>= λ op.
     end_at (record { name = name; kinds = kinds; shape = routine op.0 }) op.1
 
--- and behind its =
+-- and after its =
 unfoldable pub routine_read : List ℕ → ℕ → List ℕ → Result Specification ℕ
 routine_read name depth bytes = routine_word_read bytes >>= λ iter. parameters_read iter.1 >>= λ kinds. routine_over name iter.0 kinds.0 depth kinds.1
 

@@ -37,12 +37,12 @@ abbrev mutual
   types_text no_types = []
   types_text (type_and t ts) = type_text t ++ more_types_text ts
 
-  -- each behind a comma
+  -- each after a comma
   pub more_types_text : CluTypes → List ℕ
   more_types_text no_types = []
   more_types_text (type_and t ts) = 44 ∷ (type_text t ++ more_types_text ts)
 
-  -- behind a word, with a closing parenthesis; nothing where there are none
+  -- after a word, with a closing parenthesis; nothing where there are none
   pub closed_text : List ℕ → CluTypes → List ℕ
   closed_text word no_types = []
   closed_text word (type_and t ts) = word ++ ((type_text t ++ more_types_text ts) ++ 41 ∷ [])

@@ -28,7 +28,7 @@ use Rattle.clu_specs.specs.Scopes.{parameter_at, any_scope}
 abbrev pub Reader : Type 0 → Type 0
 Reader A = List ℕ → Read A
 
--- one list behind another
+-- one list after another
 abbrev pub types_joined : CluTypes → CluTypes → CluTypes
 types_joined no_types more = more
 types_joined (type_and t ts) more = type_and t (types_joined ts more)
@@ -90,7 +90,7 @@ module _ (part : Reader CluType) where
   unfoldable pub closed_types_read : Reader CluTypes
   closed_types_read bytes = types_read bytes >>= λ ts. literal_at (41 ∷ []) ts.1 >>= λ rest. Ok (ts.0, rest)
 
-  -- a selector behind another, with its type
+  -- a selector after another, with its type
   unfoldable pub field_read : List ℕ → Reader (List ℕ × CluType)
   field_read previous bytes = name_after previous 200 bytes >>= λ name. literal_at (58 ∷ []) name.1 >>= λ rest. part rest >>= λ t. Ok ((name.0, t.0), t.1)
 
@@ -110,7 +110,7 @@ module _ (part : Reader CluType) where
   abbrev pub objects_read : Reader CluTypes
   objects_read bytes = objects_by (behind 40 bytes) bytes
 
-  -- a signal behind another, with the types of its objects
+  -- a signal after another, with the types of its objects
   unfoldable pub signal_read : List ℕ → Reader (List ℕ × CluTypes)
   signal_read previous bytes = signal_name_after previous bytes >>= λ name. objects_read name.1 >>= λ ts. Ok ((name.0, ts.0), ts.1)
 
@@ -129,14 +129,14 @@ module _ (part : Reader CluType) where
   unfoldable pub arguments_read : Reader CluTypes
   arguments_read bytes = literal_at (40 ∷ []) bytes >>= λ rest. arguments_by (behind 41 rest) rest
 
-  -- the types behind returns, or of an iterator behind yields, or none
+  -- the types after returns, or of an iterator after yields, or none
   unfoldable pub results_read : Bool → Reader CluTypes
   results_read iter bytes =
       if iter && begins_with 121 bytes then (literal_at (codes "yields(") bytes >>= λ rest. closed_types_read rest) else
       if not iter && begins_with 114 bytes then (literal_at (codes "returns(") bytes >>= λ rest. closed_types_read rest) else
       Ok (no_types, bytes)
 
-  -- the signals behind their word, or none
+  -- the signals after their word, or none
   unfoldable pub all_signals_read : Reader Signals
   all_signals_read bytes =
       if begins_with 115 bytes then (literal_at (codes "signals(") bytes >>= λ rest. signals_read rest >>= λ ss. literal_at (41 ∷ []) ss.1 >>= λ rest. Ok (ss.0, rest)) else
@@ -206,7 +206,7 @@ module _ (scope : Scope) where
     unfoldable pub cluster_type_read : Reader CluType
     cluster_type_read bytes = name_after [] 200 bytes >>= λ name. all_actuals_read name.1 >>= λ given. Ok (cluster_of name.0 given.0, given.1)
 
-    -- the rest of a type, behind its word
+    -- the rest of a type, after its word
     unfoldable pub keyword_type_read : Keyword → Reader CluType
     keyword_type_read (keyword.Simple word) bytes = Ok (simple_type word, bytes)
     keyword_type_read (keyword.Listing word) bytes =

@@ -21,7 +21,7 @@ operation_seen t (operation.Named name) = an_operation t name
 operation_seen t operation.Own = own_set_up t
 operation_seen t operation.Force = force_of t
 
--- what stands behind a type in a use, from its $ to the end
+-- what stands after a type in a use, from its $ to the end
 unfoldable pub operation_read : List ℕ → Result Operation ℕ
 operation_read bytes =
     literal_at (36 ∷ []) bytes >>= λ rest.

@@ -146,12 +146,6 @@ pub fn put_parameter(out: &mut Vec<u8>, mark: u8, n: u32) -> Result<(), Memory>
     put(out, buffer.format(n).as_bytes())
 }
 
-/// The length of what [`put_parameter`] appends.
-pub fn parameter_length(n: u32) -> u64 {
-    let mut buffer = Buffer::new();
-    (buffer.format(n).as_bytes().len() as u64).saturating_add(1)
-}
-
 fn put_integer(out: &mut Vec<u8>, n: i64) -> Result<(), Memory>
     ensures { OnOk result (out.new.items ≡ out.old.items ++ signed_decimal n) }
 {
@@ -188,23 +182,4 @@ pub fn put_constant(out: &mut Vec<u8>, constant: &Const) -> Result<(), Memory>
         Const::Char(b) => put_char(out, *b),
         Const::Str(bytes) => put_string(out, bytes.as_slice()),
     }
-}
-
-/// The length of the text of a constant. It stops at the greatest number.
-pub fn constant_length(constant: &Const) -> u64 {
-    match constant {
-        Const::Null => 3,
-        Const::Bool(true) => 4,
-        Const::Bool(false) => 5,
-        Const::Int(n) => integer_length(*n),
-        Const::Char(_) => 3,
-        Const::Str(bytes) => (bytes.as_slice().len() as u64)
-            .saturating_mul(2)
-            .saturating_add(2),
-    }
-}
-
-fn integer_length(n: i64) -> u64 {
-    let mut buffer = Buffer::new();
-    buffer.format(n).as_bytes().len() as u64
 }

@@ -55,7 +55,7 @@ pub fn behind(mark: u8, bytes: &[u8]) -> Option<&[u8]>
     }
 }
 
-/// The end of a text; refused at the first byte behind it.
+/// The end of a text; refused at the first byte after it.
 pub fn end(bytes: &[u8]) -> Result<(), FormatError>
     ensures ok { OnOk result (length bytes.now ≡ 0) }
     ensures err { IfErr result (λ e. (e ≡ FormatError.Bad (length bytes.now)) × (0 < length bytes.now)) }

@@ -1,5 +1,5 @@
 //! Names of modules, operations, selectors and signals. A list of them ascends, and a text is refused at the
-//! first byte behind which no name can follow any more.
+//! first byte after which no name can follow any more.
 
 ghost use Rattle.std.specs.Prelude.{◌≡◌, ◌≤◌, ◌<◌, length, IfSome};
 ghost use Rattle.std.specs.Option.{option_copied};

@@ -25,7 +25,7 @@ pub fn begins_decimal(first: u64, number: u64) -> bool
     first != 0 && shorten(20, first, number) == first
 }
 
-/// The number that the digits at the front make behind `read`, and what follows them. Refused at the digit with
+/// The number that the digits at the front make after `read`, and what follows them. Refused at the digit with
 /// which the number would exceed `limit`.
 fn digits_from(limit: u64, read: u64, bytes: &[u8]) -> Result<(u64, &[u8]), FormatError>
     requires small { limit ≤ 2 ^ 63 }

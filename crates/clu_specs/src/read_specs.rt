@@ -54,7 +54,7 @@ fn whole_spec(alloc: Global, b: &[u8]) -> Result<Spec, FormatError>
     }
 }
 
-/// The specification of a routine, behind `=`, up to the end.
+/// The specification of a routine, after `=`, up to the end.
 #[tactic(auto, unfolding(crate::specs::SpecReading::routine_read))]
 fn routine_at(alloc: Global, name: &[u8], bytes: &[u8], depth: usize) -> Result<Spec, FormatError>
     ensures reads { Gives seen result (routine_read name.now depth bytes.now) }
@@ -65,7 +65,7 @@ fn routine_at(alloc: Global, name: &[u8], bytes: &[u8], depth: usize) -> Result<
     routine_over(alloc, name, iter, kinds, rest, depth)
 }
 
-/// The specification of a routine with these parameters, behind them, up to the end.
+/// The specification of a routine with these parameters, after them, up to the end.
 fn routine_over(
     alloc: Global,
     name: &[u8],
@@ -89,7 +89,7 @@ fn routine_over(
     })
 }
 
-/// A routine behind its parameters, up to the end.
+/// A routine after its parameters, up to the end.
 #[tactic(auto, unfolding(crate::specs::SpecReading::last_operation_read))]
 fn last_operation_at(
     alloc: Global,
@@ -108,7 +108,7 @@ fn last_operation_at(
     Ok(op)
 }
 
-/// The specification of a cluster, behind `=`, up to the end.
+/// The specification of a cluster, after `=`, up to the end.
 #[tactic(auto, unfolding(crate::specs::SpecReading::cluster_read))]
 fn cluster_at(alloc: Global, name: &[u8], bytes: &[u8], depth: usize) -> Result<Spec, FormatError>
     ensures reads { Gives seen result (cluster_read name.now depth bytes.now) }
@@ -119,7 +119,7 @@ fn cluster_at(alloc: Global, name: &[u8], bytes: &[u8], depth: usize) -> Result<
     cluster_over(alloc, name, kinds, rest, depth)
 }
 
-/// The specification of a cluster with these parameters, behind them, up to the end.
+/// The specification of a cluster with these parameters, after them, up to the end.
 fn cluster_over(
     alloc: Global,
     name: &[u8],
@@ -243,7 +243,7 @@ fn demands_at<'a>(
     Err(fault(rest))
 }
 
-/// A demand behind that of `param` and `previous`, its name, and what follows.
+/// A demand after that of `param` and `previous`, its name, and what follows.
 #[tactic(auto, unfolding(crate::specs::SpecReading::demand_read))]
 fn demand_at<'a>(
     alloc: Global,
@@ -270,7 +270,7 @@ fn demand_at<'a>(
     Ok((demand, name, rest))
 }
 
-/// The parameter and the name of a demand behind that of `param` and `previous`, and what follows the `:`.
+/// The parameter and the name of a demand after that of `param` and `previous`, and what follows the `:`.
 #[tactic(auto, unfolding(crate::specs::SpecReading::asked_read))]
 fn asked_at<'a>(
     scope: &Scope,
@@ -287,7 +287,7 @@ fn asked_at<'a>(
     Ok((asked, name, literal(b":", rest)?))
 }
 
-/// The name behind which a demand of the parameter `asked` comes: that of the demand before, where it is of the
+/// The name after which a demand of the parameter `asked` comes: that of the demand before, where it is of the
 /// same parameter.
 fn name_of<'a>(asked: u32, param: u32, previous: &'a [u8]) -> &'a [u8]
     ensures { result.now ≡ (if asked == param then previous.now else []) }
@@ -295,7 +295,7 @@ fn name_of<'a>(asked: u32, param: u32, previous: &'a [u8]) -> &'a [u8]
     if asked == param { previous } else { &[] }
 }
 
-/// The least parameter of a demand behind that of `param` and `name`.
+/// The least parameter of a demand after that of `param` and `name`.
 fn least_behind(param: u32, name: &[u8]) -> u64
     ensures { result ≡ least_behind param name.now }
 {
@@ -306,7 +306,7 @@ fn least_behind(param: u32, name: &[u8]) -> u64
     }
 }
 
-/// What follows the comma, where a demand behind that of `param` and `name` is possible.
+/// What follows the comma, where a demand after that of `param` and `name` is possible.
 fn next_demand<'a>(scope: &Scope, param: u32, name: &[u8], bytes: &'a [u8]) -> Option<&'a [u8]>
     ensures { option_copied result ≡ next_demand scope.now param name.now bytes.now }
 {
@@ -317,7 +317,7 @@ fn next_demand<'a>(scope: &Scope, param: u32, name: &[u8], bytes: &'a [u8]) -> O
     }
 }
 
-/// A routine of this name behind its parameters: its heading and demands.
+/// A routine of this name after its parameters: its heading and demands.
 #[tactic(auto, unfolding(crate::specs::SpecReading::operation_read))]
 fn operation_at<'a>(
     alloc: Global,
@@ -347,7 +347,7 @@ fn operation_at<'a>(
     ))
 }
 
-/// The name behind `;` of an operation behind `previous`, whether it is an iterator, and what follows.
+/// The name after `;` of an operation after `previous`, whether it is an iterator, and what follows.
 #[tactic(auto, unfolding(crate::specs::SpecReading::operation_word_read))]
 fn operation_word<'a>(
     previous: &[u8],
@@ -361,7 +361,7 @@ fn operation_word<'a>(
     Ok((name, iter, rest))
 }
 
-/// An operation behind that of `previous`, its name, and what follows.
+/// An operation after that of `previous`, its name, and what follows.
 #[tactic(auto, unfolding(crate::specs::SpecReading::named_operation_read))]
 fn named_operation_at<'a>(
     alloc: Global,
@@ -381,7 +381,7 @@ fn named_operation_at<'a>(
     Ok((op, name, rest))
 }
 
-/// The operations of a cluster in ascending order, each behind `;`.
+/// The operations of a cluster in ascending order, each after `;`.
 #[tactic(auto, unfolding(crate::specs::SpecReading::operations_read))]
 fn operations_at<'a>(
     alloc: Global,

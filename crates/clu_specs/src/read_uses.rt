@@ -78,7 +78,7 @@ fn module_use(alloc: Global, types: &TypeArena, id: TypeId) -> Result<Target, Fo
     }
 }
 
-/// What stands behind a type in a use, from its `$` to the end.
+/// What stands after a type in a use, from its `$` to the end.
 #[derive(Drop)]
 enum Operation {
     Named(Bytes),

@@ -136,7 +136,7 @@ impl Scope {
         false
     }
 
-    /// How many bytes are left behind the digits at the front that begin some number of the sort. It goes at most as
+    /// How many bytes are left after the digits at the front that begin some number of the sort. It goes at most as
     /// deep as `LAST_NUMBER` has digits, and one more.
     fn left_of_number(&self, sort: Sort, least: u64, read: u64, bytes: &[u8]) -> u64
         ensures { result ≡ left_of_number self.now sort least read bytes.now }
@@ -183,7 +183,7 @@ impl Scope {
         }
     }
 
-    /// The number behind the mark `#` or `%`, at which `bytes` begin.
+    /// The number after the mark `#` or `%`, at which `bytes` begin.
     #[tactic(auto, unfolding(crate::specs::Scopes::parameter_at))]
     pub fn parameter_at<'a>(
         &self,

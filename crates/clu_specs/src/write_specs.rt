@@ -67,7 +67,7 @@ fn routine_word(iter: bool) -> &'static [u8]
 }
 
 /// The word of a kind of parameter.
-pub fn kind_word(kind: ParamKind) -> &'static [u8]
+fn kind_word(kind: ParamKind) -> &'static [u8]
     ensures { result.now ≡ kind_text kind }
 {
     match kind {

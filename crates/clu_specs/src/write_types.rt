@@ -1,5 +1,5 @@
-//! Types as texts, written by a loop over a stack of pieces. The only error is that memory runs out; a text that
-//! no memory holds is refused before most of it is written.
+//! Types as texts, written by a loop over a stack of pieces. The only error is that memory runs out; a text of more
+//! than 2^22 pieces is refused like one that no memory holds.
 
 ghost use Rattle.std.specs.Prelude.{◌≡◌, ◌<◌, ◌++◌, [], length, IfOk, OnOk, IsTrue};
 ghost use Rattle.clu_types.specs.Arena.{type_at, types_of};
@@ -10,15 +10,14 @@ use crate::constants::{put, put_constant, put_parameter};
 use crate::pieces::{
     Piece, push, push_more_actuals, push_more_fields, push_more_signals, push_more_types, push_type,
 };
-use crate::text_lengths::TextLengths;
 use crate::write_specs::{push_more_demands, push_more_kinds, push_operations};
 use clu_base::{Bytes, Memory};
 use clu_types::{TypeArena, TypeId};
 use std::alloc::Global;
 
-/// So many pieces are written before the length of what is left is reckoned: a short text is not to cost a table
-/// of all types.
-const UNMEASURED: u64 = 65_536;
+/// The most pieces that a text is written of. A type that shares its parts is small, and its text can double with
+/// each level: one that has more pieces is refused, before it takes the memory of the machine.
+const MOST_PIECES: u64 = 4_194_304;
 
 /// The text of a type, by the grammar in docs/formats.md. The only error is that memory runs out.
 pub fn type_text(alloc: Global, types: &TypeArena, t: TypeId) -> Result<Bytes, Memory>
@@ -39,57 +38,36 @@ pub fn written<'a>(
     ensures { IfOk result (λ text. text ≡ stack_text (types_of types.now) stack.old.items) }
 {
     let mut out = Vec::new(alloc);
-    write(alloc, &mut out, types, stack)?;
+    write(&mut out, types, stack)?;
     Ok(Bytes::from_vec(out))
 }
 
 /// Appends the text of the pieces on the stack.
 fn write<'a>(
-    alloc: Global,
     out: &mut Vec<u8>,
     types: &'a TypeArena,
     stack: &mut Vec<Piece<'a>>,
 ) -> Result<(), Memory>
     ensures { OnOk result (out.new.items ≡ out.old.items ++ stack_text (types_of types.now) stack.old.items) }
 {
-    if write_some(out, types, stack, UNMEASURED)? {
-        return Ok(());
-    }
-    make_room(alloc, out, types, stack.as_slice())?;
-    if write_some(out, types, stack, u64::MAX)? {
+    if write_some(out, types, stack)? {
         Ok(())
     } else {
         Err(Memory)
     }
 }
 
-/// Makes room for the texts of pieces.
-fn make_room(
-    alloc: Global,
-    out: &mut Vec<u8>,
-    types: &TypeArena,
-    pieces: &[Piece],
-) -> Result<(), Memory>
-    ensures { out.new.items ≡ out.old.items }
-{
-    let mut lengths = TextLengths::new(alloc);
-    lengths.grow(types)?;
-    out.reserve(lengths.of_pieces(pieces) as usize)?;
-    Ok(())
-}
-
-/// Appends the texts of the pieces from the top in at most so many turns. Gives whether all was written.
+/// Appends the texts of the pieces from the top, at most [`MOST_PIECES`]. Gives whether all was written.
 #[tactic(auto, using(crate::proofs::Writing::over_last))]
 fn write_some<'a>(
     out: &mut Vec<u8>,
     types: &'a TypeArena,
     stack: &mut Vec<Piece<'a>>,
-    turns: u64,
 ) -> Result<bool, Memory>
     ensures kept { OnOk result (out.new.items ++ stack_text (types_of types.now) stack.new.items ≡ out.old.items ++ stack_text (types_of types.now) stack.old.items) }
     ensures all { IfOk result (λ done. IsTrue done → stack.new.items ≡ []) }
 {
-    for _ in 0..turns {
+    for _ in 0..MOST_PIECES {
         match stack.pop() {
             None => return Ok(true),
             Some(piece) => write_piece(out, types, stack, piece)?,

@@ -4,7 +4,7 @@ use Rattle.clu_tree.specs.declared.node.Node.{Node}
 use Rattle.clu_tree.specs.declared.node.NodeKind.{NodeKind}
 use Rattle.clu_tree.specs.declared.node.NodeKind.TheVariants as kind
 
--- how many bytes belong to an escape behind its backslash
+-- how many bytes belong to an escape after its backslash
 abbrev pub escape_len : List ℕ → ℕ
 escape_len [] = 1
 escape_len (b ∷ bs) = if nat_le 48 b && nat_le b 55 then 3 else 1

@@ -1,4 +1,4 @@
-//! How much a node counts, without what stands below it: 1, one more for each name behind the
+//! How much a node counts, without what stands below it: 1, one more for each name after the
 //! first, and one more for each whole 64 bytes of a string literal.
 
 ghost use Rattle.std.specs.Prelude.{◌≡◌, ◌<◌, ◌≤◌, ◌^◌, length, All};
@@ -6,7 +6,7 @@ ghost use Rattle.clu_tree.specs.Count.{escape_len, characters, string_len, value
 
 use crate::node::{Node, NodeKind};
 
-/// How many bytes belong to an escape behind its backslash: three octal digits, or one letter.
+/// How many bytes belong to an escape after its backslash: three octal digits, or one letter.
 fn escape_len(rest: &[u8]) -> usize
     ensures { result ≡ escape_len rest.now }
 {
@@ -16,7 +16,7 @@ fn escape_len(rest: &[u8]) -> usize
     }
 }
 
-/// How many bytes a string literal denotes, from behind its opening mark on.
+/// How many bytes a string literal denotes, from after its opening mark on.
 fn characters(mut text: &[u8]) -> usize
     ensures count { result ≡ characters 0 text.entry.now }
     ensures within { result ≤ length text.entry.now }

@@ -140,7 +140,7 @@ pub struct Node {
     /// The operator, the reserved word that chooses a form, or a literal as it is spelled; words
     /// are in lower case.
     pub value: Bytes,
-    /// The number of the token that is the value, if there is one. The body behind the `else` of an
-    /// If begins behind it.
+    /// The number of the token that is the value, if there is one. The body after the `else` of an
+    /// If begins after it.
     pub value_token: Option<u32>,
 }

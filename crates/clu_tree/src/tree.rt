@@ -1,4 +1,4 @@
-//! Trees: a node comes behind its children and is the child of one other node at most.
+//! Trees: a node comes after its children and is the child of one other node at most.
 
 ghost use Rattle.std.specs.Prelude.{◌≡◌, ◌∷◌, [], ◌++◌, ◌<◌, ◌^◌, length, slice_get, slice_index, Some, All, IfOk, OnErr, vec_len, vec_capacity};
 ghost use Rattle.clu_tree.specs.Nodes.{Fits, IsKept, module_at};
@@ -46,7 +46,7 @@ impl Tree {
         }
     }
 
-    /// Adds a node and gives its number. The only error is want of memory, which leaves the tree
+    /// Adds a node and gives its number. The only error is that memory runs out, which leaves the tree
     /// as it was.
     pub fn add(&mut self, node: Node) -> Result<u32, Memory>
         requires { Fits self.old node }
@@ -75,7 +75,7 @@ impl Tree {
     }
 
     /// The count of the node and all that stands below it: one for each node, one for each name
-    /// of a node behind its first, and one for each whole 64 bytes that a string literal denotes.
+    /// of a node after its first, and one for each whole 64 bytes that a string literal denotes.
     pub fn nodes(&self, n: u32) -> u32
         requires { n < length self.now }
         ensures { result ≡ slice_index (counts self.now) n }
@@ -92,7 +92,7 @@ impl Tree {
     }
 }
 
-/// Adds a node with its count, and to the modules if it is one; all or, for want of memory,
+/// Adds a node with its count, and to the modules if it is one; all or, when memory runs out,
 /// nothing.
 fn add_row(
     nodes: &mut Vec<Node>,

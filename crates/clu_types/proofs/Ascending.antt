@@ -19,7 +19,7 @@ trans = nat_list_cmp_total.trans
 back : (x y : List ℕ) → name_order x y ≡ Greater → name_order y x ≡ Less
 back x y e = nat_list_cmp_total.antisymm y x ∙ ap ordering_reverse e
 
--- a name before another comes before all behind it
+-- a name before another comes before all after it
 after_less : (m n : List ℕ) (xs : List Spec) → name_order m n ≡ Less → ComeAfter n xs → ComeAfter m xs
 after_less m n [] e h = tt
 after_less m n (x ∷ xs) e h = (trans m n x.name e h.0, after_less m n xs e h.1)
@@ -77,7 +77,7 @@ further-found (Err i) x xs = refl
 same_name : (m n : List ℕ) → bytes_eq m n ≡ is_eq (name_order m n)
 same_name m n = sym (is_eq-slice_cmp m n)
 
--- no name behind a greater one is this
+-- no name after a greater one is this
 find_none : (n : List ℕ) (xs : List Spec) → ComeAfter n xs → find (λ (s : Spec). bytes_eq s.name n) xs ≡ None
 find_none n [] h = refl
 find_none n (x ∷ xs) h =

@@ -108,6 +108,6 @@ pub record IsArena (terms : List Term) : Type 0 where
   pub parts : (i : ℕ) (d : Term) → i < length terms → PartsBelow i (slice_index_or terms i d)
   pub once : (i j : ℕ) (d : Term) → i < length terms → j < length terms → slice_index_or terms i d ≡ slice_index_or terms j d → i ≡ j
 
--- the terms stay, and more may have come behind them
+-- the terms stay, and more may have come after them
 abbrev pub Grows : List Term → List Term → Type 0
 Grows old new = (more : List Term) × (new ≡ old ++ more)

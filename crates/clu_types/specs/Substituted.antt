@@ -13,7 +13,7 @@ type_of_actual (actual_type t rest) (suc i) other = type_of_actual rest i other
 type_of_actual (actual_const c rest) (suc i) other = type_of_actual rest i other
 type_of_actual (actual_param p rest) (suc i) other = type_of_actual rest i other
 
--- the constant or constant parameter at a place, or the parameter n, before the actuals behind it
+-- the constant or constant parameter at a place, or the parameter n, before the actuals after it
 abbrev pub constant_of_actual : Actuals → ℕ → ℕ → Actuals → Actuals
 constant_of_actual no_actuals i n behind = actual_param n behind
 constant_of_actual (actual_type t rest) zero n behind = actual_param n behind

@@ -45,7 +45,7 @@ impl TypeArena {
         }
     }
 
-    /// The number of the type that a term denotes. Numbers that were given keep their type, also after want of memory.
+    /// The number of the type that a term denotes. Numbers that were given keep their type, also when memory runs out.
     pub fn intern(&mut self, term: Term) -> Result<TypeId, Memory>
         requires { PartsBelow (length self.old) term }
         ensures of_type { IfOk result (λ id. type_at (types_of self.new) id ≡ type_of (types_of self.old) term) }

@@ -1,5 +1,5 @@
 //! Equal copies of terms, of the parts of a specification and of an arena. The only error of each copy is
-//! want of memory. A term is copied as one whose parts keep their numbers.
+//! that memory runs out. A term is copied as one whose parts keep their numbers.
 
 ghost use Rattle.std.specs.Prelude.{◌≡◌, IfOk};
 

@@ -50,7 +50,7 @@ impl Specs {
         }
     }
 
-    /// Adds a specification; a kept one of its name is replaced. After want of memory the list is as before.
+    /// Adds a specification; a kept one of its name is replaced. When memory runs out the list is as before.
     pub fn with(&mut self, s: Spec) -> Result<(), Memory>
         ensures ok { OnOk result (self.new ≡ with_spec self.old s) }
         ensures err { OnErr result (self.new ≡ self.old) }

@@ -42,7 +42,7 @@ words_of (Binary' op p left q right) =
 abbrev pub operand_words : WExpr → ℕ
 operand_words e = operand_with e (words_of e)
 
--- two operands, and so many words behind them
+-- two operands, and so many words after them
 abbrev pub operands_room : WExpr → WExpr → ℕ → Room
 operands_room first second code =
     both (both (code_room (operand_words first)) (code_room (operand_words second))) (code_room code)

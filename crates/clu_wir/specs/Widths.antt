@@ -37,7 +37,7 @@ operand_with _ scratch = max scratch 1
 abbrev pub placed_of : WExpr → ℕ
 placed_of e = max (scratch_of e) 1
 
--- the words of values that stand side by side, each evaluated behind those before it
+-- the words of values that stand side by side, each evaluated after those before it
 abbrev pub row_behind : ℕ → ℕ → List WExpr → ℕ
 row_behind needed before [] = needed
 row_behind needed before (e ∷ rest) = row_behind (max needed (plus before (placed_of e))) (plus before 1) rest
@@ -45,7 +45,7 @@ row_behind needed before (e ∷ rest) = row_behind (max needed (plus before (pla
 abbrev pub row_of : List WExpr → ℕ
 row_of values = row_behind 0 0 values
 
--- the words of a descriptor and the arguments behind it
+-- the words of a descriptor and the arguments after it
 abbrev pub call_of : WExpr → List WExpr → ℕ
 call_of routine values = max (placed_of routine) (plus (row_of values) 1)
 
@@ -82,6 +82,6 @@ width_of = fold-WStmt ℕ ℕ width_step arm_width_step
 abbrev pub arm_width_of : WArm → ℕ
 arm_width_of = fold-WArm ℕ ℕ width_step arm_width_step
 
--- the words of a routine: its slots, and behind them those of the statement that needs most
+-- the words of a routine: its slots, and after them those of the statement that needs most
 abbrev pub routine_width : WRoutine → ℕ
 routine_width r = plus r.slots (greatest (map width_of r.body.items))

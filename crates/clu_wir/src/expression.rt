@@ -11,7 +11,7 @@ pub enum WExpr {
     Word(u64),
     /// A word that the linker knows: the item of this kind and number.
     Hole(HoleKind, u32),
-    /// The word so many bytes behind an address. Both are multiples of 8.
+    /// The word so many bytes after an address. Both are multiples of 8.
     Load(Box<WExpr>, u32),
     /// An operation on two words.
     Binary(WOp, Box<WExpr>, Box<WExpr>),

@@ -25,7 +25,7 @@ pub enum HoleKind {
     Runtime,
     /// The address of a word of the routine's code.
     Code,
-    /// The address of the cell that holds the number of a type. The cells of the types behind it lie behind it.
+    /// The address of the cell that holds the number of a type. The cells of the types after it lie after it.
     TypeCell,
 }
 

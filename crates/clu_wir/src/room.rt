@@ -24,7 +24,7 @@ const MOVE: u64 = 6;
 /// The words that a value takes on its way from an address to a slot.
 const LOAD: u64 = 9;
 
-/// The words of a call behind its arguments, and of the step that takes the two words that come.
+/// The words of a call after its arguments, and of the step that takes the two words that come.
 const CALL: u64 = 10;
 
 const TAKE: u64 = 6;
@@ -237,7 +237,7 @@ fn statement(statement: &WStmt) -> Room
     }
 }
 
-/// Two operands, and so many words behind them.
+/// Two operands, and so many words after them.
 fn operands(first: &WExpr, second: &WExpr, code: u64) -> Room
     ensures { result ≡ operands_room first.now second.now code }
 {
@@ -246,7 +246,7 @@ fn operands(first: &WExpr, second: &WExpr, code: u64) -> Room
         .and(Room::words(code))
 }
 
-/// Values side by side, and so many words behind them.
+/// Values side by side, and so many words after them.
 fn values_and(values: &[WExpr], code: u64) -> Room
     ensures { result ≡ both (row_room values.now) (code_room code) }
 {

@@ -9,7 +9,7 @@ use clu_base::Bytes;
 pub enum WStmt {
     /// Puts a word into a slot.
     Set(u32, WExpr),
-    /// Puts the last word so many bytes behind the address that the first one is.
+    /// Puts the last word so many bytes after the address that the first one is.
     Put(WExpr, u32, WExpr),
     /// Calls the routine whose descriptor is at the address, with arguments; its results go into the slots.
     Call(WExpr, Vec<WExpr>, Vec<u32>),
@@ -24,7 +24,7 @@ pub enum WStmt {
     If(WExpr, Vec<WStmt>, Vec<WStmt>),
     /// The list again and again, until a Break.
     Loop(Vec<WStmt>),
-    /// Goes on behind the innermost Loop or Iterate.
+    /// Goes on after the innermost Loop or Iterate.
     Break,
     /// Goes on with the next turn of the innermost Loop or Iterate.
     Continue,

@@ -1,4 +1,4 @@
-//! How many words of its frame a routine needs: its slots, and behind them the words that it works with.
+//! How many words of its frame a routine needs: its slots, and after them the words that it works with.
 
 ghost use Rattle.std.specs.Prelude.{◌≡◌, ◌-◌, ◌^◌, min, map};
 ghost use Rattle.clu_wir.specs.Widths.{arm_width_of, call_of, greatest, operand_of, operand_with, pair as pair_of, placed_of, routine_width, row_of, scratch_of, width_of};
@@ -8,7 +8,7 @@ use crate::routine::WRoutine;
 use crate::statement::{WArm, WStmt};
 
 impl WExpr {
-    /// How many words behind the slots its evaluation works with, where the value goes elsewhere.
+    /// How many words after the slots its evaluation works with, where the value goes elsewhere.
     pub fn scratch(&self) -> u32
         ensures { result ≡ scratch_of self.now }
     {
@@ -63,7 +63,7 @@ fn pair(left: u32, right: u32) -> u32
     left.max(right.saturating_add(left.min(1)))
 }
 
-/// Values that stand side by side, each evaluated behind those before it.
+/// Values that stand side by side, each evaluated after those before it.
 fn row(values: &[WExpr]) -> u32
     ensures { result ≡ row_of values.now }
 {
@@ -131,7 +131,7 @@ fn width(statement: &WStmt) -> u32
     }
 }
 
-/// The routine's descriptor and the arguments behind it.
+/// The routine's descriptor and the arguments after it.
 fn call(routine: &WExpr, values: &[WExpr]) -> u32
     ensures { result ≡ call_of routine.now values.now }
 {

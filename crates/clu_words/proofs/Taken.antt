@@ -42,7 +42,7 @@ faulty : (kind : ErrorKind) (faults : Kinds) (texts : Said) → IsAmong kind fau
 faulty kind [] texts h = elim h [ ]
 faulty kind (fault ∷ faults) texts h = refl
 
--- an error other than want of memory is a fault of the words
+-- an error other than memory that runs out is a fault of the words
 pub said_refused : (f : Form) (words : List Text) (e : Error) → HasKind (fault_of (app_of_form f) words) e → kind_of e ≢ OutOfMemory → said f words ≡ None
 unfolding said
 said_refused f words e (inl memory) other = absurd (other memory)

@@ -53,7 +53,7 @@ limits_of s =
 abbrev pub program_name_of : Text → Option Text
 program_name_of text = if nat_le 1 (length text) && nat_le (length text) 200 then Some text else None
 
--- what the texts behind a command's name tell it, the first of them apart
+-- what the texts after a command's name tell it, the first of them apart
 abbrev pub meaning_with : Name → Text → Said → Option Meant
 meaning_with name.Go first s = option_and_then (λ image. option_and_then (λ limits. Some (go first image limits s.peep s.trace)) (limits_of s)) s.second
 meaning_with name.Spec first s = option_and_then (λ file. Some (spec first file)) s.second

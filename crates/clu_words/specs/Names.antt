@@ -22,7 +22,7 @@ name_of word =
     else (if bytes_eq word (codes "xref") then Some name.Xref
     else None)))))))))))
 
--- the form of the words behind it
+-- the form of the words after it
 abbrev pub form_of : Name → Form
 form_of name.Go = form.TwoAll
 form_of name.Spec = form.Two

@@ -8,7 +8,7 @@ abbrev pub is_numeral : List ℕ → Bool
 is_numeral [] = false
 is_numeral (digit ∷ digits) = list_all is_ascii_digit (digit ∷ digits)
 
--- the number that digits behind those of n write
+-- the number that digits after those of n write
 abbrev pub number_after : ℕ → List ℕ → ℕ
 number_after n [] = n
 number_after n (digit ∷ digits) = number_after (10 * n + (digit - 48)) digits

@@ -43,7 +43,7 @@ abbrev pub without_fault : Kinds → Said → Option Said
 without_fault [] texts = Some texts
 without_fault (fault ∷ faults) texts = None
 
--- what the words behind a command's name say, where they are of the form
+-- what the words after a command's name say, where they are of the form
 unfoldable pub said : Form → List Text → Option Said
 said form words =
     without_fault (fault_of (app_of_form form) words) (said_by (λ id. first_of id (matches_of (app_of_form form) words)))

@@ -94,7 +94,7 @@ pub fn read_command<'a>(alloc: Global, words: &'a [String]) -> Result<Command<'a
     }
 }
 
-// The command of this name with these words behind it.
+// The command of this name with these words after it.
 fn named_command<'a>(
     alloc: Global,
     name: Name,

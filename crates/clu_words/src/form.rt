@@ -1,4 +1,4 @@
-//! The forms that words behind a command's name can have, as commands of `clap` with texts for
+//! The forms that words after a command's name can have, as commands of `clap` with texts for
 //! values.
 
 ghost use Rattle.std.specs.Prelude.{◌≡◌, IfOk};

@@ -45,7 +45,7 @@ impl Name {
         }
     }
 
-    /// The form of the words behind the name.
+    /// The form of the words after the name.
     pub fn form(self) -> Form
         ensures { result ≡ form_of self }
     {

@@ -32,7 +32,7 @@ pub struct Texts<'a> {
     pub trace: bool,
 }
 
-/// Reads the words behind a command's name. `Usage` comes exactly where they are not of the form.
+/// Reads the words after a command's name. `Usage` comes exactly where they are not of the form.
 pub fn read<'a>(alloc: Global, form: Form, words: &'a [String]) -> Result<Texts<'a>, WordsError>
     ensures ok { IfOk result (λ texts. said form (map string_bytes words.now) ≡ Some (said_of texts)) }
     ensures usage { result ≡ Err WordsError.Usage → said form (map string_bytes words.now) ≡ None }

@@ -11,9 +11,9 @@ pub struct Image {
     pub entry: u32,
     /// The code, in words.
     pub code: Vec<u32>,
-    /// The bytes behind the code that the program only reads.
+    /// The bytes after the code that the program only reads.
     pub fixed: Vec<u8>,
-    /// The bytes behind those, which it may write.
+    /// The bytes after those, which it may write.
     pub area: Vec<u8>,
 }
 

@@ -13,7 +13,7 @@ instr_at : (rows : List Row) (n i : ℕ) (row : Row) → n ≡ length rows → i
 unfolding instr_of
 instr_at rows n i row e h r = slice_get-map instr_of rows i ∙ ap (option_map instr_of) (slice_get_read rows n i row e h r)
 
--- the place of the pc in the code, where the difference wraps: a pc below the code is far behind it
+-- the place of the pc in the code, where the difference wraps: a pc below the code is far after it
 abbrev pub place_of : ℕ → ℕ
 place_of pc = (pc + (2 ^ 64 - 0x10000)) % 2 ^ 64 / 4
 

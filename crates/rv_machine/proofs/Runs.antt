@@ -56,7 +56,7 @@ input_left-first kept new left more b first e = rw e (first_of kept.bytes kept.a
     first_of (x ∷ xs) true h = cc
     first_of (x ∷ xs) false h = cc
 
--- no byte is kept behind the end
+-- no byte is kept after the end
 pub input_left-none : (kept : Kept) (left : Option (List ℕ)) (more : List ℕ) → slice_get kept.bytes 0 ≡ None → (kept.bytes ≡ [] → kept.at_end ≡ true) → input_left kept left more ≡ []
 input_left-none kept left more none ended = none_of kept.bytes kept.at_end none ended
   where

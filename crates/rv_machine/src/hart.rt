@@ -56,7 +56,7 @@ impl Model for Hart {
 impl Hart {
     ghost use Rattle.rv_machine.specs.Start.{started};
 
-    /// The hart as a run starts it, with all its memory. The only error is want of memory.
+    /// The hart as a run starts it, with all its memory. The only error is that memory runs out.
     pub fn new(alloc: Global, image: &Image, limits: Limits) -> Result<Hart, Memory>
         ensures { IfOk result (λ h. h ≡ started image.now limits) }
     {
@@ -108,7 +108,7 @@ impl Hart {
         self.registers[n]
     }
 
-    /// Goes on behind a call of the environment, with its answer in x10.
+    /// Goes on after a call of the environment, with its answer in x10.
     pub fn answer(&mut self, n: u64)
         ensures { self.new ≡ advanced (with_register self.old 10 n) }
     {

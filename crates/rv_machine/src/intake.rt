@@ -35,7 +35,7 @@ impl Intake {
     ghost use Rattle.std.specs.Prelude.{◌≡◌, ◌≤◌, false, true, [], drop, slice_get, IfOk, OnOk, OnErr};
     ghost use Rattle.rv_machine.specs.Input.{Kept, SameInput};
 
-    /// No input yet. The only error is want of memory.
+    /// No input yet. The only error is that memory runs out.
     pub fn new(alloc: Global) -> Result<Intake, Memory>
         ensures { IfOk result (λ i. i ≡ record { bytes = []; at_end = false }) }
     {

@@ -44,7 +44,7 @@ impl Machine {
     ghost use Rattle.rv_machine.specs.Snapshot.{Snapshot, fresh, configuration, from_pc, gone, HasText, Does, Reads, Writes};
 
     /// The machine as a run of the image with these limits starts. It takes all the memory of the
-    /// run, and the only error is want of memory.
+    /// run, and the only error is that memory runs out.
     pub fn new(alloc: Global, image: &Image, limits: Limits) -> Result<Machine, Memory>
         ensures { IfOk result (λ m. m ≡ fresh image.now limits) }
     {

@@ -11,7 +11,7 @@ use crate::row::{Row, row_of_word};
 use clu_base::Memory;
 use std::alloc::Global;
 
-/// The code's words, each decoded. The only error is want of memory.
+/// The code's words, each decoded. The only error is that memory runs out.
 pub fn rows_of(alloc: Global, words: &[u32]) -> Result<Vec<Row>, Memory>
     ensures { IfOk result (λ rows. map instr_of rows.items ≡ map decoded words.now) }
 {
@@ -22,8 +22,8 @@ pub fn rows_of(alloc: Global, words: &[u32]) -> Result<Vec<Row>, Memory>
     Ok(rows)
 }
 
-/// The bytes of the code with the gap behind it, with room for so many bytes. The only error is want
-/// of memory.
+/// The bytes of the code with the gap after it, with room for so many bytes. The only error is that
+/// memory runs out.
 pub fn code_bytes(alloc: Global, words: &[u32], room: usize) -> Result<Vec<u8>, Memory>
     ensures bytes { IfOk result (λ bytes. bytes.items ≡ bytes_of words.now) }
     ensures length { IfOk result (λ bytes. vec_len bytes ≤ 4 * length words.now + 4) }

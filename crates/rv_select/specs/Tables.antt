@@ -6,7 +6,7 @@ use Rattle.clu_handlers.specs.declared.region.Region.{Region as Ranged}
 use Rattle.clu_handlers.specs.Cuts.{Ascend, StartAt, named_at, no_region}
 use Rattle.clu_object.specs.declared.object.Region.{Region}
 
--- the address so many items of a size behind another; addresses wrap at 64 bits
+-- the address so many items of a size after another; addresses wrap at 64 bits
 abbrev pub behind : ℕ → ℕ → ℕ → ℕ
 behind address number size = (address + number * size % 2 ^ 64) % 2 ^ 64
 
@@ -36,7 +36,7 @@ region_row rows arms r = region_address rows r.parent ∷ arms ∷ row_address a
 abbrev pub arm_row : ℕ → ℕ → Arm → List ℕ
 arm_row code name a = name ∷ code_address code a.target ∷ (a.mark * 8) ∷ []
 
--- Rows behind the words before them.
+-- Rows after the words before them.
 
 abbrev pub cuts_behind : ℕ → ℕ → List ℕ → List Cut → List ℕ
 cuts_behind code rows before [] = before
@@ -73,7 +73,7 @@ arms_behind code before (r ∷ rs) names = arms_behind code (own_behind code bef
 
 -- The table.
 
--- the row of the first region behind so many cuts
+-- the row of the first region after so many cuts
 abbrev pub rows_at : ℕ → ℕ → ℕ
 rows_at at cuts = behind (behind at 1 8) cuts 16
 

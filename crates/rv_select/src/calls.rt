@@ -59,7 +59,7 @@ pub(crate) fn invoke(words: &mut Words, slot: u32) -> Result<(), SelectError> {
     words.jalr(Back, First, 0)
 }
 
-/// Takes the word so many bytes behind the address that travelled.
+/// Takes the word so many bytes after the address that travelled.
 pub(crate) fn result(words: &mut Words, to: u32, distance: i32) -> Result<(), SelectError> {
     load_at(words, First, Travelling, distance)?;
     save_slot(words, First, to)

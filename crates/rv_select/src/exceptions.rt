@@ -1,5 +1,5 @@
 //! Exceptions: the name and the address of the objects travel to the part of the runtime that searches, with the return
-//! address behind the place that raised, and from there to an arm.
+//! address after the place that raised, and from there to an arm.
 
 use crate::calls::caller_frame;
 use crate::error::SelectError;
@@ -10,7 +10,7 @@ use crate::words::Words;
 use clu_wir::HoleKind;
 use rv_isa::Op;
 
-/// The name is in the slot, the objects behind it.
+/// The name is in the slot, the objects after it.
 fn exception(words: &mut Words, slot: u32) -> Result<(), SelectError> {
     load_slot(words, Value, slot)?;
     slot_address(words, Travelling, slot.saturating_add(1))

@@ -17,10 +17,10 @@ const RECORD: i32 = 24;
 /// The limits on the stack count 16 words for a suspended loop.
 const _: () = prove!(RECORD <= 16 * 8);
 
-/// The bytes from the AUIPC of a yield to the step behind it.
+/// The bytes from the AUIPC of a yield to the step after it.
 const BEHIND_YIELD: i32 = 44;
 
-/// The return address of an iterator leads to the one word that ends its loop; the loop's body is behind that.
+/// The return address of an iterator leads to the one word that ends its loop; the loop's body is after that.
 const BODY: i32 = 4;
 
 /// Yields the words from this slot on.

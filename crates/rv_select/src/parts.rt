@@ -73,7 +73,7 @@ fn start(words: &mut Words) -> Result<(), SelectError> {
     words.service(RETURNED)
 }
 
-/// The part that raises the failure of a variable that names no object, with the return address behind the place of the
+/// The part that raises the failure of a variable that names no object, with the return address after the place of the
 /// variable. The word of the runtime's table is the failure's object.
 pub fn unnamed_part(alloc: Global) -> Result<ObjRoutine, SelectError>
     ensures { IfOk result (IsPart (codes "unnamed")) }

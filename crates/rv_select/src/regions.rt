@@ -14,7 +14,7 @@ struct Mapped {
     numbers: Vec<Option<u32>>,
 }
 
-/// The regions of words, where `starts` has the first word of each step and the number of words behind them. A region
+/// The regions of words, where `starts` has the first word of each step and the number of words after them. A region
 /// whose steps have no words is left out: nothing is raised in it, and all regions inside it are left out too.
 pub(crate) fn map_regions(
     alloc: Global,

@@ -1,6 +1,6 @@
 //! The part of the runtime that searches for the arm of what was raised (CLU Reference Manual, section 12).
 //!
-//! It is entered with the return address behind the place where the exception was raised, the place of the frame there,
+//! It is entered with the return address after the place where the exception was raised, the place of the frame there,
 //! the name and the address of the objects. In the table of the frame's routine, whose layout `regions_table` says, it
 //! bisects the cuts and goes outward from region to region. At an arm it cuts the stack to the arm's mark. Where no arm
 //! of the routine takes the exception it becomes failure, if it isn't failure, and the search goes on where the routine

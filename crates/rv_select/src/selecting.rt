@@ -14,7 +14,7 @@ use clu_handlers::Regions;
 use clu_object::{ObjRoutine, Region, copy_constants, copy_texts};
 use std::alloc::Global;
 
-/// The words of each step, one after the other, and the number of the word at which each begins, and behind them all
+/// The words of each step, one after the other, and the number of the word at which each begins, and after them all
 /// the number of words.
 #[derive(Debug, Drop)]
 struct Selected {

@@ -29,7 +29,7 @@ const ROW: u64 = 24;
 /// - the cuts, ascending, two words each: the address of the code word from which on it holds, the first of which is the
 ///   routine's first word, and the address of the row of the innermost region there, or 0;
 /// - the rows of the regions, three words each: the address of the parent's row or 0, the address of the row of its first
-///   arm, and the address behind the row of its last arm;
+///   arm, and the address after the row of its last arm;
 /// - the rows of the arms, three words each: the address of the string of the name, or 0 for all names, the address of the
 ///   code word at which the arm begins, and how many bytes the word with the top of the stack, to which the arm cuts, is
 ///   from the place of the frame. In each region an arm of all names comes last.
@@ -203,14 +203,14 @@ impl Places {
     }
 }
 
-/// The address so many items of a size behind another.
+/// The address so many items of a size after another.
 fn behind(address: u64, number: u64, size: u64) -> u64
     ensures { result ≡ behind address number size }
 {
     address.wrapping_add(number.wrapping_mul(size))
 }
 
-/// The address behind the rows of a region's arms, which begin at an address.
+/// The address after the rows of a region's arms, which begin at an address.
 fn arms_end(region: &Region, arms: u64) -> u64
     ensures { result ≡ row_address arms (length region.now.arms) }
 {
