@@ -37,14 +37,14 @@ sound_for n t = all_at (sound_at n) symbols (code t) t (sound n) (place_of t)
 starts_sound : (n : Nonterminal) (t : Option Symbol) → list_all (starts_hold n t) (productions n) ≡ true
 starts_sound n t = and_left _ _ (and_left _ _ (sound_for n t))
 
-after_sound : (n : Nonterminal) (t : Option Symbol) → list_all (λ p. after_holds (after n) t (items_of p)) (productions n) ≡ true
+pub after_sound : (n : Nonterminal) (t : Option Symbol) → list_all (λ p. after_holds (after n) t (items_of p)) (productions n) ≡ true
 after_sound n t = and_right _ _ (and_left _ _ (sound_for n t))
 
-choice_sound : (n : Nonterminal) (t : Option Symbol) → choice_holds (after n) t (productions n) ≡ true
+pub choice_sound : (n : Nonterminal) (t : Option Symbol) → choice_holds (after n) t (productions n) ≡ true
 choice_sound n t = and_right _ _ (sound_for n t)
 
 -- what comes first, when more may follow
-through : (items : List Item) (rest wider : Option Symbol → Bool) (t : Option Symbol) → (rest t ≡ true → wider t ≡ true) → begins items rest t ≡ true → begins items wider t ≡ true
+pub through : (items : List Item) (rest wider : Option Symbol → Bool) (t : Option Symbol) → (rest t ≡ true → wider t ≡ true) → begins items rest t ≡ true → begins items wider t ≡ true
 through [] rest wider t f h = f h
 through (item.Terminal s ∷ items) rest wider None f h = absurd (cc)
 through (item.Terminal s ∷ items) rest wider (Some x) f h = h
@@ -56,7 +56,7 @@ through (item.Nonterminal n ∷ items) rest wider t f h =
           (and_both (nothing n) (begins items wider t) (and_left (nothing n) (begins items rest t) behind) (through items rest wider t f (and_right (nothing n) (begins items rest t) behind)))
     ]
 
-begins-append : (xs items : List Item) (rest : Option Symbol → Bool) (t : Option Symbol) → begins (xs ++ items) rest t ≡ begins xs (begins items rest) t
+pub begins-append : (xs items : List Item) (rest : Option Symbol → Bool) (t : Option Symbol) → begins (xs ++ items) rest t ≡ begins xs (begins items rest) t
 begins-append [] items rest t = refl
 begins-append (item.Terminal s ∷ xs) items rest None = refl
 begins-append (item.Terminal s ∷ xs) items rest (Some x) = refl
@@ -95,7 +95,7 @@ starts_one n t (p ∷ ps) alternative rest test (inl is) h = starts_of n t p alt
 starts_one n t (p ∷ ps) alternative rest test (inr one) h = starts_one n t ps alternative rest (and_right _ _ test) one h
 
 -- what a derivation up to the end comes upon may come first
-begun : (ys : List Symbol) (items : List Item) (at to : ℕ) → Derives ys items at to → to ≡ length ys → begins items at_end (slice_get ys at) ≡ true
+pub begun : (ys : List Symbol) (items : List Item) (at to : ℕ) → Derives ys items at to → to ≡ length ys → begins items at_end (slice_get ys at) ≡ true
 begun ys [] at to (done _) last = let none : slice_get ys at ≡ None = slice_get_past ys at (omega arith) in rw none
 begun ys _ at to (symbol s items _ _ is d) last = rw is (true_same the_type s s refl)
 begun ys _ at to (action a items _ _ d) last = begun ys items at to d last
@@ -119,7 +119,7 @@ row_followed (item.Nonterminal n ∷ row) items set test behind known = (
   row_followed row items set (λ t. and_right _ _ (test t)) behind known,
 )
 
-alternative_followed : (set : ℕ) (ps : List Production) (alternative items : List Item) → ((t : Option Symbol) → list_all (λ p. after_holds set t (items_of p)) ps ≡ true) → IsOneOf ps alternative → ((t : Option Symbol) → begins items at_end t ≡ true → in_set set t ≡ true) → Followed items at_end → Followed (alternative ++ items) at_end
+pub alternative_followed : (set : ℕ) (ps : List Production) (alternative items : List Item) → ((t : Option Symbol) → list_all (λ p. after_holds set t (items_of p)) ps ≡ true) → IsOneOf ps alternative → ((t : Option Symbol) → begins items at_end t ≡ true → in_set set t ≡ true) → Followed items at_end → Followed (alternative ++ items) at_end
 alternative_followed set [] alternative items test one behind known = absurd one
 alternative_followed set (p ∷ ps) alternative items test (inr one) behind known = alternative_followed set ps alternative items (λ t. and_right _ _ (test t)) one behind known
 alternative_followed set (take heads row ∷ ps) alternative items test (inl is) behind known =
@@ -144,7 +144,7 @@ none_may set t (p ∷ ps) alternative test (inr one) h = none_may set t ps alter
 abbrev pub IsChosen : List Production → Option Symbol → List Item → Type 0
 IsChosen ps t alternative = ((row : List Item) × (s : Symbol) × (step ps t ≡ Take row) × (alternative ≡ item.Terminal s ∷ row)) ⊎ (step ps t ≡ Go alternative)
 
-chosen : (set : ℕ) (t : Option Symbol) (ps : List Production) (alternative : List Item) → choice_holds set t ps ≡ true → IsOneOf ps alternative → begins alternative (in_set set) t ≡ true → IsChosen ps t alternative
+pub chosen : (set : ℕ) (t : Option Symbol) (ps : List Production) (alternative : List Item) → choice_holds set t ps ≡ true → IsOneOf ps alternative → begins alternative (in_set set) t ≡ true → IsChosen ps t alternative
 chosen set t [] alternative test one h = absurd one
 chosen set t (take heads row ∷ ps) alternative test one h = elim (true_or_false (is_among t heads)) [
   | inl suits ↦ (let only = rw suits at test in elim one [

@@ -3,6 +3,7 @@ pub mod Faults
 pub mod Levels
 pub mod Order
 pub mod Parsing
+pub mod Shape
 pub mod Spellings
 pub mod Steps
 pub mod Trees

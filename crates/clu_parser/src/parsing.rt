@@ -7,7 +7,8 @@ ghost use Rattle.clu_lexer.specs.Tokens.{Tokens};
 ghost use Rattle.clu_parser.specs.Depths.{IsFirstTooDeep};
 ghost use Rattle.clu_parser.specs.Levels.{IsLow};
 ghost use Rattle.clu_parser.specs.Order.{IsPostOrder, IsFileOver};
-ghost use Rattle.clu_parser.specs.Parsing.{symbols_of, place_in, place_of, IsTreeOf, IsFault};
+ghost use Rattle.clu_parser.specs.Parsing.{symbols_of, text_of, place_in, place_of, IsTreeOf, IsFault};
+ghost use Rattle.clu_parser.specs.Shape.{IsShaped, HaveForms};
 
 use crate::builder::Builder;
 use crate::errors::{ParseError, ReadError};
@@ -50,6 +51,8 @@ pub fn parse(alloc: Global, bytes: &[u8], tokens: &[Token]) -> Result<Tree, Pars
     ensures tree { IfOk result (IsTreeOf bytes.now tokens.now) }
     ensures order { IfOk result (λ tree. IsPostOrder tree) }
     ensures root { IfOk result (IsFileOver (length tokens.now)) }
+    ensures shape { IfOk result (IsShaped (text_of bytes.now tokens.now)) }
+    ensures forms { IfOk result (λ tree. HaveForms tree) }
     ensures shallow { IfOk result (λ tree. IsFirstTooDeep tree None) }
     ensures fault { IfErr result (IsFault bytes.now tokens.now) }
 {
