@@ -100,8 +100,8 @@ refused_source (Ok source) first name files faults faults' found why = tt
 refused_source (Err how) first name files faults faults' found why = not_parsed how name first files faults faults' found why
 
 -- the parser's refusal of what was lexed and read is one of the source
-pub deep_fault : (bytes read : List ℕ) (tokens lexed : List Token) (error : ParseError) (place : Place) → error ≡ parse.TooDeep place → read ≡ bytes → lexed ≡ tokens
-    → parser.IsFault read lexed error → parser.IsFault bytes tokens (parse.TooDeep place)
-deep_fault bytes read tokens lexed error place is same_bytes same_tokens fault =
-    subst (λ t. parser.IsFault bytes t (parse.TooDeep place)) same_tokens
-    (subst (λ b. parser.IsFault b lexed (parse.TooDeep place)) same_bytes (subst (λ e. parser.IsFault read lexed e) is fault))
+pub read_fault : (bytes read : List ℕ) (tokens lexed : List Token) (error known : ParseError) → error ≡ known → read ≡ bytes → lexed ≡ tokens
+    → parser.IsFault read lexed error → parser.IsFault bytes tokens known
+read_fault bytes read tokens lexed error known is same_bytes same_tokens fault =
+    subst (λ t. parser.IsFault bytes t known) same_tokens
+    (subst (λ b. parser.IsFault b lexed known) same_bytes (subst (λ e. parser.IsFault read lexed e) is fault))

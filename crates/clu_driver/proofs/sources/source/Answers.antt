@@ -1,5 +1,6 @@
-use Rattle.std.proofs.Common.{◌≡◌, refl, rules, subst, sym, inr}
-use Rattle.clu_driver.proofs.Found.{deep_fault}
+use Rattle.std.proofs.Common.{◌≡◌, refl, rules, subst, sym, inl, inr}
+use Rattle.clu_parser.specs.declared.errors.ParseError.TheVariants as parse
+use Rattle.clu_driver.proofs.Found.{read_fault}
 use Rattle.clu_driver.specs.Sources.{NotSource}
 use Rattle.clu_driver.specs.declared.outcome.Outcome.{Outcome}
 use Rattle.clu_driver.proofs.sources.source.Goals as goal
@@ -7,5 +8,11 @@ use Rattle.clu_driver.proofs.sources.source.Goals as goal
 pub returns-in-Err-TooDeep-clause-refused : goal.returns-in-Err-TooDeep-clause-refused
 returns-in-Err-TooDeep-clause-refused c =
     let P : Outcome → Type 0 = λ how. NotSource how c.args.name.now c.args.bytes.items in
-    let fault = deep_fault _ _ _ _ _ c.in-Err-TooDeep.place c.in-Err-TooDeep.field-0-is c.deref-in-Ok.ensures.value c.deref-in-Ok-2.ensures.value c.in-Err-TooDeep.ensures.fault in
+    let fault = read_fault _ _ _ _ _ (parse.TooDeep c.in-Err-TooDeep.place) c.in-Err-TooDeep.field-0-is c.deref-in-Ok.ensures.value c.deref-in-Ok-2.ensures.value c.in-Err-TooDeep.ensures.fault in
     subst P (sym c.refused-in-Err-TooDeep.ensures) (refl, (search rules, inr (c.in-Ok.tokens.items, search rules, inr (refl, fault))))
+
+pub returns-in-Err-Syntax-clause-refused : goal.returns-in-Err-Syntax-clause-refused
+returns-in-Err-Syntax-clause-refused c =
+    let P : Outcome → Type 0 = λ how. NotSource how c.args.name.now c.args.bytes.items in
+    let fault = read_fault _ _ _ _ _ (parse.Syntax c.in-Err-Syntax.place) c.in-Err-Syntax.field-0-is c.deref-in-Ok.ensures.value c.deref-in-Ok-2.ensures.value c.in-Err-Syntax.ensures.fault in
+    subst P (sym c.refused.ensures) (refl, (search rules, inr (c.in-Ok.tokens.items, search rules, inl (refl, fault))))
