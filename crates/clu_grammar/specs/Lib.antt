@@ -1,4 +1,5 @@
 pub mod Choice
 pub mod Grammar
+pub mod Kinds
 pub mod Language
 pub mod Rows

@@ -7,7 +7,8 @@ use Rattle.clu_tree.specs.declared.node.NodeKind.{NodeKind}
 use Rattle.clu_tree.specs.contracts.node.NodeKind.{the_type as kind_type}
 use Rattle.clu_grammar.specs.Choice.{has}
 use Rattle.clu_grammar.proofs.Flags.{and_left, and_right, or_cases, or_left, or_right, true_or_false}
-use Rattle.clu_parser.specs.Shape.{is_expression, is_type, Child, expression, any_type, constant, statement, one, is_child, Group, semicolon, more_names, more_types, types, types_in_parens, more_constants, actuals, more_expressions, expressions, expressions_in_parens, more_modules, equates, owns, statements, more_routines, parms, more_parms, decls, more_decls, decls_in_parens, results, signals, demands, more_exceptions, more_restricts, more_opers, more_fields, more_components, elseifs, more_arms, whens, others, variable, Part, token, name, value, child, many, maybe, parts_of, Letter, own, IsWord, nothing, token_is, name_is, value_is, child_is, no_more, one_more, without, with_one}
+use Rattle.clu_grammar.specs.Kinds.{is_expression, is_type}
+use Rattle.clu_parser.specs.Shape.{Child, expression, any_type, constant, statement, one, is_child, Group, semicolon, more_names, more_types, types, types_in_parens, more_constants, actuals, more_expressions, expressions, expressions_in_parens, more_modules, equates, owns, statements, more_routines, parms, more_parms, decls, more_decls, decls_in_parens, results, signals, demands, more_exceptions, more_restricts, more_opers, more_fields, more_components, elseifs, more_arms, whens, others, variable, Part, token, name, value, child, many, maybe, parts_of, Letter, own, IsWord, nothing, token_is, name_is, value_is, child_is, no_more, one_more, without, with_one}
 use Rattle.clu_parser.proofs.Words.{word_split, some_is}
 use denote.Enum.Bare.{sameb, same_true}
 

@@ -9,61 +9,13 @@ use Rattle.clu_tree.specs.declared.node.NodeKind.{NodeKind}
 use Rattle.clu_tree.specs.declared.node.NodeKind.TheVariants as k
 use Rattle.clu_tree.specs.contracts.node.NodeKind.{the_type}
 use Rattle.clu_grammar.specs.Choice.{has}
+use Rattle.clu_grammar.specs.Kinds.{is_expression, is_type, is_statement}
 use Rattle.clu_grammar.specs.Grammar.{simple, list, fields, literals, signs}
 use Rattle.clu_base.specs.declared.tokens.Kind.{Kind}
 use Rattle.clu_lexer.specs.Words.{symbol_of}
 use Rattle.clu_parser.specs.Spellings.{spelled}
 use Rattle.clu_parser.specs.Trees.{Text, spelling_at, value_of}
 use denote.Enum.Bare.{sameb}
-
--- expr = Infix / Prefix / Paren / primary
-abbrev pub is_expression : NodeKind → Bool
-is_expression k.Infix = true
-is_expression k.Prefix = true
-is_expression k.Paren = true
-is_expression k.Literal = true
-is_expression k.Name = true
-is_expression k.Index = true
-is_expression k.Get = true
-is_expression k.Call = true
-is_expression k.Fields = true
-is_expression k.Elems = true
-is_expression k.OperOf = true
-is_expression k.Force = true
-is_expression k.Up = true
-is_expression k.Down = true
-is_expression _ = false
-
--- type = Simple / ListT / FieldsT / RoutineT / NameT
-abbrev pub is_type : NodeKind → Bool
-is_type k.Simple = true
-is_type k.ListT = true
-is_type k.FieldsT = true
-is_type k.RoutineT = true
-is_type k.NameT = true
-is_type _ = false
-
-abbrev pub is_statement : NodeKind → Bool
-is_statement k.Declare = true
-is_statement k.Init = true
-is_statement k.Assign = true
-is_statement k.SetField = true
-is_statement k.SetIndex = true
-is_statement k.CallS = true
-is_statement k.While = true
-is_statement k.For = true
-is_statement k.If = true
-is_statement k.Tagcase = true
-is_statement k.Return = true
-is_statement k.Yield = true
-is_statement k.Signal = true
-is_statement k.Exit = true
-is_statement k.Break = true
-is_statement k.Continue = true
-is_statement k.Begin = true
-is_statement k.Resignal = true
-is_statement k.Except = true
-is_statement _ = false
 
 -- which nodes may be a child; constant = expr / type
 pub data Child : Type 0 where

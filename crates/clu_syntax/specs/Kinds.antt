@@ -1,33 +1,9 @@
 -- What nodes of a kind are to the node round them.
 use Rattle.std.specs.Prelude.{◌||◌, Bool, true, false, ℕ, List, slice_get, Option, Some, None}
+pub use Rattle.clu_grammar.specs.Kinds.{is_expression, is_type}
 use Rattle.clu_tree.specs.declared.node.Node.{Node}
 use Rattle.clu_tree.specs.declared.node.NodeKind.{NodeKind}
 use Rattle.clu_tree.specs.declared.node.NodeKind.TheVariants as kind
-
-abbrev pub is_expression : NodeKind → Bool
-is_expression kind.Infix = true
-is_expression kind.Prefix = true
-is_expression kind.Paren = true
-is_expression kind.Literal = true
-is_expression kind.Name = true
-is_expression kind.Index = true
-is_expression kind.Get = true
-is_expression kind.Call = true
-is_expression kind.Fields = true
-is_expression kind.Elems = true
-is_expression kind.OperOf = true
-is_expression kind.Force = true
-is_expression kind.Up = true
-is_expression kind.Down = true
-is_expression _ = false
-
-abbrev pub is_type : NodeKind → Bool
-is_type kind.Simple = true
-is_type kind.ListT = true
-is_type kind.FieldsT = true
-is_type kind.RoutineT = true
-is_type kind.NameT = true
-is_type _ = false
 
 -- what stands before a body: conditions, the call and the declarations of a loop, the variables of an arm, and
 -- the arms of a Tagcase before its `others`
