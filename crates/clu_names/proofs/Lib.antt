@@ -1,0 +1,5 @@
+pub mod Absent
+pub mod Best
+pub mod Chains
+pub mod Counts
+pub mod Grown

@@ -1,0 +1,4 @@
+pub mod Denotes
+pub mod Latest
+pub mod Order
+pub mod Scopes
