@@ -44,24 +44,44 @@ impl BuildError {
 }
 
 impl From<Memory> for BuildError {
+    ghost use Rattle.clu_driver.specs.declared.build_error.BuildError.{BuildError};
+    ghost use Rattle.std.specs.Prelude.{◌≡◌};
+
+    ghost from_gives = { λ _ e. e ≡ BuildError.Memory };
+
     fn from(_error: Memory) -> BuildError {
         BuildError::Memory
     }
 }
 
 impl From<AllocError> for BuildError {
+    ghost use Rattle.clu_driver.specs.declared.build_error.BuildError.{BuildError};
+    ghost use Rattle.std.specs.Prelude.{◌≡◌};
+
+    ghost from_gives = { λ _ e. e ≡ BuildError.Memory };
+
     fn from(_error: AllocError) -> BuildError {
         BuildError::Memory
     }
 }
 
 impl<T: Drop> From<AllocFailed<T>> for BuildError {
+    ghost use Rattle.clu_driver.specs.declared.build_error.BuildError.{BuildError};
+    ghost use Rattle.std.specs.Prelude.{◌≡◌};
+
+    ghost from_gives = { λ _ e. e ≡ BuildError.Memory };
+
     fn from(_error: AllocFailed<T>) -> BuildError {
         BuildError::Memory
     }
 }
 
 impl From<EnterError> for BuildError {
+    ghost use Rattle.clu_driver.specs.Built.{of_enter};
+    ghost use Rattle.std.specs.Prelude.{◌≡◌};
+
+    ghost from_gives = { λ given e. e ≡ of_enter given };
+
     fn from(error: EnterError) -> BuildError {
         match error {
             EnterError::Full => BuildError::LibraryFull,
@@ -72,6 +92,11 @@ impl From<EnterError> for BuildError {
 }
 
 impl From<LowerError> for BuildError {
+    ghost use Rattle.clu_driver.specs.Built.{of_lower};
+    ghost use Rattle.std.specs.Prelude.{◌≡◌};
+
+    ghost from_gives = { λ given e. e ≡ of_lower given };
+
     fn from(error: LowerError) -> BuildError {
         match error {
             LowerError::Memory => BuildError::Memory,
@@ -81,6 +106,11 @@ impl From<LowerError> for BuildError {
 }
 
 impl From<FrameError> for BuildError {
+    ghost use Rattle.clu_driver.specs.Built.{of_frame};
+    ghost use Rattle.std.specs.Prelude.{◌≡◌};
+
+    ghost from_gives = { λ given e. e ≡ of_frame given };
+
     fn from(error: FrameError) -> BuildError {
         match error {
             FrameError::Memory => BuildError::Memory,
@@ -90,6 +120,11 @@ impl From<FrameError> for BuildError {
 }
 
 impl From<SelectError> for BuildError {
+    ghost use Rattle.clu_driver.specs.Built.{of_select};
+    ghost use Rattle.std.specs.Prelude.{◌≡◌};
+
+    ghost from_gives = { λ given e. e ≡ of_select given };
+
     fn from(error: SelectError) -> BuildError {
         match error {
             SelectError::Memory => BuildError::Memory,
@@ -99,6 +134,11 @@ impl From<SelectError> for BuildError {
 }
 
 impl From<LinkError> for BuildError {
+    ghost use Rattle.clu_driver.specs.Built.{of_link};
+    ghost use Rattle.std.specs.Prelude.{◌≡◌};
+
+    ghost from_gives = { λ given e. e ≡ of_link given };
+
     // That a body is missing, stale or a misfit is no outcome of the file: its own modules were entered just before, and it
     // was asked for its start.
     fn from(error: LinkError) -> BuildError {
