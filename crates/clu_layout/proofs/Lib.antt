@@ -1,0 +1,9 @@
+mod Sampling
+mod PlainSamples
+mod NumberSamples
+mod StringSamples
+mod ArraySamples
+mod SequenceSamples
+mod RecordSamples
+mod OneofSamples
+mod StreamSamples

@@ -42,10 +42,10 @@ primitives (record_of fs) = of_each (record_selected fs) fs (record_primitives f
 primitives (struct_of fs) = of_each (struct_selected fs) fs []
 primitives (oneof_of fs) = of_each (oneof_selected fs) fs []
 primitives (variant_of fs) = of_each (variant_selected fs) fs (variant_primitives fs)
-primitives (proc_of args results signals) = routine_primitives
-primitives (iter_of args results signals) = routine_primitives
-primitives (cluster_of name actuals) = []
-primitives (parameter n) = []
+primitives (proc_of _ _ _) = routine_primitives
+primitives (iter_of _ _ _) = routine_primitives
+primitives (cluster_of _ _) = []
+primitives (parameter _) = []
 
 abbrev pub named : Primitives → List ℕ → Option Primitive
 named [] op = None
