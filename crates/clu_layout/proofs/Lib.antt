@@ -7,3 +7,6 @@ mod SequenceSamples
 mod RecordSamples
 mod OneofSamples
 mod StreamSamples
+mod InvocationSamples
+mod Names
+pub mod Laws
