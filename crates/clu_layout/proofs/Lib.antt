@@ -10,3 +10,4 @@ mod StreamSamples
 mod InvocationSamples
 mod Names
 pub mod Laws
+pub mod SameTypeLaws

@@ -34,11 +34,11 @@ Covers T table derived = (lacking (headed table) (names_of (primitives T)) ≡ d
 of_null : Covers null_type (plain_operations null_type) []
 of_null = (refl, refl)
 
-of_procs : (args results : CluTypes) (signals : Signals) → Covers (proc_of args results signals) (plain_operations (proc_of args results signals)) []
-of_procs args results signals = (refl, refl)
+of_procs : (args results : CluTypes) (raised : Signals) → Covers (proc_of args results raised) (plain_operations (proc_of args results raised)) []
+of_procs args results raised = (refl, refl)
 
-of_iters : (args results : CluTypes) (signals : Signals) → Covers (iter_of args results signals) (plain_operations (iter_of args results signals)) []
-of_iters args results signals = (refl, refl)
+of_iters : (args results : CluTypes) (raised : Signals) → Covers (iter_of args results raised) (plain_operations (iter_of args results raised)) []
+of_iters args results raised = (refl, refl)
 
 of_bool : Covers bool_type bool_operations []
 of_bool = (refl, refl)
@@ -66,8 +66,8 @@ of_stream = (refl, refl)
 of_any : primitives any_type ≡ []
 of_any = refl
 
-of_clusters : (name : List ℕ) (actuals : Actuals) → primitives (cluster_of name actuals) ≡ []
-of_clusters name actuals = refl
+of_clusters : (name : List ℕ) (given : Actuals) → primitives (cluster_of name given) ≡ []
+of_clusters name given = refl
 
 -- of the others with the selectors or tags s and t
 module _ (a b : CluType) where

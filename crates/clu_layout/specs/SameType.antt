@@ -1,5 +1,6 @@
 -- Tests on types: whether two are the same, and whether an object of one may stand where the other is wanted.
-use Rattle.std.specs.Prelude.{ℕ, ℤ, pos, negsuc, Bool, true, false, ◌&&◌, ◌||◌, ◌==◌, List, bytes_eq}
+use Rattle.std.specs.Prelude.{ℕ, Bool, true, false, ◌&&◌, ◌||◌, ◌==◌, List, bytes_eq}
+use Rattle.std.specs.Ordering.{int_eq}
 use Rattle.clu_base.specs.declared.constants.Const.{Const}
 use Rattle.clu_base.specs.declared.constants.Const.TheVariants as constant
 use Rattle.clu_types.specs.CluType.{CluType, null_type, bool_type, int_type, char_type, string_type, any_type, stream_type, array_of, sequence_of, record_of, struct_of, oneof_of, variant_of, proc_of, iter_of, cluster_of, parameter, CluTypes, no_types, type_and, Fields, no_fields, field_and, Signals, no_signals, signal_and, Actuals, no_actuals, actual_type, actual_const, actual_param}
@@ -10,15 +11,10 @@ same_bool true true = true
 same_bool false false = true
 same_bool _ _ = false
 
-abbrev pub same_int : ℤ → ℤ → Bool
-same_int (pos a) (pos b) = a == b
-same_int (negsuc a) (negsuc b) = a == b
-same_int _ _ = false
-
 abbrev pub same_const : Const → Const → Bool
 same_const constant.Null constant.Null = true
 same_const (constant.Bool a) (constant.Bool b) = same_bool a b
-same_const (constant.Int a) (constant.Int b) = same_int a b
+same_const (constant.Int a) (constant.Int b) = int_eq a b
 same_const (constant.Char a) (constant.Char b) = a == b
 same_const (constant.Str a) (constant.Str b) = bytes_eq a b
 same_const _ _ = false
