@@ -61,8 +61,9 @@ signals s = signals_with (signal_name s) []
 abbrev pub fails : List ℕ → Action
 fails text = signals_with (codes "failure") (string_object text ∷ [])
 
-abbrev pub is_wrong : Action
-is_wrong w = wrong
+-- no case applies
+abbrev pub no_case : Action
+no_case w = wrong
 
 -- the exception if the test holds, else the rest
 abbrev pub signals_if : Signal → Bool → Action → Action
@@ -86,10 +87,10 @@ or_fails text false rest = fails text
 -- what must hold, and what must be there, for a case to apply
 abbrev pub need : Bool → Action → Action
 need true rest = rest
-need false rest = is_wrong
+need false rest = no_case
 
 abbrev pub needed : {A : Type 0} → Option A → (A → Action) → Action
-needed None rest = is_wrong
+needed None rest = no_case
 needed (Some x) rest = rest x
 
 -- one action, and then another with the objects that it gives
@@ -115,83 +116,83 @@ takes n rest w = rest (record w { words = w.words + n; work = w.work + n })
 
 abbrev pub with_none : List Object → Action → Action
 with_none [] rest = rest
-with_none _ rest = is_wrong
+with_none _ rest = no_case
 
 abbrev pub with_one : List Object → (Object → Action) → Action
 with_one (a ∷ []) rest = rest a
-with_one _ rest = is_wrong
+with_one _ rest = no_case
 
 abbrev pub with_two : List Object → (Object → Object → Action) → Action
 with_two (a ∷ b ∷ []) rest = rest a b
-with_two _ rest = is_wrong
+with_two _ rest = no_case
 
 abbrev pub with_three : List Object → (Object → Object → Object → Action) → Action
 with_three (a ∷ b ∷ c ∷ []) rest = rest a b c
-with_three _ rest = is_wrong
+with_three _ rest = no_case
 
 -- ---- what is in an argument
 
 abbrev pub with_bool : Object → (Bool → Action) → Action
 with_bool (bool_object b) rest = rest b
-with_bool _ rest = is_wrong
+with_bool _ rest = no_case
 
 abbrev pub with_int : Object → (ℤ → Action) → Action
 with_int (int_object n) rest = rest n
-with_int _ rest = is_wrong
+with_int _ rest = no_case
 
 abbrev pub with_char : Object → (ℕ → Action) → Action
 with_char (char_object c) rest = rest c
-with_char _ rest = is_wrong
+with_char _ rest = no_case
 
 abbrev pub with_string : Object → (List ℕ → Action) → Action
 with_string (string_object bytes) rest = rest bytes
-with_string _ rest = is_wrong
+with_string _ rest = no_case
 
 abbrev pub with_stream : Object → (Stream → Action) → Action
 with_stream (stream_object s) rest = rest s
-with_stream _ rest = is_wrong
+with_stream _ rest = no_case
 
 abbrev pub with_routine : Object → (Routine → Action) → Action
 with_routine (routine_object r heading) rest = rest r
-with_routine _ rest = is_wrong
+with_routine _ rest = no_case
 
 abbrev pub with_sequence : Object → (List Object → Action) → Action
 with_sequence (sequence_object t xs) rest = rest (listed xs)
-with_sequence _ rest = is_wrong
+with_sequence _ rest = no_case
 
-abbrev pub with_struct : Object → (List Object → Action) → Action
-with_struct (struct_object fs xs) rest = rest (listed xs)
-with_struct _ rest = is_wrong
+abbrev pub with_struct : Object → (Fields → List Object → Action) → Action
+with_struct (struct_object fs xs) rest = rest fs (listed xs)
+with_struct _ rest = no_case
 
 abbrev pub with_oneof : Object → (List ℕ → Object → Action) → Action
 with_oneof (oneof_object fs tag x) rest = rest tag x
-with_oneof _ rest = is_wrong
+with_oneof _ rest = no_case
 
 -- the number of a mutable object's cell
 abbrev pub with_cell : Object → (ℕ → Action) → Action
 with_cell (reference t c) rest = rest c
-with_cell _ rest = is_wrong
+with_cell _ rest = no_case
 
 -- the mutable object itself
 abbrev pub as_array : Option Cell → (Array → Action) → Action
 as_array (Some (array_cell a)) rest = rest a
-as_array _ rest = is_wrong
+as_array _ rest = no_case
 
-abbrev pub as_record : Option Cell → (List Object → Action) → Action
-as_record (Some (record_cell fs xs)) rest = rest xs
-as_record _ rest = is_wrong
+abbrev pub as_record : Option Cell → (Fields → List Object → Action) → Action
+as_record (Some (record_cell fs xs)) rest = rest fs xs
+as_record _ rest = no_case
 
-abbrev pub as_variant : Option Cell → (List ℕ → Object → Action) → Action
-as_variant (Some (variant_cell fs tag x)) rest = rest tag x
-as_variant _ rest = is_wrong
+abbrev pub as_variant : Option Cell → (Fields → List ℕ → Object → Action) → Action
+as_variant (Some (variant_cell fs tag x)) rest = rest fs tag x
+as_variant _ rest = no_case
 
 abbrev pub with_array : Object → (ℕ → Array → Action) → Action
 with_array o rest = with_cell o (λ c w. as_array (slice_get w.cells c) (rest c) w)
 
-abbrev pub with_record : Object → (ℕ → List Object → Action) → Action
+abbrev pub with_record : Object → (ℕ → Fields → List Object → Action) → Action
 with_record o rest = with_cell o (λ c w. as_record (slice_get w.cells c) (rest c) w)
 
-abbrev pub with_variant : Object → (ℕ → List ℕ → Object → Action) → Action
+abbrev pub with_variant : Object → (ℕ → Fields → List ℕ → Object → Action) → Action
 with_variant o rest = with_cell o (λ c w. as_variant (slice_get w.cells c) (rest c) w)
 
 -- the bytes of characters

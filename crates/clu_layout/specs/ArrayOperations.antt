@@ -6,8 +6,8 @@ use Rattle.clu_types.specs.CluType.{CluType}
 use Rattle.clu_builtin.specs.declared.names.Signal.TheVariants as signal
 use Rattle.clu_layout.specs.Objects.{Object, Array, array_cell}
 use Rattle.clu_layout.specs.Places.{high_of, count_of, item_at, with_item_at, items_from, first_item, last_item, without_first, without_last, has_none}
-use Rattle.clu_layout.specs.Actions.{Action, Primitive, gives, gives_nothing, gives_bool, gives_int, gives_size, signals_if, or_signals, counts, takes, with_none, with_one, with_two, with_three, with_int, with_cell, with_array, with_int_bounds, changes, changes_array, new_array}
-use Rattle.clu_layout.specs.PlainOperations.{Primitives}
+use Rattle.clu_layout.specs.Actions.{Action, Primitive, gives, gives_nothing, gives_bool, gives_int, gives_size, signals_if, or_signals, counts, takes, with_none, with_one, with_two, with_three, with_int, with_array, with_int_bounds, changes, changes_array, new_array}
+use Rattle.clu_layout.specs.PlainOperations.{Primitives, same_cell}
 
 abbrev pub one_array : List Object → (ℕ → Array → Action) → Action
 one_array os rest = with_one os (λ r. with_array r rest)
@@ -109,10 +109,7 @@ array_trim os = with_three os (λ r b d. with_array r (λ c a. with_int b (λ i.
 abbrev pub array_copy1 : Primitive
 array_copy1 os = one_array os (λ c a. new_array a.element a.low a.items)
 
--- equal | (T, T): bool | the same array, record or variant
-abbrev pub same_cell : Primitive
-same_cell os = with_two os (λ a b. with_cell a (λ c. with_cell b (λ d. gives_bool (c == d))))
-
+-- equal | (T, T): bool | the same array
 abbrev pub array_primitives : CluType → Primitives
 array_primitives t =
     (codes "create", array_create t) ∷

@@ -25,10 +25,6 @@ one_int os rest = with_one os (λ a. with_int a rest)
 abbrev pub two_ints : List Object → (ℤ → ℤ → Action) → Action
 two_ints os rest = with_two os (λ a b. with_int a (λ x. with_int b (λ y. rest x y)))
 
--- lt, le, ge, gt, equal | (T, T): bool
-abbrev pub int_compared : (Ordering → Bool) → Primitive
-int_compared holds os = two_ints os (λ x y. gives_bool (holds (int_cmp x y)))
-
 -- add | (T, T): T | overflow
 abbrev pub int_add : Primitive
 int_add os = two_ints os (λ x y. gives_int_or_overflow (x +ℤ y))
@@ -57,6 +53,10 @@ int_mod os = two_ints os (λ x y. signals_if signal.ZeroDivide (is_zero y) (give
 abbrev pub int_power : Primitive
 int_power os = two_ints os (λ x y. counts 64
     (signals_if signal.NegativeExponent (is_negative y) (gives_int_or_overflow (int_pow x (nat_abs y)))))
+
+-- lt, le, ge, gt, equal | (T, T): bool
+abbrev pub int_compared : (Ordering → Bool) → Primitive
+int_compared holds os = two_ints os (λ x y. gives_bool (holds (int_cmp x y)))
 
 -- the number that one or more digits denote
 abbrev pub digits_after : ℕ → List ℕ → Option ℕ
@@ -101,10 +101,6 @@ int_primitives =
 
 -- ---- char
 
--- lt, le, ge, gt, equal | (T, T): bool | by number
-abbrev pub char_compared : (Ordering → Bool) → Primitive
-char_compared holds os = with_two os (λ a b. with_char a (λ c. with_char b (λ d. gives_bool (holds (nat_cmp c d)))))
-
 -- i2c | (int): T | illegal_char | outside 0 to 255
 abbrev pub char_i2c : Primitive
 char_i2c os = one_int os (λ n. or_signals signal.IllegalChar (char_of_int n) (λ c. gives (char_object c)))
@@ -112,6 +108,10 @@ char_i2c os = one_int os (λ n. or_signals signal.IllegalChar (char_of_int n) (�
 -- c2i | (T): int
 abbrev pub char_c2i : Primitive
 char_c2i os = with_one os (λ a. with_char a (λ c. gives_int (pos c)))
+
+-- lt, le, ge, gt, equal | (T, T): bool | by number
+abbrev pub char_compared : (Ordering → Bool) → Primitive
+char_compared holds os = with_two os (λ a b. with_char a (λ c. with_char b (λ d. gives_bool (holds (nat_cmp c d)))))
 
 abbrev pub char_primitives : Primitives
 char_primitives =

@@ -1,8 +1,8 @@
 -- The operations of null, of proctypes and itertypes, and of bool.
-use Rattle.std.specs.Prelude.{ℕ, Bool, true, not, ◌&&◌, ◌||◌, List, [], ◌∷◌, codes}
+use Rattle.std.specs.Prelude.{ℕ, Bool, true, not, ◌&&◌, ◌||◌, ◌==◌, List, [], ◌∷◌, codes}
 use Rattle.clu_layout.specs.Objects.{Object}
 use Rattle.clu_layout.specs.SameType.{same_bool, same_routine}
-use Rattle.clu_layout.specs.Actions.{Action, Primitive, gives, gives_bool, with_one, with_two, with_bool, with_routine}
+use Rattle.clu_layout.specs.Actions.{Action, Primitive, gives, gives_bool, with_one, with_two, with_bool, with_routine, with_cell}
 
 -- the primitive operations of a type, by name
 abbrev pub Primitives : Type 0
@@ -15,6 +15,10 @@ itself os = with_one os gives
 -- similar is equal, and copy gives the object itself
 abbrev pub alike : Primitive → Primitives
 alike equal = (codes "equal", equal) ∷ (codes "similar", equal) ∷ (codes "copy", itself) ∷ []
+
+-- equal of arrays, records and variants: the same one
+abbrev pub same_cell : Primitive
+same_cell os = with_two os (λ a b. with_cell a (λ c. with_cell b (λ d. gives_bool (c == d))))
 
 -- ---- null, proctypes and itertypes
 

@@ -11,7 +11,7 @@ use Rattle.clu_layout.specs.declared.store.Shape.TheVariants as shape
 use Rattle.clu_layout.specs.Cost.{cost}
 use Rattle.clu_layout.specs.Objects.{Object, own_type, own_types}
 use Rattle.clu_layout.specs.SameType.{same_type, is_any, is_routine_type, fits, all_fit}
-use Rattle.clu_layout.specs.Actions.{World, Outcome, returned, signalled, wrong, Action, Primitive, gives, gives_all, signals_with, is_wrong, need, needed, and_then, counts, takes, with_one, makes_array, makes_sequence, makes_struct, makes_record}
+use Rattle.clu_layout.specs.Actions.{World, Outcome, returned, signalled, wrong, Action, Primitive, gives, gives_all, signals_with, no_case, need, needed, and_then, counts, takes, with_one, makes_array, makes_sequence, makes_struct, makes_record}
 use Rattle.clu_layout.specs.PlainOperations.{Primitives, null_primitives, routine_primitives, bool_primitives}
 use Rattle.clu_layout.specs.NumberOperations.{int_primitives, char_primitives}
 use Rattle.clu_layout.specs.StringOperations.{string_primitives}
@@ -38,10 +38,10 @@ primitives any_type = []
 primitives stream_type = stream_primitives
 primitives (array_of t) = array_primitives t
 primitives (sequence_of t) = sequence_primitives t
-primitives (record_of fs) = of_each (record_selected fs) fs (record_primitives fs)
-primitives (struct_of fs) = of_each (struct_selected fs) fs []
+primitives (record_of fs) = of_each record_selected fs record_primitives
+primitives (struct_of fs) = of_each struct_selected fs []
 primitives (oneof_of fs) = of_each (oneof_selected fs) fs []
-primitives (variant_of fs) = of_each (variant_selected fs) fs (variant_primitives fs)
+primitives (variant_of fs) = of_each (variant_selected fs) fs variant_primitives
 primitives (proc_of _ _ _) = routine_primitives
 primitives (iter_of _ _ _) = routine_primitives
 primitives (cluster_of _ _) = []
@@ -103,6 +103,10 @@ forcing t os = with_one os (same_type_only t)
 
 abbrev pub force_heading : CluType → Operation
 force_heading t = record { iter = false; args = one any_type; results = one t; signals = signal_and (codes "wrong_type") no_types no_signals; needs = [] }
+
+-- the type of a routine object: the heading as a proctype or itertype
+abbrev pub heading_type : Operation → CluType
+heading_type h = if h.iter then iter_of h.args h.results h.signals else proc_of h.args h.results h.signals
 
 abbrev pub force_invocation : CluType → List Object → Action
 force_invocation t os = invoked any_type (force_heading t) (forcing t) os

@@ -18,10 +18,6 @@ one_string os rest = with_one os (λ a. with_string a rest)
 abbrev pub two_strings : List Object → (List ℕ → List ℕ → Action) → Action
 two_strings os rest = with_two os (λ a b. with_string a (λ s. with_string b (λ t. rest s t)))
 
--- lt, le, ge, gt, equal | (T, T): bool | by bytes, a proper prefix is less; they count the bytes of both besides
-abbrev pub string_compared : (Ordering → Bool) → Primitive
-string_compared holds os = two_strings os (λ s t. counts (length s + length t) (gives_bool (holds (slice_cmp nat_cmp s t))))
-
 -- size | (T): int
 abbrev pub string_size : Primitive
 string_size os = one_string os gives_size
@@ -29,6 +25,10 @@ string_size os = one_string os gives_size
 -- empty | (T): bool
 abbrev pub string_empty : Primitive
 string_empty os = one_string os (λ s. gives_bool (has_none s))
+
+-- lt, le, ge, gt, equal | (T, T): bool | by bytes, a proper prefix is less; they count the bytes of both besides
+abbrev pub string_compared : (Ordering → Bool) → Primitive
+string_compared holds os = two_strings os (λ s t. counts (length s + length t) (gives_bool (holds (slice_cmp nat_cmp s t))))
 
 -- c2s | (char): T | 2 words, which is 1 + w(1)
 abbrev pub string_c2s : Primitive
