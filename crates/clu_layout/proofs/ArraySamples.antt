@@ -1,5 +1,5 @@
 -- Samples of the operations of array[t]. Cell 0 holds the array that is asked.
-use Rattle.std.specs.Prelude.{◌≡◌, refl, ℕ, ℤ, pos, negsuc, Bool, true, false, List, [], ◌∷◌, codes}
+use Rattle.std.specs.Prelude.{◌≡◌, refl, ℕ, ℤ, pos, negsuc, true, false, List, [], ◌∷◌, codes}
 use Rattle.clu_types.specs.CluType.{CluType, int_type, any_type, array_of}
 use Rattle.clu_layout.specs.Objects.{Object, bool_object, reference, Cell, array_cell}
 use Rattle.clu_layout.specs.Actions.{signalled, wrong}

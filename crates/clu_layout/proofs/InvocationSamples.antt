@@ -1,10 +1,10 @@
 -- Samples of force, of constructors and of what binding to type any takes.
-use Rattle.std.specs.Prelude.{◌≡◌, refl, ℕ, ℤ, pos, negsuc, Bool, true, false, List, [], ◌∷◌, codes}
-use Rattle.clu_types.specs.CluType.{CluType, int_type, string_type, any_type, array_of, sequence_of, record_of, struct_of, cluster_of, proc_of, CluTypes, no_types, type_and, Fields, no_fields, field_and, Signals, no_signals, signal_and, Actuals, no_actuals, actual_type}
+use Rattle.std.specs.Prelude.{◌≡◌, refl, ℕ, ℤ, pos, negsuc, List, [], ◌∷◌, codes}
+use Rattle.clu_types.specs.CluType.{CluType, int_type, string_type, any_type, array_of, record_of, cluster_of, proc_of, no_types, Fields, no_fields, field_and, no_signals, signal_and, Actuals, no_actuals, actual_type}
 use Rattle.clu_layout.specs.Objects.{Object, sequence_object, struct_object, routine_object, module_routine, inside, reference, sealed, Cell, array_cell, record_cell}
 use Rattle.clu_layout.specs.Actions.{Action, returned, signalled, wrong}
 use Rattle.clu_layout.specs.Primitive.{force, done_in, array_construction, sequence_construction, struct_construction, record_construction}
-use Rattle.clu_layout.proofs.Sampling.{one, two, three, int, below_zero, max_int, min_int, string, world, nothing}
+use Rattle.clu_layout.proofs.Sampling.{one, two, int, string, world, nothing}
 
 -- ---- force[T] binds its argument to type any, also if it signals
 

@@ -1,14 +1,14 @@
 -- What holds of every operation, whatever its objects: no byte of the output is taken away, no meter falls, and what is
 -- given has the types of the heading.
-use Rattle.std.proofs.Common.{◌≡◌, refl, ap, sym, ◌∙◌, arith}
-use Rattle.std.specs.Prelude.{ℕ, ◌+◌, ◌≤◌, Bool, true, false, ◌&&◌, List, [], ◌∷◌, ◌++◌, Option, Some, None}
+use Rattle.std.proofs.Common.{◌≡◌, refl, arith}
+use Rattle.std.specs.Prelude.{ℕ, ◌+◌, ◌≤◌, Bool, true, false, List, ◌++◌, Option, Some, None}
 use Rattle.clu_types.specs.CluType.{CluType, any_type, CluTypes}
 use Rattle.clu_builtin.specs.Operation.{Operation}
 use Rattle.clu_builtin.specs.Table.{operation}
 use Rattle.clu_layout.specs.Objects.{Object, own_types}
 use Rattle.clu_layout.specs.SameType.{all_fit}
 use Rattle.clu_layout.specs.Actions.{World, Outcome, returned, signalled, wrong, Action, Primitive, need, needed, takes, counts, continued, and_then, gives_all}
-use Rattle.clu_layout.specs.Primitive.{before, added, outcome_in, done_in, invoked, invocation, binds, binds_arguments, gives_results, all_suit, words_for_all, primitive, prim, force, force_heading, force_invocation, forcing}
+use Rattle.clu_layout.specs.Primitive.{before, added, outcome_in, done_in, invoked, invocation, gives_results, all_suit, words_for_all, primitive, prim, force, force_heading, force_invocation, forcing}
 
 -- ---- output and meters
 
@@ -83,7 +83,7 @@ headed_types : (T : CluType) (op : List ℕ) (os : List Object) (w : World) (hea
     GivesTypes heading.results (outcome_in w (needed h (λ found. needed (primitive T op) (λ p. invoked T found p os)) (before w)))
 headed_types T op os w heading h e = rw e
     (outcome_types heading.results w (needed (primitive T op) (λ p. invoked T heading p os) (before w))
-      (found_types T heading (primitive T op) os (before w)))
+    (found_types T heading (primitive T op) os (before w)))
 
 -- each result is of the type that the heading says
 pub prim_types : (T : CluType) (op : List ℕ) (os : List Object) (w : World) (heading : Operation) → operation T op ≡ Some heading →

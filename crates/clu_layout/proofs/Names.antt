@@ -1,8 +1,7 @@
 -- The primitive operations and those that are defined by texts or schemes are together those of the table of headings:
 -- for each type, the names with a heading and no primitive operation, and those with an operation and no heading.
-use Prim.Native.String.{String}
-use Rattle.std.specs.Prelude.{◌≡◌, refl, ℕ, Bool, true, false, ◌||◌, List, [], ◌∷◌, ◌++◌, if◌then◌else◌, bytes_eq, codes}
-use Rattle.clu_types.specs.CluType.{CluType, null_type, bool_type, int_type, char_type, string_type, any_type, stream_type, array_of, sequence_of, record_of, struct_of, oneof_of, variant_of, proc_of, iter_of, cluster_of, parameter, CluTypes, Fields, no_fields, field_and, Signals, Actuals}
+use Rattle.std.specs.Prelude.{◌≡◌, refl, ℕ, Bool, false, ◌||◌, List, [], ◌∷◌, ◌++◌, if◌then◌else◌, bytes_eq, codes}
+use Rattle.clu_types.specs.CluType.{CluType, null_type, bool_type, int_type, char_type, string_type, any_type, stream_type, array_of, sequence_of, record_of, struct_of, oneof_of, variant_of, proc_of, iter_of, cluster_of, CluTypes, Fields, no_fields, field_and, Signals, Actuals}
 use Rattle.clu_builtin.specs.Table.{Table, SelectorTable, plain_operations, bool_operations, int_operations, char_operations, string_operations, stream_operations, array_operations, sequence_operations, struct_operations, record_operations, struct_selectors, record_selectors, oneof_selectors, variant_selectors, with_selector, parts_of}
 use Rattle.clu_layout.specs.PlainOperations.{Primitives}
 use Rattle.clu_layout.specs.Primitive.{primitives}

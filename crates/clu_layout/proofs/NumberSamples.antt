@@ -1,7 +1,7 @@
 -- Samples of the operations of int and char.
-use Rattle.std.specs.Prelude.{◌≡◌, refl, ℕ, Bool, true, false, List, [], ◌∷◌}
+use Rattle.std.specs.Prelude.{refl, true, false}
 use Rattle.std.specs.Fmt.{digits}
-use Rattle.clu_types.specs.CluType.{CluType, int_type, char_type}
+use Rattle.clu_types.specs.CluType.{int_type, char_type}
 use Rattle.clu_layout.specs.Objects.{Object, bool_object, char_object}
 use Rattle.clu_layout.proofs.Sampling.{one, two, int, below_zero, max_int, min_int, string, Gives, Signals}
 

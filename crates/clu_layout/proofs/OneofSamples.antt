@@ -1,5 +1,5 @@
 -- Samples of the operations of oneof and variant, with the tags a of type int and b of type any.
-use Rattle.std.specs.Prelude.{◌≡◌, refl, ℕ, Bool, true, false, List, [], ◌∷◌, codes}
+use Rattle.std.specs.Prelude.{◌≡◌, refl, true, false, [], ◌∷◌, codes}
 use Rattle.clu_types.specs.CluType.{CluType, int_type, any_type, oneof_of, variant_of, Fields, no_fields, field_and}
 use Rattle.clu_layout.specs.Objects.{Object, bool_object, oneof_object, reference, Cell, variant_cell}
 use Rattle.clu_layout.specs.Actions.{wrong}

@@ -1,11 +1,10 @@
 -- Samples of the operations of null, routine types and bool.
-use Rattle.std.specs.Prelude.{◌≡◌, refl, ℕ, Bool, true, false, List, [], ◌∷◌, codes}
-use Rattle.clu_types.specs.CluType.{CluType, null_type, bool_type, int_type, proc_of, iter_of, no_types, type_and, no_signals, signal_and, no_actuals, actual_type}
+use Rattle.std.specs.Prelude.{◌≡◌, refl, true, false, codes}
+use Rattle.clu_types.specs.CluType.{CluType, null_type, bool_type, int_type, proc_of, iter_of, no_types, no_signals, signal_and, no_actuals, actual_type}
 use Rattle.clu_layout.specs.Objects.{Object, null_object, bool_object, routine_object, module_routine, operation_of, force_of}
 use Rattle.clu_layout.specs.Actions.{wrong}
 use Rattle.clu_layout.specs.Primitive.{prim}
 use Rattle.clu_layout.proofs.Sampling.{one, two, int, nothing, Gives}
-
 
 -- ---- null
 

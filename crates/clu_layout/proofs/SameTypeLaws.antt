@@ -3,7 +3,7 @@ use Rattle.std.proofs.Common.{◌≡◌, refl, ap, subst, inl, inr}
 use Rattle.std.proofs.lemmas.Bool.{false≢true, and_parts, and_from, or_cases, eqb-true, eq-eqb}
 use Rattle.std.proofs.lemmas.Bool.Decides.{Decides-int_eq}
 use Rattle.std.proofs.lemmas.Slice.Eq.{bytes_eq-Decides}
-use Rattle.std.specs.Prelude.{ℕ, ℤ, Bool, true, false, ◌&&◌, ◌||◌, ◌==◌, List, bytes_eq, ◌⊎◌}
+use Rattle.std.specs.Prelude.{ℕ, Bool, true, false, ◌&&◌, ◌||◌, ◌==◌, List, bytes_eq}
 use Rattle.clu_base.specs.declared.constants.Const.{Const}
 use Rattle.clu_base.specs.declared.constants.Const.TheVariants as constant
 use Rattle.clu_types.specs.CluType.{CluType, null_type, bool_type, int_type, char_type, string_type, any_type, stream_type, array_of, sequence_of, record_of, struct_of, oneof_of, variant_of, proc_of, iter_of, cluster_of, parameter, CluTypes, no_types, type_and, Fields, no_fields, field_and, Signals, no_signals, signal_and, Actuals, no_actuals, actual_type, actual_const, actual_param}
@@ -170,9 +170,10 @@ types_same_at a b e = subst (λ c. same_types a c ≡ true) e (types_same a)
 
 signal_is : (name : List ℕ) (os : CluTypes) (many : Signals) → has_signal name os many ≡ true → HasSignal name os many
 signal_is name os no_signals h = no h
-signal_is name os (signal_and n os' rest) h = elim (or_cases (bytes_eq n name && same_types os' os) (has_signal name os rest) h) as (λ _. HasSignal name os (signal_and n os' rest))
-  [ inl found ↦ inl (bytes_are n name (left (bytes_eq n name) (same_types os' os) found), lists_are os' os (right (bytes_eq n name) (same_types os' os) found))
-  | inr later ↦ inr (signal_is name os rest later) ]
+signal_is name os (signal_and n os' rest) h = elim (or_cases (bytes_eq n name && same_types os' os) (has_signal name os rest) h) as (λ _. HasSignal name os (signal_and n os' rest)) [
+  | inl found ↦ inl (bytes_are n name (left (bytes_eq n name) (same_types os' os) found), lists_are os' os (right (bytes_eq n name) (same_types os' os) found))
+  | inr later ↦ inr (signal_is name os rest later)
+]
 
 among_are : (few many : Signals) → are_among few many ≡ true → AreAmong few many
 among_are no_signals many h = tt
@@ -180,14 +181,16 @@ among_are (signal_and n os rest) many h =
     (signal_is n os many (left (has_signal n os many) (are_among rest many) h), among_are rest many (right (has_signal n os many) (are_among rest many) h))
 
 narrower_is : (a b : CluType) → has_more_signals a b ≡ true → IsNarrower a b
-narrower_is (proc_of ts rs few) (proc_of ts' rs' many) h =
-    (lists_are ts ts' (of_three (same_types ts ts') (same_types rs rs') (are_among few many) h).0,
-     lists_are rs rs' (of_three (same_types ts ts') (same_types rs rs') (are_among few many) h).1,
-     among_are few many (of_three (same_types ts ts') (same_types rs rs') (are_among few many) h).2)
-narrower_is (iter_of ts rs few) (iter_of ts' rs' many) h =
-    (lists_are ts ts' (of_three (same_types ts ts') (same_types rs rs') (are_among few many) h).0,
-     lists_are rs rs' (of_three (same_types ts ts') (same_types rs rs') (are_among few many) h).1,
-     among_are few many (of_three (same_types ts ts') (same_types rs rs') (are_among few many) h).2)
+narrower_is (proc_of ts rs few) (proc_of ts' rs' many) h = (
+  lists_are ts ts' (of_three (same_types ts ts') (same_types rs rs') (are_among few many) h).0,
+  lists_are rs rs' (of_three (same_types ts ts') (same_types rs rs') (are_among few many) h).1,
+  among_are few many (of_three (same_types ts ts') (same_types rs rs') (are_among few many) h).2,
+)
+narrower_is (iter_of ts rs few) (iter_of ts' rs' many) h = (
+  lists_are ts ts' (of_three (same_types ts ts') (same_types rs rs') (are_among few many) h).0,
+  lists_are rs rs' (of_three (same_types ts ts') (same_types rs rs') (are_among few many) h).1,
+  among_are few many (of_three (same_types ts ts') (same_types rs rs') (are_among few many) h).2,
+)
 narrower_is _ _ h = no h
 
 any_is : (a b : CluType) → is_any b ≡ true → IsNarrower a b
@@ -195,10 +198,11 @@ any_is a any_type h = tt
 any_is a _ h = no h
 
 pub fits_included : (a b : CluType) → fits a b ≡ true → Included a b
-fits_included a b h = elim (or_cases (same_type a b || is_any b) (has_more_signals a b) h) as (λ _. Included a b)
-  [ inl first ↦ elim (or_cases (same_type a b) (is_any b) first) as (λ _. Included a b)
+fits_included a b h = elim (or_cases (same_type a b || is_any b) (has_more_signals a b) h) as (λ _. Included a b) [
+  | inl first ↦ elim (or_cases (same_type a b) (is_any b) first) as (λ _. Included a b)
       [ inl same ↦ inl (types_are a b same) | inr any ↦ inr (any_is a b any) ]
-  | inr narrower ↦ inr (narrower_is a b narrower) ]
+  | inr narrower ↦ inr (narrower_is a b narrower)
+]
 
 or_left : (x y : Bool) → x ≡ true → (x || y) ≡ true
 or_left x y h = ap (λ z. z || y) h

@@ -1,9 +1,9 @@
 -- Rows of samples: what an operation of a type, for some objects, gives or signals, and what it costs.
 use Prim.Native.String.{String}
-use Rattle.std.specs.Prelude.{◌≡◌, ℕ, zero, suc, ℤ, pos, negsuc, List, [], ◌∷◌, codes}
-use Rattle.clu_types.specs.CluType.{CluType, array_of}
-use Rattle.clu_layout.specs.Objects.{Object, int_object, char_object, string_object, reference, Array, Cell, array_cell}
-use Rattle.clu_layout.specs.Actions.{World, Outcome, returned, signalled}
+use Rattle.std.specs.Prelude.{◌≡◌, ℕ, pos, negsuc, List, [], ◌∷◌, codes}
+use Rattle.clu_types.specs.CluType.{CluType}
+use Rattle.clu_layout.specs.Objects.{Object, int_object, string_object, reference, Cell}
+use Rattle.clu_layout.specs.Actions.{World, returned, signalled}
 use Rattle.clu_layout.specs.Primitive.{prim}
 
 -- ---- objects

@@ -1,8 +1,8 @@
 -- Samples of the operations of sequence[t]. One of n elements takes 1 + n words; a new one counts these and its elements.
-use Rattle.std.specs.Prelude.{◌≡◌, refl, ℕ, pos, Bool, true, false, List, [], ◌∷◌}
+use Rattle.std.specs.Prelude.{refl, pos, true, false, List, [], ◌∷◌}
 use Rattle.clu_types.specs.CluType.{CluType, int_type, any_type, array_of, sequence_of}
 use Rattle.clu_layout.specs.Objects.{Object, bool_object, sequence_object, inside, reference, Cell, array_cell}
-use Rattle.clu_layout.proofs.Sampling.{one, two, three, int, below_zero, string, Gives, Signals, Makes, Does}
+use Rattle.clu_layout.proofs.Sampling.{one, two, three, int, below_zero, Gives, Signals, Makes, Does}
 
 abbrev ints : CluType
 ints = sequence_of int_type

@@ -1,7 +1,7 @@
 -- Samples of the operations of stream. The output had the byte 33 before, and 5 words and 50 units were spent.
 use Prim.Native.String.{String}
-use Rattle.std.specs.Prelude.{◌≡◌, refl, ℕ, Bool, true, false, List, [], ◌∷◌, codes}
-use Rattle.clu_types.specs.CluType.{CluType, stream_type}
+use Rattle.std.specs.Prelude.{◌≡◌, refl, ℕ, true, false, List, [], ◌∷◌, codes}
+use Rattle.clu_types.specs.CluType.{stream_type}
 use Rattle.clu_layout.specs.Objects.{Object, bool_object, char_object, stream_object, input_stream, output_stream}
 use Rattle.clu_layout.specs.Actions.{returned, signalled}
 use Rattle.clu_layout.specs.Primitive.{prim}

@@ -1,8 +1,8 @@
 -- Samples of the operations of string. A string of n bytes takes 1 and n / 8 rounded up words; a new one counts these
 -- words and its bytes.
-use Rattle.std.specs.Prelude.{◌≡◌, refl, ℕ, Bool, true, false, List, [], ◌∷◌, pos}
-use Rattle.clu_types.specs.CluType.{CluType, string_type, char_type, array_of}
-use Rattle.clu_layout.specs.Objects.{Object, bool_object, char_object, reference, Cell, array_cell}
+use Rattle.std.specs.Prelude.{refl, true, false, [], ◌∷◌, pos}
+use Rattle.clu_types.specs.CluType.{string_type, char_type, array_of}
+use Rattle.clu_layout.specs.Objects.{bool_object, char_object, reference, Cell, array_cell}
 use Rattle.clu_layout.proofs.Sampling.{one, two, three, int, below_zero, string, Gives, Signals, Makes, Does}
 
 size : Gives string_type "size" (one (string "hello")) (int 5) 0 1

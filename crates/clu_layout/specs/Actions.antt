@@ -1,13 +1,13 @@
 -- What an operation does, and the small functions from which each is put together: what it gives and signals, its costs,
 -- what opens its arguments, and what makes and changes objects.
-use Rattle.std.specs.Prelude.{ℕ, zero, ◌+◌, ℤ, pos, ◌+ℤ◌, ◌-ℤ◌, Bool, true, false, not, ◌&&◌, List, [], ◌∷◌, ◌++◌, length, Option, None, Some, slice_get, slice_set, codes}
+use Rattle.std.specs.Prelude.{ℕ, ◌+◌, ℤ, pos, ◌-ℤ◌, Bool, true, false, not, ◌&&◌, List, [], ◌∷◌, ◌++◌, length, Option, None, Some, slice_get, slice_set, codes}
 use Rattle.clu_types.specs.CluType.{CluType, array_of, record_of, variant_of, Fields}
 use Rattle.clu_builtin.specs.declared.names.Signal.{Signal}
 use Rattle.clu_builtin.specs.declared.names.Signal.TheVariants as signal
 use Rattle.clu_builtin.specs.Names.{signal_name}
 use Rattle.clu_layout.specs.declared.store.Shape.TheVariants as shape
 use Rattle.clu_layout.specs.Cost.{cost}
-use Rattle.clu_layout.specs.Objects.{Stream, input_stream, output_stream, Routine, Object, bool_object, int_object, char_object, string_object, stream_object, sequence_object, struct_object, oneof_object, routine_object, reference, Objects, listed, inside, Array, Cell, array_cell, record_cell, variant_cell}
+use Rattle.clu_layout.specs.Objects.{Stream, Routine, Object, bool_object, int_object, char_object, string_object, stream_object, sequence_object, struct_object, oneof_object, routine_object, reference, listed, inside, Array, Cell, array_cell, record_cell, variant_cell}
 use Rattle.clu_layout.specs.Places.{is_int, high_of}
 
 -- what operations see and change: the mutable objects by number of their cell, the bytes of the input that are left, the

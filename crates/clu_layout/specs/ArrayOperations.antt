@@ -1,6 +1,6 @@
 -- The operations of array[t]. similar, similar1, copy, elements and indexes are defined by texts. Where none of the
 -- listed signals comes and low - 1, low or high would leave the ints, an operation changes nothing and fails.
-use Rattle.std.specs.Prelude.{ℕ, ◌+◌, ◌*◌, max, ℤ, pos, ◌+ℤ◌, ◌-ℤ◌, Bool, ◌==◌, List, [], ◌∷◌, ◌++◌, length, take, replicate, if◌then◌else◌, codes}
+use Rattle.std.specs.Prelude.{ℕ, ◌*◌, max, ℤ, pos, ◌+ℤ◌, ◌-ℤ◌, ◌==◌, List, [], ◌∷◌, ◌++◌, length, take, replicate, if◌then◌else◌, codes}
 use Rattle.std.specs.Int.{is_negative}
 use Rattle.clu_types.specs.CluType.{CluType}
 use Rattle.clu_builtin.specs.declared.names.Signal.TheVariants as signal

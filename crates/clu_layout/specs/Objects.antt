@@ -1,5 +1,5 @@
 -- Objects, each of which knows its own type, and the cells of mutable objects.
-use Rattle.std.specs.Prelude.{ℕ, ℤ, Bool, List, [], ◌∷◌, Option, None, Some}
+use Rattle.std.specs.Prelude.{ℕ, ℤ, Bool, List, [], ◌∷◌}
 use Rattle.clu_types.specs.CluType.{CluType, null_type, bool_type, int_type, char_type, string_type, stream_type, array_of, sequence_of, record_of, struct_of, oneof_of, variant_of, cluster_of, CluTypes, no_types, type_and, Fields, Actuals}
 
 -- the two streams

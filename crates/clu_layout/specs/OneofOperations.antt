@@ -1,7 +1,7 @@
 -- The operations of oneof and variant. s is a tag, t its type. equal, similar and copy of oneofs, and similar, similar1
 -- and copy of variants, are schemes over the tags.
-use Rattle.std.specs.Prelude.{ℕ, Bool, true, false, not, List, [], ◌∷◌, ◌++◌, bytes_eq, codes}
-use Rattle.clu_types.specs.CluType.{CluType, Fields}
+use Rattle.std.specs.Prelude.{ℕ, not, List, [], ◌∷◌, ◌++◌, bytes_eq, codes}
+use Rattle.clu_types.specs.CluType.{Fields}
 use Rattle.clu_builtin.specs.declared.names.Signal.TheVariants as signal
 use Rattle.clu_layout.specs.Objects.{Object, variant_cell}
 use Rattle.clu_layout.specs.Actions.{Action, Primitive, gives, gives_nothing, gives_bool, signals_if, with_one, with_two, with_oneof, with_variant, changes, new_oneof, new_variant}

@@ -1,6 +1,5 @@
 -- Places in strings, sequences and arrays, and which numbers are ints and characters.
-use Rattle.std.specs.Prelude.{ℕ, zero, suc, ◌+◌, ◌-◌, ◌<◌, ◌^◌, ℤ, pos, negsuc, ◌+ℤ◌, ◌-ℤ◌, Bool, true, false, ◌==◌, nat_lt, nat_le, nat_eq, List, [], ◌∷◌, length, take, drop, slice_get, slice_set, Option, None, Some, if◌then◌else◌}
-use Rattle.std.specs.Option.{option_map}
+use Rattle.std.specs.Prelude.{ℕ, suc, ◌-◌, ◌^◌, ℤ, pos, negsuc, ◌+ℤ◌, ◌-ℤ◌, Bool, true, false, ◌==◌, nat_lt, nat_le, nat_eq, List, [], ◌∷◌, length, take, drop, slice_get, slice_set, Option, None, Some, if◌then◌else◌}
 use Rattle.std.specs.List.{starts_with}
 
 -- ints are -2^63 to 2^63 - 1

@@ -3,7 +3,7 @@
 -- Not here, since texts say what they mean: from_to and from_to_by of int; chars of string; similar, similar1, copy,
 -- elements and indexes of arrays; equal, similar, copy, elements and indexes of sequences; equal, similar and copy of
 -- structs and oneofs; similar, similar1 and copy of records and variants.
-use Rattle.std.specs.Prelude.{ℕ, suc, ◌+◌, ◌*◌, ℤ, Bool, true, false, ◌&&◌, ◌||◌, List, [], ◌∷◌, ◌++◌, Option, None, Some, if◌then◌else◌, bytes_eq, codes}
+use Rattle.std.specs.Prelude.{ℕ, ◌+◌, ℤ, Bool, true, false, ◌&&◌, ◌||◌, List, [], ◌∷◌, ◌++◌, Option, None, Some, if◌then◌else◌, bytes_eq, codes}
 use Rattle.clu_types.specs.CluType.{CluType, null_type, bool_type, int_type, char_type, string_type, any_type, stream_type, array_of, sequence_of, record_of, struct_of, oneof_of, variant_of, proc_of, iter_of, cluster_of, parameter, CluTypes, no_types, type_and, Fields, no_fields, field_and, no_signals, signal_and}
 use Rattle.clu_builtin.specs.Operation.{Operation, one}
 use Rattle.clu_builtin.specs.Table.{operation, parts_of}
@@ -11,7 +11,7 @@ use Rattle.clu_layout.specs.declared.store.Shape.TheVariants as shape
 use Rattle.clu_layout.specs.Cost.{cost}
 use Rattle.clu_layout.specs.Objects.{Object, own_type, own_types}
 use Rattle.clu_layout.specs.SameType.{same_type, is_any, is_routine_type, fits, all_fit}
-use Rattle.clu_layout.specs.Actions.{World, Outcome, returned, signalled, wrong, Action, Primitive, gives, gives_all, signals_with, no_case, need, needed, and_then, counts, takes, with_one, makes_array, makes_sequence, makes_struct, makes_record}
+use Rattle.clu_layout.specs.Actions.{World, Outcome, returned, signalled, wrong, Action, Primitive, gives, gives_all, signals_with, need, needed, and_then, counts, takes, with_one, makes_array, makes_sequence, makes_struct, makes_record}
 use Rattle.clu_layout.specs.PlainOperations.{Primitives, null_primitives, routine_primitives, bool_primitives}
 use Rattle.clu_layout.specs.NumberOperations.{int_primitives, char_primitives}
 use Rattle.clu_layout.specs.StringOperations.{string_primitives}

@@ -2,9 +2,9 @@
 -- structs, and similar, similar1 and copy of records, are schemes over the selectors.
 use Rattle.std.specs.Prelude.{ℕ, List, [], ◌∷◌, ◌++◌, Option, None, Some, if◌then◌else◌, bytes_eq, codes}
 use Rattle.std.specs.Option.{option_map}
-use Rattle.clu_types.specs.CluType.{CluType, Fields, no_fields, field_and}
+use Rattle.clu_types.specs.CluType.{Fields, field_and}
 use Rattle.clu_layout.specs.Objects.{Object, record_cell}
-use Rattle.clu_layout.specs.Actions.{Action, Primitive, gives, gives_nothing, needed, with_one, with_two, with_struct, with_record, changes, new_struct, new_record}
+use Rattle.clu_layout.specs.Actions.{Primitive, gives, gives_nothing, needed, with_one, with_two, with_struct, with_record, changes, new_struct, new_record}
 use Rattle.clu_layout.specs.PlainOperations.{Primitives, same_cell}
 
 -- the component of this selector, where components stand in the order of selectors

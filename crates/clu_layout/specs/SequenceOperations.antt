@@ -1,6 +1,6 @@
 -- The operations of sequence[t]. Places count from 1, and n is the size of the result. equal, similar, copy, elements and
 -- indexes are defined by texts.
-use Rattle.std.specs.Prelude.{ℕ, ℤ, pos, Bool, List, [], ◌∷◌, ◌++◌, length, take, replicate, codes}
+use Rattle.std.specs.Prelude.{pos, List, [], ◌∷◌, ◌++◌, take, replicate, codes}
 use Rattle.std.specs.Int.{is_negative}
 use Rattle.clu_types.specs.CluType.{CluType}
 use Rattle.clu_builtin.specs.declared.names.Signal.TheVariants as signal
