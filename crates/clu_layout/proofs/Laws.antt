@@ -7,7 +7,7 @@ use Rattle.clu_builtin.specs.Operation.{Operation}
 use Rattle.clu_builtin.specs.Table.{operation}
 use Rattle.clu_layout.specs.Objects.{Object, own_types}
 use Rattle.clu_layout.specs.SameType.{all_fit}
-use Rattle.clu_layout.specs.Actions.{World, Outcome, returned, signalled, wrong, Action, Primitive, need, needed, takes, counts, continued, and_then, gives_all}
+use Rattle.clu_layout.specs.Actions.{World, Outcome, returned, signalled, wrong, Action, Primitive, need, needed, no_case, takes, counts, continued, and_then, gives_all}
 use Rattle.clu_layout.specs.Primitive.{before, added, outcome_in, done_in, invoked, invocation, gives_results, all_suit, words_for_all, primitive, prim, force, force_heading, force_invocation, forcing}
 
 -- ---- output and meters
@@ -52,19 +52,23 @@ GivesTypes types wrong = Unit {0}
 
 bound_types : (types : CluTypes) (os : List Object) (w : World) (b : Bool) → all_fit (own_types os) types ≡ b →
     GivesTypes types (need b (takes (words_for_all types) (gives_all os)) w)
+unfolding need no_case takes gives_all
 bound_types types os w true e = e
 bound_types types os w false e = tt
 
 continued_types : (types : CluTypes) (o : Outcome) → GivesTypes types (continued (gives_results types) o)
+unfolding continued
 continued_types types (returned os w) = bound_types types os w (all_fit (own_types os) types) refl
 continued_types types (signalled name os w) = tt
 continued_types types wrong = tt
 
 needed_types : (types : CluTypes) (b : Bool) (rest : Action) → ((w : World) → GivesTypes types (rest w)) → (w : World) → GivesTypes types (need b rest w)
+unfolding need no_case
 needed_types types true rest h w = h w
 needed_types types false rest h w = tt
 
 invoked_types : (T : CluType) (heading : Operation) (p : Primitive) (os : List Object) (w : World) → GivesTypes heading.results (invoked T heading p os w)
+unfolding need takes counts and_then
 invoked_types T heading p os w = needed_types heading.results (all_suit T (own_types os) heading.args)
     (takes (words_for_all heading.args) (counts 1 (and_then (p os) (gives_results heading.results))))
     (λ v. continued_types heading.results (p os (record v { words = v.words + words_for_all heading.args; work = (v.work + words_for_all heading.args) + 1 }))) w
@@ -76,11 +80,13 @@ outcome_types types w wrong h = tt
 
 found_types : (T : CluType) (heading : Operation) (p : Option Primitive) (os : List Object) (w : World) →
     GivesTypes heading.results (needed p (λ q. invoked T heading q os) w)
+unfolding needed no_case
 found_types T heading None os w = tt
 found_types T heading (Some p) os w = invoked_types T heading p os w
 
 headed_types : (T : CluType) (op : List ℕ) (os : List Object) (w : World) (heading : Operation) (h : Option Operation) → h ≡ Some heading →
     GivesTypes heading.results (outcome_in w (needed h (λ found. needed (primitive T op) (λ p. invoked T found p os)) (before w)))
+unfolding needed
 headed_types T op os w heading h e = rw e
     (outcome_types heading.results w (needed (primitive T op) (λ p. invoked T heading p os) (before w))
     (found_types T heading (primitive T op) os (before w)))

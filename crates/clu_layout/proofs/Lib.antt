@@ -11,3 +11,4 @@ mod InvocationSamples
 mod Names
 pub mod Laws
 pub mod SameTypeLaws
+pub mod CellLaws

@@ -34,7 +34,7 @@ Primitive = List Object → Action
 
 -- ---- what is given and signalled
 
-abbrev pub gives_all : List Object → Action
+unfoldable pub gives_all : List Object → Action
 gives_all os w = returned os w
 
 abbrev pub gives : Object → Action
@@ -52,7 +52,7 @@ gives_int n = gives (int_object n)
 abbrev pub gives_size : {A : Type 0} → List A → Action
 gives_size xs = gives_int (pos (length xs))
 
-abbrev pub signals_with : List ℕ → List Object → Action
+unfoldable pub signals_with : List ℕ → List Object → Action
 signals_with name os w = signalled name os w
 
 abbrev pub signals : Signal → Action
@@ -62,16 +62,16 @@ abbrev pub fails : List ℕ → Action
 fails text = signals_with (codes "failure") (string_object text ∷ [])
 
 -- no case applies
-abbrev pub no_case : Action
+unfoldable pub no_case : Action
 no_case w = wrong
 
 -- the exception if the test holds, else the rest
-abbrev pub signals_if : Signal → Bool → Action → Action
+unfoldable pub signals_if : Signal → Bool → Action → Action
 signals_if s true rest = signals s
 signals_if s false rest = rest
 
 -- the rest with what is there, else the exception
-abbrev pub or_signals : {A : Type 0} → Signal → Option A → (A → Action) → Action
+unfoldable pub or_signals : {A : Type 0} → Signal → Option A → (A → Action) → Action
 or_signals s None rest = signals s
 or_signals s (Some x) rest = rest x
 
@@ -80,119 +80,124 @@ abbrev pub gives_int_or_overflow : ℤ → Action
 gives_int_or_overflow n = signals_if signal.Overflow (not (is_int n)) (gives_int n)
 
 -- the rest if the test holds, else a failure with this text
-abbrev pub or_fails : List ℕ → Bool → Action → Action
+unfoldable pub or_fails : List ℕ → Bool → Action → Action
 or_fails text true rest = rest
 or_fails text false rest = fails text
 
+-- the first if the test holds, else the second
+unfoldable pub either : Bool → Action → Action → Action
+either true first second = first
+either false first second = second
+
 -- what must hold, and what must be there, for a case to apply
-abbrev pub need : Bool → Action → Action
+unfoldable pub need : Bool → Action → Action
 need true rest = rest
 need false rest = no_case
 
-abbrev pub needed : {A : Type 0} → Option A → (A → Action) → Action
+unfoldable pub needed : {A : Type 0} → Option A → (A → Action) → Action
 needed None rest = no_case
 needed (Some x) rest = rest x
 
 -- one action, and then another with the objects that it gives
-abbrev pub continued : (List Object → Action) → Outcome → Outcome
+unfoldable pub continued : (List Object → Action) → Outcome → Outcome
 continued rest (returned os w) = rest os w
 continued rest (signalled name os w) = signalled name os w
 continued rest wrong = wrong
 
-abbrev pub and_then : Action → (List Object → Action) → Action
+unfoldable pub and_then : Action → (List Object → Action) → Action
 and_then first rest w = continued rest (first w)
 
 -- ---- costs
 
 -- units of work besides
-abbrev pub counts : ℕ → Action → Action
+unfoldable pub counts : ℕ → Action → Action
 counts n rest w = rest (record w { work = w.work + n })
 
 -- words of store, each of which is also a unit of work
-abbrev pub takes : ℕ → Action → Action
+unfoldable pub takes : ℕ → Action → Action
 takes n rest w = rest (record w { words = w.words + n; work = w.work + n })
 
 -- ---- the arguments
 
-abbrev pub with_none : List Object → Action → Action
+unfoldable pub with_none : List Object → Action → Action
 with_none [] rest = rest
 with_none _ rest = no_case
 
-abbrev pub with_one : List Object → (Object → Action) → Action
+unfoldable pub with_one : List Object → (Object → Action) → Action
 with_one (a ∷ []) rest = rest a
 with_one _ rest = no_case
 
-abbrev pub with_two : List Object → (Object → Object → Action) → Action
+unfoldable pub with_two : List Object → (Object → Object → Action) → Action
 with_two (a ∷ b ∷ []) rest = rest a b
 with_two _ rest = no_case
 
-abbrev pub with_three : List Object → (Object → Object → Object → Action) → Action
+unfoldable pub with_three : List Object → (Object → Object → Object → Action) → Action
 with_three (a ∷ b ∷ c ∷ []) rest = rest a b c
 with_three _ rest = no_case
 
 -- ---- what is in an argument
 
-abbrev pub with_bool : Object → (Bool → Action) → Action
+unfoldable pub with_bool : Object → (Bool → Action) → Action
 with_bool (bool_object b) rest = rest b
 with_bool _ rest = no_case
 
-abbrev pub with_int : Object → (ℤ → Action) → Action
+unfoldable pub with_int : Object → (ℤ → Action) → Action
 with_int (int_object n) rest = rest n
 with_int _ rest = no_case
 
-abbrev pub with_char : Object → (ℕ → Action) → Action
+unfoldable pub with_char : Object → (ℕ → Action) → Action
 with_char (char_object c) rest = rest c
 with_char _ rest = no_case
 
-abbrev pub with_string : Object → (List ℕ → Action) → Action
+unfoldable pub with_string : Object → (List ℕ → Action) → Action
 with_string (string_object bytes) rest = rest bytes
 with_string _ rest = no_case
 
-abbrev pub with_stream : Object → (Stream → Action) → Action
+unfoldable pub with_stream : Object → (Stream → Action) → Action
 with_stream (stream_object s) rest = rest s
 with_stream _ rest = no_case
 
-abbrev pub with_routine : Object → (Routine → Action) → Action
+unfoldable pub with_routine : Object → (Routine → Action) → Action
 with_routine (routine_object r heading) rest = rest r
 with_routine _ rest = no_case
 
-abbrev pub with_sequence : Object → (List Object → Action) → Action
+unfoldable pub with_sequence : Object → (List Object → Action) → Action
 with_sequence (sequence_object t xs) rest = rest (listed xs)
 with_sequence _ rest = no_case
 
-abbrev pub with_struct : Object → (Fields → List Object → Action) → Action
+unfoldable pub with_struct : Object → (Fields → List Object → Action) → Action
 with_struct (struct_object fs xs) rest = rest fs (listed xs)
 with_struct _ rest = no_case
 
-abbrev pub with_oneof : Object → (List ℕ → Object → Action) → Action
+unfoldable pub with_oneof : Object → (List ℕ → Object → Action) → Action
 with_oneof (oneof_object fs tag x) rest = rest tag x
 with_oneof _ rest = no_case
 
 -- the number of a mutable object's cell
-abbrev pub with_cell : Object → (ℕ → Action) → Action
+unfoldable pub with_cell : Object → (ℕ → Action) → Action
 with_cell (reference t c) rest = rest c
 with_cell _ rest = no_case
 
 -- the mutable object itself
-abbrev pub as_array : Option Cell → (Array → Action) → Action
+unfoldable pub as_array : Option Cell → (Array → Action) → Action
 as_array (Some (array_cell a)) rest = rest a
 as_array _ rest = no_case
 
-abbrev pub as_record : Option Cell → (Fields → List Object → Action) → Action
+unfoldable pub as_record : Option Cell → (Fields → List Object → Action) → Action
 as_record (Some (record_cell fs xs)) rest = rest fs xs
 as_record _ rest = no_case
 
-abbrev pub as_variant : Option Cell → (Fields → List ℕ → Object → Action) → Action
+unfoldable pub as_variant : Option Cell → (Fields → List ℕ → Object → Action) → Action
 as_variant (Some (variant_cell fs tag x)) rest = rest fs tag x
 as_variant _ rest = no_case
 
-abbrev pub with_array : Object → (ℕ → Array → Action) → Action
+unfoldable pub with_array : Object → (ℕ → Array → Action) → Action
 with_array o rest = with_cell o (λ c w. as_array (slice_get w.cells c) (rest c) w)
 
-abbrev pub with_record : Object → (ℕ → Fields → List Object → Action) → Action
+unfoldable pub with_record : Object → (ℕ → Fields → List Object → Action) → Action
 with_record o rest = with_cell o (λ c w. as_record (slice_get w.cells c) (rest c) w)
 
-abbrev pub with_variant : Object → (ℕ → Fields → List ℕ → Object → Action) → Action
+unfoldable pub with_variant : Object → (ℕ → Fields → List ℕ → Object → Action) → Action
 with_variant o rest = with_cell o (λ c w. as_variant (slice_get w.cells c) (rest c) w)
 
 -- the bytes of characters
@@ -211,10 +216,10 @@ bytes_of (o ∷ os) = after_char (char_of o) (bytes_of os)
 -- ---- mutable objects are made and changed
 
 -- a new cell is the last one
-abbrev pub makes : CluType → Cell → Action
+unfoldable pub makes : CluType → Cell → Action
 makes t cell w = returned (reference t (length w.cells) ∷ []) (record w { cells = w.cells ++ cell ∷ [] })
 
-abbrev pub changes : ℕ → Cell → Action → Action
+unfoldable pub changes : ℕ → Cell → Action → Action
 changes c cell rest w = rest (record w { cells = slice_set w.cells c cell })
 
 -- low - 1, low and high of an array stay ints

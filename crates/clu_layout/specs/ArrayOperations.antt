@@ -1,12 +1,12 @@
 -- The operations of array[t]. similar, similar1, copy, elements and indexes are defined by texts. Where none of the
 -- listed signals comes and low - 1, low or high would leave the ints, an operation changes nothing and fails.
-use Rattle.std.specs.Prelude.{ℕ, ◌*◌, max, ℤ, pos, ◌+ℤ◌, ◌-ℤ◌, ◌==◌, List, [], ◌∷◌, ◌++◌, length, take, replicate, if◌then◌else◌, codes}
+use Rattle.std.specs.Prelude.{ℕ, ◌*◌, max, ℤ, pos, ◌+ℤ◌, ◌-ℤ◌, ◌==◌, List, [], ◌∷◌, ◌++◌, length, take, replicate, codes}
 use Rattle.std.specs.Int.{is_negative}
 use Rattle.clu_types.specs.CluType.{CluType}
 use Rattle.clu_builtin.specs.declared.names.Signal.TheVariants as signal
 use Rattle.clu_layout.specs.Objects.{Object, Array, array_cell}
 use Rattle.clu_layout.specs.Places.{high_of, count_of, item_at, with_item_at, items_from, first_item, last_item, without_first, without_last, has_none}
-use Rattle.clu_layout.specs.Actions.{Action, Primitive, gives, gives_nothing, gives_bool, gives_int, gives_size, signals_if, or_signals, counts, takes, with_none, with_one, with_two, with_three, with_int, with_array, with_int_bounds, changes, changes_array, new_array}
+use Rattle.clu_layout.specs.Actions.{Action, Primitive, gives, gives_nothing, gives_bool, gives_int, gives_size, signals_if, or_signals, either, counts, takes, with_none, with_one, with_two, with_three, with_int, with_array, with_int_bounds, changes, changes_array, new_array}
 use Rattle.clu_layout.specs.PlainOperations.{Primitives, same_cell}
 
 abbrev pub one_array : List Object → (ℕ → Array → Action) → Action
@@ -76,9 +76,9 @@ more_room a = max 4 (2 * a.room)
 -- the array becomes one with one element more. Where the room is used up, the new room is the cost, and the elements
 -- that there were count besides
 abbrev pub grows : ℕ → Array → Array → Action
-grows c a b = with_int_bounds b (if length a.items == a.room
-    then counts (length a.items) (takes (more_room a) (changes c (array_cell (record b { room = more_room a })) gives_nothing))
-    else changes c (array_cell b) gives_nothing)
+grows c a b = with_int_bounds b (either (length a.items == a.room)
+    (counts (length a.items) (takes (more_room a) (changes c (array_cell (record b { room = more_room a })) gives_nothing)))
+    (changes c (array_cell b) gives_nothing))
 
 -- addh | (T, t) | if the room is used up, the new room in words | one element more at high + 1
 abbrev pub array_addh : Primitive

@@ -13,3 +13,4 @@ pub mod RecordOperations
 pub mod OneofOperations
 pub mod StreamOperations
 pub mod Primitive
+pub mod Computing

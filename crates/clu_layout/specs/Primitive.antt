@@ -11,7 +11,7 @@ use Rattle.clu_layout.specs.declared.store.Shape.TheVariants as shape
 use Rattle.clu_layout.specs.Cost.{cost}
 use Rattle.clu_layout.specs.Objects.{Object, own_type, own_types}
 use Rattle.clu_layout.specs.SameType.{same_type, is_any, is_routine_type, fits, all_fit}
-use Rattle.clu_layout.specs.Actions.{World, Outcome, returned, signalled, wrong, Action, Primitive, gives, gives_all, signals_with, need, needed, and_then, counts, takes, with_one, makes_array, makes_sequence, makes_struct, makes_record}
+use Rattle.clu_layout.specs.Actions.{World, Outcome, returned, signalled, wrong, Action, Primitive, either, gives, gives_all, signals_with, need, needed, and_then, counts, takes, with_one, makes_array, makes_sequence, makes_struct, makes_record}
 use Rattle.clu_layout.specs.PlainOperations.{Primitives, null_primitives, routine_primitives, bool_primitives}
 use Rattle.clu_layout.specs.NumberOperations.{int_primitives, char_primitives}
 use Rattle.clu_layout.specs.StringOperations.{string_primitives}
@@ -95,11 +95,8 @@ abbrev pub invocation : CluType → List ℕ → List Object → Action
 invocation T op os = needed (operation T op) (λ heading. needed (primitive T op) (λ p. invoked T heading p os))
 
 -- force[T] | (any): T | wrong_type | the object exactly if its own type is T
-abbrev pub same_type_only : CluType → Object → Action
-same_type_only t o = elim (same_type (own_type o) t) [ true ↦ gives o | false ↦ signals_with (codes "wrong_type") [] ]
-
 abbrev pub forcing : CluType → Primitive
-forcing t os = with_one os (same_type_only t)
+forcing t os = with_one os (λ o. either (same_type (own_type o) t) (gives o) (signals_with (codes "wrong_type") []))
 
 abbrev pub force_heading : CluType → Operation
 force_heading t = record { iter = false; args = one any_type; results = one t; signals = signal_and (codes "wrong_type") no_types no_signals; needs = [] }

@@ -11,14 +11,14 @@ abbrev pub not_possible : List ℕ → Action
 not_possible text = signals_with (signal_name signal.NotPossible) (string_object text ∷ [])
 
 -- the bytes of the input that are left
-abbrev pub reads : Stream → (List ℕ → Action) → Action
+unfoldable pub reads : Stream → (List ℕ → Action) → Action
 reads input_stream rest w = rest w.input w
 reads output_stream rest w = not_possible (codes "cannot read") w
 
-abbrev pub leaves : List ℕ → Action → Action
+unfoldable pub leaves : List ℕ → Action → Action
 leaves bytes rest w = rest (record w { input = bytes })
 
-abbrev pub writes : Stream → List ℕ → Action
+unfoldable pub writes : Stream → List ℕ → Action
 writes input_stream bytes w = not_possible (codes "cannot write") w
 writes output_stream bytes w = gives_nothing (record w { output = w.output ++ bytes })
 
