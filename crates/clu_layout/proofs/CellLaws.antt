@@ -5,6 +5,14 @@ use Rattle.std.specs.Option.{option_map}
 use Rattle.clu_types.specs.CluType.{CluType, array_of, record_of, variant_of, Fields}
 use Rattle.clu_builtin.specs.declared.names.Signal.{Signal}
 use Rattle.clu_layout.specs.Objects.{Stream, input_stream, output_stream, Routine, Object, null_object, bool_object, int_object, char_object, string_object, stream_object, sequence_object, struct_object, oneof_object, routine_object, reference, sealed, Objects, listed, Array, Cell, array_cell, record_cell, variant_cell, cell_type}
+use Rattle.clu_layout.specs.PlainOperations.{Primitives, null_primitives, routine_primitives, bool_primitives}
+use Rattle.clu_layout.specs.NumberOperations.{int_add, int_primitives, char_primitives}
+use Rattle.clu_layout.specs.StringOperations.{string_primitives}
+use Rattle.clu_layout.specs.ArrayOperations.{array_store, array_primitives}
+use Rattle.clu_layout.specs.SequenceOperations.{sequence_primitives}
+use Rattle.clu_layout.specs.RecordOperations.{struct_selected, record_selected, record_primitives}
+use Rattle.clu_layout.specs.OneofOperations.{oneof_selected, variant_selected, variant_primitives}
+use Rattle.clu_layout.specs.StreamOperations.{reads, leaves, writes, stream_primitives}
 use Rattle.clu_layout.specs.Actions.{World, Outcome, returned, signalled, wrong, Action, Primitive, gives_all, signals_with, no_case, signals_if, or_signals, either, or_fails, need, needed, continued, and_then, counts, takes, with_none, with_one, with_two, with_three, with_bool, with_int, with_char, with_string, with_stream, with_routine, with_sequence, with_struct, with_oneof, with_cell, as_array, as_record, as_variant, with_array, with_record, with_variant, makes, changes}
 
 abbrev pub kind_at : List Cell → ℕ → Option CluType
@@ -128,10 +136,69 @@ module _ (base : List Cell) where
   keeps_three (a ∷ b ∷ c ∷ []) rest h = h a b c
   keeps_three _ rest h = keeps_no_case
 
-  keeps_int : (o : Object) (rest : ℤ → Action) → ((n : ℤ) → Keeps base (rest n)) → Keeps base (with_int o rest)
+  keeps_bool : (o : Object) (rest : Bool → Action) → ((x : Bool) → Keeps base (rest x)) → Keeps base (with_bool o rest)
+  unfolding with_bool
+  keeps_bool (bool_object b) rest h = h b
+  keeps_bool _ rest h = keeps_no_case
+
+  keeps_int : (o : Object) (rest : ℤ → Action) → ((x : ℤ) → Keeps base (rest x)) → Keeps base (with_int o rest)
   unfolding with_int
   keeps_int (int_object n) rest h = h n
   keeps_int _ rest h = keeps_no_case
+
+  keeps_char : (o : Object) (rest : ℕ → Action) → ((x : ℕ) → Keeps base (rest x)) → Keeps base (with_char o rest)
+  unfolding with_char
+  keeps_char (char_object c) rest h = h c
+  keeps_char _ rest h = keeps_no_case
+
+  keeps_string : (o : Object) (rest : List ℕ → Action) → ((x : List ℕ) → Keeps base (rest x)) → Keeps base (with_string o rest)
+  unfolding with_string
+  keeps_string (string_object s) rest h = h s
+  keeps_string _ rest h = keeps_no_case
+
+  keeps_stream : (o : Object) (rest : Stream → Action) → ((x : Stream) → Keeps base (rest x)) → Keeps base (with_stream o rest)
+  unfolding with_stream
+  keeps_stream (stream_object s) rest h = h s
+  keeps_stream _ rest h = keeps_no_case
+
+  keeps_routine : (o : Object) (rest : Routine → Action) → ((r : Routine) → Keeps base (rest r)) → Keeps base (with_routine o rest)
+  unfolding with_routine
+  keeps_routine (routine_object r heading) rest h = h r
+  keeps_routine _ rest h = keeps_no_case
+
+  keeps_sequence : (o : Object) (rest : List Object → Action) → ((xs : List Object) → Keeps base (rest xs)) → Keeps base (with_sequence o rest)
+  unfolding with_sequence
+  keeps_sequence (sequence_object t xs) rest h = h (listed xs)
+  keeps_sequence _ rest h = keeps_no_case
+
+  keeps_struct : (o : Object) (rest : Fields → List Object → Action) → ((fs : Fields) (xs : List Object) → Keeps base (rest fs xs)) → Keeps base (with_struct o rest)
+  unfolding with_struct
+  keeps_struct (struct_object fs xs) rest h = h fs (listed xs)
+  keeps_struct _ rest h = keeps_no_case
+
+  keeps_oneof : (o : Object) (rest : List ℕ → Object → Action) → ((tag : List ℕ) (x : Object) → Keeps base (rest tag x)) → Keeps base (with_oneof o rest)
+  unfolding with_oneof
+  keeps_oneof (oneof_object fs tag x) rest h = h tag x
+  keeps_oneof _ rest h = keeps_no_case
+
+  keeps_cell : (o : Object) (rest : ℕ → Action) → ((c : ℕ) → Keeps base (rest c)) → Keeps base (with_cell o rest)
+  unfolding with_cell
+  keeps_cell (reference t c) rest h = h c
+  keeps_cell _ rest h = keeps_no_case
+
+  keeps_reads : (s : Stream) (rest : List ℕ → Action) → ((left : List ℕ) → Keeps base (rest left)) → Keeps base (reads s rest)
+  unfolding reads
+  keeps_reads input_stream rest h = record { at = λ w l. (h w.input).at w l }
+  keeps_reads output_stream rest h = record { at = λ w l. (keeps_signals _ _).at w l }
+
+  keeps_leaves : (left : List ℕ) (rest : Action) → Keeps base rest → Keeps base (leaves left rest)
+  unfolding leaves
+  keeps_leaves left rest h = record { at = λ w l. h.at _ l }
+
+  keeps_writes : (s : Stream) (bytes : List ℕ) → Keeps base (writes s bytes)
+  unfolding writes
+  keeps_writes input_stream bytes = record { at = λ w l. (keeps_signals _ _).at w l }
+  keeps_writes output_stream bytes = record { at = λ w l. (keeps_gives _).at _ l }
 
   keeps_makes : (t : CluType) (cell : Cell) → Keeps base (makes t cell)
   unfolding makes
@@ -142,3 +209,62 @@ module _ (base : List Cell) where
   keeps_changes c cell rest same h = record { at = λ w l.
       h.at (record w { cells = slice_set w.cells c cell }) (longer_trans base w.cells (slice_set w.cells c cell) l
         (longer_set w.cells cell c (l.at c (cell_type cell) same))) }
+
+  array_found : (w : World) (c : ℕ) (rest : Array → Action) → Longer base w.cells →
+      ((cells : List Cell) (a : Array) → kind_at cells c ≡ Some (array_of a.element) → Keeps cells (rest a)) →
+      (found : Option Cell) → slice_get w.cells c ≡ found → KeptIn base (as_array found rest w)
+  unfolding as_array no_case
+  array_found w c rest l h (Some (array_cell a)) e =
+      kept_in base w.cells (rest a w) l ((h w.cells a (ap (option_map cell_type) e)).at w (longer_refl w.cells))
+  array_found w c rest l h _ e = tt
+
+  keeps_array : (o : Object) (rest : ℕ → Array → Action) →
+      ((cells : List Cell) (c : ℕ) (a : Array) → kind_at cells c ≡ Some (array_of a.element) → Keeps cells (rest c a)) → Keeps base (with_array o rest)
+  unfolding with_array
+  keeps_array o rest h = keeps_cell o (λ c w. as_array (slice_get w.cells c) (rest c) w)
+      (λ c. record { at = λ w l. array_found w c (rest c) l (λ cells. h cells c) (slice_get w.cells c) refl })
+
+  record_found : (w : World) (c : ℕ) (rest : Fields → List Object → Action) → Longer base w.cells →
+      ((cells : List Cell) (fs : Fields) (xs : List Object) → kind_at cells c ≡ Some (record_of fs) → Keeps cells (rest fs xs)) →
+      (found : Option Cell) → slice_get w.cells c ≡ found → KeptIn base (as_record found rest w)
+  unfolding as_record no_case
+  record_found w c rest l h (Some (record_cell fs xs)) e =
+      kept_in base w.cells (rest fs xs w) l ((h w.cells fs xs (ap (option_map cell_type) e)).at w (longer_refl w.cells))
+  record_found w c rest l h _ e = tt
+
+  keeps_record : (o : Object) (rest : ℕ → Fields → List Object → Action) →
+      ((cells : List Cell) (c : ℕ) (fs : Fields) (xs : List Object) → kind_at cells c ≡ Some (record_of fs) → Keeps cells (rest c fs xs)) → Keeps base (with_record o rest)
+  unfolding with_record
+  keeps_record o rest h = keeps_cell o (λ c w. as_record (slice_get w.cells c) (rest c) w)
+      (λ c. record { at = λ w l. record_found w c (rest c) l (λ cells. h cells c) (slice_get w.cells c) refl })
+
+  variant_found : (w : World) (c : ℕ) (rest : Fields → List ℕ → Object → Action) → Longer base w.cells →
+      ((cells : List Cell) (fs : Fields) (tag : List ℕ) (x : Object) → kind_at cells c ≡ Some (variant_of fs) → Keeps cells (rest fs tag x)) →
+      (found : Option Cell) → slice_get w.cells c ≡ found → KeptIn base (as_variant found rest w)
+  unfolding as_variant no_case
+  variant_found w c rest l h (Some (variant_cell fs tag x)) e =
+      kept_in base w.cells (rest fs tag x w) l ((h w.cells fs tag x (ap (option_map cell_type) e)).at w (longer_refl w.cells))
+  variant_found w c rest l h _ e = tt
+
+  keeps_variant : (o : Object) (rest : ℕ → Fields → List ℕ → Object → Action) →
+      ((cells : List Cell) (c : ℕ) (fs : Fields) (tag : List ℕ) (x : Object) → kind_at cells c ≡ Some (variant_of fs) → Keeps cells (rest c fs tag x)) → Keeps base (with_variant o rest)
+  unfolding with_variant
+  keeps_variant o rest h = keeps_cell o (λ c w. as_variant (slice_get w.cells c) (rest c) w)
+      (λ c. record { at = λ w l. variant_found w c (rest c) l (λ cells. h cells c) (slice_get w.cells c) refl })
+
+ruleset keeps = (keeps_gives, keeps_signals, keeps_no_case, keeps_signals_if, keeps_or_signals, keeps_either, keeps_or_fails, keeps_needed, keeps_counts, keeps_takes, keeps_none, keeps_one, keeps_two, keeps_three, keeps_bool, keeps_int, keeps_char, keeps_string, keeps_stream, keeps_routine, keeps_sequence, keeps_struct, keeps_oneof, keeps_cell, keeps_reads, keeps_leaves, keeps_writes, keeps_makes, keeps_changes, keeps_array, keeps_record, keeps_variant)
+
+-- ---- the operations, in the order of their tables
+
+abbrev pub AllKeep : Primitives → Type 0
+AllKeep [] = Unit {0}
+AllKeep ((name, p) ∷ rest) = ((base : List Cell) (os : List Object) → Keeps base (p os)) × AllKeep rest
+
+add_keeps : (base : List Cell) (os : List Object) → Keeps base (int_add os)
+add_keeps base os = search keeps depth 12
+
+store_keeps : (base : List Cell) (os : List Object) → Keeps base (array_store os)
+store_keeps base os = search keeps depth 12
+
+bools_keep : AllKeep bool_primitives
+bools_keep = search keeps depth 14
