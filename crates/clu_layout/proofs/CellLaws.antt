@@ -1,19 +1,12 @@
--- No operation takes a cell away or changes the type of what it holds.
+-- What the parts of operations keep: no cell is taken away, and none changes the type of what it holds.
 use Rattle.std.proofs.Common.{◌≡◌, refl, ap, sym, ◌∙◌, subst}
-use Rattle.std.specs.Prelude.{ℕ, zero, suc, ℤ, Bool, true, false, List, [], ◌∷◌, ◌++◌, Option, Some, None, slice_get, slice_set}
+use Rattle.std.specs.Prelude.{ℕ, zero, suc, ℤ, Bool, true, false, List, [], ◌∷◌, ◌++◌, Option, Some, None, cond, bytes_eq, slice_get, slice_set}
 use Rattle.std.specs.Option.{option_map}
-use Rattle.clu_types.specs.CluType.{CluType, array_of, record_of, variant_of, Fields}
+use Rattle.clu_types.specs.CluType.{CluType, null_type, bool_type, int_type, char_type, string_type, any_type, stream_type, array_of, sequence_of, record_of, struct_of, oneof_of, variant_of, proc_of, iter_of, cluster_of, parameter, CluTypes, Fields, no_fields, field_and}
 use Rattle.clu_builtin.specs.declared.names.Signal.{Signal}
 use Rattle.clu_layout.specs.Objects.{Stream, input_stream, output_stream, Routine, Object, null_object, bool_object, int_object, char_object, string_object, stream_object, sequence_object, struct_object, oneof_object, routine_object, reference, sealed, Objects, listed, Array, Cell, array_cell, record_cell, variant_cell, cell_type}
-use Rattle.clu_layout.specs.PlainOperations.{Primitives, null_primitives, routine_primitives, bool_primitives}
-use Rattle.clu_layout.specs.NumberOperations.{int_add, int_primitives, char_primitives}
-use Rattle.clu_layout.specs.StringOperations.{string_primitives}
-use Rattle.clu_layout.specs.ArrayOperations.{array_store, array_primitives}
-use Rattle.clu_layout.specs.SequenceOperations.{sequence_primitives}
-use Rattle.clu_layout.specs.RecordOperations.{struct_selected, record_selected, record_primitives}
-use Rattle.clu_layout.specs.OneofOperations.{oneof_selected, variant_selected, variant_primitives}
-use Rattle.clu_layout.specs.StreamOperations.{reads, leaves, writes, stream_primitives}
-use Rattle.clu_layout.specs.Actions.{World, Outcome, returned, signalled, wrong, Action, Primitive, gives_all, signals_with, no_case, signals_if, or_signals, either, or_fails, need, needed, continued, and_then, counts, takes, with_none, with_one, with_two, with_three, with_bool, with_int, with_char, with_string, with_stream, with_routine, with_sequence, with_struct, with_oneof, with_cell, as_array, as_record, as_variant, with_array, with_record, with_variant, makes, changes}
+use Rattle.clu_layout.specs.StreamOperations.{reads, leaves, writes}
+use Rattle.clu_layout.specs.Actions.{World, Outcome, returned, signalled, wrong, Action, Primitive, gives_all, signals_with, no_case, signals_if, or_signals, either, or_fails, need, needed, continued, and_then, counts, takes, with_none, with_one, with_two, with_three, with_bool, with_int, with_char, with_string, with_stream, with_routine, with_sequence, with_struct, with_oneof, with_cell, as_array, as_record, as_variant, with_array, with_record, with_variant, makes, changes, makes_array, makes_record}
 
 abbrev pub kind_at : List Cell → ℕ → Option CluType
 kind_at cells c = option_map cell_type (slice_get cells c)
@@ -22,10 +15,10 @@ kind_at cells c = option_map cell_type (slice_get cells c)
 pub record Longer (a b : List Cell) : Type 0 where
   pub at : (c : ℕ) (t : CluType) → kind_at a c ≡ Some t → kind_at b c ≡ Some t
 
-longer_refl : (a : List Cell) → Longer a a
+pub longer_refl : (a : List Cell) → Longer a a
 longer_refl a = record { at = λ c t h. h }
 
-longer_trans : (a b c : List Cell) → Longer a b → Longer b c → Longer a c
+pub longer_trans : (a b c : List Cell) → Longer a b → Longer b c → Longer a c
 longer_trans a b c f g = record { at = λ n t h. g.at n t (f.at n t h) }
 
 kind_added : (cells : List Cell) (cell : Cell) (c : ℕ) (t : CluType) → kind_at cells c ≡ Some t → kind_at (cells ++ cell ∷ []) c ≡ Some t
@@ -71,140 +64,140 @@ pub record Keeps (base : List Cell) (action : Action) : Type 0 where
   pub at : (w : World) → Longer base w.cells → KeptIn base (action w)
 
 module _ (base : List Cell) where
-  keeps_gives : (os : List Object) → Keeps base (gives_all os)
+  pub keeps_gives : (os : List Object) → Keeps base (gives_all os)
   unfolding gives_all
   keeps_gives os = record { at = λ w l. l }
 
-  keeps_signals : (name : List ℕ) (os : List Object) → Keeps base (signals_with name os)
+  pub keeps_signals : (name : List ℕ) (os : List Object) → Keeps base (signals_with name os)
   unfolding signals_with
   keeps_signals name os = record { at = λ w l. l }
 
-  keeps_no_case : Keeps base no_case
+  pub keeps_no_case : Keeps base no_case
   unfolding no_case
   keeps_no_case = record { at = λ w l. tt }
 
-  keeps_signals_if : (s : Signal) (b : Bool) (rest : Action) → Keeps base rest → Keeps base (signals_if s b rest)
+  pub keeps_signals_if : (s : Signal) (b : Bool) (rest : Action) → Keeps base rest → Keeps base (signals_if s b rest)
   unfolding signals_if
   keeps_signals_if s true rest h = keeps_signals _ _
   keeps_signals_if s false rest h = h
 
-  keeps_or_signals : {A : Type 0} (s : Signal) (found : Option A) (rest : A → Action) → ((x : A) → Keeps base (rest x)) → Keeps base (or_signals s found rest)
+  pub keeps_or_signals : {A : Type 0} (s : Signal) (found : Option A) (rest : A → Action) → ((x : A) → Keeps base (rest x)) → Keeps base (or_signals s found rest)
   unfolding or_signals
   keeps_or_signals s None rest h = keeps_signals _ _
   keeps_or_signals s (Some x) rest h = h x
 
-  keeps_either : (b : Bool) (first second : Action) → Keeps base first → Keeps base second → Keeps base (either b first second)
+  pub keeps_either : (b : Bool) (first second : Action) → Keeps base first → Keeps base second → Keeps base (either b first second)
   unfolding either
   keeps_either true first second f g = f
   keeps_either false first second f g = g
 
-  keeps_or_fails : (text : List ℕ) (b : Bool) (rest : Action) → Keeps base rest → Keeps base (or_fails text b rest)
+  pub keeps_or_fails : (text : List ℕ) (b : Bool) (rest : Action) → Keeps base rest → Keeps base (or_fails text b rest)
   unfolding or_fails
   keeps_or_fails text true rest h = h
   keeps_or_fails text false rest h = keeps_signals _ _
 
-  keeps_needed : {A : Type 0} (found : Option A) (rest : A → Action) → ((x : A) → Keeps base (rest x)) → Keeps base (needed found rest)
+  pub keeps_needed : {A : Type 0} (found : Option A) (rest : A → Action) → ((x : A) → Keeps base (rest x)) → Keeps base (needed found rest)
   unfolding needed
   keeps_needed None rest h = keeps_no_case
   keeps_needed (Some x) rest h = h x
 
-  keeps_counts : (n : ℕ) (rest : Action) → Keeps base rest → Keeps base (counts n rest)
+  pub keeps_counts : (n : ℕ) (rest : Action) → Keeps base rest → Keeps base (counts n rest)
   unfolding counts
   keeps_counts n rest h = record { at = λ w l. h.at _ l }
 
-  keeps_takes : (n : ℕ) (rest : Action) → Keeps base rest → Keeps base (takes n rest)
+  pub keeps_takes : (n : ℕ) (rest : Action) → Keeps base rest → Keeps base (takes n rest)
   unfolding takes
   keeps_takes n rest h = record { at = λ w l. h.at _ l }
 
-  keeps_none : (os : List Object) (rest : Action) → Keeps base rest → Keeps base (with_none os rest)
+  pub keeps_none : (os : List Object) (rest : Action) → Keeps base rest → Keeps base (with_none os rest)
   unfolding with_none
   keeps_none [] rest h = h
   keeps_none (a ∷ os) rest h = keeps_no_case
 
-  keeps_one : (os : List Object) (rest : Object → Action) → ((a : Object) → Keeps base (rest a)) → Keeps base (with_one os rest)
+  pub keeps_one : (os : List Object) (rest : Object → Action) → ((a : Object) → Keeps base (rest a)) → Keeps base (with_one os rest)
   unfolding with_one
   keeps_one (a ∷ []) rest h = h a
   keeps_one _ rest h = keeps_no_case
 
-  keeps_two : (os : List Object) (rest : Object → Object → Action) → ((a b : Object) → Keeps base (rest a b)) → Keeps base (with_two os rest)
+  pub keeps_two : (os : List Object) (rest : Object → Object → Action) → ((a b : Object) → Keeps base (rest a b)) → Keeps base (with_two os rest)
   unfolding with_two
   keeps_two (a ∷ b ∷ []) rest h = h a b
   keeps_two _ rest h = keeps_no_case
 
-  keeps_three : (os : List Object) (rest : Object → Object → Object → Action) → ((a b c : Object) → Keeps base (rest a b c)) → Keeps base (with_three os rest)
+  pub keeps_three : (os : List Object) (rest : Object → Object → Object → Action) → ((a b c : Object) → Keeps base (rest a b c)) → Keeps base (with_three os rest)
   unfolding with_three
   keeps_three (a ∷ b ∷ c ∷ []) rest h = h a b c
   keeps_three _ rest h = keeps_no_case
 
-  keeps_bool : (o : Object) (rest : Bool → Action) → ((x : Bool) → Keeps base (rest x)) → Keeps base (with_bool o rest)
+  pub keeps_bool : (o : Object) (rest : Bool → Action) → ((x : Bool) → Keeps base (rest x)) → Keeps base (with_bool o rest)
   unfolding with_bool
   keeps_bool (bool_object b) rest h = h b
   keeps_bool _ rest h = keeps_no_case
 
-  keeps_int : (o : Object) (rest : ℤ → Action) → ((x : ℤ) → Keeps base (rest x)) → Keeps base (with_int o rest)
+  pub keeps_int : (o : Object) (rest : ℤ → Action) → ((x : ℤ) → Keeps base (rest x)) → Keeps base (with_int o rest)
   unfolding with_int
   keeps_int (int_object n) rest h = h n
   keeps_int _ rest h = keeps_no_case
 
-  keeps_char : (o : Object) (rest : ℕ → Action) → ((x : ℕ) → Keeps base (rest x)) → Keeps base (with_char o rest)
+  pub keeps_char : (o : Object) (rest : ℕ → Action) → ((x : ℕ) → Keeps base (rest x)) → Keeps base (with_char o rest)
   unfolding with_char
   keeps_char (char_object c) rest h = h c
   keeps_char _ rest h = keeps_no_case
 
-  keeps_string : (o : Object) (rest : List ℕ → Action) → ((x : List ℕ) → Keeps base (rest x)) → Keeps base (with_string o rest)
+  pub keeps_string : (o : Object) (rest : List ℕ → Action) → ((x : List ℕ) → Keeps base (rest x)) → Keeps base (with_string o rest)
   unfolding with_string
   keeps_string (string_object s) rest h = h s
   keeps_string _ rest h = keeps_no_case
 
-  keeps_stream : (o : Object) (rest : Stream → Action) → ((x : Stream) → Keeps base (rest x)) → Keeps base (with_stream o rest)
+  pub keeps_stream : (o : Object) (rest : Stream → Action) → ((x : Stream) → Keeps base (rest x)) → Keeps base (with_stream o rest)
   unfolding with_stream
   keeps_stream (stream_object s) rest h = h s
   keeps_stream _ rest h = keeps_no_case
 
-  keeps_routine : (o : Object) (rest : Routine → Action) → ((r : Routine) → Keeps base (rest r)) → Keeps base (with_routine o rest)
+  pub keeps_routine : (o : Object) (rest : Routine → Action) → ((r : Routine) → Keeps base (rest r)) → Keeps base (with_routine o rest)
   unfolding with_routine
   keeps_routine (routine_object r heading) rest h = h r
   keeps_routine _ rest h = keeps_no_case
 
-  keeps_sequence : (o : Object) (rest : List Object → Action) → ((xs : List Object) → Keeps base (rest xs)) → Keeps base (with_sequence o rest)
+  pub keeps_sequence : (o : Object) (rest : List Object → Action) → ((xs : List Object) → Keeps base (rest xs)) → Keeps base (with_sequence o rest)
   unfolding with_sequence
   keeps_sequence (sequence_object t xs) rest h = h (listed xs)
   keeps_sequence _ rest h = keeps_no_case
 
-  keeps_struct : (o : Object) (rest : Fields → List Object → Action) → ((fs : Fields) (xs : List Object) → Keeps base (rest fs xs)) → Keeps base (with_struct o rest)
+  pub keeps_struct : (o : Object) (rest : Fields → List Object → Action) → ((fs : Fields) (xs : List Object) → Keeps base (rest fs xs)) → Keeps base (with_struct o rest)
   unfolding with_struct
   keeps_struct (struct_object fs xs) rest h = h fs (listed xs)
   keeps_struct _ rest h = keeps_no_case
 
-  keeps_oneof : (o : Object) (rest : List ℕ → Object → Action) → ((tag : List ℕ) (x : Object) → Keeps base (rest tag x)) → Keeps base (with_oneof o rest)
+  pub keeps_oneof : (o : Object) (rest : List ℕ → Object → Action) → ((tag : List ℕ) (x : Object) → Keeps base (rest tag x)) → Keeps base (with_oneof o rest)
   unfolding with_oneof
   keeps_oneof (oneof_object fs tag x) rest h = h tag x
   keeps_oneof _ rest h = keeps_no_case
 
-  keeps_cell : (o : Object) (rest : ℕ → Action) → ((c : ℕ) → Keeps base (rest c)) → Keeps base (with_cell o rest)
+  pub keeps_cell : (o : Object) (rest : ℕ → Action) → ((c : ℕ) → Keeps base (rest c)) → Keeps base (with_cell o rest)
   unfolding with_cell
   keeps_cell (reference t c) rest h = h c
   keeps_cell _ rest h = keeps_no_case
 
-  keeps_reads : (s : Stream) (rest : List ℕ → Action) → ((left : List ℕ) → Keeps base (rest left)) → Keeps base (reads s rest)
+  pub keeps_reads : (s : Stream) (rest : List ℕ → Action) → ((left : List ℕ) → Keeps base (rest left)) → Keeps base (reads s rest)
   unfolding reads
   keeps_reads input_stream rest h = record { at = λ w l. (h w.input).at w l }
   keeps_reads output_stream rest h = record { at = λ w l. (keeps_signals _ _).at w l }
 
-  keeps_leaves : (left : List ℕ) (rest : Action) → Keeps base rest → Keeps base (leaves left rest)
+  pub keeps_leaves : (left : List ℕ) (rest : Action) → Keeps base rest → Keeps base (leaves left rest)
   unfolding leaves
   keeps_leaves left rest h = record { at = λ w l. h.at _ l }
 
-  keeps_writes : (s : Stream) (bytes : List ℕ) → Keeps base (writes s bytes)
+  pub keeps_writes : (s : Stream) (bytes : List ℕ) → Keeps base (writes s bytes)
   unfolding writes
   keeps_writes input_stream bytes = record { at = λ w l. (keeps_signals _ _).at w l }
   keeps_writes output_stream bytes = record { at = λ w l. (keeps_gives _).at _ l }
 
-  keeps_makes : (t : CluType) (cell : Cell) → Keeps base (makes t cell)
+  pub keeps_makes : (t : CluType) (cell : Cell) → Keeps base (makes t cell)
   unfolding makes
   keeps_makes t cell = record { at = λ w l. longer_trans base w.cells (w.cells ++ cell ∷ []) l (longer_added w.cells cell) }
 
-  keeps_changes : (c : ℕ) (cell : Cell) (rest : Action) → kind_at base c ≡ Some (cell_type cell) → Keeps base rest → Keeps base (changes c cell rest)
+  pub keeps_changes : (c : ℕ) (cell : Cell) (rest : Action) → kind_at base c ≡ Some (cell_type cell) → Keeps base rest → Keeps base (changes c cell rest)
   unfolding changes
   keeps_changes c cell rest same h = record { at = λ w l.
       h.at (record w { cells = slice_set w.cells c cell }) (longer_trans base w.cells (slice_set w.cells c cell) l
@@ -218,7 +211,7 @@ module _ (base : List Cell) where
       kept_in base w.cells (rest a w) l ((h w.cells a (ap (option_map cell_type) e)).at w (longer_refl w.cells))
   array_found w c rest l h _ e = tt
 
-  keeps_array : (o : Object) (rest : ℕ → Array → Action) →
+  pub keeps_array : (o : Object) (rest : ℕ → Array → Action) →
       ((cells : List Cell) (c : ℕ) (a : Array) → kind_at cells c ≡ Some (array_of a.element) → Keeps cells (rest c a)) → Keeps base (with_array o rest)
   unfolding with_array
   keeps_array o rest h = keeps_cell o (λ c w. as_array (slice_get w.cells c) (rest c) w)
@@ -232,7 +225,7 @@ module _ (base : List Cell) where
       kept_in base w.cells (rest fs xs w) l ((h w.cells fs xs (ap (option_map cell_type) e)).at w (longer_refl w.cells))
   record_found w c rest l h _ e = tt
 
-  keeps_record : (o : Object) (rest : ℕ → Fields → List Object → Action) →
+  pub keeps_record : (o : Object) (rest : ℕ → Fields → List Object → Action) →
       ((cells : List Cell) (c : ℕ) (fs : Fields) (xs : List Object) → kind_at cells c ≡ Some (record_of fs) → Keeps cells (rest c fs xs)) → Keeps base (with_record o rest)
   unfolding with_record
   keeps_record o rest h = keeps_cell o (λ c w. as_record (slice_get w.cells c) (rest c) w)
@@ -246,25 +239,10 @@ module _ (base : List Cell) where
       kept_in base w.cells (rest fs tag x w) l ((h w.cells fs tag x (ap (option_map cell_type) e)).at w (longer_refl w.cells))
   variant_found w c rest l h _ e = tt
 
-  keeps_variant : (o : Object) (rest : ℕ → Fields → List ℕ → Object → Action) →
+  pub keeps_variant : (o : Object) (rest : ℕ → Fields → List ℕ → Object → Action) →
       ((cells : List Cell) (c : ℕ) (fs : Fields) (tag : List ℕ) (x : Object) → kind_at cells c ≡ Some (variant_of fs) → Keeps cells (rest c fs tag x)) → Keeps base (with_variant o rest)
   unfolding with_variant
   keeps_variant o rest h = keeps_cell o (λ c w. as_variant (slice_get w.cells c) (rest c) w)
       (λ c. record { at = λ w l. variant_found w c (rest c) l (λ cells. h cells c) (slice_get w.cells c) refl })
 
-ruleset keeps = (keeps_gives, keeps_signals, keeps_no_case, keeps_signals_if, keeps_or_signals, keeps_either, keeps_or_fails, keeps_needed, keeps_counts, keeps_takes, keeps_none, keeps_one, keeps_two, keeps_three, keeps_bool, keeps_int, keeps_char, keeps_string, keeps_stream, keeps_routine, keeps_sequence, keeps_struct, keeps_oneof, keeps_cell, keeps_reads, keeps_leaves, keeps_writes, keeps_makes, keeps_changes, keeps_array, keeps_record, keeps_variant)
-
--- ---- the operations, in the order of their tables
-
-abbrev pub AllKeep : Primitives → Type 0
-AllKeep [] = Unit {0}
-AllKeep ((name, p) ∷ rest) = ((base : List Cell) (os : List Object) → Keeps base (p os)) × AllKeep rest
-
-add_keeps : (base : List Cell) (os : List Object) → Keeps base (int_add os)
-add_keeps base os = search keeps depth 12
-
-store_keeps : (base : List Cell) (os : List Object) → Keeps base (array_store os)
-store_keeps base os = search keeps depth 12
-
-bools_keep : AllKeep bool_primitives
-bools_keep = search keeps depth 14
+pub ruleset keeps = (keeps_gives, keeps_signals, keeps_no_case, keeps_signals_if, keeps_or_signals, keeps_either, keeps_or_fails, keeps_needed, keeps_counts, keeps_takes, keeps_none, keeps_one, keeps_two, keeps_three, keeps_bool, keeps_int, keeps_char, keeps_string, keeps_stream, keeps_routine, keeps_sequence, keeps_struct, keeps_oneof, keeps_cell, keeps_reads, keeps_leaves, keeps_writes, keeps_makes, keeps_changes, keeps_array, keeps_record, keeps_variant)

@@ -12,3 +12,4 @@ mod Names
 pub mod Laws
 pub mod SameTypeLaws
 pub mod CellLaws
+pub mod CellsKept
