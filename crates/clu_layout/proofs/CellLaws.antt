@@ -1,12 +1,12 @@
 -- What the parts of operations keep: no cell is taken away, and none changes the type of what it holds.
 use Rattle.std.proofs.Common.{◌≡◌, refl, ap, sym, ◌∙◌, subst}
-use Rattle.std.specs.Prelude.{ℕ, zero, suc, ℤ, Bool, true, false, List, [], ◌∷◌, ◌++◌, Option, Some, None, cond, bytes_eq, slice_get, slice_set}
+use Rattle.std.specs.Prelude.{ℕ, zero, suc, ℤ, Bool, true, false, List, [], ◌∷◌, ◌++◌, Option, Some, None, slice_get, slice_set}
 use Rattle.std.specs.Option.{option_map}
-use Rattle.clu_types.specs.CluType.{CluType, null_type, bool_type, int_type, char_type, string_type, any_type, stream_type, array_of, sequence_of, record_of, struct_of, oneof_of, variant_of, proc_of, iter_of, cluster_of, parameter, CluTypes, Fields, no_fields, field_and}
+use Rattle.clu_types.specs.CluType.{CluType, array_of, record_of, variant_of, Fields}
 use Rattle.clu_builtin.specs.declared.names.Signal.{Signal}
-use Rattle.clu_layout.specs.Objects.{Stream, input_stream, output_stream, Routine, Object, null_object, bool_object, int_object, char_object, string_object, stream_object, sequence_object, struct_object, oneof_object, routine_object, reference, sealed, Objects, listed, Array, Cell, array_cell, record_cell, variant_cell, cell_type}
+use Rattle.clu_layout.specs.Objects.{Stream, input_stream, output_stream, Routine, Object, bool_object, int_object, char_object, string_object, stream_object, sequence_object, struct_object, oneof_object, routine_object, reference, listed, Array, Cell, array_cell, record_cell, variant_cell, cell_type}
 use Rattle.clu_layout.specs.StreamOperations.{reads, leaves, writes}
-use Rattle.clu_layout.specs.Actions.{World, Outcome, returned, signalled, wrong, Action, Primitive, gives_all, signals_with, no_case, signals_if, or_signals, either, or_fails, need, needed, continued, and_then, counts, takes, with_none, with_one, with_two, with_three, with_bool, with_int, with_char, with_string, with_stream, with_routine, with_sequence, with_struct, with_oneof, with_cell, as_array, as_record, as_variant, with_array, with_record, with_variant, makes, changes, makes_array, makes_record}
+use Rattle.clu_layout.specs.Actions.{World, Outcome, returned, signalled, wrong, Action, gives_all, signals_with, no_case, signals_if, or_signals, either, or_fails, needed, counts, takes, with_none, with_one, with_two, with_three, with_bool, with_int, with_char, with_string, with_stream, with_routine, with_sequence, with_struct, with_oneof, with_cell, as_array, as_record, as_variant, with_array, with_record, with_variant, makes, changes}
 
 abbrev pub kind_at : List Cell → ℕ → Option CluType
 kind_at cells c = option_map cell_type (slice_get cells c)
@@ -199,9 +199,11 @@ module _ (base : List Cell) where
 
   pub keeps_changes : (c : ℕ) (cell : Cell) (rest : Action) → kind_at base c ≡ Some (cell_type cell) → Keeps base rest → Keeps base (changes c cell rest)
   unfolding changes
-  keeps_changes c cell rest same h = record { at = λ w l.
-      h.at (record w { cells = slice_set w.cells c cell }) (longer_trans base w.cells (slice_set w.cells c cell) l
-        (longer_set w.cells cell c (l.at c (cell_type cell) same))) }
+  keeps_changes c cell rest same h = record {
+    at = λ w l.
+        h.at (record w { cells = slice_set w.cells c cell }) (longer_trans base w.cells (slice_set w.cells c cell) l
+        (longer_set w.cells cell c (l.at c (cell_type cell) same)));
+  }
 
   array_found : (w : World) (c : ℕ) (rest : Array → Action) → Longer base w.cells →
       ((cells : List Cell) (a : Array) → kind_at cells c ≡ Some (array_of a.element) → Keeps cells (rest a)) →

@@ -1,12 +1,9 @@
 -- No operation takes a cell away or changes the type of what it holds.
-use Rattle.std.proofs.Common.{◌≡◌, refl, ap, sym, ◌∙◌, subst}
-use Rattle.std.specs.Prelude.{ℕ, zero, suc, ℤ, Bool, true, false, List, [], ◌∷◌, ◌++◌, Option, Some, None, cond, bytes_eq, slice_get, slice_set}
-use Rattle.std.specs.Option.{option_map}
+use Rattle.std.specs.Prelude.{ℕ, ℤ, Bool, true, false, List, [], ◌∷◌, ◌++◌, Some, cond, bytes_eq}
 use Rattle.clu_types.specs.CluType.{CluType, null_type, bool_type, int_type, char_type, string_type, any_type, stream_type, array_of, sequence_of, record_of, struct_of, oneof_of, variant_of, proc_of, iter_of, cluster_of, parameter, CluTypes, Fields, no_fields, field_and}
 use Rattle.clu_builtin.specs.Operation.{Operation}
 use Rattle.clu_builtin.specs.Table.{operation, parts_of}
-use Rattle.clu_builtin.specs.declared.names.Signal.{Signal}
-use Rattle.clu_layout.specs.Objects.{Stream, input_stream, output_stream, Routine, Object, null_object, bool_object, int_object, char_object, string_object, stream_object, sequence_object, struct_object, oneof_object, routine_object, reference, sealed, Objects, listed, Array, Cell, array_cell, record_cell, variant_cell, cell_type}
+use Rattle.clu_layout.specs.Objects.{Object, Cell}
 use Rattle.clu_layout.specs.PlainOperations.{Primitives, null_primitives, routine_primitives, bool_primitives}
 use Rattle.clu_layout.specs.NumberOperations.{int_primitives, char_primitives}
 use Rattle.clu_layout.specs.StringOperations.{string_primitives}
@@ -16,7 +13,7 @@ use Rattle.clu_layout.specs.RecordOperations.{struct_selected, record_selected, 
 use Rattle.clu_layout.specs.OneofOperations.{oneof_selected, variant_selected, variant_primitives}
 use Rattle.clu_layout.specs.StreamOperations.{stream_primitives}
 use Rattle.clu_layout.specs.Primitive.{of_each, same_for_each, primitives, named, primitive, binds, gives_results, invoked, invocation, forcing, force_heading, force_invocation, array_construction, record_construction, before, outcome_in, done_in, prim, force}
-use Rattle.clu_layout.specs.Actions.{World, Outcome, returned, signalled, wrong, Action, Primitive, gives_all, signals_with, no_case, signals_if, or_signals, either, or_fails, need, needed, continued, and_then, counts, takes, with_none, with_one, with_two, with_three, with_bool, with_int, with_char, with_string, with_stream, with_routine, with_sequence, with_struct, with_oneof, with_cell, as_array, as_record, as_variant, with_array, with_record, with_variant, makes, changes, makes_array, makes_record}
+use Rattle.clu_layout.specs.Actions.{World, Outcome, returned, signalled, wrong, Action, Primitive, gives_all, need, needed, continued, and_then, makes_array, makes_record}
 use Rattle.clu_layout.proofs.CellLaws.{longer_refl, KeptIn, Keeps, keeps, keeps_gives, keeps_no_case, keeps_takes, keeps_counts, keeps_needed}
 
 -- ---- the operations, in the order of their tables

@@ -1,5 +1,5 @@
--- The operations of array[t]. similar, similar1, copy, elements and indexes are defined by texts. Where none of the
--- listed signals comes and low - 1, low or high would leave the ints, an operation changes nothing and fails.
+-- The operations of array[t]. similar, similar1, copy, elements and indexes are defined by texts. If none of the listed
+-- signals comes and low - 1, low or high would leave the ints, an operation changes nothing and fails.
 use Rattle.std.specs.Prelude.{ℕ, ◌*◌, max, ℤ, pos, ◌+ℤ◌, ◌-ℤ◌, ◌==◌, List, [], ◌∷◌, ◌++◌, length, take, replicate, codes}
 use Rattle.std.specs.Int.{is_negative}
 use Rattle.clu_types.specs.CluType.{CluType}
@@ -73,7 +73,7 @@ array_top os = one_array os (λ c a. or_signals signal.Bounds (last_item a.items
 abbrev pub more_room : Array → ℕ
 more_room a = max 4 (2 * a.room)
 
--- the array becomes one with one element more. Where the room is used up, the new room is the cost, and the elements
+-- the array becomes one with one element more. If the room is used up, the new room is the cost, and the elements
 -- that there were count besides
 abbrev pub grows : ℕ → Array → Array → Action
 grows c a b = with_int_bounds b (either (length a.items == a.room)

@@ -114,7 +114,7 @@ abbrev pub same_for_each : CluType → List Object → CluTypes
 same_for_each t [] = no_types
 same_for_each t (o ∷ os) = type_and t (same_for_each t os)
 
--- the low bound is 1 where none is given
+-- the low bound is 1 if none is given
 abbrev pub array_construction : CluType → ℤ → List Object → Action
 array_construction t low xs = binds (same_for_each t xs) xs (makes_array t low xs)
 

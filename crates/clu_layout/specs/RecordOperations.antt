@@ -7,7 +7,7 @@ use Rattle.clu_layout.specs.Objects.{Object, record_cell}
 use Rattle.clu_layout.specs.Actions.{Primitive, gives, gives_nothing, needed, with_one, with_two, with_struct, with_record, changes, new_struct, new_record}
 use Rattle.clu_layout.specs.PlainOperations.{Primitives, same_cell}
 
--- the component of this selector, where components stand in the order of selectors
+-- the component of this selector; components stand in the order of selectors
 abbrev pub component : Fields → List ℕ → List Object → Option Object
 component (field_and name t rest) s (x ∷ xs) = if bytes_eq name s then Some x else component rest s xs
 component _ s _ = None
