@@ -109,7 +109,7 @@ array_trim os = with_three os (λ r b d. with_array r (λ c a. with_int b (λ i.
 abbrev pub array_copy1 : Primitive
 array_copy1 os = one_array os (λ c a. new_array a.element a.low a.items)
 
--- equal | (T, T): bool | the same array
+-- equal | (T, T): bool | the same array: same_cell
 abbrev pub array_primitives : CluType → Primitives
 array_primitives t =
     (codes "create", array_create t) ∷

@@ -64,7 +64,7 @@ variant_selected fs s =
     (codes "change_" ++ s, variant_change s) ∷
     []
 
--- equal | (T, T): bool | the same variant
+-- equal | (T, T): bool | the same variant: same_cell
 abbrev pub variant_primitives : Primitives
 variant_primitives =
     (codes "equal", same_cell) ∷

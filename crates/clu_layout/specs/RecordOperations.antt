@@ -55,7 +55,7 @@ record_selected s =
     (codes "set_" ++ s, record_set s) ∷
     []
 
--- equal | (T, T): bool | the same record
+-- equal | (T, T): bool | the same record: same_cell
 abbrev pub record_primitives : Primitives
 record_primitives =
     (codes "equal", same_cell) ∷
