@@ -13,3 +13,5 @@ pub mod Laws
 pub mod SameTypeLaws
 pub mod CellLaws
 pub mod CellsKept
+pub mod SignalLaws
+pub mod SignalsQuiet
