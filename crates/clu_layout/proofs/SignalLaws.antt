@@ -1,11 +1,11 @@
 -- An operation that signals changes nothing and takes no words: what the parts of operations say of this.
 use Rattle.std.proofs.Common.{◌≡◌, refl}
-use Rattle.std.specs.Prelude.{ℕ, ℤ, Bool, true, false, List, [], ◌∷◌, Option, Some, None, slice_get, slice_set}
+use Rattle.std.specs.Prelude.{ℕ, ℤ, Bool, true, false, List, [], ◌∷◌, Option, Some, None, slice_get}
 use Rattle.clu_types.specs.CluType.{CluType, Fields}
 use Rattle.clu_builtin.specs.declared.names.Signal.{Signal}
 use Rattle.clu_layout.specs.Objects.{Stream, input_stream, output_stream, Routine, Object, bool_object, int_object, char_object, string_object, stream_object, sequence_object, struct_object, oneof_object, routine_object, reference, listed, Array, Cell, array_cell, record_cell, variant_cell}
 use Rattle.clu_layout.specs.StreamOperations.{reads, leaves, writes}
-use Rattle.clu_layout.specs.Actions.{World, Outcome, returned, signalled, wrong, Action, gives_all, signals_with, no_case, signals_if, or_signals, either, or_fails, need, needed, counts, takes, with_none, with_one, with_two, with_three, with_bool, with_int, with_char, with_string, with_stream, with_routine, with_sequence, with_struct, with_oneof, with_cell, as_array, as_record, as_variant, with_array, with_record, with_variant, makes, changes}
+use Rattle.clu_layout.specs.Actions.{World, Outcome, returned, signalled, wrong, Action, gives_all, signals_with, no_case, signals_if, or_signals, either, or_fails, needed, counts, takes, with_none, with_one, with_two, with_three, with_bool, with_int, with_char, with_string, with_stream, with_routine, with_sequence, with_struct, with_oneof, with_cell, as_array, as_record, as_variant, with_array, with_record, with_variant, makes, changes}
 
 -- ---- actions that never signal
 
@@ -40,11 +40,6 @@ silent_makes t cell = record { at = λ w. tt }
 pub silent_changes : (c : ℕ) (cell : Cell) (rest : Action) → Silent rest → Silent (changes c cell rest)
 unfolding changes
 silent_changes c cell rest h = record { at = λ w. h.at _ }
-
-pub silent_need : (b : Bool) (rest : Action) → Silent rest → Silent (need b rest)
-unfolding need
-silent_need true rest h = h
-silent_need false rest h = silent_no_case
 
 -- ---- actions that change nothing if they signal
 
