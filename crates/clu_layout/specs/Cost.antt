@@ -1,5 +1,5 @@
 -- The words of store that an object takes; a word has 8 bytes.
-use Rattle.std.specs.Prelude.{ℕ, ◌+◌, ◌-◌, ◌*◌, ◌/◌, ◌^◌, ◌≤◌}
+use Rattle.std.specs.Prelude.{ℕ, ◌+◌, ◌/◌, ◌^◌, ◌≤◌}
 use Rattle.clu_layout.specs.declared.store.Shape.{Shape}
 use Rattle.clu_layout.specs.declared.store.Shape.TheVariants as shape
 

@@ -1,0 +1,17 @@
+mod Sampling
+mod PlainSamples
+mod NumberSamples
+mod StringSamples
+mod ArraySamples
+mod SequenceSamples
+mod RecordSamples
+mod OneofSamples
+mod StreamSamples
+mod InvocationSamples
+mod Names
+pub mod Laws
+pub mod SameTypeLaws
+pub mod CellLaws
+pub mod CellsKept
+pub mod SignalLaws
+pub mod SignalsQuiet
