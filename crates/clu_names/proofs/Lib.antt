@@ -3,3 +3,4 @@ pub mod Best
 pub mod Chains
 pub mod Counts
 pub mod Grown
+pub mod Pieces

@@ -82,3 +82,11 @@ bound_to nodes ds (suc n) = bound_to nodes ds n ++ bound_at ds n (slice_get node
 unfoldable pub starts_to : List Node → List Declared → ℕ → List ℕ
 starts_to nodes ds zero = []
 starts_to nodes ds (suc n) = starts_to nodes ds n ++ length (bound_to nodes ds n) ∷ []
+
+abbrev pub end_in : Option ℕ → ℕ → ℕ
+end_in (Some end) all = end
+end_in None all = all
+
+-- where the names of the node n end, by where those of each node begin; all together are `all`
+abbrev pub end_of : List ℕ → ℕ → ℕ → ℕ
+end_of starts all n = end_in (slice_get starts (n + 1)) all

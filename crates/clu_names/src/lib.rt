@@ -6,6 +6,7 @@ mod binding;
 mod declaring;
 mod latest;
 mod order;
+mod reading;
 mod scopes;
 
 pub use crate::binding::{Names, names_of};

@@ -1,6 +1,7 @@
 //! The names of a source with the places of their declarations, as text.
 
-ghost use Rattle.std.specs.Prelude.{◌≡◌, ◌≤◌, ◌<◌, length};
+ghost use Rattle.std.specs.Prelude.{◌≡◌, ◌<◌, length};
+ghost use Rattle.clu_names.specs.Denotes.{bound_to, starts_to};
 
 use clu_base::{Bytes, Place};
 use clu_lexer::lex;
@@ -74,29 +75,35 @@ fn tell(
 
 /// Writes the names of one node.
 fn tell_node(out: &mut String, tree: &Tree, names: &Names, n: u32) -> Result<(), Fail>
-    requires { n < length tree.now }
+    requires inside { n < length tree.now }
+    requires bound { names.now.bound.items ≡ bound_to tree.now names.now.declared.items (length tree.now) }
+    requires starts { names.now.starts.items ≡ starts_to tree.now names.now.declared.items (length tree.now) }
 {
-    let bound = names.bound.as_slice();
-    let starts = names.starts.as_slice();
-    let at = n as usize;
-    let from = starts.get(at).copied().unwrap_or(0);
-    let to = starts
-        .get(at.saturating_add(1))
-        .copied()
-        .unwrap_or(bound.len());
     let mut k = 0usize;
-    for one in bound.get(from..to).unwrap_or(&[]) {
+    for one in names.of(tree, n) {
         tell(out, tree, names, tree.node(n), k, *one)?;
         k = k.saturating_add(1);
     }
     Ok(())
 }
 
-fn names_in(alloc: Global, tree: &Tree, rounds: &[Round]) -> Result<Box<Names>, Fail>
+/// Writes the names of all nodes.
+fn tell_all(alloc: Global, tree: &Tree, names: &Names) -> Result<String, Fail>
+    requires bound { names.now.bound.items ≡ bound_to tree.now names.now.declared.items (length tree.now) }
+    requires starts { names.now.starts.items ≡ starts_to tree.now names.now.declared.items (length tree.now) }
+{
+    let mut out = String::from_str(alloc, " ")?;
+    for n in 0..tree.len() {
+        tell_node(&mut out, tree, names, n)?;
+    }
+    Ok(out)
+}
+
+fn told_over(alloc: Global, tree: &Tree, rounds: &[Round]) -> Result<String, Fail>
     requires { length rounds.now ≡ length tree.now }
 {
     match names_of(alloc, tree, rounds) {
-        Ok(names) => Ok(Box::new(alloc, names)?),
+        Ok(names) => tell_all(alloc, tree, &names),
         Err(_) => Err("no memory for the names")?,
     }
 }
@@ -104,14 +111,8 @@ fn names_in(alloc: Global, tree: &Tree, rounds: &[Round]) -> Result<Box<Names>, 
 /// All names of a tree, each as `LINE:COL:NAME=LINE:COL`, the last place being that of its declaration, each with a blank
 /// before it and after it.
 pub fn told(alloc: Global, tree: &Tree) -> Result<String, Fail> {
-    let rounds = match rounds(alloc, tree) {
-        Ok(rounds) => rounds,
-        Err(_) => return Err("no memory for the surroundings")?,
-    };
-    let names = names_in(alloc, tree, rounds.as_slice())?;
-    let mut out = String::from_str(alloc, " ")?;
-    for n in 0..tree.len() {
-        tell_node(&mut out, tree, &names, n)?;
+    match rounds(alloc, tree) {
+        Ok(rounds) => told_over(alloc, tree, rounds.as_slice()),
+        Err(_) => Err("no memory for the surroundings")?,
     }
-    Ok(out)
 }
