@@ -1,0 +1,4 @@
+pub mod RowLemmas
+pub mod PlaceLemmas
+pub mod NumberLemmas
+pub mod GuessLemmas

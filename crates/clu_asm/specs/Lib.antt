@@ -1,0 +1,4 @@
+pub mod Mnemonics
+pub mod AssemblyText
+pub mod Places
+pub mod Candidates
