@@ -10,12 +10,9 @@ use Rattle.std.proofs.lemmas.Int.{ints}
 use lib.Signed.{mag}
 use Rattle.rv_isa.specs.declared.op.Op.{Op}
 use Rattle.rv_isa.specs.declared.op.Op.TheVariants as op
-use Rattle.rv_isa.specs.declared.op.Form.{Form as IsaForm}
-use Rattle.rv_isa.specs.declared.op.Form.TheVariants as isa
 use Rattle.rv_isa.specs.declared.instr.Instr.{Instr}
 use Rattle.rv_isa.specs.declared.instr.Instr.TheVariants.{Upper, Jal, Jalr, Branch, Load, Save, Imm, Three, Fence, Ecall, Ebreak}
-use Rattle.rv_isa.specs.Table.{row_of}
-use Rattle.rv_isa.specs.Valid.{IsInstr, IsWithin, IsAmount, FitsForm}
+use Rattle.rv_isa.specs.Valid.{IsInstr, IsValid, IsWithin, IsAmount}
 use Rattle.rv_isa.specs.Encoded.{IsWordOf}
 use Rattle.rv_isa.specs.Decoded.{decoded}
 use Rattle.rv_isa.proofs.WordToInstr.{encoded-decoded}
@@ -113,19 +110,67 @@ guessed_with m text =
 
 -- ---- forms
 
-abbrev form_from : IsaForm → Form
-form_from isa.Upper = form.Upper
-form_from isa.Branch = form.Branch
-form_from isa.Load = form.Load
-form_from isa.Save = form.Save
-form_from isa.Imm = form.Imm
-form_from isa.Shift = form.Shift
-form_from isa.ShiftWord = form.ShiftWord
-form_from isa.Three = form.Three
+upper_form : (o : Op) (rd : ℕ) (imm : ℤ) → IsValid (Upper o rd imm) → op_form o ≡ form.Upper
+upper_form op.Lui rd imm h = refl
+upper_form op.Auipc rd imm h = refl
+upper_form _ rd imm h = absurd (cc (h.0))
 
-form_is : (o : Op) → op_form o ≡ form_from (row_of o).form
-form_is op.Lui = refl
-form_is _ = refl
+branch_form : (o : Op) (rs1 rs2 : ℕ) (imm : ℤ) → IsValid (Branch o rs1 rs2 imm) → op_form o ≡ form.Branch
+branch_form op.Beq rs1 rs2 imm h = refl
+branch_form op.Bne rs1 rs2 imm h = refl
+branch_form op.Blt rs1 rs2 imm h = refl
+branch_form op.Bge rs1 rs2 imm h = refl
+branch_form op.Bltu rs1 rs2 imm h = refl
+branch_form op.Bgeu rs1 rs2 imm h = refl
+branch_form _ rs1 rs2 imm h = absurd (cc (h.0))
+
+load_form : (o : Op) (rd rs1 : ℕ) (imm : ℤ) → IsValid (Load o rd rs1 imm) → op_form o ≡ form.Load
+load_form op.Lb rd rs1 imm h = refl
+load_form op.Lh rd rs1 imm h = refl
+load_form op.Lw rd rs1 imm h = refl
+load_form op.Ld rd rs1 imm h = refl
+load_form op.Lbu rd rs1 imm h = refl
+load_form op.Lhu rd rs1 imm h = refl
+load_form op.Lwu rd rs1 imm h = refl
+load_form _ rd rs1 imm h = absurd (cc (h.0))
+
+save_form : (o : Op) (rs1 rs2 : ℕ) (imm : ℤ) → IsValid (Save o rs1 rs2 imm) → op_form o ≡ form.Save
+save_form op.Sb rs1 rs2 imm h = refl
+save_form op.Sh rs1 rs2 imm h = refl
+save_form op.Sw rs1 rs2 imm h = refl
+save_form op.Sd rs1 rs2 imm h = refl
+save_form _ rs1 rs2 imm h = absurd (cc (h.0))
+
+three_form : (o : Op) (rd rs1 rs2 : ℕ) → IsValid (Three o rd rs1 rs2) → op_form o ≡ form.Three
+three_form op.Add rd rs1 rs2 h = refl
+three_form op.Sub rd rs1 rs2 h = refl
+three_form op.Sll rd rs1 rs2 h = refl
+three_form op.Slt rd rs1 rs2 h = refl
+three_form op.Sltu rd rs1 rs2 h = refl
+three_form op.Xor rd rs1 rs2 h = refl
+three_form op.Srl rd rs1 rs2 h = refl
+three_form op.Sra rd rs1 rs2 h = refl
+three_form op.Or rd rs1 rs2 h = refl
+three_form op.And rd rs1 rs2 h = refl
+three_form op.Mul rd rs1 rs2 h = refl
+three_form op.Mulh rd rs1 rs2 h = refl
+three_form op.Mulhsu rd rs1 rs2 h = refl
+three_form op.Mulhu rd rs1 rs2 h = refl
+three_form op.Div rd rs1 rs2 h = refl
+three_form op.Divu rd rs1 rs2 h = refl
+three_form op.Rem rd rs1 rs2 h = refl
+three_form op.Remu rd rs1 rs2 h = refl
+three_form op.Addw rd rs1 rs2 h = refl
+three_form op.Subw rd rs1 rs2 h = refl
+three_form op.Sllw rd rs1 rs2 h = refl
+three_form op.Srlw rd rs1 rs2 h = refl
+three_form op.Sraw rd rs1 rs2 h = refl
+three_form op.Mulw rd rs1 rs2 h = refl
+three_form op.Divw rd rs1 rs2 h = refl
+three_form op.Divuw rd rs1 rs2 h = refl
+three_form op.Remw rd rs1 rs2 h = refl
+three_form op.Remuw rd rs1 rs2 h = refl
+three_form _ rd rs1 rs2 h = absurd (cc (h))
 
 within_small : (half : ℕ) (z : ℤ) → half ≤ 2 ^ 31 → IsWithin half z → mag z < 2 ^ 31
 within_small half (pos n) le h = omega (arith, ints, h.0, h.1)
@@ -135,27 +180,39 @@ amount_small : (limit : ℕ) (z : ℤ) → limit ≤ 64 → IsAmount limit z →
 amount_small limit (pos n) le h = omega (arith, ints, h.0, h.1)
 amount_small limit (negsuc n) le h = absurd (omega (arith, ints, h.0, h.1))
 
-fits_small : (f : IsaForm) (z : ℤ) → FitsForm f z → mag z < 2 ^ 31
-fits_small isa.Imm z h = within_small (2 ^ 11) z (omega arith) h
-fits_small isa.Shift z h = amount_small 64 z (omega arith) h
-fits_small isa.ShiftWord z h = amount_small 32 z (omega arith) h
-fits_small isa.Upper z h = absurd h
-fits_small isa.Branch z h = absurd h
-fits_small isa.Load z h = absurd h
-fits_small isa.Save z h = absurd h
-fits_small isa.Three z h = absurd h
+fits_small : (o : Op) (r s : ℕ) (z : ℤ) → IsValid (Imm o r s z) → mag z < 2 ^ 31
+fits_small op.Addi r s z h = within_small (2 ^ 11) z (omega arith) h
+fits_small op.Slti r s z h = within_small (2 ^ 11) z (omega arith) h
+fits_small op.Sltiu r s z h = within_small (2 ^ 11) z (omega arith) h
+fits_small op.Xori r s z h = within_small (2 ^ 11) z (omega arith) h
+fits_small op.Ori r s z h = within_small (2 ^ 11) z (omega arith) h
+fits_small op.Andi r s z h = within_small (2 ^ 11) z (omega arith) h
+fits_small op.Addiw r s z h = within_small (2 ^ 11) z (omega arith) h
+fits_small op.Slli r s z h = amount_small 64 z (omega arith) h
+fits_small op.Srli r s z h = amount_small 64 z (omega arith) h
+fits_small op.Srai r s z h = amount_small 64 z (omega arith) h
+fits_small op.Slliw r s z h = amount_small 32 z (omega arith) h
+fits_small op.Srliw r s z h = amount_small 32 z (omega arith) h
+fits_small op.Sraiw r s z h = amount_small 32 z (omega arith) h
+fits_small _ r s z h = absurd h
 
 -- an operation on two registers and a number
-imm_made : (f : IsaForm) (o : Op) (r s : ℕ) (imm : ℤ) (a b c : List ℕ) → FitsForm f imm → two_and_number a b c ≡ Some (r, s, imm)
-    → of_form (form_from f) o a b c ≡ Some (Imm o r s imm)
-imm_made isa.Imm o r s imm a b c h e = ap (option_map (λ (x : ℕ × ℕ × ℤ). with_number form.Imm o x.0 x.1 x.2)) e
-imm_made isa.Shift o r s imm a b c h e = ap (option_map (λ (x : ℕ × ℕ × ℤ). with_number form.Shift o x.0 x.1 x.2)) e
-imm_made isa.ShiftWord o r s imm a b c h e = ap (option_map (λ (x : ℕ × ℕ × ℤ). with_number form.ShiftWord o x.0 x.1 x.2)) e
-imm_made isa.Upper o r s imm a b c h e = absurd h
-imm_made isa.Branch o r s imm a b c h e = absurd h
-imm_made isa.Load o r s imm a b c h e = absurd h
-imm_made isa.Save o r s imm a b c h e = absurd h
-imm_made isa.Three o r s imm a b c h e = absurd h
+imm_made : (o : Op) (r s : ℕ) (imm : ℤ) (a b c : List ℕ) → IsValid (Imm o r s imm) → two_and_number a b c ≡ Some (r, s, imm)
+    → of_form (op_form o) o a b c ≡ Some (Imm o r s imm)
+imm_made op.Addi r s imm a b c h e = ap (option_map (λ (x : ℕ × ℕ × ℤ). with_number form.Imm op.Addi x.0 x.1 x.2)) e
+imm_made op.Slti r s imm a b c h e = ap (option_map (λ (x : ℕ × ℕ × ℤ). with_number form.Imm op.Slti x.0 x.1 x.2)) e
+imm_made op.Sltiu r s imm a b c h e = ap (option_map (λ (x : ℕ × ℕ × ℤ). with_number form.Imm op.Sltiu x.0 x.1 x.2)) e
+imm_made op.Xori r s imm a b c h e = ap (option_map (λ (x : ℕ × ℕ × ℤ). with_number form.Imm op.Xori x.0 x.1 x.2)) e
+imm_made op.Ori r s imm a b c h e = ap (option_map (λ (x : ℕ × ℕ × ℤ). with_number form.Imm op.Ori x.0 x.1 x.2)) e
+imm_made op.Andi r s imm a b c h e = ap (option_map (λ (x : ℕ × ℕ × ℤ). with_number form.Imm op.Andi x.0 x.1 x.2)) e
+imm_made op.Addiw r s imm a b c h e = ap (option_map (λ (x : ℕ × ℕ × ℤ). with_number form.Imm op.Addiw x.0 x.1 x.2)) e
+imm_made op.Slli r s imm a b c h e = ap (option_map (λ (x : ℕ × ℕ × ℤ). with_number form.Shift op.Slli x.0 x.1 x.2)) e
+imm_made op.Srli r s imm a b c h e = ap (option_map (λ (x : ℕ × ℕ × ℤ). with_number form.Shift op.Srli x.0 x.1 x.2)) e
+imm_made op.Srai r s imm a b c h e = ap (option_map (λ (x : ℕ × ℕ × ℤ). with_number form.Shift op.Srai x.0 x.1 x.2)) e
+imm_made op.Slliw r s imm a b c h e = ap (option_map (λ (x : ℕ × ℕ × ℤ). with_number form.ShiftWord op.Slliw x.0 x.1 x.2)) e
+imm_made op.Srliw r s imm a b c h e = ap (option_map (λ (x : ℕ × ℕ × ℤ). with_number form.ShiftWord op.Srliw x.0 x.1 x.2)) e
+imm_made op.Sraiw r s imm a b c h e = ap (option_map (λ (x : ℕ × ℕ × ℤ). with_number form.ShiftWord op.Sraiw x.0 x.1 x.2)) e
+imm_made _ r s imm a b c h e = absurd h
 
 -- ---- lines of one register and a number, of two and a number, of three
 
@@ -190,7 +247,7 @@ pub instr_again : (i : Instr) → IsInstr i → guessed (instr_text i) ≡ Some 
 unfolding operands
 instr_again (Upper o rd imm) h =
     let fits : mag imm < 2 ^ 31 = within_small (2 ^ 31) imm (omega arith) h.valid.1.0 in
-    let f : op_form o ≡ form.Upper = form_is o ∙ ap form_from h.valid.0 in
+    let f : op_form o ≡ form.Upper = upper_form o rd imm h.valid in
     one_line (mnemonic.Table o) rd imm h.registers fits
     ∙ ap (λ (g : Form). of_form g o (120 ∷ decimal rd) (signed_decimal imm) []) f
     ∙ ap (option_map (λ (x : ℕ × ℤ). Upper o x.0 x.1)) (one_again rd imm h.registers fits)
@@ -204,23 +261,22 @@ instr_again (Jalr rd rs1 imm) h =
 instr_again (Branch o rs1 rs2 imm) h =
     let fits : mag imm < 2 ^ 31 = within_small (2 ^ 12) imm (omega arith) h.valid.1.0 in
     two_line (mnemonic.Table o) rs1 rs2 (signed_decimal imm) h.registers.0 h.registers.1
-    ∙ two_made o form.Branch rs1 rs2 imm (120 ∷ decimal rs1) (120 ∷ decimal rs2) (signed_decimal imm) (form_is o ∙ ap form_from h.valid.0) (two_again rs1 rs2 imm h.registers.0 h.registers.1 fits) refl
+    ∙ two_made o form.Branch rs1 rs2 imm (120 ∷ decimal rs1) (120 ∷ decimal rs2) (signed_decimal imm) (branch_form o rs1 rs2 imm h.valid) (two_again rs1 rs2 imm h.registers.0 h.registers.1 fits) refl
 instr_again (Load o rd rs1 imm) h =
     let fits : mag imm < 2 ^ 31 = within_small (2 ^ 11) imm (omega arith) h.valid.1 in
     two_line (mnemonic.Table o) rd rs1 (signed_decimal imm) h.registers.0 h.registers.1
-    ∙ two_made o form.Load rd rs1 imm (120 ∷ decimal rd) (120 ∷ decimal rs1) (signed_decimal imm) (form_is o ∙ ap form_from h.valid.0) (two_again rd rs1 imm h.registers.0 h.registers.1 fits) refl
+    ∙ two_made o form.Load rd rs1 imm (120 ∷ decimal rd) (120 ∷ decimal rs1) (signed_decimal imm) (load_form o rd rs1 imm h.valid) (two_again rd rs1 imm h.registers.0 h.registers.1 fits) refl
 instr_again (Save o rs1 rs2 imm) h =
     let fits : mag imm < 2 ^ 31 = within_small (2 ^ 11) imm (omega arith) h.valid.1 in
     two_line (mnemonic.Table o) rs1 rs2 (signed_decimal imm) h.registers.0 h.registers.1
-    ∙ two_made o form.Save rs1 rs2 imm (120 ∷ decimal rs1) (120 ∷ decimal rs2) (signed_decimal imm) (form_is o ∙ ap form_from h.valid.0) (two_again rs1 rs2 imm h.registers.0 h.registers.1 fits) refl
+    ∙ two_made o form.Save rs1 rs2 imm (120 ∷ decimal rs1) (120 ∷ decimal rs2) (signed_decimal imm) (save_form o rs1 rs2 imm h.valid) (two_again rs1 rs2 imm h.registers.0 h.registers.1 fits) refl
 instr_again (Imm o rd rs1 imm) h =
-    let fits : mag imm < 2 ^ 31 = fits_small (row_of o).form imm h.valid in
+    let fits : mag imm < 2 ^ 31 = fits_small o rd rs1 imm h.valid in
     two_line (mnemonic.Table o) rd rs1 (signed_decimal imm) h.registers.0 h.registers.1
-    ∙ ap (λ (g : Form). of_form g o (120 ∷ decimal rd) (120 ∷ decimal rs1) (signed_decimal imm)) (form_is o)
-    ∙ imm_made (row_of o).form o rd rs1 imm (120 ∷ decimal rd) (120 ∷ decimal rs1) (signed_decimal imm) h.valid (two_again rd rs1 imm h.registers.0 h.registers.1 fits)
+    ∙ imm_made o rd rs1 imm (120 ∷ decimal rd) (120 ∷ decimal rs1) (signed_decimal imm) h.valid (two_again rd rs1 imm h.registers.0 h.registers.1 fits)
 instr_again (Three o rd rs1 rs2) h =
     two_line (mnemonic.Table o) rd rs1 (120 ∷ decimal rs2) h.registers.0 h.registers.1
-    ∙ ap (λ (g : Form). of_form g o (120 ∷ decimal rd) (120 ∷ decimal rs1) (120 ∷ decimal rs2)) (form_is o ∙ ap form_from h.valid)
+    ∙ ap (λ (g : Form). of_form g o (120 ∷ decimal rd) (120 ∷ decimal rs1) (120 ∷ decimal rs2)) (three_form o rd rs1 rs2 h.valid)
     ∙ ap (option_map (λ (x : ℕ × ℕ × ℕ). Three o x.0 x.1 x.2)) (registers_again rd rs1 rs2 h.registers.0 h.registers.1 h.registers.2)
 instr_again (Fence rd rs1 imm) h =
     let fits : mag imm < 2 ^ 31 = within_small (2 ^ 11) imm (omega arith) h.valid in

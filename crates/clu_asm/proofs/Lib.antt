@@ -2,3 +2,5 @@ pub mod RowLemmas
 pub mod PlaceLemmas
 pub mod NumberLemmas
 pub mod GuessLemmas
+pub mod HexTexts
+pub mod CandidateLemmas

@@ -1,6 +1,8 @@
 //! From the text of a line to the one code word that can have it.
 
-ghost use Rattle.std.specs.Prelude.{◌≡◌, IfSome, IfOk};
+ghost use Rattle.std.specs.Prelude.{◌≡◌, ◌≢◌, ◌<◌, ◌^◌, ℕ, IfSome, IfNone, IfOk};
+ghost use Rattle.rv_isa.specs.Encoded.{encoded as encoded_as};
+ghost use Rattle.rv_isa.specs.Valid.{IsInstr};
 ghost use Rattle.clu_asm.specs.AssemblyText.{code_text};
 ghost use Rattle.clu_asm.specs.Candidates as candidates;
 
@@ -15,6 +17,7 @@ use rv_isa::{Instr, Op, Reg, encode};
 /// The code word with this text. The only error is that memory runs out. `scratch` is written over.
 pub(crate) fn code_word(scratch: &mut Vec<u8>, text: &[u8]) -> Result<Option<u32>, Memory>
     ensures text { IfOk result (λ o. IfSome o (λ w. text.now ≡ code_text w)) }
+    ensures none { IfOk result (λ o. IfNone o ((w : ℕ) → w < 2 ^ 32 → text.now ≢ code_text w)) }
 {
     match candidate(text) {
         Some(w) => checked(scratch, w, text),
@@ -25,6 +28,7 @@ pub(crate) fn code_word(scratch: &mut Vec<u8>, text: &[u8]) -> Result<Option<u32
 /// The code word, if this is its text.
 fn checked(scratch: &mut Vec<u8>, w: u32, text: &[u8]) -> Result<Option<u32>, Memory>
     ensures text { IfOk result (λ o. IfSome o (λ v. (v ≡ w) × (text.now ≡ code_text w))) }
+    ensures none { IfOk result (λ o. IfNone o (text.now ≢ code_text w)) }
 {
     scratch.clear();
     code_text_add(scratch, w)?;
@@ -36,10 +40,23 @@ fn checked(scratch: &mut Vec<u8>, w: u32, text: &[u8]) -> Result<Option<u32>, Me
 }
 
 /// The only code word that can have this text.
-fn candidate(text: &[u8]) -> Option<u32> {
+fn candidate(text: &[u8]) -> Option<u32>
+    ensures { (w : ℕ) → w < 2 ^ 32 → text.now ≡ code_text w → result ≡ Some w }
+{
     match instr(text) {
-        Some(i) => { if i.valid() { Some(encode(i)) } else { None } }
+        Some(i) => encoded(i),
         None => word(text),
+    }
+}
+
+/// The word of an instruction, if it has one.
+fn encoded(i: Instr) -> Option<u32>
+    ensures { IsInstr i → result ≡ Some (encoded_as i) }
+{
+    if i.valid() {
+        Some(encode(i))
+    } else {
+        None
     }
 }
 

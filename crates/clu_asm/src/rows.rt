@@ -1,7 +1,10 @@
 //! From lines of hexadecimal digits to bytes.
 
-ghost use Rattle.std.specs.Prelude.{◌≡◌, ◌++◌, length, IfSome};
+ghost use Rattle.std.specs.Prelude.{◌≡◌, ◌++◌, ◌*◌, ◌<◌, ◌^◌, ◌↔◌, ℕ, List, length, IfSome, IsTrue};
+ghost use Rattle.std.specs.Int.{w32, to_be_bytes};
 ghost use Rattle.hex.specs.Hex.{encode_lower};
+ghost use Rattle.rv_isa.specs.Image.{AreBytes};
+ghost use Rattle.clu_asm.specs.AssemblyText.{word_text};
 
 use crate::places::after;
 
@@ -9,6 +12,7 @@ use crate::places::after;
 pub(crate) fn row(word: &[u8], text: &[u8]) -> Option<[u8; 8]>
     ensures text { IfSome result (λ row. text.now ≡ word.now ++ encode_lower row) }
     ensures eight { IfSome result (λ row. length row ≡ 8) }
+    ensures only { (row : List ℕ) → length row ≡ 8 → AreBytes row → text.now ≡ word.now ++ encode_lower row → result ≡ Some row }
 {
     match after(text, word) {
         Some(digits) => bytes(digits),
@@ -20,24 +24,39 @@ pub(crate) fn row(word: &[u8], text: &[u8]) -> Option<[u8; 8]>
 fn bytes(digits: &[u8]) -> Option<[u8; 8]>
     ensures text { IfSome result (λ row. digits.now ≡ encode_lower row) }
     ensures eight { IfSome result (λ row. length row ≡ 8) }
+    ensures only { (row : List ℕ) → length row ≡ 8 → AreBytes row → digits.now ≡ encode_lower row → result ≡ Some row }
 {
     let mut row = [0; 8];
     match hex::decode_to_slice(digits, &mut row) {
         Ok(()) => {
-            let mut again = [0; 16];
-            let _fits = hex::encode_to_slice(row.as_slice(), &mut again);
-            if again.as_slice() == digits {
-                Some(row)
-            } else {
-                None
-            }
+            let same = is_written(row.as_slice(), &mut [0; 16], digits);
+            if same { Some(row) } else { None }
         }
         Err(_) => None,
     }
 }
 
+/// Whether the bytes are written so. `again` has room for the digits of the bytes, and is written over.
+fn is_written(bytes: &[u8], again: &mut [u8], digits: &[u8]) -> bool
+    requires { length again.old ≡ 2 * length bytes.now }
+    ensures { IsTrue result ↔ (digits.now ≡ encode_lower bytes.now) }
+{
+    digits_of(bytes, again);
+    *digits == *again
+}
+
+/// Writes the hexadecimal digits of the bytes.
+pub(crate) fn digits_of(bytes: &[u8], out: &mut [u8])
+    requires { length out.old ≡ 2 * length bytes.now }
+    ensures { out.new ≡ encode_lower bytes.now }
+{
+    let _fits = hex::encode_to_slice(bytes, out);
+}
+
 /// The word whose text this is as no instruction.
-pub(crate) fn word(text: &[u8]) -> Option<u32> {
+pub(crate) fn word(text: &[u8]) -> Option<u32>
+    ensures only { (w : ℕ) → w < 2 ^ 32 → text.now ≡ word_text w → result ≡ Some w }
+{
     match after(text, b"word ") {
         Some(digits) => word_of(digits),
         None => None,
@@ -45,17 +64,14 @@ pub(crate) fn word(text: &[u8]) -> Option<u32> {
 }
 
 /// The word of these digits, the highest first.
-fn word_of(digits: &[u8]) -> Option<u32> {
+fn word_of(digits: &[u8]) -> Option<u32>
+    ensures only { (w : ℕ) → w < 2 ^ 32 → digits.now ≡ encode_lower (to_be_bytes w32 w) → result ≡ Some w }
+{
     let mut bytes = [0; 4];
     match hex::decode_to_slice(digits, &mut bytes) {
         Ok(()) => {
-            let mut again = [0; 8];
-            let _fits = hex::encode_to_slice(bytes.as_slice(), &mut again);
-            if again.as_slice() == digits {
-                Some(u32::from_be_bytes(bytes))
-            } else {
-                None
-            }
+            let same = is_written(bytes.as_slice(), &mut [0; 8], digits);
+            if same { Some(u32::from_be_bytes(bytes)) } else { None }
         }
         Err(_) => None,
     }

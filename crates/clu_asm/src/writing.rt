@@ -4,6 +4,7 @@ ghost use Rattle.std.specs.Prelude.{◌≡◌, ◌++◌, ◌∷◌, ◌%◌, [],
 ghost use Rattle.clu_asm.specs.AssemblyText as text;
 
 use crate::mnemonics::Mnemonic;
+use crate::rows::digits_of;
 use clu_base::{Bytes, Memory};
 use itoa::Buffer;
 use rv_isa::{Image, Instr, Reg, decode};
@@ -63,7 +64,7 @@ fn word_add(out: &mut Vec<u8>, w: u32) -> Result<(), Memory>
 {
     out.extend_from_slice(b"word ")?;
     let mut digits = [0; 8];
-    let _fits = hex::encode_to_slice(w.to_be_bytes().as_slice(), &mut digits);
+    digits_of(w.to_be_bytes().as_slice(), &mut digits);
     out.extend_from_slice(&digits)?;
     Ok(())
 }
@@ -164,7 +165,7 @@ fn row_line_add(out: &mut Vec<u8>, word: &[u8], row: &[u8]) -> Result<(), Memory
     ensures { OnOk result (out.new.items ≡ out.old.items ++ text.row_line word.now row.now) }
 {
     let mut digits = [0; 16];
-    let _fits = hex::encode_to_slice(row, &mut digits);
+    digits_of(row, &mut digits);
     out.extend_from_slice(word)?;
     out.extend_from_slice(&digits)?;
     out.push(b'\n')?;
