@@ -172,15 +172,15 @@ three_form op.Remw rd rs1 rs2 h = refl
 three_form op.Remuw rd rs1 rs2 h = refl
 three_form _ rd rs1 rs2 h = absurd (cc (h))
 
-within_small : (half : ℕ) (z : ℤ) → half ≤ 2 ^ 31 → IsWithin half z → mag z < 2 ^ 31
+pub within_small : (half : ℕ) (z : ℤ) → half ≤ 2 ^ 31 → IsWithin half z → mag z < 2 ^ 31
 within_small half (pos n) le h = omega (arith, ints, h.0, h.1)
 within_small half (negsuc n) le h = omega (arith, ints, h.0, h.1)
 
-amount_small : (limit : ℕ) (z : ℤ) → limit ≤ 64 → IsAmount limit z → mag z < 2 ^ 31
+pub amount_small : (limit : ℕ) (z : ℤ) → limit ≤ 64 → IsAmount limit z → mag z < 2 ^ 31
 amount_small limit (pos n) le h = omega (arith, ints, h.0, h.1)
 amount_small limit (negsuc n) le h = absurd (omega (arith, ints, h.0, h.1))
 
-fits_small : (o : Op) (r s : ℕ) (z : ℤ) → IsValid (Imm o r s z) → mag z < 2 ^ 31
+pub fits_small : (o : Op) (r s : ℕ) (z : ℤ) → IsValid (Imm o r s z) → mag z < 2 ^ 31
 fits_small op.Addi r s z h = within_small (2 ^ 11) z (omega arith) h
 fits_small op.Slti r s z h = within_small (2 ^ 11) z (omega arith) h
 fits_small op.Sltiu r s z h = within_small (2 ^ 11) z (omega arith) h

@@ -4,3 +4,5 @@ pub mod NumberLemmas
 pub mod GuessLemmas
 pub mod HexTexts
 pub mod CandidateLemmas
+pub mod LineLemmas
+pub mod Unique

@@ -7,6 +7,7 @@ use Rattle.std.specs.Str.{bytes_eq}
 use Rattle.std.specs.Str.Parse.{digits_value}
 use Rattle.std.proofs.lemmas.Bool.{lt-ltb, ltb-true, ne_eqb}
 use Rattle.std.proofs.lemmas.Fmt.{decimal_by_steps, decimal_is_IsNumeral}
+use Rattle.std.proofs.lemmas.List.{append_cancel_left}
 use Rattle.std.proofs.lemmas.Slice.Eq.{bytes_eq-Decides}
 use lib.Signed.{mag}
 use lib.IntN.{neg_ℤ}
@@ -86,3 +87,15 @@ pub entry_text : (o : Option ℕ) (z : ℤ) (text digits : List ℕ) → IfSome 
     → IfSome o (λ m. text ≡ codes "entry " ++ decimal m)
 entry_text None z text digits e n t = tt
 entry_text (Some m) z text digits e n t = t ∙ ap (λ (d : List ℕ). codes "entry " ++ d) ((number_is digits z (sym n)).0 ∙ ap signed_decimal e)
+
+digits_are : (text digits : List ℕ) (n : ℕ) → text ≡ codes "entry " ++ digits → n < 16793600 → text ≡ codes "entry " ++ decimal n → number_of digits ≡ Some (pos n)
+digits_are text digits n t lt e =
+    let same : digits ≡ decimal n = append_cancel_left (codes "entry ") digits (decimal n) (sym t ∙ e) in
+    ap number_of same ∙ number_again (pos n) (omega (arith, lt))
+
+-- the number of an entry's text
+pub entry_number_is : (z : ℤ) (text digits : List ℕ) (n : ℕ) → Some z ≡ number_of digits → text ≡ codes "entry " ++ digits → n < 16793600 → text ≡ codes "entry " ++ decimal n → z ≡ pos n
+entry_number_is z text digits n read t lt e = let again = digits_are text digits n t lt e in cc (read, again)
+
+pub entry_number_none : (text digits : List ℕ) (n : ℕ) → None ≡ number_of digits → text ≡ codes "entry " ++ digits → n < 16793600 → text ≡ codes "entry " ++ decimal n → ⊥
+entry_number_none text digits n read t lt e = let again = digits_are text digits n t lt e in absurd (cc (read, again))

@@ -5,7 +5,7 @@ use Rattle.std.proofs.lemmas.List.{take-append-le, drop-append-le, nil_from_leng
 use Rattle.std.proofs.Math.Seq.{take-length}
 use Rattle.clu_asm.specs.AssemblyText.{row_line, row_lines, some_row_lines}
 
-first_of : (n : ℕ) (word xs : List ℕ) → some_row_lines (suc n) word xs ≡ row_line word (take 8 xs) ++ some_row_lines n word (drop 8 xs)
+pub first_of : (n : ℕ) (word xs : List ℕ) → some_row_lines (suc n) word xs ≡ row_line word (take 8 xs) ++ some_row_lines n word (drop 8 xs)
 unfolding some_row_lines
 first_of n word xs = refl
 
@@ -15,7 +15,7 @@ rows_first word xs h =
     let count : length xs / 8 ≡ suc (length (drop 8 xs) / 8) = omega (arith, length-drop 8 xs) in
     ap (λ (n : ℕ). some_row_lines n word xs) count ∙ first_of (length (drop 8 xs) / 8) word xs
 
-none_of : (word xs : List ℕ) → some_row_lines zero word xs ≡ []
+pub none_of : (word xs : List ℕ) → some_row_lines zero word xs ≡ []
 unfolding some_row_lines
 none_of word xs = refl
 

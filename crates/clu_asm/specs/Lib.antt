@@ -2,3 +2,4 @@ pub mod Mnemonics
 pub mod AssemblyText
 pub mod Places
 pub mod Candidates
+pub mod Lines

@@ -53,11 +53,7 @@ fn candidate(text: &[u8]) -> Option<u32>
 fn encoded(i: Instr) -> Option<u32>
     ensures { IsInstr i → result ≡ Some (encoded_as i) }
 {
-    if i.valid() {
-        Some(encode(i))
-    } else {
-        None
-    }
+    if i.valid() { Some(encode(i)) } else { None }
 }
 
 /// The only instruction that can have this text.

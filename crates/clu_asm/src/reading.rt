@@ -1,8 +1,10 @@
 //! From assembly text to images.
 
-ghost use Rattle.std.specs.Prelude.{◌≡◌, ◌++◌, ◌+◌, pos, codes, decimal, ◌%◌, ◌≤◌, ◌<◌, [], length, flat_map, vec_len, IfSome, IfOk};
-ghost use Rattle.rv_isa.specs.Image.{max_words, max_bytes, contents, IsImage};
+ghost use Rattle.std.specs.Prelude.{◌≡◌, ◌++◌, ◌+◌, ◌⊎◌, pos, codes, decimal, ◌%◌, ◌≤◌, ◌<◌, [], length, flat_map, vec_len, ℕ, Some, IfSome, IfOk, MatchResult};
+ghost use Rattle.rv_isa.specs.Image.{AreBytes, AreWords, Contents, max_words, max_bytes, contents, IsImage};
 ghost use Rattle.clu_asm.specs.AssemblyText as asm;
+ghost use Rattle.clu_asm.specs.Lines.{NoCode, NoRow};
+ghost use Rattle.clu_asm.specs.Places.{IsFree};
 
 use crate::candidates::code_word;
 use crate::cut_lines::begins_code;
@@ -18,6 +20,7 @@ use std::alloc::Global;
 /// `FormatError::Memory` comes only when memory runs out.
 pub fn read_asm(alloc: Global, b: &[u8]) -> Result<Image, FormatError>
     ensures text { IfOk result (λ i. b.now ≡ asm.asm_text i) }
+    ensures every_text { (i : Contents) → IsImage i → b.now ≡ asm.asm_text i → MatchResult result (λ j. j ≡ i) (λ e. e ≡ FormatError.Memory) }
 {
     match first_line(b) {
         Some((text, rest)) => match entry(text) {
@@ -32,6 +35,7 @@ pub fn read_asm(alloc: Global, b: &[u8]) -> Result<Image, FormatError>
 fn entry(text: &[u8]) -> Option<u32>
     ensures text { IfSome result (λ n. text.now ≡ codes "entry " ++ decimal n) }
     ensures bound { IfSome result (λ n. n < max_words) }
+    ensures only { (n : ℕ) → n < max_words → text.now ≡ codes "entry " ++ decimal n → result ≡ Some n }
 {
     match after(text, b"entry ") {
         Some(digits) => match number(digits) {
@@ -46,6 +50,7 @@ fn entry(text: &[u8]) -> Option<u32>
 fn entry_number(n: i32) -> Option<u32>
     ensures number { IfSome result (λ m. n ≡ pos m) }
     ensures bound { IfSome result (λ m. m < max_words) }
+    ensures only { (m : ℕ) → m < max_words → n ≡ pos m → result ≡ Some m }
 {
     if 0 <= n && n < Image::MAX_WORDS as i32 {
         Some(n as u32)
@@ -68,18 +73,19 @@ fn read_parts(alloc: Global, entry: u32, b: &[u8], end: usize) -> Result<Image, 
     requires entry { entry < max_words }
     requires end { length b.now ≤ end }
     ensures text { IfOk result (λ i. asm.entry_line entry ++ b.now ≡ asm.asm_text i) }
+    ensures every_text { (i : Contents) → IsImage i → asm.entry_line entry ++ b.now ≡ asm.asm_text i → MatchResult result (λ j. j ≡ i) (λ e. e ≡ FormatError.Memory) }
 {
     let mut code = Vec::new(alloc);
     let mut fixed = Vec::new(alloc);
     let mut area = Vec::new(alloc);
     let rest = read_code(alloc, &mut code, b)?;
-    let room = room_of(entry, code.len());
+    let room = room_of(entry, &code);
     let rest = read_rows(&mut fixed, b"fixed ", room, rest)?;
     let rest = read_rows(&mut area, b"data ", room - fixed.len(), rest)?;
     if rest.is_empty() && room > 0 {
         return Ok(image(entry, code, fixed, area));
     }
-    let next = Next::new(code.len(), fixed.len(), area.len(), room);
+    let next = Next::new(code.len(), &fixed, &area, room);
     Err(FormatError::Bad(next.fault(rest, end)))
 }
 
@@ -96,12 +102,14 @@ fn image(entry: u32, code: Vec<u32>, fixed: Vec<u8>, area: Vec<u8>) -> Image
     Image::new(entry, code, fixed, area).unwrap()
 }
 
-/// The bytes that the fixed part and the data may have after so many code words.
-fn room_of(entry: u32, words: usize) -> usize
-    ensures entered { 0 < result → entry < words }
+/// How many bytes the fixed part and the data may have after this code.
+fn room_of(entry: u32, code: &[u32]) -> usize
+    ensures entered { 0 < result → entry < length code.now }
+    ensures all { entry < length code.now → result ≡ max_bytes }
     ensures bound { result ≤ max_bytes }
+    ensures words { AreWords code.now }
 {
-    if (entry as usize) < words {
+    if (entry as usize) < code.len() {
         Image::MAX_BYTES
     } else {
         0
@@ -113,6 +121,7 @@ fn read_code<'a>(alloc: Global, code: &mut Vec<u32>, b: &'a [u8]) -> Result<&'a 
     requires { code.old.items ≡ [] }
     ensures text { IfOk result (λ rest. b.now ≡ flat_map asm.code_line code.new.items ++ rest.now) }
     ensures few { vec_len code.new ≤ max_words }
+    ensures stops { IfOk result (λ rest. (vec_len code.new ≡ max_words) ⊎ NoCode rest.now) }
 {
     let mut scratch = Vec::new(alloc);
     let mut rest = b;
@@ -136,10 +145,12 @@ fn read_rows<'a>(
     room: usize,
     b: &'a [u8],
 ) -> Result<&'a [u8], Memory>
-    requires { bytes.old.items ≡ [] }
+    requires empty { bytes.old.items ≡ [] }
+    requires word { IsFree 10 word.now }
     ensures text { IfOk result (λ rest. b.now ≡ asm.row_lines word.now bytes.new.items ++ rest.now) }
     ensures whole { vec_len bytes.new % 8 ≡ 0 }
     ensures few { vec_len bytes.new ≤ room }
+    ensures stops { IfOk result (λ rest. (room < vec_len bytes.new + 8) ⊎ NoRow word.now rest.now) }
 {
     let mut rest = b;
     while room - bytes.len() >= 8 {
@@ -164,14 +175,16 @@ struct Next {
 }
 
 impl Next {
-    /// What can come after so many code words, fixed bytes and data bytes; `room` as for these two.
-    fn new(words: usize, fixed: usize, area: usize, room: usize) -> Next
-        requires { fixed + area ≤ room }
+    /// What can come after so many code words and these bytes; `room` as for these.
+    fn new(words: usize, fixed: &[u8], area: &[u8], room: usize) -> Next
+        requires { length fixed.now + length area.now ≤ room }
+        ensures fixed { AreBytes fixed.now }
+        ensures area { AreBytes area.now }
     {
-        let left = room - fixed - area;
+        let left = room - fixed.len() - area.len();
         Next {
-            code: words < Image::MAX_WORDS && fixed == 0 && area == 0,
-            fixed: left >= 8 && area == 0,
+            code: words < Image::MAX_WORDS && fixed.is_empty() && area.is_empty(),
+            fixed: left >= 8 && area.is_empty(),
             area: left >= 8,
         }
     }

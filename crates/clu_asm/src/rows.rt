@@ -71,7 +71,11 @@ fn word_of(digits: &[u8]) -> Option<u32>
     match hex::decode_to_slice(digits, &mut bytes) {
         Ok(()) => {
             let same = is_written(bytes.as_slice(), &mut [0; 8], digits);
-            if same { Some(u32::from_be_bytes(bytes)) } else { None }
+            if same {
+                Some(u32::from_be_bytes(bytes))
+            } else {
+                None
+            }
         }
         Err(_) => None,
     }

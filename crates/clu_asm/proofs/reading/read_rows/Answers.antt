@@ -1,13 +1,14 @@
-use Rattle.std.proofs.Common.{◌≡◌, ◌++◌, ◌%◌, length, vec_len, List, ℕ, arith, ap, ◌∙◌, refl, []}
+use Rattle.std.proofs.Common.{◌≡◌, ◌++◌, ◌%◌, length, vec_len, List, ℕ, arith, ap, ◌∙◌, inr, refl, []}
 use Rattle.clu_asm.specs.AssemblyText.{line, row_line}
+use Rattle.clu_asm.proofs.LineLemmas.{stop_row, other_row}
 use Rattle.clu_asm.proofs.RowLemmas.{rows_none, read_on}
 use Rattle.clu_asm.proofs.reading.read_rows.Goals as goal
 
 pub loop-line-init : goal.loop-line-init
 loop-line-init c =
-    let none : vec_len c.args.bytes.now ≡ 0 = c.args.bytes.now.ok.0 ∙ ap length c.requires in
+    let none : vec_len c.args.bytes.now ≡ 0 = c.args.bytes.now.ok.0 ∙ ap length c.requires.empty in
     record {
-      text = rw c.requires (rw (rows_none c.args.word.now [] (omega arith)) refl);
+      text = rw c.requires.empty (rw (rows_none c.args.word.now [] (omega arith)) refl);
       whole = omega (arith, none);
       few = omega (arith, none);
     }
@@ -26,3 +27,12 @@ loop-line-preserved c =
       whole = omega (arith, more.len, found.eight, c.loop-line.invariant.whole);
       few = omega (arith, more.len, found.eight, c.loop-line-test.true);
     }
+
+pub returns-in_default-clause-stops : goal.returns-in_default-clause-stops
+returns-in_default-clause-stops c = inr (stop_row c.args.word.now c.loop-line.rest.now c.requires.word (c.in_default.ensures {u = tt}).none)
+
+pub returns-in_default-row-clause-stops : goal.returns-in_default-row-clause-stops
+returns-in_default-row-clause-stops c =
+    let first = c.in-Some.ensures {u = tt} in
+    inr (other_row c.args.word.now c.loop-line.rest.now c.in-Some.line.now c.in-Some.after.now c.requires.word first.splits first.free
+    (λ row eight are e. c.in_default-row.not-Some row (c.row.ensures.only row eight are e)))
