@@ -1,0 +1,5 @@
+pub mod Mnemonics
+pub mod AssemblyText
+pub mod Places
+pub mod Candidates
+pub mod Lines
