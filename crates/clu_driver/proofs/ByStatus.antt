@@ -37,8 +37,8 @@ usage_shown (Some (command.replace a b)) before after shown = cc
 usage_shown (Some (command.compile a b p)) before after shown = cc
 usage_shown (Some (command.link a b d)) before after shown = cc
 usage_shown (Some (command.run a b l)) before after shown = cc
-usage_shown (Some (command.list a)) before after shown = cc
-usage_shown (Some (command.asm a b)) before after shown = cc
+usage_shown (Some (command.list a)) before after shown = elim shown.1.1 [ inl refused ↦ elim refused.0 [ ] | inr written ↦ elim written.2 [ ] ]
+usage_shown (Some (command.asm a b)) before after shown = elim shown.1 [ inl refused ↦ elim refused.0 [ ] | inr put ↦ elim put.2.2 [ ] ]
 usage_shown (Some (command.print a)) before after shown = elim shown.1.1 [ inl refused ↦ elim refused.0 [ ] | inr written ↦ elim written.2 [ ] ]
 usage_shown (Some (command.xref a)) before after shown = cc
 
