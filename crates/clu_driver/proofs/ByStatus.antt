@@ -1,14 +1,16 @@
 -- What a status alone says, by the outcome that has it.
-use Rattle.std.proofs.Common.{◌≡◌, ◌≢◌, ◌⊎◌, ◌∙◌, ℕ, List, [], Option, Some, None, inl, inr, refl, sym, ap, subst, arith}
+use Rattle.std.proofs.Common.{◌≡◌, ◌≢◌, ◌⊎◌, ◌∙◌, ◌==◌, ℕ, Bool, true, List, [], ◌∷◌, Option, Some, None, inl, inr, refl, sym, ap, subst, arith}
 use Rattle.clu_base.proofs.Written.{appended-nil}
 use Rattle.clu_base.specs.Outside.{Files, appended}
-use Rattle.clu_words.specs.Command.{Meant}
+use Rattle.std.specs.List.{list_any}
+use Rattle.rv_isa.specs.Image.{Contents}
+use Rattle.clu_words.specs.Command.{Limits, Meant}
 use Rattle.clu_words.specs.Command as command
-use Rattle.clu_driver.specs.Commands.{CluShows, CommandShows, NotPut, PutShows}
+use Rattle.clu_driver.specs.Commands.{CluShows, CommandShows, GenShows, IsRefusal, NotPut, PutShows, TextShows}
 use Rattle.clu_driver.specs.Outcome.{IsTold, line_of, status_of, text_of}
 use Rattle.clu_driver.specs.Shows.{Reported, RunShows}
 use Rattle.clu_driver.specs.Sources.{NotCompiled}
-use Rattle.clu_driver.specs.World.{World}
+use Rattle.clu_driver.specs.World.{Streams, World}
 use Rattle.clu_driver.specs.declared.outcome.Outcome.{Outcome}
 use Rattle.clu_driver.specs.declared.outcome.Outcome.TheVariants as outcome
 
@@ -37,8 +39,8 @@ usage_shown (Some (command.replace a b)) before after shown = cc
 usage_shown (Some (command.compile a b p)) before after shown = cc
 usage_shown (Some (command.link a b d)) before after shown = cc
 usage_shown (Some (command.run a b l)) before after shown = cc
-usage_shown (Some (command.list a)) before after shown = cc
-usage_shown (Some (command.asm a b)) before after shown = cc
+usage_shown (Some (command.list a)) before after shown = elim shown.1.1 [ inl refused ↦ elim refused.0 [ ] | inr written ↦ elim written.2 [ ] ]
+usage_shown (Some (command.asm a b)) before after shown = elim shown.1 [ inl refused ↦ elim refused.0 [ ] | inr put ↦ elim put.2.2 [ ] ]
 usage_shown (Some (command.print a)) before after shown = elim shown.1.1 [ inl refused ↦ elim refused.0 [ ] | inr written ↦ elim written.2 [ ] ]
 usage_shown (Some (command.xref a)) before after shown = cc
 
@@ -88,3 +90,86 @@ quiet Shows status old new faults faults' r zero = elim r.told [
   | inl told ↦ told.1 ∙ ap (λ (o : Outcome). appended old (line_of o)) (done_of r.how (sym told.0 ∙ zero)) ∙ no_line old
   | inr fault ↦ let no : 23 ≡ 0 = sym fault.0 ∙ zero in absurd (omega (arith, no))
 ]
+
+-- a status with which a command is refused is one of these numbers
+abbrev refusing : ℕ → Bool
+refusing n = list_any (λ m. m == n) (2 ∷ 10 ∷ 11 ∷ 14 ∷ 16 ∷ 17 ∷ 18 ∷ 20 ∷ 21 ∷ 24 ∷ 25 ∷ 26 ∷ 27 ∷ 30 ∷ [])
+
+refusal_test : (n : ℕ) → IsRefusal n → refusing n ≡ true
+refusal_test n (inl e) = rw e refl
+refusal_test n (inr (inl e)) = rw e refl
+refusal_test n (inr (inr (inl e))) = rw e refl
+refusal_test n (inr (inr (inr (inl e)))) = rw e refl
+refusal_test n (inr (inr (inr (inr (inl e))))) = rw e refl
+refusal_test n (inr (inr (inr (inr (inr (inl e)))))) = rw e refl
+refusal_test n (inr (inr (inr (inr (inr (inr (inl e))))))) = rw e refl
+refusal_test n (inr (inr (inr (inr (inr (inr (inr (inl e)))))))) = rw e refl
+refusal_test n (inr (inr (inr (inr (inr (inr (inr (inr (inl e))))))))) = rw e refl
+refusal_test n (inr (inr (inr (inr (inr (inr (inr (inr (inr (inl e)))))))))) = rw e refl
+refusal_test n (inr (inr (inr (inr (inr (inr (inr (inr (inr (inr (inl e))))))))))) = rw e refl
+refusal_test n (inr (inr (inr (inr (inr (inr (inr (inr (inr (inr (inr (inl e)))))))))))) = rw e refl
+refusal_test n (inr (inr (inr (inr (inr (inr (inr (inr (inr (inr (inr (inr (inl e))))))))))))) = rw e refl
+refusal_test n (inr (inr (inr (inr (inr (inr (inr (inr (inr (inr (inr (inr (inr e))))))))))))) = rw e refl
+
+-- a run that is refused has written nothing
+ran_refused : (how : Outcome) (image : Contents) (limits : Limits) (before after : Streams) → IsRefusal (status_of how) → RunShows how image limits before after → after.written ≡ before.written
+ran_refused outcome.Memory image limits before after h r = r
+ran_refused outcome.Done image limits before after h r = cc (refusal_test 0 h)
+ran_refused (outcome.Failure text) image limits before after h r = cc (refusal_test 1 h)
+ran_refused outcome.StoreFull image limits before after h r = cc (refusal_test 3 h)
+ran_refused outcome.StackFull image limits before after h r = cc (refusal_test 4 h)
+ran_refused outcome.StepsSpent image limits before after h r = cc (refusal_test 5 h)
+ran_refused (outcome.BadInstruction at) image limits before after h r = cc (refusal_test 6 h)
+ran_refused (outcome.BadAccess at) image limits before after h r = cc (refusal_test 7 h)
+ran_refused (outcome.BadJump at) image limits before after h r = cc (refusal_test 8 h)
+ran_refused (outcome.BadEcall n) image limits before after h r = cc (refusal_test 9 h)
+ran_refused outcome.ReadFault image limits before after h r = cc (refusal_test 22 h)
+ran_refused outcome.WriteFault image limits before after h r = cc (refusal_test 23 h)
+ran_refused _ image limits before after h r = elim r.ends [ ]
+
+-- nor has gen, nor what writes a text
+gen_refused : (how : Outcome) (n : ℕ) (written written' : Option (List ℕ)) (faults faults' : ℕ) → IsRefusal (status_of how) → GenShows how n written written' faults faults' → written' ≡ written
+gen_refused outcome.Done n written written' faults faults' h r = cc (refusal_test 0 h)
+gen_refused outcome.WriteFault n written written' faults faults' h r = cc (refusal_test 23 h)
+gen_refused _ n written written' faults faults' h r = elim r [ ]
+
+text_refused : (how : Outcome) (text : List ℕ) (written : Option (List ℕ)) (faults : ℕ) (written' : Option (List ℕ)) (faults' : ℕ) → IsRefusal (status_of how) → TextShows how text written faults written' faults' → written' ≡ written
+text_refused outcome.Done text written faults written' faults' h r = cc (refusal_test 0 h)
+text_refused outcome.WriteFault text written faults written' faults' h r = cc (refusal_test 23 h)
+text_refused _ text written faults written' faults' h r = elim r [ ]
+
+refused_shown : (meant : Option Meant) (before after : World) (how : Outcome) → IsRefusal (status_of how) → CommandShows meant how before after → after.streams.written ≡ before.streams.written
+refused_shown None before after how h shown = shown.1.1.written
+refused_shown (Some (command.go file image limits peep trace)) before after how h (inl refused) = refused.1.1.written
+refused_shown (Some (command.go file image limits peep trace)) before after how h (inr put) = elim put.1.3 [ inl notput ↦ notput.1.written | inr ran ↦ ran_refused how put.1.0 limits before.streams after.streams h ran.1 ]
+refused_shown (Some (command.exec image limits)) before after how h (inl refused) = refused.1.1.written
+refused_shown (Some (command.exec image limits)) before after how h (inr ran) = ran_refused how ran.1.0 limits before.streams after.streams h ran.1.2
+refused_shown (Some (command.gen procedures)) before after how h shown = gen_refused how procedures before.streams.written after.streams.written before.streams.write_faults after.streams.write_faults h shown.2
+refused_shown (Some (command.print a)) before after how h shown = elim shown.1.1 [
+  | inl refused ↦ refused.1
+  | inr text ↦ text_refused how text.0 before.streams.written before.streams.write_faults after.streams.written after.streams.write_faults h text.2
+]
+refused_shown (Some (command.list a)) before after how h shown = elim shown.1.1 [
+  | inl refused ↦ refused.1
+  | inr text ↦ text_refused how text.0 before.streams.written before.streams.write_faults after.streams.written after.streams.write_faults h text.2
+]
+refused_shown (Some (command.asm a b)) before after how h shown = shown.0.written
+refused_shown (Some (command.spec a b)) before after how h shown = shown.1.1.written
+refused_shown (Some (command.replace a b)) before after how h shown = shown.1.1.written
+refused_shown (Some (command.compile a b p)) before after how h shown = shown.1.1.written
+refused_shown (Some (command.link a b d)) before after how h shown = shown.1.1.written
+refused_shown (Some (command.run a b l)) before after how h shown = shown.1.1.written
+refused_shown (Some (command.xref a)) before after how h shown = shown.1.1.written
+
+refused_by : (meant : Option Meant) (before after : World) (how : Outcome) → IsRefusal (status_of how) → CluShows meant how before after → after.streams.written ≡ before.streams.written
+refused_by meant before after how h (inl memory) = memory.1.1.written
+refused_by meant before after how h (inr shown) = refused_shown meant before after how h shown
+
+pub refused : (meant : Option Meant) (before after : World) (status : ℕ) (old new : Option (List ℕ)) (faults faults' : ℕ)
+    → Reported (λ how. CluShows meant how before after) status old new faults faults' → IsRefusal status → after.streams.written ≡ before.streams.written
+refused meant before after status old new faults faults' r h =
+    let P : ℕ → Type 0 = λ n. IsRefusal n in
+    elim (status_is r.how status old new faults faults' r.told) [
+      | inl is ↦ refused_by meant before after r.how (subst P is h) r.shown
+      | inr is ↦ cc (refusal_test 23 (subst P is h))
+    ]

@@ -15,7 +15,8 @@ use Rattle.clu_tree.specs.Nodes.{modules}
 use Rattle.clu_tree.specs.declared.node.Node.{Node}
 use Rattle.clu_words.specs.Command.{Limits}
 use Rattle.rv_isa.specs.Image.{Contents}
-use Rattle.clu_driver.specs.Commands.{GoShows, NotPut, PutShows}
+use Rattle.clu_asm.specs.AssemblyText.{asm_text}
+use Rattle.clu_driver.specs.Commands.{AsmShows, AssembledShows, GoShows, IsNoText, NotPut, PutShows}
 use Rattle.clu_driver.specs.Found.{IsFound}
 use Rattle.clu_driver.specs.Sources.{IsAccepted, IsParsed, IsRefusedBy, IsSource, NotCompiled, NotMade, NotParsed, NotSource}
 use Rattle.clu_driver.specs.World.{Streams, World, world_of}
@@ -44,10 +45,25 @@ go_shows how file name limits image files files' faults faults' streams after ac
     let P : Option Files → Type 0 = λ f. PutShows how name image limits (world_of f faults' streams) after in
     inr (accepted, (image, faults', counts, subst P same put))
 
+-- reading the text left the files as they were
+pub asm_shows : (how : Outcome) (file name : List ℕ) (image : Contents) (files files' after : Option Files) (faults faults' last : ℕ)
+    → IsFound files file (λ bytes. bytes ≡ asm_text image) → files' ≡ files → faults ≤ faults' → AssembledShows how name image files' after faults' last → AsmShows how file name files faults after last
+asm_shows how file name image files files' after faults faults' last found same counts put =
+    let P : Option Files → Type 0 = λ f. AssembledShows how name image f after faults' last in
+    inr (image, found, (faults', counts, subst P same put))
+
+-- the text of the file is that of the image that was read
+pub found_text : (files : Option Files) (name bytes text : List ℕ) → IsFound files name (λ b. b ≡ bytes) → bytes ≡ text → IsFound files name (λ b. b ≡ text)
+found_text files name bytes text found same = let P : List ℕ → Type 0 = λ t. IsFound files name (λ b. b ≡ t) in subst P same found
+
 -- what holds of the content that was read holds of the file
 found_with : (P : List ℕ → Type 0) (files : Option Files) (name bytes : List ℕ) → IsFound files name (λ b. b ≡ bytes) → P bytes → IsFound files name P
 found_with P None name bytes found p = tt
 found_with P (Some all) name bytes found p = (found.0, found.1, subst P (sym found.2) p)
+
+-- bytes that were refused are no text, nor is the file's content
+pub no_text_found : (files : Option Files) (name bytes : List ℕ) → IsFound files name (λ b. b ≡ bytes) → IsNoText bytes → IsFound files name IsNoText
+no_text_found files name bytes found none = found_with IsNoText files name bytes found none
 
 -- a file that was parsed to this tree, which the check accepted, is accepted
 pub found_accepted : (files : Option Files) (name bytes : List ℕ) (tokens : List Token) (nodes : List Node) → IsFound files name (λ b. b ≡ bytes) → IsSource bytes tokens nodes → All (IsClosedAt nodes) (modules nodes) → IsFound files name IsAccepted

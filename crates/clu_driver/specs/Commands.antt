@@ -1,14 +1,15 @@
 -- What each command shows of its outcome.
-use Rattle.std.specs.Prelude.{◌≡◌, ◌≤◌, ◌⊎◌, ℕ, List, Option, Some, None, IfSome, option_map}
+use Rattle.std.specs.Prelude.{◌≡◌, ◌≢◌, ◌≤◌, ◌⊎◌, ℕ, List, Option, Some, None, IfSome, option_map}
 use Rattle.clu_base.specs.Outside.{Files, GrewWithin, IsTorn, Rose, appended, with_file}
 use Rattle.clu_base.specs.declared.tokens.Token.{Token}
+use Rattle.clu_asm.specs.AssemblyText.{asm_text}
 use Rattle.clu_image.specs.Faults.{fault_of}
 use Rattle.clu_image.specs.ImageFile.{IsFileOf, image_bytes}
 use Rattle.clu_printer.specs.Printed.{IsPrinted}
 use Rattle.clu_tree.specs.declared.node.Node.{Node}
 use Rattle.clu_words.specs.Command.{Limits, Meant}
 use Rattle.clu_words.specs.Command as command
-use Rattle.rv_isa.specs.Image.{Contents}
+use Rattle.rv_isa.specs.Image.{Contents, IsImage}
 use Rattle.clu_driver.specs.Found.{IsFound, NotRead}
 use Rattle.clu_driver.specs.Generated.{generated_text}
 use Rattle.clu_driver.specs.Shows.{RunShows}
@@ -83,6 +84,42 @@ PrintedShows how file files store_faults written faults files' store_faults' wri
     (files' ≡ files)
     × ((NotParsed how file files store_faults store_faults' × (written' ≡ written)) ⊎ PrintShows how file files written faults written' faults')
 
+-- the text is the assembly text of an image with this file
+abbrev pub IsListing : List ℕ → List ℕ → Type 0
+IsListing bytes text = (image : Contents) × IsFileOf bytes image × (text ≡ asm_text image)
+
+-- the assembly text of the file's image was written, or some first bytes of it
+abbrev pub ListingShows : Outcome → List ℕ → Option Files → Option (List ℕ) → ℕ → Option (List ℕ) → ℕ → Type 0
+ListingShows how name files written faults written' faults' =
+    (text : List ℕ) × IsFound files name (λ bytes. IsListing bytes text) × TextShows how text written faults written' faults'
+
+-- list: no file changed, and the image was refused and nothing written, or its text was written
+abbrev pub ListShows : Outcome → List ℕ → Option Files → ℕ → Option (List ℕ) → ℕ → Option Files → ℕ → Option (List ℕ) → ℕ → Type 0
+ListShows how name files store_faults written faults files' store_faults' written' faults' =
+    (files' ≡ files)
+    × ((NotLoaded how name files store_faults store_faults' × (written' ≡ written)) ⊎ ListingShows how name files written faults written' faults')
+
+-- the bytes are the assembly text of no image
+abbrev pub IsNoText : List ℕ → Type 0
+IsNoText bytes = (image : Contents) → IsImage image → bytes ≢ asm_text image
+
+-- why no image was read: the file was not read, or its bytes are no assembly text
+abbrev pub NotAssembled : Outcome → List ℕ → Option Files → ℕ → ℕ → Type 0
+NotAssembled (outcome.AsmBad at) name files faults faults' = IsFound files name IsNoText
+NotAssembled how name files faults faults' = NotRead how name files faults faults'
+
+-- an image was put, or why it was not
+abbrev pub AssembledShows : Outcome → List ℕ → Contents → Option Files → Option Files → ℕ → ℕ → Type 0
+AssembledShows outcome.Done name image files files' faults faults' = IsImagePut name image files files'
+AssembledShows how name image files files' faults faults' = NotPut how name (image_bytes image) files files' faults faults'
+
+-- asm: the text was refused and no file changed, or the file has the text of an image, and this image was put
+abbrev pub AsmShows : Outcome → List ℕ → List ℕ → Option Files → ℕ → Option Files → ℕ → Type 0
+AsmShows how file name files faults files' faults' =
+    (NotAssembled how file files faults faults' × (files' ≡ files))
+    ⊎ ((image : Contents) × IsFound files file (λ bytes. bytes ≡ asm_text image)
+    × ((between : ℕ) × (faults ≤ between) × AssembledShows how name image files files' between faults'))
+
 -- what the command that the words are shows of the outcome
 abbrev pub CommandShows : Option Meant → Outcome → World → World → Type 0
 CommandShows None how before after = (how ≡ outcome.Usage) × IsUntouched before after
@@ -95,6 +132,12 @@ CommandShows (Some (command.print file)) how before after =
     (after.streams.left ≡ before.streams.left)
     × PrintedShows how file before.files before.store_faults before.streams.written before.streams.write_faults
     after.files after.store_faults after.streams.written after.streams.write_faults
+CommandShows (Some (command.list image)) how before after =
+    (after.streams.left ≡ before.streams.left)
+    × ListShows how image before.files before.store_faults before.streams.written before.streams.write_faults
+    after.files after.store_faults after.streams.written after.streams.write_faults
+CommandShows (Some (command.asm file image)) how before after =
+    IsUnrun before.streams after.streams × AsmShows how file image before.files before.store_faults after.files after.store_faults
 CommandShows (Some _) how before after = (how ≡ outcome.NotYet) × IsUntouched before after
 
 -- the same, or memory for reading the words was refused
@@ -105,4 +148,4 @@ CluShows meant how before after = ((how ≡ outcome.Memory) × IsUntouched befor
 abbrev pub IsRefusal : ℕ → Type 0
 IsRefusal status =
     (status ≡ 2) ⊎ ((status ≡ 10) ⊎ ((status ≡ 11) ⊎ ((status ≡ 14) ⊎ ((status ≡ 16) ⊎ ((status ≡ 17) ⊎ ((status ≡ 18) ⊎ ((status ≡ 20)
-    ⊎ ((status ≡ 21) ⊎ ((status ≡ 24) ⊎ ((status ≡ 25) ⊎ ((status ≡ 26) ⊎ (status ≡ 27))))))))))))
+    ⊎ ((status ≡ 21) ⊎ ((status ≡ 24) ⊎ ((status ≡ 25) ⊎ ((status ≡ 26) ⊎ ((status ≡ 27) ⊎ (status ≡ 30)))))))))))))

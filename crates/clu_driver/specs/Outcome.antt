@@ -37,6 +37,7 @@ status_of (outcome.FileFault d) = 24
 status_of outcome.Memory = 25
 status_of (outcome.SourceTooLarge n) = 26
 status_of outcome.NotYet = 27
+status_of (outcome.AsmBad d) = 30
 
 -- what the line says first
 unfoldable pub text_of : Outcome → List ℕ
@@ -64,6 +65,7 @@ text_of (outcome.FileFault d) = codes "file fault: "
 text_of outcome.Memory = codes "out of memory"
 text_of (outcome.SourceTooLarge n) = codes "source too large: "
 text_of outcome.NotYet = codes "not yet"
+text_of (outcome.AsmBad d) = codes "asm bad at "
 
 -- the sixteen hexadecimal digits of an address
 abbrev pub hexadecimal_of : ℕ → List ℕ
@@ -99,6 +101,7 @@ detail_of (outcome.NoModule n) = n.now
 detail_of (outcome.BadStart n) = n.now
 detail_of (outcome.SourceTooLarge n) = n.now
 detail_of (outcome.ImageBad d) = decimal d
+detail_of (outcome.AsmBad d) = decimal d
 detail_of (outcome.FileFault d) = d.now
 detail_of _ = []
 

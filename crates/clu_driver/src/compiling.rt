@@ -115,8 +115,8 @@ fn built<'a>(
     image_of_modules(alloc, Text { bytes, tokens }, c)
 }
 
-// Puts the image under its name.
-fn put_image<'a, F: Store>(
+/// Puts the image under its name. The outcomes are `FileFault` and `Memory`.
+pub fn put_image<'a, F: Store>(
     alloc: Global,
     name: &'a str,
     image: &Image,

@@ -38,8 +38,12 @@ pub fn exec<S: Source, K: Sink, E: Sink, F: Store>(
     }
 }
 
-// The image of the file.
-fn loaded<'a, F: Store>(alloc: Global, name: &'a str, files: &mut F) -> Result<Image, Outcome<'a>>
+/// The image of the file. The outcomes are `NoFile`, `FileFault`, `ImageBad` and `Memory`.
+pub fn loaded<'a, F: Store>(
+    alloc: Global,
+    name: &'a str,
+    files: &mut F,
+) -> Result<Image, Outcome<'a>>
     ensures counts { F.faults files.old ≤ F.faults files.new }
     ensures kept { F.files files.new ≡ F.files files.old }
     ensures found { IfOk result (λ image. IsFound (F.files files.old) name.now (λ bytes. IsFileOf bytes image)) }

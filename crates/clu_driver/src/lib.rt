@@ -2,6 +2,7 @@
 //! files, and the status with which it ends.
 #![tactic(auto)]
 
+mod assembling;
 mod build_error;
 mod building;
 mod checking;
@@ -10,6 +11,7 @@ mod entering;
 mod executing;
 mod file;
 mod generating;
+mod listing;
 mod outcome;
 mod printing;
 mod running;

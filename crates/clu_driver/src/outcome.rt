@@ -60,6 +60,8 @@ pub enum Outcome<'a> {
     SourceTooLarge(&'a str),
     /// What this program cannot do yet.
     NotYet,
+    /// The file is no assembly text; the number is the offset of the fault.
+    AsmBad(u64),
 }
 
 impl Outcome<'_> {
@@ -92,6 +94,7 @@ impl Outcome<'_> {
             Outcome::Memory => 25,
             Outcome::SourceTooLarge(_) => 26,
             Outcome::NotYet => 27,
+            Outcome::AsmBad(_) => 30,
         }
     }
 
@@ -124,6 +127,7 @@ impl Outcome<'_> {
             Outcome::Memory => "out of memory",
             Outcome::SourceTooLarge(_) => "source too large: ",
             Outcome::NotYet => "not yet",
+            Outcome::AsmBad(_) => "asm bad at ",
         }
     }
 
@@ -267,7 +271,9 @@ fn write_detail<E: Sink>(errors: &mut E, outcome: &Outcome<'_>) -> Result<(), Fa
         Outcome::BadInstruction(at) | Outcome::BadAccess(at) | Outcome::BadJump(at) => {
             write_hexadecimal(errors, *at)
         }
-        Outcome::BadEcall(n) | Outcome::ImageBad(n) => write_decimal(errors, *n),
+        Outcome::BadEcall(n) | Outcome::ImageBad(n) | Outcome::AsmBad(n) => write_decimal(
+            errors, *n,
+        ),
         Outcome::Done
         | Outcome::Usage
         | Outcome::StoreFull

@@ -49,8 +49,8 @@ fn printed_text<'a, F: Store>(
     }
 }
 
-// Writes a text to the output and reports how that ended.
-fn write_text<K: Sink, E: Sink>(text: &[u8], output: &mut K, errors: &mut E) -> u8
+/// Writes a text to the output and reports how that ended.
+pub fn write_text<K: Sink, E: Sink>(text: &[u8], output: &mut K, errors: &mut E) -> u8
     ensures told { Reported (λ how. TextShows how text.now (K.written output.old) (K.faults output.old) (K.written output.new) (K.faults output.new))
         result (E.written errors.old) (E.written errors.new) (E.faults errors.old) (E.faults errors.new) }
 {

@@ -7,9 +7,11 @@ ghost use Rattle.clu_driver.specs.Commands.{CluShows, CommandShows, IsRefusal};
 ghost use Rattle.clu_driver.specs.Shows.{Reported};
 ghost use Rattle.clu_driver.specs.World.{streams_of, world_of};
 
+use crate::assembling::assemble;
 use crate::compiling::go;
 use crate::executing::exec;
 use crate::generating::generate;
+use crate::listing::list;
 use crate::outcome::{Outcome, report};
 use crate::printing::print;
 use clu_base::{Sink, Source, Store};
@@ -90,6 +92,8 @@ fn run_command<S: Source, K: Sink, E: Sink, F: Store>(
             exec(alloc, image, limits, input, output, errors, files)
         }
         Command::Print { file } => print(alloc, file, output, errors, files),
+        Command::List { image } => list(alloc, image, output, errors, files),
+        Command::Asm { file, image } => assemble(alloc, file, image, errors, files),
         Command::Gen { procedures } => generate(procedures, output, errors),
         Command::Spec {
             library: _,
@@ -114,8 +118,6 @@ fn run_command<S: Source, K: Sink, E: Sink, F: Store>(
             program: _,
             limits: _,
         }
-        | Command::List { image: _ }
-        | Command::Asm { file: _, image: _ }
         | Command::Xref { library: _ } => report(errors, &Outcome::NotYet),
     }
 }

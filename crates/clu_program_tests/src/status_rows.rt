@@ -80,7 +80,7 @@ pub const EXEC_STATUSES: &str = "\
 ";
 
 /// How many rows `OTHER_STATUSES` has.
-pub const OTHER_COUNT: usize = 41;
+pub const OTHER_COUNT: usize = 53;
 
 /// Rows of the other commands, and of words that are none, in the same form.
 pub const OTHER_STATUSES: &str = "\
@@ -108,8 +108,23 @@ pub const OTHER_STATUSES: &str = "\
     compile a c\t\t\t27\t\tnot yet\n\tstart_up = proc () @\"hi\") end start_up\0\
     link a c d\t\t\t27\t\tnot yet\n\tstart_up = proc () @\"hi\") end start_up\0\
     run a c\t\t\t27\t\tnot yet\n\tstart_up = proc () @\"hi\") end start_up\0\
-    list a\t\t\t27\t\tnot yet\n\tstart_up = proc () @\"hi\") end start_up\0\
-    asm a c\t\t\t27\t\tnot yet\n\tstart_up = proc () @\"hi\") end start_up\0\
+    list a\t\t\t0\tentry 0\naddi x17,x0,4\nlui x10,65536\naddi x10,x10,32\naddi x11,x0,3\necall\naddi \
+    x17,x0,0\necall\ndata 68690a0000000000\n\t\t0x 43 4c 55 49 01 00 00 00 00 00 00 00 07 00 00 00 08 00 00 00 93 08 40 00 37 05 \
+    01 00 13 05 05 02 93 05 30 00 73 00 00 00 93 08 00 00 73 00 00 00 68 69 0a 00 00 00 00 00\0\
+    list a\t\t\t0\tentry 0\nword 00000000\n\t\t0x 43 4c 55 49 01 00 00 00 00 00 00 00 01 00 00 00 00 00 00 00 00 00 00 00\0\
+    list c\t\t\t10\t\tno file: c\n\tCLU\0\
+    list a\t\t\t20\t\timage bad at 0\n\tCLU\0\
+    list a\t\twrite\t23\t\twrite fault\n\t0x 43 4c 55 49 01 00 00 00 00 00 00 00 01 00 00 00 00 00 00 00 00 00 00 00\0\
+    list a\t\tget\t24\t\tfile fault: a\n\tCLU\0\
+    asm a b\t\t\t0\t\t\tentry 0\naddi x17,x0,4\nlui x10,65536\naddi x10,x10,32\naddi x11,x0,3\necall\naddi \
+    x17,x0,0\necall\ndata 68690a0000000000\n\0\
+    asm c b\t\t\t10\t\tno file: c\n\tentry 0\necall\n\0\
+    asm a b\t\tget\t24\t\tfile fault: a\n\tentry 0\n\0\
+    asm a b\t\tput\t24\t\tfile fault: b\n\tentry 0\necall\n\0\
+    asm a b\t\tput\t30\t\tasm bad at 0\n\tecall\n\0\
+    asm a b\t\t\t30\t\tasm bad at 14\n\tentry 0\necall\nx\n\0\
+    asm a b\t\t\t30\t\tasm bad at 15\n\tentry 0\necall\nx\0\
+    asm a b\t\twrite\t0\t\t\tentry 0\necall\n\0\
     xref a\t\t\t27\t\tnot yet\n\tstart_up = proc () @\"hi\") end start_up\0\
     go a\t\t\t2\t\tusage: clu go|spec|replace|compile|link|run|exec|gen|list|asm|print|xref\n\tstart_up = proc () \
     @\"hi\") end start_up\0\
