@@ -1,7 +1,7 @@
 //! Uses of names, each with the place of its declaration.
 
 /// How many rows `ROWS` has besides comments.
-pub const COUNT: usize = 52;
+pub const COUNT: usize = 61;
 
 /// Rows that each end with byte 0: items `LINE:COL:NAME=LINE:COL` with commas between them, the place of the node that has
 /// a name and that of the node that declares it (`-` for none), and after a blank the source. A row that begins with `%`
@@ -92,4 +92,18 @@ pub const ROWS: &str = "\
     1:41:q=1:1 q = proc [t: type] () end q p = proc () q[int]() end p\0\
     % Letters of either case are the same.\0\
     1:20:x=1:13,1:27:x=1:13 p = proc () X: int x := 1 X := 2 end p\0\
+    % What was found wrong once.\0\
+    2:14:c=1:1 c = cluster is m rep = int m = proc () end m end c\np = proc (c: c) end p\nstart_up = proc () end \
+    start_up\0\
+    3:19:c=1:1,3:30:c=3:13 c = cluster is m\n  rep = int\n  m = proc (c, d: c, e: int) c := 1 end m\nend c\0\
+    2:24:c=1:1,2:36:c=1:1,2:40:c=2:11 c = cluster is m rep = int m = proc () end m end c\np = proc (c: proctype \
+    (c) returns (c)) c := 1 end p\0\
+    2:18:rep=- c = cluster is m\n  m = proc () x: rep end m\nend c\0\
+    2:14:c=1:1,2:16:b=2:11 c = cluster [x: int] is n rep = int n = proc () end n end c\np = proc [b: c[b]] () \
+    end p\0\
+    1:16:b=1:20,1:38:b=1:20 p = proc (x: c[b]) b = {u | u has f: b k = {b | b has g: proctype ()}} b = a end p\0\
+    1:20:q=1:73,1:61:v=1:13 p = proc () v: int q() except others (v: string): w: int := v end end p q = proc () \
+    end q\0\
+    1:17:stream=- p = proc () s = {t | stream has f: int} end p\0\
+    1:24:a=1:27 p = proc () end p e = (a) a = cluster is d rep = int d = proc () end d end a a = proc () end a\0\
 ";
