@@ -14,7 +14,8 @@ use clu_base::{Bytes, Memory};
 use clu_types::{Demand, Form, OpSpec, ParamKind, Spec};
 use std::alloc::Global;
 
-/// The text of a specification, by the grammar in docs/formats.md. The only error is that memory runs out.
+/// The text of a specification, by the grammar in docs/formats.md. The only error is that memory runs out, or that the
+/// text has more than 2^22 pieces.
 pub fn spec_text(alloc: Global, s: &Spec) -> Result<Bytes, Memory>
     requires { SpecHolds s.now }
     ensures { IfOk result (λ text. text ≡ spec_text (seen s.now)) }

@@ -1,5 +1,4 @@
-//! Types as texts, written by a loop over a stack of pieces. The only error is that memory runs out; a text of more
-//! than 2^22 pieces is refused like one that no memory holds.
+//! Types as texts, written by a loop over a stack of pieces.
 
 ghost use Rattle.std.specs.Prelude.{◌≡◌, ◌<◌, ◌++◌, [], length, IfOk, OnOk, IsTrue};
 ghost use Rattle.clu_types.specs.Arena.{type_at, types_of};
@@ -16,10 +15,12 @@ use clu_types::{TypeArena, TypeId};
 use std::alloc::Global;
 
 /// The most pieces that a text is written of. A type that shares its parts is small, and its text can double with
-/// each level: one that has more pieces is refused, before it takes the memory of the machine.
+/// each level: one that has more pieces is refused like one that no memory holds, before it takes the memory of the
+/// machine.
 const MOST_PIECES: u64 = 4_194_304;
 
-/// The text of a type, by the grammar in docs/formats.md. The only error is that memory runs out.
+/// The text of a type, by the grammar in docs/formats.md. The only error is that memory runs out, or that the text has
+/// more than [`MOST_PIECES`].
 pub fn type_text(alloc: Global, types: &TypeArena, t: TypeId) -> Result<Bytes, Memory>
     requires { t.0 < length types.now }
     ensures { IfOk result (λ text. text ≡ type_text (type_at (types_of types.now) t)) }

@@ -14,7 +14,8 @@ use clu_base::{Bytes, Memory};
 use clu_types::TypeArena;
 use std::alloc::Global;
 
-/// The text of a use, by the grammar in docs/formats.md. The only error is that memory runs out.
+/// The text of a use, by the grammar in docs/formats.md. The only error is that memory runs out, or that the text has
+/// more than 2^22 pieces.
 pub fn use_text(alloc: Global, types: &TypeArena, u: &Target) -> Result<Bytes, Memory>
     requires { TargetBelow (length types.now) u.now }
     ensures { IfOk result (λ text. text ≡ use_text (target_seen (types_of types.now) u.now)) }
