@@ -1,3 +1,5 @@
+pub mod Classes
 pub mod Downward
 pub mod Enough
+pub mod Items
 pub mod Unique

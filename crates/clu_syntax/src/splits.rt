@@ -172,8 +172,11 @@ pub fn type_of(tree: &Tree, children: &[u32]) -> Option<u32>
 pub fn after_option(taken: Option<u32>, children: &[u32]) -> &[u32]
     ensures { result.now ≡ after_option taken children.now }
 {
-    match (taken, children) {
-        (Some(_), [_, rest @ ..]) => rest,
-        _ => children,
+    match taken {
+        None => children,
+        Some(_) => match children {
+            [] => children,
+            [_, rest @ ..] => rest,
+        },
     }
 }
