@@ -2,4 +2,5 @@ pub mod Classes
 pub mod Downward
 pub mod Enough
 pub mod Items
+pub mod Slots
 pub mod Unique

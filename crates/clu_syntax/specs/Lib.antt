@@ -5,6 +5,7 @@ pub mod Kinds
 pub mod Nodes
 pub mod Roles
 pub mod Rounds
+pub mod Slots
 pub mod Splits
 pub mod Syntax
 pub mod Views
