@@ -1,5 +1,5 @@
 -- Which nodes stand first in a Declare and last in a Module.
-use Rattle.std.proofs.Common.{◌≡◌, ◌∙◌, ◌⊎◌, ℕ, zero, suc, ◌+◌, ◌-◌, Bool, true, false, ◌&&◌, List, [], ◌∷◌, ◌++◌, length, get_or, Option, Some, None, slice_get, refl, ap, sym, subst, inl, inr, rules, arith}
+use Rattle.std.proofs.Common.{◌≡◌, ◌∙◌, ◌⊎◌, ℕ, zero, suc, ◌+◌, ◌-◌, Bool, true, false, ◌&&◌, List, [], ◌∷◌, ◌++◌, length, get_or, Option, Some, None, slice_get, append_assoc, refl, ap, sym, subst, inl, inr, rules, arith}
 use Rattle.clu_tree.specs.declared.node.Node.{Node}
 use Rattle.clu_tree.specs.declared.node.NodeKind.{NodeKind}
 use Rattle.clu_tree.specs.declared.node.NodeKind.TheVariants as k
@@ -31,7 +31,7 @@ is_plain (many g ∷ ps) = false
 is_plain (maybe g ∷ ps) = false
 
 -- the child with which a form ends, if no group stands after it
-last_with : Bool → Child → Option Child → Option Child
+abbrev last_with : Bool → Child → Option Child → Option Child
 last_with true c later = Some c
 last_with false c later = later
 
@@ -83,29 +83,31 @@ later : (c : Child) (v w u : List Letter) → u ≡ v ++ w → EndsWith c (kinds
 later c v w u e h = record {
   before = kinds_in v ++ h.before;
   kind = h.kind;
-  is = ap kinds_in e ∙ kinds_append v w ∙ rw h.is (grind (arith, sym (kinds_append v w)));
+  is = ap kinds_in e ∙ kinds_append v w ∙ rw h.is (sym (append_assoc (kinds_in v) h.before (h.kind ∷ [])));
   fits = h.fits;
 }
 
 after_kind : (c : Child) (kind : NodeKind) (kinds : List NodeKind) → EndsWith c kinds → EndsWith c (kind ∷ kinds)
 after_kind c kind kinds h = record { before = kind ∷ h.before; kind = h.kind; is = ap (λ ks. kind ∷ ks) h.is; fits = h.fits }
 
-mutual
-  ends : (c : Child) (form : List Part) (w : List Letter) → IsWord form w → last_in form ≡ Some c → EndsWith c (kinds_in w)
-  unfolding last_in
-  ends c _ _ nothing e = absurd (cc)
-  ends c _ _ (token_is x ps w d) e = ends c ps w d e
-  ends c _ _ (name_is ps w d) e = ends c ps w d e
-  ends c _ _ (value_is xs x ps w h d) e = ends c ps w d e
-  ends c _ _ (child_is b kind ps w h d) e = ends_at c b kind ps w h d (is_plain ps) refl e
-  ends c _ _ (no_more g ps w d) e = ends c ps w d e
-  ends c _ _ (one_more g ps v w u dv dw same) e = later c v w u same (ends c (many g ∷ ps) w dw e)
-  ends c _ _ (without g ps w d) e = ends c ps w d e
-  ends c _ _ (with_one g ps v w u dv dw same) e = later c v w u same (ends c ps w dw e)
+before_end : (c b : Child) (kind : NodeKind) (ps : List Part) (w : List Letter) → is_child b kind ≡ true → IsWord ps w → last_with (is_plain ps) b (last_in ps) ≡ Some c → (last_in ps ≡ Some c → EndsWith c (kinds_in w)) → EndsWith c (kind ∷ kinds_in w)
+before_end c b kind ps w h d e more = at (is_plain ps) refl e
+  where
+    at : (plain : Bool) → is_plain ps ≡ plain → last_with plain b (last_in ps) ≡ Some c → EndsWith c (kind ∷ kinds_in w)
+    at true p e = record { before = []; kind = kind; is = ap (λ ks. kind ∷ ks) (plain_none ps w d p); fits = subst (λ (a : Child). is_child a kind ≡ true) (same_some b c e) h }
+    at false p e = after_kind c kind (kinds_in w) (more e)
 
-  ends_at : (c b : Child) (kind : NodeKind) (ps : List Part) (w : List Letter) → is_child b kind ≡ true → IsWord ps w → (plain : Bool) → is_plain ps ≡ plain → last_with plain b (last_in ps) ≡ Some c → EndsWith c (kind ∷ kinds_in w)
-  ends_at c b kind ps w h d true p e = record { before = []; kind = kind; is = ap (λ ks. kind ∷ ks) (plain_none ps w d p); fits = subst (λ (a : Child). is_child a kind ≡ true) (same_some b c e) h }
-  ends_at c b kind ps w h d false p e = after_kind c kind (kinds_in w) (ends c ps w d e)
+ends : (c : Child) (form : List Part) (w : List Letter) → IsWord form w → last_in form ≡ Some c → EndsWith c (kinds_in w)
+unfolding last_in
+ends c _ _ nothing e = absurd (cc)
+ends c _ _ (token_is x ps w d) e = ends c ps w d e
+ends c _ _ (name_is ps w d) e = ends c ps w d e
+ends c _ _ (value_is xs x ps w h d) e = ends c ps w d e
+ends c _ _ (child_is b kind ps w h d) e = before_end c b kind ps w h d e (ends c ps w d)
+ends c _ _ (no_more g ps w d) e = ends c ps w d e
+ends c _ _ (one_more g ps v w u dv dw same) e = later c v w u same (ends c (many g ∷ ps) w dw e)
+ends c _ _ (without g ps w d) e = ends c ps w d e
+ends c _ _ (with_one g ps v w u dv dw same) e = later c v w u same (ends c ps w dw e)
 
 kind_from : (nodes : List Node) (c : ℕ) (n : Node) (kind : NodeKind) → slice_get nodes c ≡ Some n → n.kind ≡ kind → kind_at nodes c ≡ kind
 kind_from nodes c n kind there is = ap kind_of there ∙ is
@@ -121,7 +123,9 @@ last_at nodes (c ∷ []) [] kind h = kind_from nodes c h.0 kind h.1 h.2
 last_at nodes (c ∷ d ∷ cs) [] kind h = absurd h.3
 last_at nodes (c ∷ []) (b ∷ []) kind h = absurd h.3
 last_at nodes (c ∷ []) (b ∷ a ∷ before) kind h = absurd h.3
-last_at nodes (c ∷ d ∷ cs) (b ∷ before) kind h = last_at nodes (d ∷ cs) before kind h.3
+last_at nodes (c ∷ d ∷ cs) (b ∷ before) kind h =
+    let e : length (c ∷ d ∷ cs) - 1 ≡ suc (length (d ∷ cs) - 1) = omega arith in
+    ap (λ (i : ℕ). kind_at nodes (get_or (c ∷ d ∷ cs) i 0)) e ∙ last_at nodes (d ∷ cs) before kind h.3
 
 same_kind : (a b : NodeKind) → sameb kind_type a b ≡ true → a ≡ b
 same_kind a b h = same_true kind_type (search rules) a b h

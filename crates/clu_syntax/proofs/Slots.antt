@@ -132,19 +132,19 @@ module _ (base : List Slot) where
     is : reads n kinds ≡ Some to
     among : mem to ns ≡ true
 
-  reads_append : (n m : ℕ) (as bs : List NodeKind) → reads n as ≡ Some m → reads n (as ++ bs) ≡ reads m bs
+  reads_append : (n m : ℕ) (ks bs : List NodeKind) → reads n ks ≡ Some m → reads n (ks ++ bs) ≡ reads m bs
   unfolding reads
   reads_append n m [] bs h = let e : n ≡ m = cc in ap (λ x. reads x bs) e
-  reads_append n m (a ∷ as) bs h =
-      let step = bound (after_from n (drop n base) a) (λ x. reads x as) m h in
-      rw step.1 (reads_append step.0 m as bs step.2)
+  reads_append n m (a ∷ ks) bs h =
+      let step = bound (after_from n (drop n base) a) (λ x. reads x ks) m h in
+      rw step.1 (reads_append step.0 m ks bs step.2)
 
   one_target : (c : Child) (n : ℕ) (kinds : List NodeKind) (ms : List ℕ) (kind : NodeKind) → targets_of c n kinds ≡ Some ms → has_kind kind kinds ≡ true → is_child c kind ≡ true → (m : ℕ) × (after_from n (drop n base) kind ≡ Some m) × (mem m ms ≡ true)
   unfolding targets_of has_kind
   one_target c n [] ms kind t has is = absurd (cc)
   one_target c n (it ∷ kinds) ms kind t has is = elim (true_or_false (is_child c it)) [
-    | inl own ↦
-      let taken : option_and_then (λ m. option_and_then (λ ns. Some (add m ns)) (targets_of c n kinds)) (after_from n (drop n base) it) ≡ Some ms = rw own at t in
+    | inl fits ↦
+      let taken : option_and_then (λ m. option_and_then (λ ns. Some (add m ns)) (targets_of c n kinds)) (after_from n (drop n base) it) ≡ Some ms = rw fits at t in
       let first = bound (after_from n (drop n base) it) (λ m. option_and_then (λ ns. Some (add m ns)) (targets_of c n kinds)) ms taken in
       let rest = bound (targets_of c n kinds) (λ ns. Some (add first.0 ns)) ms first.2 in
       let all : add first.0 rest.0 ≡ ms = cc in
@@ -173,17 +173,17 @@ module _ (base : List Slot) where
       let all : join first.0 rest.0 ≡ ms = cc in
       elim (mem_cases n x ns h) [
         | inl e ↦
-          let own = one_target c x all_kinds first.0 kind first.1 (each_kind kind) is in
-          (own.0, subst (λ (y : ℕ). after_from y (drop y base) kind ≡ Some own.0) e own.1, subst (λ (ys : List ℕ). mem own.0 ys ≡ true) all (join_left own.0 first.0 rest.0 own.2))
+          let mine = one_target c x all_kinds first.0 kind first.1 (each_kind kind) is in
+          (mine.0, subst (λ (y : ℕ). after_from y (drop y base) kind ≡ Some mine.0) e mine.1, subst (λ (ys : List ℕ). mem mine.0 ys ≡ true) all (join_left mine.0 first.0 rest.0 mine.2))
         | inr later ↦
           let found = some_target c ns rest.0 n kind rest.1 later is in
           (found.0, found.1, subst (λ (ys : List ℕ). mem found.0 ys ≡ true) all (join_right found.0 first.0 rest.0 found.2))
       ]
 
-  leads_then : (n : ℕ) (as bs cs : List NodeKind) (ns ms : List ℕ) → cs ≡ as ++ bs → (first : Leads n as ns) → Leads first.to bs ms → Leads n cs ms
-  leads_then n as bs cs ns ms e first next = record {
+  leads_then : (n : ℕ) (ks bs cs : List NodeKind) (ns ms : List ℕ) → cs ≡ ks ++ bs → (first : Leads n ks ns) → Leads first.to bs ms → Leads n cs ms
+  leads_then n ks bs cs ns ms e first next = record {
     to = next.to;
-    is = ap (reads n) e ∙ reads_append n first.to as bs first.is ∙ next.is;
+    is = ap (reads n) e ∙ reads_append n first.to ks bs first.is ∙ next.is;
     among = next.among;
   }
 
@@ -192,7 +192,8 @@ module _ (base : List Slot) where
 
   -- a group that repeats stays among some numbers
   record Closed (steps : ℕ) (g : Group) (ps : List Part) (ns ms : List ℕ) : Type 0 where
-    all again : List ℕ
+    all : List ℕ
+    again : List ℕ
     own : (n : ℕ) → mem n ns ≡ true → mem n all ≡ true
     reads_again : post steps (parts_of g) all ≡ Some again
     stays : within again all ≡ true
@@ -287,12 +288,17 @@ module _ (base : List Slot) where
   after_same n (one p ∷ ss) kind e = elim (true_or_false (p kind)) [ inl y ↦ rw y (ap Some (sym (drop_next n base (one p) ss e))) | inr y ↦ rw y refl ]
   after_same n (any p ∷ ss) kind e = elim (true_or_false (p kind)) [ inl y ↦ rw y (ap Some (sym e)) | inr y ↦ rw y (after_same (suc n) ss kind (drop_next n base (any p) ss e)) ]
 
+  fit_some : (ss rest : List Slot) (kind : NodeKind) (kinds : List NodeKind) → after ss kind ≡ Some rest → fit ss (kind ∷ kinds) ≡ fit rest kinds
+  unfolding fit
+  fit_some ss rest kind kinds e = ap (λ (o : Option (List Slot)). elim o [ None ↦ false | Some more ↦ fit more kinds ]) e
+
   fit_reads : (kinds : List NodeKind) (n m : ℕ) → reads n kinds ≡ Some m → may_end (drop m base) ≡ true → fit (drop n base) kinds ≡ true
   unfolding reads fit
   fit_reads [] n m r e = let same : n ≡ m = cc in subst (λ (x : ℕ). may_end (drop x base) ≡ true) (sym same) e
   fit_reads (kind ∷ kinds) n m r e =
       let step = bound (after_from n (drop n base) kind) (λ x. reads x kinds) m r in
-      rw (after_same n (drop n base) kind refl, step.1) (fit_reads kinds step.0 m step.2 e)
+      fit_some (drop n base) (drop step.0 base) kind kinds (after_same n (drop n base) kind refl ∙ ap (option_map (λ x. drop x base)) step.1)
+      ∙ fit_reads kinds step.0 m step.2 e
 
   -- all of these numbers may be the end
   all_end : List ℕ → Bool

@@ -3,6 +3,7 @@ pub mod Enough
 pub mod Items
 pub mod Kinds
 pub mod Nodes
+pub mod Parts
 pub mod Roles
 pub mod Rounds
 pub mod Slots

@@ -13,7 +13,7 @@ use crate::kinds::is_type;
 use crate::splits::{child, leading_types, name_at, parts, run};
 use crate::words::{
     FieldsType, ListType, Literal, Operator, RoutineKind, Sign, SimpleType, fields_type,
-    infix_operator, list_type, literal, routine_kind, sign, simple_type,
+    infix_operator, list_type, literal_in, prefix_operator, routine_kind, simple_type,
 };
 use clu_base::Bytes;
 use clu_tree::{Node, NodeKind, Tree};
@@ -134,13 +134,13 @@ pub fn expression_in<'a>(tree: &'a Tree, node: &'a Node) -> Expression<'a>
             right: child(node, 1),
         },
         NodeKind::Prefix => Expression::Prefix {
-            sign: sign(value),
+            sign: prefix_operator(value),
             operand: child(node, 0),
         },
         NodeKind::Paren => Expression::Paren {
             inside: child(node, 0),
         },
-        NodeKind::Literal => Expression::Literal(literal(value)),
+        NodeKind::Literal => Expression::Literal(literal_in(value)),
         NodeKind::Name => Expression::Name(name_at(names, 0)),
         NodeKind::Index => Expression::Index {
             of: child(node, 0),
