@@ -19,12 +19,7 @@ fn is_use(kind: NodeKind) -> bool {
 
 /// Whether a name denotes a module other than the one at the nodes from `first` to `module`: a name that denotes no
 /// declaration of an accepted file is a kept module's, or `stream`.
-fn is_other_module(
-    declared: &[Declared],
-    denotes: Option<usize>,
-    first: u32,
-    module: u32,
-) -> bool {
+fn is_other_module(declared: &[Declared], denotes: Option<usize>, first: u32, module: u32) -> bool {
     let Some(at) = denotes else {
         return true;
     };

@@ -167,13 +167,7 @@ fn mark_word(begins: &mut Vec<Option<u32>>, symbols: &[Symbol], at: usize, inden
 
 /// Where the words begin lines that stand directly in a node, from one token up to another.
 #[tactic(auto, unfolding(crate::specs::Lines::with_words))]
-fn mark_words(
-    begins: &mut Vec<Option<u32>>,
-    symbols: &[Symbol],
-    from: u32,
-    to: u32,
-    indent: u32,
-)
+fn mark_words(begins: &mut Vec<Option<u32>>, symbols: &[Symbol], from: u32, to: u32, indent: u32)
     ensures { begins.new.items ≡ with_words symbols.now indent (to - from) from begins.old.items }
 {
     for at in from..to {

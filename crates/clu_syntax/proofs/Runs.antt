@@ -31,8 +31,8 @@ unfolding leading
 leading_kinds nodes kind [] = All-nil (λ c. kind_at nodes c ≡ kind)
 leading_kinds nodes kind (c ∷ cs) = elim (true_or_false (is_of kind (kind_at nodes c))) [
   | inl e ↦
-    let same : kind_at nodes c ≡ kind = same_true kind_type (search rules) (kind_at nodes c) kind e in
-    rw (e, take_more (leading nodes kind cs) c cs) (All-cons (λ c. kind_at nodes c ≡ kind) c (take (leading nodes kind cs) cs) same (leading_kinds nodes kind cs))
+      let same : kind_at nodes c ≡ kind = same_true kind_type (search rules) (kind_at nodes c) kind e in
+      rw (e, take_more (leading nodes kind cs) c cs) (All-cons (λ c. kind_at nodes c ≡ kind) c (take (leading nodes kind cs) cs) same (leading_kinds nodes kind cs))
   | inr e ↦ rw e (All-nil (λ c. kind_at nodes c ≡ kind))
 ]
 

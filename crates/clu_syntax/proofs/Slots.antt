@@ -144,24 +144,24 @@ module _ (base : List Slot) where
   one_target c n [] ms kind t has is = absurd (cc)
   one_target c n (it ∷ kinds) ms kind t has is = elim (true_or_false (is_child c it)) [
     | inl fits ↦
-      let taken : option_and_then (λ m. option_and_then (λ ns. Some (add m ns)) (targets_of c n kinds)) (after_from n (drop n base) it) ≡ Some ms = rw fits at t in
-      let first = bound (after_from n (drop n base) it) (λ m. option_and_then (λ ns. Some (add m ns)) (targets_of c n kinds)) ms taken in
-      let rest = bound (targets_of c n kinds) (λ ns. Some (add first.0 ns)) ms first.2 in
-      let all : add first.0 rest.0 ≡ ms = cc in
-      elim (true_or_false (sameb kind_type it kind)) [
-        | inl same ↦
-          let e : it ≡ kind = same_true kind_type (search rules) it kind same in
-          (first.0, subst (λ (x : NodeKind). after_from n (drop n base) x ≡ Some first.0) e first.1, subst (λ (xs : List ℕ). mem first.0 xs ≡ true) all (add_own first.0 rest.0))
-        | inr other ↦
-          let found = one_target c n kinds rest.0 kind rest.1 (rw other at has) is in
-          (found.0, found.1, subst (λ (xs : List ℕ). mem found.0 xs ≡ true) all (add_kept found.0 first.0 rest.0 found.2))
-      ]
+        let taken : option_and_then (λ m. option_and_then (λ ns. Some (add m ns)) (targets_of c n kinds)) (after_from n (drop n base) it) ≡ Some ms = rw fits at t in
+        let first = bound (after_from n (drop n base) it) (λ m. option_and_then (λ ns. Some (add m ns)) (targets_of c n kinds)) ms taken in
+        let rest = bound (targets_of c n kinds) (λ ns. Some (add first.0 ns)) ms first.2 in
+        let all : add first.0 rest.0 ≡ ms = cc in
+        elim (true_or_false (sameb kind_type it kind)) [
+          | inl same ↦
+              let e : it ≡ kind = same_true kind_type (search rules) it kind same in
+              (first.0, subst (λ (x : NodeKind). after_from n (drop n base) x ≡ Some first.0) e first.1, subst (λ (xs : List ℕ). mem first.0 xs ≡ true) all (add_own first.0 rest.0))
+          | inr other ↦
+              let found = one_target c n kinds rest.0 kind rest.1 (rw other at has) is in
+              (found.0, found.1, subst (λ (xs : List ℕ). mem found.0 xs ≡ true) all (add_kept found.0 first.0 rest.0 found.2))
+        ]
     | inr none ↦ elim (true_or_false (sameb kind_type it kind)) [
-        | inl same ↦
+      | inl same ↦
           let e : it ≡ kind = same_true kind_type (search rules) it kind same in
           absurd (let both : is_child c it ≡ true = subst (λ (x : NodeKind). is_child c x ≡ true) (sym e) is in cc)
-        | inr other ↦ one_target c n kinds ms kind (rw none at t) (rw other at has) is
-      ]
+      | inr other ↦ one_target c n kinds ms kind (rw none at t) (rw other at has) is
+    ]
   ]
 
   some_target : (c : Child) (ns ms : List ℕ) (n : ℕ) (kind : NodeKind) → targets c ns ≡ Some ms → mem n ns ≡ true → is_child c kind ≡ true → (m : ℕ) × (after_from n (drop n base) kind ≡ Some m) × (mem m ms ≡ true)
@@ -173,11 +173,11 @@ module _ (base : List Slot) where
       let all : join first.0 rest.0 ≡ ms = cc in
       elim (mem_cases n x ns h) [
         | inl e ↦
-          let mine = one_target c x all_kinds first.0 kind first.1 (each_kind kind) is in
-          (mine.0, subst (λ (y : ℕ). after_from y (drop y base) kind ≡ Some mine.0) e mine.1, subst (λ (ys : List ℕ). mem mine.0 ys ≡ true) all (join_left mine.0 first.0 rest.0 mine.2))
+            let mine = one_target c x all_kinds first.0 kind first.1 (each_kind kind) is in
+            (mine.0, subst (λ (y : ℕ). after_from y (drop y base) kind ≡ Some mine.0) e mine.1, subst (λ (ys : List ℕ). mem mine.0 ys ≡ true) all (join_left mine.0 first.0 rest.0 mine.2))
         | inr later ↦
-          let found = some_target c ns rest.0 n kind rest.1 later is in
-          (found.0, found.1, subst (λ (ys : List ℕ). mem found.0 ys ≡ true) all (join_right found.0 first.0 rest.0 found.2))
+            let found = some_target c ns rest.0 n kind rest.1 later is in
+            (found.0, found.1, subst (λ (ys : List ℕ). mem found.0 ys ≡ true) all (join_right found.0 first.0 rest.0 found.2))
       ]
 
   leads_then : (n : ℕ) (ks bs cs : List NodeKind) (ns ms : List ℕ) → cs ≡ ks ++ bs → (first : Leads n ks ns) → Leads first.to bs ms → Leads n cs ms

@@ -50,9 +50,15 @@ pub enum Restriction<'a> {
         operations: &'a [u32],
     },
     /// `name in set`
-    In { name: &'a Bytes, set: &'a Bytes },
+    In {
+        name: &'a Bytes,
+        set: &'a Bytes,
+    },
     /// `name in {..}`, a TypeSet.
-    InSet { name: &'a Bytes, set: u32 },
+    InSet {
+        name: &'a Bytes,
+        set: u32,
+    },
 }
 
 /// `{name | variable has operation, .. equate ..}`; each operation is an Oper.
@@ -85,7 +91,9 @@ pub struct Equate<'a> {
 #[derive(Clone, Copy)]
 pub enum Own<'a> {
     /// `own declaration, ..`
-    Declare { declarations: &'a [u32] },
+    Declare {
+        declarations: &'a [u32],
+    },
     /// `own name: declared := value`
     Init {
         name: &'a Bytes,

@@ -28,23 +28,43 @@ pub enum Expression<'a> {
         right: u32,
     },
     /// `~operand`, `-operand`
-    Prefix { sign: Sign, operand: u32 },
+    Prefix {
+        sign: Sign,
+        operand: u32,
+    },
     /// `(inside)`
-    Paren { inside: u32 },
+    Paren {
+        inside: u32,
+    },
     /// A literal, or `nil`, `true` or `false`.
     Literal(Literal<'a>),
     /// An identifier.
     Name(&'a Bytes),
     /// `of[constant, ..]`: an index, or the actual parameters of a routine.
-    Index { of: u32, constants: &'a [u32] },
+    Index {
+        of: u32,
+        constants: &'a [u32],
+    },
     /// `of.selector`
-    Get { of: u32, selector: &'a Bytes },
+    Get {
+        of: u32,
+        selector: &'a Bytes,
+    },
     /// `routine(argument, ..)`
-    Call { routine: u32, arguments: &'a [u32] },
+    Call {
+        routine: u32,
+        arguments: &'a [u32],
+    },
     /// `of${component, ..}`; each component is a FieldE.
-    Fields { of: u32, components: &'a [u32] },
+    Fields {
+        of: u32,
+        components: &'a [u32],
+    },
     /// `of$[element, ..]`
-    Elements { of: u32, elements: &'a [u32] },
+    Elements {
+        of: u32,
+        elements: &'a [u32],
+    },
     /// `of$[low: element, ..]`
     ElementsFrom {
         of: u32,
@@ -52,13 +72,22 @@ pub enum Expression<'a> {
         elements: &'a [u32],
     },
     /// `of$operation`
-    Operation { of: u32, operation: &'a Bytes },
+    Operation {
+        of: u32,
+        operation: &'a Bytes,
+    },
     /// `force[to]`
-    Force { to: u32 },
+    Force {
+        to: u32,
+    },
     /// `up(inside)`
-    Up { inside: u32 },
+    Up {
+        inside: u32,
+    },
     /// `down(inside)`
-    Down { inside: u32 },
+    Down {
+        inside: u32,
+    },
 }
 
 /// A type as it is written (CLU Reference Manual, section 4).
@@ -67,7 +96,10 @@ pub enum TypeExpression<'a> {
     /// A type that is one word.
     Simple(SimpleType),
     /// `array[of]`, `sequence[of]`
-    List { word: ListType, of: u32 },
+    List {
+        word: ListType,
+        of: u32,
+    },
     /// `record[selector, ..]` and its like; each selector is a FieldT.
     Fields {
         word: FieldsType,

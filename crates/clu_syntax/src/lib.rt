@@ -28,6 +28,4 @@ pub use crate::round::{OUTSIDE, Role, Round};
 pub use crate::statements::{Body, Clause, Clauses, Statement};
 pub use crate::surround::rounds;
 pub use crate::syntax::Syntax;
-pub use crate::words::{
-    FieldsType, ListType, Literal, Operator, RoutineKind, Sign, SimpleType,
-};
+pub use crate::words::{FieldsType, ListType, Literal, Operator, RoutineKind, Sign, SimpleType};

@@ -175,7 +175,13 @@ pub fn one_of(tree: &Tree, kind: NodeKind, children: &[u32]) -> Option<u32>
 {
     match children {
         [] => None,
-        [c, ..] => { if is_of(kind, tree.node(*c).kind) { Some(*c) } else { None } }
+        [c, ..] => {
+            if is_of(kind, tree.node(*c).kind) {
+                Some(*c)
+            } else {
+                None
+            }
+        }
     }
 }
 
@@ -186,7 +192,13 @@ pub fn type_of(tree: &Tree, children: &[u32]) -> Option<u32>
 {
     match children {
         [] => None,
-        [c, ..] => { if is_type(tree.node(*c).kind) { Some(*c) } else { None } }
+        [c, ..] => {
+            if is_type(tree.node(*c).kind) {
+                Some(*c)
+            } else {
+                None
+            }
+        }
     }
 }
 

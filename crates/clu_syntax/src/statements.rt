@@ -36,7 +36,9 @@ pub struct Clause<'a> {
 #[derive(Clone, Copy)]
 pub enum Statement<'a> {
     /// `name, ..: type`, a Decl.
-    Declare { declaration: u32 },
+    Declare {
+        declaration: u32,
+    },
     /// `name: declared := value`
     Init {
         name: &'a Bytes,
@@ -60,11 +62,20 @@ pub enum Statement<'a> {
         value: u32,
     },
     /// `of[index] := value`
-    SetIndex { of: u32, index: u32, value: u32 },
+    SetIndex {
+        of: u32,
+        index: u32,
+        value: u32,
+    },
     /// A call.
-    Call { call: u32 },
+    Call {
+        call: u32,
+    },
     /// `while condition do body end`
-    While { condition: u32, body: Body<'a> },
+    While {
+        condition: u32,
+        body: Body<'a>,
+    },
     /// `for declaration, .. in call do body end`; each declaration is a Decl.
     For {
         declarations: &'a [u32],
@@ -89,9 +100,13 @@ pub enum Statement<'a> {
         otherwise: Option<Body<'a>>,
     },
     /// `return (value, ..)`
-    Return { values: &'a [u32] },
+    Return {
+        values: &'a [u32],
+    },
     /// `yield (value, ..)`
-    Yield { values: &'a [u32] },
+    Yield {
+        values: &'a [u32],
+    },
     /// `signal name (value, ..)`
     Signal {
         name: &'a Bytes,
@@ -107,7 +122,9 @@ pub enum Statement<'a> {
     /// `continue`
     Continue,
     /// `begin body end`
-    Begin { body: Body<'a> },
+    Begin {
+        body: Body<'a>,
+    },
     /// `statement resignal name, ..`
     Resignal {
         statement: u32,
