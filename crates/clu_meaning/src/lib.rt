@@ -1,0 +1,2 @@
+//! What CLU programs mean: definitions, and laws as contracts.
+#![tactic(auto)]
