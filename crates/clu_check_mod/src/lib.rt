@@ -9,7 +9,6 @@ mod demands;
 mod entering;
 mod heading;
 mod headings;
-mod locals;
 mod naming;
 mod nodes;
 mod settling;

@@ -5,7 +5,7 @@ use Rattle.clu_base.specs.declared.tokens.Token.{Token}
 use Rattle.clu_asm.specs.AssemblyText.{asm_text}
 use Rattle.clu_image.specs.Faults.{fault_of}
 use Rattle.clu_image.specs.ImageFile.{IsFileOf, image_bytes}
-use Rattle.clu_printer.specs.Printed.{IsPrinted}
+use Rattle.clu_printer.specs.Printed.{printed}
 use Rattle.clu_tree.specs.declared.node.Node.{Node}
 use Rattle.clu_words.specs.Command.{Limits, Meant}
 use Rattle.clu_words.specs.Command as command
@@ -65,7 +65,7 @@ GenShows _ n written written' faults faults' = ⊥
 
 -- the text is what the printer makes of a source of these bytes
 abbrev pub IsPrintOf : List ℕ → List ℕ → Type 0
-IsPrintOf bytes text = (tokens : List Token) × (nodes : List Node) × IsSource bytes tokens nodes × IsPrinted bytes tokens text
+IsPrintOf bytes text = (tokens : List Token) × (nodes : List Node) × IsSource bytes tokens nodes × (text ≡ printed bytes tokens nodes)
 
 -- a text was written, or some first bytes of it
 abbrev pub TextShows : Outcome → List ℕ → Option (List ℕ) → ℕ → Option (List ℕ) → ℕ → Type 0

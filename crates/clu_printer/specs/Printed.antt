@@ -1,4 +1,4 @@
--- The printed text of a list of tokens, where it is known which tokens begin lines and which are prefix operators.
+-- The printed text of a list of tokens, by the lines of their tree.
 use Rattle.std.specs.Prelude.{◌≡◌, ℕ, suc, zero, ◌+◌, ◌-◌, ◌&&◌, not, Bool, false, if◌then◌else◌, List, [], ◌∷◌, ◌++◌, map, take, drop, slice_get, Option, Some, None, unwrap_or}
 use Rattle.std.specs.Char.{to_ascii_lowercase}
 use Rattle.clu_base.specs.declared.tokens.Kind.{Kind}
@@ -11,7 +11,9 @@ use Rattle.clu_lexer.specs.Words.{symbol_of}
 use Rattle.clu_printer.specs.declared.lines.Layout.{Layout}
 use Rattle.clu_printer.specs.declared.print.Before.{Before}
 use Rattle.clu_printer.specs.declared.print.Text.{Text}
+use Rattle.clu_tree.specs.declared.node.Node.{Node}
 use Rattle.clu_printer.specs.Blanks.{blank_between}
+use Rattle.clu_printer.specs.Lines.{Lines, Marked, lines_of}
 use denote.Enum.Bare.{sameb}
 
 -- the bytes of a token, and what it is to the grammar
@@ -63,13 +65,11 @@ with_token bytes t s indent is_prefix m =
       last = Some (record { symbol = s; is_prefix = is_prefix });
     }
 
--- where lines begin and how far they are indented, and which tokens are prefix operators
-pub record Lines : Type 0 where
-  pub begins : List (Option ℕ)
-  pub prefix : List Bool
-
 abbrev pub lines : Layout → Lines
 lines l = record { begins = l.begins.items; prefix = l.prefix.items }
+
+abbrev pub marked : Layout → List ℕ → Marked
+marked l indents = record { lines = lines l; indents = indents }
 
 abbrev pub indent_at : List (Option ℕ) → ℕ → Option ℕ
 indent_at begins n = unwrap_or (slice_get begins n) None
@@ -98,7 +98,10 @@ printed_behind bytes symbols lines n (t ∷ ts) m = printed_behind bytes symbols
 abbrev pub nothing_made : Made
 nothing_made = record { text = []; last = None }
 
--- the text is that of the tokens, in some lines
-pub record IsPrinted (bytes : List ℕ) (tokens : List Token) (text : List ℕ) : Type 0 where
-  pub lines : Lines
-  pub is : text ≡ (printed_behind bytes (map (symbol_in bytes) tokens) lines 0 tokens nothing_made).text ++ 10 ∷ []
+-- what the tokens are printed as in these lines
+abbrev pub printed_in : List ℕ → List Token → List Symbol → Lines → List ℕ
+printed_in bytes tokens symbols lines = (printed_behind bytes symbols lines 0 tokens nothing_made).text ++ 10 ∷ []
+
+-- the printed text of a source with these tokens and this tree
+abbrev pub printed : List ℕ → List Token → List Node → List ℕ
+printed bytes tokens nodes = printed_in bytes tokens (map (symbol_in bytes) tokens) (lines_of (map (symbol_in bytes) tokens) nodes)

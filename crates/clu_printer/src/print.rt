@@ -2,7 +2,7 @@
 
 ghost use Rattle.std.specs.Prelude.{◌≡◌, ◌++◌, ◌∷◌, [], map, if◌then◌else◌, IfOk, OnOk};
 ghost use Rattle.std.specs.Char.{to_ascii_lowercase};
-ghost use Rattle.clu_printer.specs.Printed.{IsPrinted, blank_behind, indent_at, indentation, line_end, lines, made, nothing_made, prefix_at, printed_behind, space, symbol_at, token_text, with_next, with_token};
+ghost use Rattle.clu_printer.specs.Printed.{blank_behind, indent_at, indentation, line_end, lines, made, nothing_made, prefix_at, printed, printed_behind, space, symbol_at, token_text, with_next, with_token};
 
 use crate::blanks::blank_between;
 use crate::lines::{Layout, bytes_of, layout_of, symbols_of};
@@ -195,7 +195,7 @@ fn text_of(
 /// of a tagcase and `end`; it is indented by two blanks for each body that holds it. The tree is
 /// that of the tokens. The only error is that memory runs out.
 pub fn printed(alloc: Global, bytes: &[u8], tokens: &[Token], tree: &Tree) -> Result<Bytes, Memory>
-    ensures { IfOk result (IsPrinted bytes.now tokens.now) }
+    ensures { IfOk result (λ text. text ≡ printed bytes.now tokens.now tree.now) }
 {
     let symbols = symbols_of(alloc, bytes, tokens)?;
     let layout = layout_of(alloc, symbols.as_slice(), tree)?;

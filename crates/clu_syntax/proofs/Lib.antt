@@ -1,2 +1,3 @@
 pub mod Downward
+pub mod Enough
 pub mod Unique

@@ -1,4 +1,11 @@
 pub mod Bodies
+pub mod Enough
+pub mod Items
 pub mod Kinds
+pub mod Nodes
 pub mod Roles
 pub mod Rounds
+pub mod Splits
+pub mod Syntax
+pub mod Views
+pub mod Words

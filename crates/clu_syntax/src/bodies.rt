@@ -20,7 +20,7 @@ pub struct Part {
 }
 
 /// Whether a child stands after the value of its parent, as the body after `else` does.
-fn is_behind(node: &Node, child: &Node) -> bool
+pub fn is_behind(node: &Node, child: &Node) -> bool
     ensures { result ≡ is_behind node.now child.now }
 {
     match node.value_token {
