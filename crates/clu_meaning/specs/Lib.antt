@@ -16,3 +16,5 @@ pub mod Calls
 pub mod Expressions
 pub mod Statements
 pub mod Run
+pub mod Executing
+pub mod More

@@ -1,0 +1,99 @@
+-- Expressions keep the law.
+use Rattle.std.proofs.Common.{ℕ, Bool, true, false, List, [], ◌∷◌, ◌++◌, Option, None, Some, codes}
+use Rattle.clu_types.specs.CluType.{CluType, array_of, sequence_of, struct_of, record_of, Actuals}
+use Rattle.clu_layout.specs.Objects.{Routine, Object, int_object}
+use Rattle.clu_meaning.specs.Programs.{Variable, local, own_of_routine, own_of_cluster, Expression, constant, constant_parameter, variable, routine, parenthesized, operator, negated, cand, cor, call, fields, elements, elements_from, up, down, besides, Expressions, no_expressions, expression_and, Components, no_components, component_and, ClusterDefinition, Program}
+use Rattle.clu_meaning.specs.Computations.{Computation, gives, ends, and_then, counts}
+use Rattle.clu_meaning.specs.Calls.{Round, here, Level}
+use Rattle.clu_meaning.specs.Expressions.{makes_fields, makes_elements, makes_elements_from, sealed_by, opened_by, value, condition, gives_named, uses, with_named, names_routine, invokes, operates, operates_not, seals_here, opens_here, eval, eval_all, eval_components}
+use Rattle.clu_meaning.proofs.Combining.{Goes, goes_gives, goes_ends, goes_and_then, goes_need, goes_needed, goes_with_one, goes_with_bool, goes_with_routine, goes_either, goes_if_there, goes_sees_frame, goes_sees_owns, goes_counts, goes_raises, goes_does}
+use Rattle.clu_meaning.proofs.Going.{AllGo, goes_calls}
+
+-- ---- constructors
+
+goes_makes_fields : {k : ℕ} (t : CluType) (named : List (List ℕ × Object)) → Goes k (makes_fields t named) (makes_fields t named)
+unfolding makes_fields
+goes_makes_fields (struct_of fs) named = goes_needed _ (λ os. goes_does)
+goes_makes_fields (record_of fs) named = goes_needed _ (λ os. goes_does)
+goes_makes_fields _ named = goes_ends
+
+goes_makes_elements : {k : ℕ} (t : CluType) (os : List Object) → Goes k (makes_elements t os) (makes_elements t os)
+unfolding makes_elements
+goes_makes_elements (array_of t) os = goes_does
+goes_makes_elements (sequence_of t) os = goes_does
+goes_makes_elements _ os = goes_ends
+
+goes_makes_elements_from : {k : ℕ} (t : CluType) (o : Object) (os : List Object) → Goes k (makes_elements_from t o os) (makes_elements_from t o os)
+unfolding makes_elements_from
+goes_makes_elements_from (array_of t) (int_object low) os = goes_does
+goes_makes_elements_from _ _ os = goes_ends
+
+-- ---- one object
+
+pub goes_value : {A : Type 0} {k : ℕ} {m m' : Computation (List Object)} {f f' : Object → Computation A} → Goes k m m' →
+    ((o : Object) → Goes k (f o) (f' o)) → Goes k (value m f) (value m' f')
+goes_value g h = goes_and_then g (λ os. goes_with_one os h)
+
+pub goes_condition : {A : Type 0} {k : ℕ} {m m' : Computation (List Object)} {f f' : Bool → Computation A} → Goes k m m' →
+    ((b : Bool) → Goes k (f b) (f' b)) → Goes k (condition m f) (condition m' f')
+goes_condition g h = goes_value g (λ o. goes_with_bool o h)
+
+module _ (program : Program) (k : ℕ) (low low' : Level) (lows : AllGo k low low') (round : Round) where
+  goes_gives_named : (o : Option Object) → Goes k (gives_named program low round o) (gives_named program low' round o)
+  goes_gives_named o = goes_if_there o (λ named. goes_gives) goes_raises
+
+  goes_uses : (x : Variable) → Goes k (uses program low round x) (uses program low' round x)
+  unfolding uses
+  goes_uses (local n) = goes_sees_frame (λ frame. goes_gives_named _)
+  goes_uses (own_of_routine n) = goes_sees_owns (λ owns. goes_gives_named _)
+  goes_uses (own_of_cluster n) = goes_sees_owns (λ owns. goes_gives_named _)
+
+  goes_names_routine : (r : Routine) → Goes k (names_routine program low round r) (names_routine program low' round r)
+  goes_names_routine r = goes_need _ (goes_needed _ (λ heading. goes_gives))
+
+  pub goes_invokes : (r : Routine) (os : List Object) → Goes k (invokes program low round r os) (invokes program low' round r os)
+  goes_invokes r os = goes_if_there _ (λ callee. goes_calls k low low' lows callee os) goes_does
+
+  pub goes_operates : (name : List ℕ) (os : List Object) → Goes k (operates program low round name os) (operates program low' round name os)
+  unfolding operates
+  goes_operates name [] = goes_ends
+  goes_operates name (o ∷ os) = goes_need _ (goes_invokes _ (o ∷ os))
+
+  goes_operates_not : (os : List Object) → Goes k (operates_not program low round os) (operates_not program low' round os)
+  goes_operates_not os = goes_with_one os (λ o. goes_operates _ _)
+
+  goes_seals_here : (o : Object) → Goes k (seals_here program low round o) (seals_here program low' round o)
+  goes_seals_here o = goes_needed _ (λ cluster. goes_need _ goes_gives)
+
+  goes_opens_here : (o : Object) → Goes k (opens_here program low round o) (opens_here program low' round o)
+  goes_opens_here o = goes_needed _ (λ cluster. goes_needed _ (λ inside. goes_gives))
+
+  mutual
+    pub goes_eval : (e : Expression) → Goes k (eval program low round e) (eval program low' round e)
+    unfolding eval
+    goes_eval (constant c) = goes_counts goes_gives
+    goes_eval (constant_parameter n) = goes_counts (goes_needed _ (λ c. goes_gives))
+    goes_eval (variable x) = goes_counts (goes_uses x)
+    goes_eval (routine r) = goes_counts (goes_names_routine _)
+    goes_eval (parenthesized e) = goes_counts (goes_value (goes_eval e) (λ o. goes_gives))
+    goes_eval (operator name e es) = goes_counts (goes_value (goes_eval e) (λ o. goes_and_then (goes_eval_all es) (λ os. goes_operates name _)))
+    goes_eval (negated name e es) = goes_counts (goes_value (goes_eval e) (λ o. goes_and_then (goes_eval_all es) (λ os. goes_and_then (goes_operates name _) goes_operates_not)))
+    goes_eval (cand e f) = goes_counts (goes_condition (goes_eval e) (λ b. goes_either b (goes_condition (goes_eval f) (λ c. goes_gives)) goes_gives))
+    goes_eval (cor e f) = goes_counts (goes_condition (goes_eval e) (λ b. goes_either b goes_gives (goes_condition (goes_eval f) (λ c. goes_gives))))
+    goes_eval (call e es) = goes_counts (goes_value (goes_eval e) (λ o. goes_and_then (goes_eval_all es) (λ os. goes_with_routine o (λ r. goes_invokes r os))))
+    goes_eval (fields t components) = goes_counts (goes_and_then (goes_eval_components components) (λ named. goes_makes_fields _ named))
+    goes_eval (elements t es) = goes_counts (goes_and_then (goes_eval_all es) (λ os. goes_makes_elements _ os))
+    goes_eval (elements_from t e es) = goes_counts (goes_value (goes_eval e) (λ o. goes_and_then (goes_eval_all es) (λ os. goes_makes_elements_from _ o os)))
+    goes_eval (up e) = goes_counts (goes_value (goes_eval e) goes_seals_here)
+    goes_eval (down e) = goes_counts (goes_value (goes_eval e) goes_opens_here)
+    goes_eval (besides n e) = goes_counts (goes_eval e)
+
+    pub goes_eval_all : (es : Expressions) → Goes k (eval_all program low round es) (eval_all program low' round es)
+    unfolding eval_all
+    goes_eval_all no_expressions = goes_gives
+    goes_eval_all (expression_and e es) = goes_value (goes_eval e) (λ o. goes_and_then (goes_eval_all es) (λ os. goes_gives))
+
+    pub goes_eval_components : (cs : Components) → Goes k (eval_components program low round cs) (eval_components program low' round cs)
+    unfolding eval_components
+    goes_eval_components no_components = goes_gives
+    goes_eval_components (component_and names e components) = goes_value (goes_eval e) (λ o. goes_and_then (goes_eval_components components) (λ named. goes_gives))

@@ -1,0 +1,5 @@
+pub mod Combining
+pub mod Going
+pub mod Evaluating
+pub mod Executed
+pub mod Levels
