@@ -4,6 +4,7 @@ use Rattle.clu_types.specs.CluType.{CluType, array_of, sequence_of, struct_of, r
 use Rattle.clu_layout.specs.Objects.{Routine, Object, int_object}
 use Rattle.clu_meaning.specs.Programs.{Variable, local, own_of_routine, own_of_cluster, Expression, constant, constant_parameter, variable, routine, parenthesized, operator, negated, cand, cor, call, fields, elements, elements_from, up, down, besides, Expressions, no_expressions, expression_and, Components, no_components, component_and, ClusterDefinition, Program}
 use Rattle.clu_meaning.specs.Computations.{Computation, gives, ends, and_then, counts}
+use Rattle.clu_meaning.specs.Binding.{Running}
 use Rattle.clu_meaning.specs.Calls.{Round, here, Level}
 use Rattle.clu_meaning.specs.Expressions.{makes_fields, makes_elements, makes_elements_from, sealed_by, opened_by, value, condition, gives_named, uses, with_named, names_routine, invokes, operates, operates_not, seals_here, opens_here, eval, eval_all, eval_components}
 use Rattle.clu_meaning.proofs.Combining.{Goes, goes_gives, goes_ends, goes_and_then, goes_need, goes_needed, goes_with_one, goes_with_bool, goes_with_routine, goes_either, goes_if_there, goes_sees_frame, goes_sees_owns, goes_counts, goes_raises, goes_does}
@@ -38,16 +39,22 @@ pub goes_condition : {A : Type 0} {k : ℕ} {m m' : Computation (List Object)} {
     ((b : Bool) → Goes k (f b) (f' b)) → Goes k (condition m f) (condition m' f')
 goes_condition g h = goes_value g (λ o. goes_with_bool o h)
 
+goes_gives_named : {k : ℕ} (o : Option Object) → Goes k (gives_named o) (gives_named o)
+goes_gives_named o = goes_if_there o (λ named. goes_gives) goes_raises
+
+goes_uses : {k : ℕ} (r : Running) (x : Variable) → Goes k (uses r x) (uses r x)
+unfolding uses
+goes_uses r (local n) = goes_sees_frame (λ frame. goes_gives_named _)
+goes_uses r (own_of_routine n) = goes_sees_owns (λ owns. goes_gives_named _)
+goes_uses r (own_of_cluster n) = goes_sees_owns (λ owns. goes_gives_named _)
+
+goes_seals_here : {k : ℕ} (r : Running) (o : Object) → Goes k (seals_here r o) (seals_here r o)
+goes_seals_here r o = goes_needed _ (λ cluster. goes_need _ goes_gives)
+
+goes_opens_here : {k : ℕ} (r : Running) (o : Object) → Goes k (opens_here r o) (opens_here r o)
+goes_opens_here r o = goes_needed _ (λ cluster. goes_needed _ (λ inside. goes_gives))
+
 module _ (program : Program) (k : ℕ) (low low' : Level) (lows : AllGo k low low') (round : Round) where
-  goes_gives_named : (o : Option Object) → Goes k (gives_named program low round o) (gives_named program low' round o)
-  goes_gives_named o = goes_if_there o (λ named. goes_gives) goes_raises
-
-  goes_uses : (x : Variable) → Goes k (uses program low round x) (uses program low' round x)
-  unfolding uses
-  goes_uses (local n) = goes_sees_frame (λ frame. goes_gives_named _)
-  goes_uses (own_of_routine n) = goes_sees_owns (λ owns. goes_gives_named _)
-  goes_uses (own_of_cluster n) = goes_sees_owns (λ owns. goes_gives_named _)
-
   goes_names_routine : (r : Routine) → Goes k (names_routine program low round r) (names_routine program low' round r)
   goes_names_routine r = goes_need _ (goes_needed _ (λ heading. goes_gives))
 
@@ -62,18 +69,12 @@ module _ (program : Program) (k : ℕ) (low low' : Level) (lows : AllGo k low lo
   goes_operates_not : (os : List Object) → Goes k (operates_not program low round os) (operates_not program low' round os)
   goes_operates_not os = goes_with_one os (λ o. goes_operates _ _)
 
-  goes_seals_here : (o : Object) → Goes k (seals_here program low round o) (seals_here program low' round o)
-  goes_seals_here o = goes_needed _ (λ cluster. goes_need _ goes_gives)
-
-  goes_opens_here : (o : Object) → Goes k (opens_here program low round o) (opens_here program low' round o)
-  goes_opens_here o = goes_needed _ (λ cluster. goes_needed _ (λ inside. goes_gives))
-
   mutual
     pub goes_eval : (e : Expression) → Goes k (eval program low round e) (eval program low' round e)
     unfolding eval
     goes_eval (constant c) = goes_counts goes_gives
     goes_eval (constant_parameter n) = goes_counts (goes_needed _ (λ c. goes_gives))
-    goes_eval (variable x) = goes_counts (goes_uses x)
+    goes_eval (variable x) = goes_counts (goes_uses (here round) x)
     goes_eval (routine r) = goes_counts (goes_names_routine _)
     goes_eval (parenthesized e) = goes_counts (goes_value (goes_eval e) (λ o. goes_gives))
     goes_eval (operator name e es) = goes_counts (goes_value (goes_eval e) (λ o. goes_and_then (goes_eval_all es) (λ os. goes_operates name _)))
@@ -84,8 +85,8 @@ module _ (program : Program) (k : ℕ) (low low' : Level) (lows : AllGo k low lo
     goes_eval (fields t components) = goes_counts (goes_and_then (goes_eval_components components) (λ named. goes_makes_fields _ named))
     goes_eval (elements t es) = goes_counts (goes_and_then (goes_eval_all es) (λ os. goes_makes_elements _ os))
     goes_eval (elements_from t e es) = goes_counts (goes_value (goes_eval e) (λ o. goes_and_then (goes_eval_all es) (λ os. goes_makes_elements_from _ o os)))
-    goes_eval (up e) = goes_counts (goes_value (goes_eval e) goes_seals_here)
-    goes_eval (down e) = goes_counts (goes_value (goes_eval e) goes_opens_here)
+    goes_eval (up e) = goes_counts (goes_value (goes_eval e) (goes_seals_here (here round)))
+    goes_eval (down e) = goes_counts (goes_value (goes_eval e) (goes_opens_here (here round)))
     goes_eval (besides n e) = goes_counts (goes_eval e)
 
     pub goes_eval_all : (es : Expressions) → Goes k (eval_all program low round es) (eval_all program low' round es)

@@ -90,16 +90,16 @@ goes_body_ending _ = goes_ends
 abbrev pub AllGo : ℕ → Level → Level → Type 0
 AllGo k low low' = (round : Round) (body : Statements) → Goes k (low round body) (low' round body)
 
+goes_once : {k : ℕ} {m m' : Computation (Unit {0})} (owns : List Declaration) (i : Instance) → Goes k m m' → Goes k (once owns i m) (once owns i m')
+goes_once [] i g = goes_gives
+goes_once (d ∷ ds) i g = goes_sees_owns (λ owns. goes_either _ goes_gives (goes_with_owns g))
+
 module _ (k : ℕ) (low low' : Level) (lows : AllGo k low low') where
   goes_calls_set_up : (r : Running) → Goes k (calls_set_up low r) (calls_set_up low' r)
   goes_calls_set_up r = goes_spends (goes_sees_frame (λ frame. goes_sees_stack (λ stack.
       goes_either_way (goes_enters (goes_with_frame (lows _ _)))
         (λ done. goes_with_frame (goes_leaves goes_gives))
         (λ e. goes_with_frame (goes_leaves (goes_set_up_ending e))))))
-
-  goes_once : {m m' : Computation (Unit {0})} (owns : List Declaration) (i : Instance) → Goes k m m' → Goes k (once low owns i m) (once low' owns i m')
-  goes_once [] i g = goes_gives
-  goes_once (d ∷ ds) i g = goes_sees_owns (λ owns. goes_either _ goes_gives (goes_with_owns g))
 
   goes_cluster_set_up : (home : Option ClusterDefinition) (r : Running) → Goes k (cluster_set_up low home r) (cluster_set_up low' home r)
   goes_cluster_set_up None r = goes_gives

@@ -3,3 +3,4 @@ pub mod Going
 pub mod Evaluating
 pub mod Executed
 pub mod Levels
+mod TextCounts

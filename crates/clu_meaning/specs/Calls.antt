@@ -67,16 +67,22 @@ body_ending continued = gives tt
 body_ending wrong = goes_wrong
 body_ending e = ends (through e)
 
+-- ---- own variables
+
+-- the setting up of the own variables of a cluster, as a call of its own
+abbrev pub set_up_definition : ClusterDefinition → RoutineDefinition
+set_up_definition cluster = record { name = codes "own"; is_iterator = false; parameters = 0; formals = []; results = []; signals = []; locals = []; owns = []; set_up = cluster.set_up; body = cluster.set_up; count = cluster.set_up_count }
+
+abbrev pub setting_up : Running → ClusterDefinition → Running
+setting_up r cluster = record { instance = cluster_instance r; given = r.given; home = Some cluster; definition = set_up_definition cluster }
+
+-- own variables of an instance that has some are set up once; that they are is known before they are set up
+abbrev pub once : List Declaration → Instance → Computation (Unit {0}) → Computation (Unit {0})
+once [] instance set_up = gives tt
+once (d ∷ ds) instance set_up =
+    sees_owns (λ owns. either (owns.is_set_up instance) (gives tt) (with_owns (λ o. with_set_up o instance) set_up))
+
 module _ (low : Level) where
-  -- ---- own variables
-
-  -- the setting up of the own variables of a cluster, as a call of its own
-  abbrev pub set_up_definition : ClusterDefinition → RoutineDefinition
-  set_up_definition cluster = record { name = codes "own"; is_iterator = false; parameters = 0; formals = []; results = []; signals = []; locals = []; owns = []; set_up = cluster.set_up; body = cluster.set_up; count = cluster.set_up_count }
-
-  abbrev pub setting_up : Running → ClusterDefinition → Running
-  setting_up r cluster = record { instance = cluster_instance r; given = r.given; home = Some cluster; definition = set_up_definition cluster }
-
   abbrev pub calls_set_up : Running → Computation (Unit {0})
   calls_set_up r =
       spends_a_turn (sees_frame (λ frame. sees_stack (λ stack.
@@ -84,12 +90,6 @@ module _ (low : Level) where
         (enters r.instance (call_words r.definition.count) (with_frame (λ f. new_frame) (low (in_procedure r) r.definition.body)))
         (λ done. with_frame (λ f. frame) (leaves stack (gives tt)))
         (λ e. with_frame (λ f. frame) (leaves stack (set_up_ending e))))))
-
-  -- own variables of an instance that has some are set up once; that they are is known before they are set up
-  abbrev pub once : List Declaration → Instance → Computation (Unit {0}) → Computation (Unit {0})
-  once [] instance set_up = gives tt
-  once (d ∷ ds) instance set_up =
-      sees_owns (λ owns. either (owns.is_set_up instance) (gives tt) (with_owns (λ o. with_set_up o instance) set_up))
 
   abbrev pub cluster_set_up : Option ClusterDefinition → Running → Computation (Unit {0})
   cluster_set_up None r = gives tt

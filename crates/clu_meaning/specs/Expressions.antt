@@ -104,18 +104,26 @@ value evaluation rest = and_then evaluation (λ os. with_one os rest)
 abbrev pub condition : {A : Type 0} → Computation (List Object) → (Bool → Computation A) → Computation A
 condition evaluation rest = value evaluation (λ o. with_bool o rest)
 
+-- ---- variables
+
+-- a variable that names no object fails
+abbrev pub gives_named : Option Object → Computation (List Object)
+gives_named o = if_there o (λ named. gives (named ∷ [])) (fails (codes "uninitialized variable"))
+
+unfoldable pub uses : Running → Variable → Computation (List Object)
+uses r (local n) = sees_frame (λ frame. gives_named (frame.variables n))
+uses r (own_of_routine n) = sees_owns (λ owns. gives_named (owns.variables r.instance n))
+uses r (own_of_cluster n) = sees_owns (λ owns. gives_named (owns.variables (cluster_instance r) n))
+
+-- ---- clusters
+
+abbrev pub seals_here : Running → Object → Computation (List Object)
+seals_here r o = needed r.home (λ cluster. sealed_by r.given cluster o)
+
+abbrev pub opens_here : Running → Object → Computation (List Object)
+opens_here r o = needed r.home (λ cluster. opened_by r.given cluster o)
+
 module _ (program : Program) (low : Level) (round : Round) where
-  -- ---- variables
-
-  -- a variable that names no object fails
-  abbrev pub gives_named : Option Object → Computation (List Object)
-  gives_named o = if_there o (λ named. gives (named ∷ [])) (fails (codes "uninitialized variable"))
-
-  unfoldable pub uses : Variable → Computation (List Object)
-  uses (local n) = sees_frame (λ frame. gives_named (frame.variables n))
-  uses (own_of_routine n) = sees_owns (λ owns. gives_named (owns.variables (here round).instance n))
-  uses (own_of_cluster n) = sees_owns (λ owns. gives_named (owns.variables (cluster_instance (here round)) n))
-
   -- ---- routines
 
   abbrev pub with_named : Routine → Computation (List Object) → Computation (List Object)
@@ -137,21 +145,13 @@ module _ (program : Program) (low : Level) (round : Round) where
   abbrev pub operates_not : List Object → Computation (List Object)
   operates_not os = with_one os (λ o. operates (codes "not") (o ∷ []))
 
-  -- ---- clusters
-
-  abbrev pub seals_here : Object → Computation (List Object)
-  seals_here o = needed (here round).home (λ cluster. sealed_by (here round).given cluster o)
-
-  abbrev pub opens_here : Object → Computation (List Object)
-  opens_here o = needed (here round).home (λ cluster. opened_by (here round).given cluster o)
-
   -- ---- expressions
 
   unfoldable mutual
     pub eval : Expression → Computation (List Object)
     eval (constant c) = node (gives (object_of c ∷ []))
     eval (constant_parameter n) = node (needed (constant_at (here round).given n) (λ c. gives (object_of c ∷ [])))
-    eval (variable x) = node (uses x)
+    eval (variable x) = node (uses (here round) x)
     eval (routine r) = node (names_routine (routine_substituted (here round).given r))
     eval (parenthesized e) = node (value (eval e) (λ o. gives (o ∷ [])))
     eval (operator name e es) = node (value (eval e) (λ o. and_then (eval_all es) (λ os. operates name (o ∷ os))))
@@ -162,8 +162,8 @@ module _ (program : Program) (low : Level) (round : Round) where
     eval (fields t components) = node (and_then (eval_components components) (λ named. makes_fields (substituted (here round).given t) named))
     eval (elements t es) = node (and_then (eval_all es) (λ os. makes_elements (substituted (here round).given t) os))
     eval (elements_from t e es) = node (value (eval e) (λ o. and_then (eval_all es) (λ os. makes_elements_from (substituted (here round).given t) o os)))
-    eval (up e) = node (value (eval e) seals_here)
-    eval (down e) = node (value (eval e) opens_here)
+    eval (up e) = node (value (eval e) (seals_here (here round)))
+    eval (down e) = node (value (eval e) (opens_here (here round)))
     eval (besides n e) = counts n (eval e)
 
     -- one object of each

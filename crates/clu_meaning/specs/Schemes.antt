@@ -100,6 +100,15 @@ by_tag arms = only (tagcase_statement a arms nothing_else)
 
 -- ---- definitions
 
+-- the arguments, numbered from n
+abbrev pub formals_from : ℕ → List CluType → List Formal
+formals_from n [] = []
+formals_from n (u ∷ us) = record { number = n; type = plain u } ∷ formals_from (suc n) us
+
+abbrev pub locals_from : ℕ → List CluType → List Declaration
+locals_from n [] = []
+locals_from n (u ∷ us) = record { number = n; type = u } ∷ locals_from (suc n) us
+
 abbrev pub scheme : List ℕ → List CluType → CluType → Fields → Statements → RoutineDefinition
 scheme op arguments result fs body = record {
     name = op;
@@ -114,14 +123,6 @@ scheme op arguments result fs body = record {
     body = body;
     count = scheme_count fs
   }
-  where
-    formals_from : ℕ → List CluType → List Formal
-    formals_from n [] = []
-    formals_from n (u ∷ us) = record { number = n; type = plain u } ∷ formals_from (suc n) us
-
-    locals_from : ℕ → List CluType → List Declaration
-    locals_from n [] = []
-    locals_from n (u ∷ us) = record { number = n; type = u } ∷ locals_from (suc n) us
 
 -- a comparison of two objects of T by this operation of their components
 abbrev pub comparison : List ℕ → CluType → Fields → Statements → Option RoutineDefinition

@@ -55,39 +55,37 @@ raises_on name os = ends (raised name os)
 abbrev pub types_of_signal : Running → List ℕ → Option (List HeadingType)
 types_of_signal r name = if bytes_eq name failure then Some (plain string_type ∷ []) else signal_types r.definition.signals name
 
+-- ---- variables of arms, which are declared anew
+
+abbrev pub arm : Running → List Variable → List Object → Computation (Unit {0}) → Computation (Unit {0})
+arm r xs os body = counts (length xs) (assigned r xs os body)
+
+-- one that an arm may do without
+unfoldable pub arm_if_named : Running → List Variable → Object → Computation (Unit {0}) → Computation (Unit {0})
+arm_if_named r [] o body = body
+arm_if_named r (x ∷ xs) o body = arm r (x ∷ xs) (o ∷ []) body
+
+unfoldable pub taken_by : Running → Taken → List Object → Computation (Unit {0}) → Computation (Unit {0})
+taken_by r (named xs) os body = arm r xs os body
+taken_by r dropped os body = body
+
+-- ---- ends of routines
+
+-- an iterator returns no objects
+abbrev pub returns : Running → List Object → Computation (Unit {0})
+returns r os =
+    either r.definition.is_iterator
+      (need (has_none os) (ends (returned [])))
+      (handed_out r r.definition.results os (λ handed. ends (returned handed)))
+
+abbrev pub signals : Running → List ℕ → List Object → Computation (Unit {0})
+signals r name os = needed (types_of_signal r name) (λ types. handed_out r types os (λ handed. ends (signalled name handed)))
+
+abbrev pub resignals : Running → List (List ℕ) → List ℕ → List Object → Computation (Unit {0})
+resignals r names name os =
+    either (is_among names name) (counts (names_before names name) (signals r name os)) (counts (length names) (raises_on name os))
+
 module _ (program : Program) (low : Level) (round : Round) where
-  -- ---- variables of arms, which are declared anew
-
-  abbrev pub arm : List Variable → List Object → Computation (Unit {0}) → Computation (Unit {0})
-  arm xs os body = counts (length xs) (assigned (here round) xs os body)
-
-  -- one that an arm may do without
-  unfoldable pub arm_if_named : List Variable → Object → Computation (Unit {0}) → Computation (Unit {0})
-  arm_if_named [] o body = body
-  arm_if_named (x ∷ xs) o body = arm (x ∷ xs) (o ∷ []) body
-
-  unfoldable pub taken_by : Taken → List Object → Computation (Unit {0}) → Computation (Unit {0})
-  taken_by (named xs) os body = arm xs os body
-  taken_by dropped os body = body
-
-  -- ---- ends of routines
-
-  abbrev pub returns : List Object → Computation (Unit {0})
-  returns os =
-      either (here round).definition.is_iterator
-        (need (has_none os) (ends (returned [])))
-        (handed_out (here round) (here round).definition.results os (λ handed. ends (returned handed)))
-
-  abbrev pub signals : List ℕ → List Object → Computation (Unit {0})
-  signals name os =
-      needed (types_of_signal (here round) name) (λ types. handed_out (here round) types os (λ handed. ends (signalled name handed)))
-
-  abbrev pub resignals : List (List ℕ) → List ℕ → List Object → Computation (Unit {0})
-  resignals names name os =
-      either (is_among names name) (counts (names_before names name) (signals name os)) (counts (length names) (raises_on name os))
-
-  -- ---- statements
-
   unfoldable mutual
     pub exec : Statement → Computation (Unit {0})
     exec (declaration xs) = node (counts (length xs) (forgets xs (gives tt)))
@@ -104,14 +102,14 @@ module _ (program : Program) (low : Level) (round : Round) where
     exec (if_statement clauses other) = node (exec_clauses clauses (exec_otherwise other (gives tt)))
     exec (tagcase_statement e arms other) =
         node (value (eval program low round e) (λ o. sees_world (λ w. needed (tagged w o) (λ found. exec_tag_arms arms found.0 found.1 (exec_otherwise other goes_wrong)))))
-    exec (return_statement es) = node (and_then (eval_all program low round es) returns)
+    exec (return_statement es) = node (and_then (eval_all program low round es) (returns (here round)))
     exec (yield_statement es) = node (and_then (eval_all program low round es) (yields low round))
-    exec (signal_statement name es) = node (and_then (eval_all program low round es) (signals name))
+    exec (signal_statement name es) = node (and_then (eval_all program low round es) (signals (here round) name))
     exec (exit_statement name es) = node (and_then (eval_all program low round es) (exits_on name))
     exec break_statement = node (ends broken)
     exec continue_statement = node (ends continued)
     exec (begin_statement body) = node (exec_all body)
-    exec (resignal_statement s names) = node (either_way (exec s) gives (handled (resignals names) exits_on))
+    exec (resignal_statement s names) = node (either_way (exec s) gives (handled (resignals (here round) names) exits_on))
     exec (except_statement s whens other) =
         node (either_way (exec s) gives (handled
             (λ name os. exec_whens whens 1 name os (exec_others other name (raises_on name os)))
@@ -133,16 +131,16 @@ module _ (program : Program) (low : Level) (round : Round) where
     pub exec_tag_arms : TagArms → List ℕ → Object → Computation (Unit {0}) → Computation (Unit {0})
     exec_tag_arms no_tag_arms tag o rest = rest
     exec_tag_arms (tag_arm_and tags xs body arms) tag o rest =
-        either (is_among tags tag) (arm_if_named xs o (exec_all body)) (exec_tag_arms arms tag o rest)
+        either (is_among tags tag) (arm_if_named (here round) xs o (exec_all body)) (exec_tag_arms arms tag o rest)
 
     -- the first arm of the name, or else the rest; each name that is passed counts so many units of work
     pub exec_whens : Whens → ℕ → List ℕ → List Object → Computation (Unit {0}) → Computation (Unit {0})
     exec_whens no_whens each name os rest = rest
     exec_whens (when_and names taken body whens) each name os rest =
         either (is_among names name)
-          (counts (each * names_before names name) (taken_by taken os (exec_all body)))
+          (counts (each * names_before names name) (taken_by (here round) taken os (exec_all body)))
           (counts (each * length names) (exec_whens whens each name os rest))
 
     pub exec_others : Others → List ℕ → Computation (Unit {0}) → Computation (Unit {0})
     exec_others no_others name rest = rest
-    exec_others (others xs body) name rest = arm_if_named xs (string_object name) (exec_all body)
+    exec_others (others xs body) name rest = arm_if_named (here round) xs (string_object name) (exec_all body)
