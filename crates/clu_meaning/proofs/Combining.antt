@@ -1,13 +1,13 @@
 -- What computations are put together from keeps that more turns only go on, and that output and meters grow.
-use Rattle.std.proofs.Common.{◌≡◌, ℕ, zero, suc, ◌+◌, ◌≤◌, max, Bool, true, false, List, [], ◌∷◌, ◌++◌, Option, None, Some, refl, sym, ap, ◌∙◌, subst, arith, append_assoc, append-nil}
-use Rattle.clu_layout.specs.Objects.{Object, null_object, bool_object, int_object, char_object, string_object, stream_object, sequence_object, struct_object, oneof_object, routine_object, reference, sealed, Routine}
+use Rattle.std.proofs.Common.{◌≡◌, ℕ, zero, suc, ◌+◌, Bool, true, false, List, [], ◌∷◌, ◌++◌, Option, None, Some, refl, sym, ap, ◌∙◌, subst, arith, append_assoc, append-nil}
+use Rattle.clu_layout.specs.Objects.{Object, bool_object, routine_object, Routine}
 use Rattle.clu_layout.specs.Actions.{World, Action}
 use Rattle.clu_layout.specs.Actions as layout
 use Rattle.clu_layout.specs.Primitive.{done_in}
 use Rattle.clu_layout.proofs.Laws.{done_later, EndsLater}
 use Rattle.clu_layout.proofs.Laws as layout_laws
 use Rattle.clu_meaning.specs.State.{Instance, Frame, Owns, Stack, State, deeper, entered, as_before}
-use Rattle.clu_meaning.specs.Computations.{Ending, raised, wrong, Result, normal, ended, out_of_turns, Computation, gives, ends, goes_wrong, continue_with, and_then, continue_either_way, either_way, spends_a_turn, need, needed, with_one, with_bool, with_routine, either, if_there, sees_frame, sees_world, sees_owns, sees_stack, with_frame, with_owns, enters, goes_deeper, leaves, counts, takes, traced, raises, outcome, does}
+use Rattle.clu_meaning.specs.Computations.{Ending, wrong, Result, normal, ended, out_of_turns, Computation, gives, ends, continue_with, and_then, continue_either_way, either_way, spends_a_turn, need, needed, with_one, with_bool, with_routine, either, if_there, sees_frame, sees_world, sees_owns, sees_stack, with_frame, with_owns, enters, goes_deeper, leaves, counts, takes, traced, raises, outcome, does}
 use Rattle.clu_meaning.specs.More.{Later, state_of, GoesOn}
 
 -- ---- Later

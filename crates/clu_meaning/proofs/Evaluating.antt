@@ -1,12 +1,12 @@
 -- Expressions keep the law.
-use Rattle.std.proofs.Common.{ℕ, Bool, true, false, List, [], ◌∷◌, ◌++◌, Option, None, Some, codes}
-use Rattle.clu_types.specs.CluType.{CluType, array_of, sequence_of, struct_of, record_of, Actuals}
+use Rattle.std.proofs.Common.{ℕ, Bool, List, [], ◌∷◌, Option}
+use Rattle.clu_types.specs.CluType.{CluType, array_of, sequence_of, struct_of, record_of}
 use Rattle.clu_layout.specs.Objects.{Routine, Object, int_object}
-use Rattle.clu_meaning.specs.Programs.{Variable, local, own_of_routine, own_of_cluster, Expression, constant, constant_parameter, variable, routine, parenthesized, operator, negated, cand, cor, call, fields, elements, elements_from, up, down, besides, Expressions, no_expressions, expression_and, Components, no_components, component_and, ClusterDefinition, Program}
-use Rattle.clu_meaning.specs.Computations.{Computation, gives, ends, and_then, counts}
+use Rattle.clu_meaning.specs.Programs.{Variable, local, own_of_routine, own_of_cluster, Expression, constant, constant_parameter, variable, routine, parenthesized, operator, negated, cand, cor, call, fields, elements, elements_from, up, down, besides, Expressions, no_expressions, expression_and, Components, no_components, component_and, Program}
+use Rattle.clu_meaning.specs.Computations.{Computation}
 use Rattle.clu_meaning.specs.Binding.{Running}
 use Rattle.clu_meaning.specs.Calls.{Round, here, Level}
-use Rattle.clu_meaning.specs.Expressions.{makes_fields, makes_elements, makes_elements_from, sealed_by, opened_by, value, condition, gives_named, uses, with_named, names_routine, invokes, operates, operates_not, seals_here, opens_here, eval, eval_all, eval_components}
+use Rattle.clu_meaning.specs.Expressions.{makes_fields, makes_elements, makes_elements_from, value, condition, gives_named, uses, names_routine, invokes, operates, operates_not, seals_here, opens_here, eval, eval_all, eval_components}
 use Rattle.clu_meaning.proofs.Combining.{Goes, goes_gives, goes_ends, goes_and_then, goes_need, goes_needed, goes_with_one, goes_with_bool, goes_with_routine, goes_either, goes_if_there, goes_sees_frame, goes_sees_owns, goes_counts, goes_raises, goes_does}
 use Rattle.clu_meaning.proofs.Going.{AllGo, goes_calls}
 

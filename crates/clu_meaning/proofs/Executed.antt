@@ -1,8 +1,8 @@
 -- Statements keep the law.
-use Rattle.std.proofs.Common.{ℕ, Bool, true, false, List, [], ◌∷◌, Option, None, Some}
+use Rattle.std.proofs.Common.{ℕ, List, [], ◌∷◌}
 use Rattle.clu_layout.specs.Objects.{Object}
 use Rattle.clu_meaning.specs.Programs.{Variable, Taken, named, dropped, Statement, declaration, initialisation, assignment, assignment_of_results, update, call_statement, while_statement, for_statement, if_statement, tagcase_statement, return_statement, yield_statement, signal_statement, exit_statement, break_statement, continue_statement, begin_statement, resignal_statement, except_statement, Statements, no_statements, statement_and, Clauses, no_clauses, clause_and, Otherwise, nothing_else, otherwise, TagArms, no_tag_arms, tag_arm_and, Whens, no_whens, when_and, Others, no_others, others, Program}
-use Rattle.clu_meaning.specs.Computations.{Ending, broken, continued, raised, exited, Computation, gives, ends, counts}
+use Rattle.clu_meaning.specs.Computations.{Ending, broken, continued, raised, exited, Computation}
 use Rattle.clu_meaning.specs.Binding.{Running}
 use Rattle.clu_meaning.specs.Calls.{Round, here, Level}
 use Rattle.clu_meaning.specs.Statements.{turn_ending, handled, arm, arm_if_named, taken_by, returns, signals, resignals, exec, exec_all, exec_clauses, exec_otherwise, exec_tag_arms, exec_whens, exec_others}

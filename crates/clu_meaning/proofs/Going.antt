@@ -1,11 +1,10 @@
 -- Binding, calls, iterators and yields keep the law.
-use Rattle.std.proofs.Common.{ℕ, Bool, true, false, not, List, [], ◌∷◌, Option, None, Some, codes}
+use Rattle.std.proofs.Common.{ℕ, List, [], ◌∷◌, Option, None, Some}
 use Rattle.clu_types.specs.CluType.{CluTypes}
 use Rattle.clu_layout.specs.Objects.{Object}
-use Rattle.clu_layout.specs.SameType.{all_fit}
 use Rattle.clu_meaning.specs.Programs.{Variable, local, own_of_routine, own_of_cluster, Statements, HeadingType, Declaration, ClusterDefinition}
-use Rattle.clu_meaning.specs.State.{Instance, Frame, Owns, Stack, State}
-use Rattle.clu_meaning.specs.Computations.{Ending, broken, continued, returned, signalled, raised, exited, through, wrong, Computation, gives, ends, takes, raises}
+use Rattle.clu_meaning.specs.State.{Instance}
+use Rattle.clu_meaning.specs.Computations.{Ending, broken, continued, returned, signalled, raised, through, wrong, Computation}
 use Rattle.clu_meaning.specs.Binding.{Running, bound, names, names_each, assigned, forgets, handed_out, argued}
 use Rattle.clu_meaning.specs.Unhandled.{unhandled}
 use Rattle.clu_meaning.specs.Calls.{Round, in_procedure, in_iterator, here, Level, raises_unhandled, without_return, procedure_ending, set_up_ending, loop_ending, body_ending, calls_set_up, once, cluster_set_up, routine_set_up, executes, calls, iterates, runs_body, yields}

@@ -1,14 +1,14 @@
 -- Binding objects to variables, and to what a heading has. Each binding needs that the object's own type is included in
 -- the type that is declared, and takes the words of binding to type any.
-use Rattle.std.specs.Prelude.{ℕ, suc, Bool, true, false, ◌&&◌, ◌==◌, List, [], ◌∷◌, Option, None, Some, if◌then◌else◌, bytes_eq, map}
+use Rattle.std.specs.Prelude.{ℕ, ◌&&◌, ◌==◌, List, [], ◌∷◌, Option, None, Some, if◌then◌else◌, bytes_eq, map}
 use Rattle.clu_types.specs.CluType.{CluType, cluster_of, CluTypes, no_types, type_and, Actuals}
 use Rattle.clu_types.specs.Substituted.{substituted}
-use Rattle.clu_layout.specs.Objects.{Object, sealed, own_type, own_types}
+use Rattle.clu_layout.specs.Objects.{Object, sealed, own_types}
 use Rattle.clu_layout.specs.SameType.{same_actuals, all_fit}
 use Rattle.clu_layout.specs.Primitive.{words_for_all}
 use Rattle.clu_meaning.specs.Programs.{Variable, local, own_of_routine, own_of_cluster, HeadingType, plain, cvt, Declaration, Formal, Exception, RoutineDefinition, ClusterDefinition}
-use Rattle.clu_meaning.specs.State.{Instance, own_set_up, Frame, Owns, with_variable, with_own}
-use Rattle.clu_meaning.specs.Computations.{Computation, gives, need, needed, with_frame, with_owns, takes}
+use Rattle.clu_meaning.specs.State.{Instance, own_set_up, with_variable, with_own}
+use Rattle.clu_meaning.specs.Computations.{Computation, need, needed, with_frame, with_owns, takes}
 
 -- A routine that runs: which instance it is, the actuals for the parameters of its module, the cluster in which it stands,
 -- and its definition.

@@ -1,11 +1,10 @@
 -- Calls of routines that have definitions, with the setting up of own variables; and yields.
-use Rattle.std.specs.Prelude.{ℕ, ◌+◌, ◌*◌, Bool, true, false, not, List, [], ◌∷◌, length, Option, None, Some, codes}
-use Rattle.clu_types.specs.CluType.{Actuals}
+use Rattle.std.specs.Prelude.{ℕ, ◌+◌, ◌*◌, false, not, List, [], ◌∷◌, Option, None, Some, codes}
 use Rattle.clu_layout.specs.Objects.{Object}
 use Rattle.clu_layout.specs.Places.{has_none}
 use Rattle.clu_meaning.specs.Programs.{Variable, Statements, HeadingType, Declaration, RoutineDefinition, ClusterDefinition}
-use Rattle.clu_meaning.specs.State.{Instance, own_set_up, Variables, Frame, Owns, Stack, State, new_frame, called_from, caller_of, back_to, with_set_up}
-use Rattle.clu_meaning.specs.Computations.{Ending, broken, continued, returned, signalled, raised, exited, through, wrong, Computation, gives, ends, goes_wrong, and_then, either_way, spends_a_turn, need, either, sees_frame, sees_owns, sees_stack, with_frame, with_owns, enters, goes_deeper, leaves, counts, raise_count, raises, fails}
+use Rattle.clu_meaning.specs.State.{Instance, new_frame, called_from, caller_of, back_to, with_set_up}
+use Rattle.clu_meaning.specs.Computations.{Ending, broken, continued, returned, signalled, raised, through, wrong, Computation, gives, ends, goes_wrong, and_then, either_way, spends_a_turn, need, either, sees_frame, sees_owns, sees_stack, with_frame, with_owns, enters, goes_deeper, leaves, counts, raise_count, raises, fails}
 use Rattle.clu_meaning.specs.Binding.{Running, argued, assigned, handed_out, cluster_instance}
 use Rattle.clu_meaning.specs.Unhandled.{failure, unhandled}
 

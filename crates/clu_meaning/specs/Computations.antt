@@ -5,7 +5,7 @@ use Rattle.clu_layout.specs.Objects.{Object, bool_object, routine_object, Routin
 use Rattle.clu_layout.specs.Actions.{World, Action}
 use Rattle.clu_layout.specs.Actions as layout
 use Rattle.clu_layout.specs.Primitive.{done_in}
-use Rattle.clu_meaning.specs.State.{Instance, Variables, Frame, Owns, Stack, State, with_variable, with_own, with_set_up, deeper, entered, as_before}
+use Rattle.clu_meaning.specs.State.{Instance, Frame, Owns, Stack, State, deeper, entered, as_before}
 
 -- How a statement ends if it doesn't end normally. An exception is signalled by the routine that ends with it, and raised
 -- where that routine was invoked. `through` is what the body of a for statement ended with, while it passes the iterators

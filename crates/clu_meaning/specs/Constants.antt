@@ -1,5 +1,5 @@
 -- Constants: what literals denote, and what operators give for constants.
-use Rattle.std.specs.Prelude.{ℕ, ◌+◌, ◌*◌, ◌-◌, ℤ, pos, Bool, true, false, not, List, [], ◌∷◌, codes, Option, None, Some}
+use Rattle.std.specs.Prelude.{ℕ, ◌+◌, ◌*◌, ◌-◌, pos, Bool, true, false, not, List, [], ◌∷◌, codes, Option, None, Some}
 use Rattle.std.specs.Option.{option_map, option_and_then}
 use Rattle.clu_base.specs.declared.constants.Const.{Const}
 use Rattle.clu_base.specs.declared.constants.Const.TheVariants as constant
@@ -10,7 +10,7 @@ use Rattle.clu_syntax.specs.declared.words.Operator.TheVariants as op
 use Rattle.clu_syntax.specs.declared.words.Sign.{Sign}
 use Rattle.clu_syntax.specs.declared.words.Sign.TheVariants as sign
 use Rattle.clu_layout.specs.Objects.{Object, null_object, bool_object, int_object, char_object, string_object, own_type}
-use Rattle.clu_layout.specs.Actions.{World, Outcome, returned, signalled, wrong}
+use Rattle.clu_layout.specs.Actions.{World, Outcome, returned}
 use Rattle.clu_layout.specs.Primitive.{prim}
 
 -- ---- constants as objects

@@ -1,6 +1,6 @@
 -- The count of nodes: one for each node, one more for each of its names after the first, and one more for each whole 64
 -- bytes that a string literal denotes. A body, the conditions of an if statement and a constant are no nodes of their own.
-use Rattle.std.specs.Prelude.{ℕ, zero, suc, ◌+◌, ◌-◌, ◌/◌, Bool, List, [], ◌∷◌, length, Option, None, Some}
+use Rattle.std.specs.Prelude.{ℕ, zero, suc, ◌+◌, ◌-◌, ◌/◌, List, [], ◌∷◌, length, Option, None, Some}
 use Rattle.clu_tree.specs.Count.{string_len}
 use Rattle.clu_syntax.specs.Syntax.{Identifier, Literal, string, Expression, an_infix, a_prefix, a_paren, a_literal, a_name, an_index, a_get, a_call, fields, elements, elements_from, an_operation, a_force, an_up, a_down, Expressions, no_expressions, expression_and, Components, no_components, component_and, Constant, an_expression, a_type, Constants, no_constants, constant_and, TypeExpression, a_simple_type, a_list_type, a_fields_type, a_routine_type, a_named_type, TypeExpressions, no_types, type_and, Selectors, no_selectors, selector_and, Exceptions, no_exceptions, exception_and, Typed, Equate, an_equate, a_set_equate, TypeSet, a_type_set, Equates, no_equates, equate_and, Variable, Taken, objects, any_objects, Statement, a_declare, an_init, a_call_init, an_assign, a_set_field, a_set_index, a_call_statement, a_while, a_for, a_for_of_names, an_if, a_tagcase, a_return, a_yield, a_signal, an_exit, a_break, a_continue, a_begin, a_resignal, an_except, Statements, no_statements, statement_and, Body, a_body, Clauses, no_clauses, clause_and, Otherwise, nothing_else, otherwise, TagArms, no_tag_arms, tag_arm_and, Whens, no_whens, when_and, Others, no_others, others, Parameter, Own, own_variables, own_init, own_call_init, Restriction, has_operations, is_in, is_in_set, Routine}
 

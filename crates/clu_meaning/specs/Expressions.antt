@@ -1,6 +1,6 @@
 -- What expressions give: as many objects as an invocation returns, and one of any other expression. Parts are evaluated from
 -- left to right.
-use Rattle.std.specs.Prelude.{ℕ, zero, suc, ◌+◌, ℤ, pos, Bool, true, false, List, [], ◌∷◌, ◌++◌, map, length, Option, None, Some, if◌then◌else◌, nat_eq, bytes_eq, codes}
+use Rattle.std.specs.Prelude.{ℕ, zero, suc, ◌+◌, pos, Bool, true, false, List, [], ◌∷◌, ◌++◌, map, length, Option, None, Some, if◌then◌else◌, nat_eq, bytes_eq, codes}
 use Rattle.clu_base.specs.declared.constants.Const.{Const}
 use Rattle.clu_types.specs.CluType.{CluType, array_of, sequence_of, struct_of, record_of, cluster_of, Fields, no_fields, field_and, Actuals, no_actuals, actual_type, actual_const, actual_param}
 use Rattle.clu_types.specs.Substituted.{substituted, actuals_substituted}
@@ -9,7 +9,6 @@ use Rattle.clu_layout.specs.SameType.{fits}
 use Rattle.clu_layout.specs.Primitive.{array_construction, sequence_construction, struct_construction, record_construction}
 use Rattle.clu_meaning.specs.Constants.{object_of}
 use Rattle.clu_meaning.specs.Programs.{Variable, local, own_of_routine, own_of_cluster, Expression, constant, constant_parameter, variable, routine, parenthesized, operator, negated, cand, cor, call, fields, elements, elements_from, up, down, besides, Expressions, no_expressions, expression_and, Components, no_components, component_and, ClusterDefinition, Program}
-use Rattle.clu_meaning.specs.State.{Instance, Frame, Owns}
 use Rattle.clu_meaning.specs.Computations.{Computation, gives, goes_wrong, and_then, need, needed, with_one, with_bool, with_routine, either, if_there, sees_frame, sees_owns, counts, node, fails, does}
 use Rattle.clu_meaning.specs.Binding.{Running, cluster_instance, opened}
 use Rattle.clu_meaning.specs.Operations.{defined, undefined, headed, may_name}

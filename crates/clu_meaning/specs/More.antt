@@ -2,7 +2,7 @@
 -- ended; where that is out of turns, its output and its meters have only grown since.
 use Rattle.std.specs.Prelude.{◌≡◌, ℕ, ◌+◌, ◌≤◌, List, ◌++◌}
 use Rattle.clu_meaning.specs.State.{State}
-use Rattle.clu_meaning.specs.Computations.{Result, normal, ended, out_of_turns, Computation}
+use Rattle.clu_meaning.specs.Computations.{Result, normal, ended, out_of_turns}
 
 -- the output goes on from the earlier one, and no meter has fallen
 pub record Later (earlier later : State) : Type 0 where

@@ -1,13 +1,13 @@
 -- What a routine is: which definition it has, or that it is a primitive operation or force; and its heading.
 use Rattle.std.specs.Prelude.{ℕ, Bool, true, false, ◌||◌, List, [], ◌∷◌, Option, None, Some, if◌then◌else◌, bytes_eq}
 use Rattle.std.specs.Option.{option_map}
-use Rattle.clu_types.specs.CluType.{CluType, null_type, bool_type, int_type, char_type, string_type, any_type, stream_type, array_of, sequence_of, record_of, struct_of, oneof_of, variant_of, proc_of, iter_of, cluster_of, parameter, CluTypes, Signals, no_signals, signal_and, Actuals, no_actuals}
+use Rattle.clu_types.specs.CluType.{CluType, proc_of, iter_of, cluster_of, CluTypes, Signals, no_signals, signal_and, Actuals}
 use Rattle.clu_builtin.specs.Table.{operation}
 use Rattle.clu_layout.specs.Objects.{Routine, module_routine, operation_of, force_of, Object}
 use Rattle.clu_layout.specs.Actions.{Action, no_case}
 use Rattle.clu_layout.specs.Primitive.{invocation, force_invocation, heading_type, force_heading}
 use Rattle.clu_meaning.specs.Programs.{Exception, RoutineDefinition, ClusterDefinition, Module, routine_module, cluster_module, Program}
-use Rattle.clu_meaning.specs.State.{Instance, of_routine}
+use Rattle.clu_meaning.specs.State.{of_routine}
 use Rattle.clu_meaning.specs.Binding.{Running, outward, types_of_formals}
 use Rattle.clu_meaning.specs.Texts.{text_of, text_given}
 

@@ -2,7 +2,7 @@
 -- the module, and the name of a routine is what it denotes. A comment is the CLU that a construct comes from.
 use Rattle.std.specs.Prelude.{ℕ, Bool, List}
 use Rattle.clu_base.specs.declared.constants.Const.{Const}
-use Rattle.clu_types.specs.CluType.{CluType, Actuals}
+use Rattle.clu_types.specs.CluType.{CluType}
 use Rattle.clu_layout.specs.Objects.{Routine}
 
 -- a variable of the running routine, formal arguments too; an own variable of the routine; one of its cluster

@@ -9,8 +9,8 @@ use Rattle.clu_syntax.specs.Syntax.{Identifier, an_infix, a_prefix, a_paren, a_l
 use Rattle.clu_syntax.specs.Syntax as syntax
 use Rattle.clu_names.specs.declared.scopes.Declared.{Declared}
 use Rattle.clu_meaning.specs.Constants.{Sugar, is_cand, is_cor, is_operation, is_negated, sugar, prefix_name, denoted}
-use Rattle.clu_meaning.specs.Scoping.{Meaning, is_equate, is_type_set, is_type_parameter, is_constant_parameter, is_local, is_own_of_routine, is_own_of_cluster, is_routine_of_cluster, is_module, Bindings, Scope, meaning_of, number_of, bound_at, own_actuals, parameter_number, of_routine, of_owns, of_modules}
-use Rattle.clu_meaning.specs.Settling.{Value, settled_type, settled_constant, settled_parameter, unsettled, constant_value, no_type, type_in, comes_after, settled, type_settled, actuals_settled, name_settled}
+use Rattle.clu_meaning.specs.Scoping.{Meaning, is_local, is_own_of_routine, is_own_of_cluster, is_routine_of_cluster, is_module, Bindings, Scope, meaning_of, number_of, bound_at, own_actuals, parameter_number, of_routine, of_owns, of_modules}
+use Rattle.clu_meaning.specs.Settling.{Value, settled_constant, settled_parameter, constant_value, no_type, type_in, comes_after, settled, type_settled, actuals_settled, name_settled}
 use Rattle.clu_meaning.specs.Counting.{routine_count, owns_count}
 use Rattle.clu_meaning.specs.Programs.{Variable, local, own_of_routine, own_of_cluster, Expression, constant, constant_parameter, variable, routine, parenthesized, operator, negated, cand, cor, call, Expressions, no_expressions, expression_and, Components, no_components, component_and, named, dropped, Statement, declaration, initialisation, assignment, assignment_of_results, update, call_statement, while_statement, for_statement, if_statement, tagcase_statement, return_statement, yield_statement, signal_statement, exit_statement, break_statement, continue_statement, begin_statement, resignal_statement, except_statement, Statements, no_statements, statement_and, Clauses, no_clauses, clause_and, Otherwise, nothing_else, otherwise, TagArms, no_tag_arms, tag_arm_and, Whens, no_whens, when_and, Others, no_others, others, HeadingType, plain, cvt, Declaration, Formal, Exception, RoutineDefinition, ClusterDefinition, Module, routine_module, cluster_module, Program}
 use Rattle.clu_meaning.specs.Programs as program

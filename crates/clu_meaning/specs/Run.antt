@@ -1,15 +1,14 @@
 -- The run of a program: what it has written after so many turns, how it ended, and its meters.
-use Rattle.std.specs.Prelude.{ℕ, zero, suc, Bool, true, false, not, ◌&&◌, ◌==◌, List, [], ◌∷◌, Option, None, Some}
+use Rattle.std.specs.Prelude.{ℕ, zero, suc, Bool, false, not, ◌&&◌, ◌==◌, List, [], ◌∷◌}
 use Rattle.clu_types.specs.CluType.{no_actuals}
 use Rattle.clu_layout.specs.Objects.{module_routine, Object, string_object}
 use Rattle.clu_layout.specs.Places.{has_none}
-use Rattle.clu_layout.specs.Actions.{World}
-use Rattle.clu_meaning.specs.Programs.{Statements, RoutineDefinition, Program}
-use Rattle.clu_meaning.specs.State.{Instance, Owns, State, no_variables, new_frame}
-use Rattle.clu_meaning.specs.Computations.{Ending, returned, signalled, raised, wrong, Result, normal, ended, out_of_turns, Computation, gives, ends, goes_wrong, either_way, spends_a_turn, need, needed, enters}
+use Rattle.clu_meaning.specs.Programs.{RoutineDefinition, Program}
+use Rattle.clu_meaning.specs.State.{Instance, State, no_variables, new_frame}
+use Rattle.clu_meaning.specs.Computations.{Ending, returned, signalled, raised, Result, normal, ended, out_of_turns, Computation, gives, goes_wrong, either_way, spends_a_turn, need, needed, enters}
 use Rattle.clu_meaning.specs.Binding.{Running}
 use Rattle.clu_meaning.specs.Operations.{defined}
-use Rattle.clu_meaning.specs.Calls.{Round, in_procedure, Level, call_words, executes}
+use Rattle.clu_meaning.specs.Calls.{in_procedure, Level, call_words, executes}
 use Rattle.clu_meaning.specs.Statements.{exec_all}
 use Rattle.clu_meaning.specs.Unhandled.{unhandled}
 

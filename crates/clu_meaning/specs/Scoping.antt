@@ -1,7 +1,7 @@
 -- What each declaration of a file declares, by its node and name; and so what a name denotes at a node.
-use Rattle.std.specs.Prelude.{ℕ, suc, ◌+◌, Bool, true, false, ◌&&◌, ◌==◌, List, [], ◌∷◌, ◌++◌, length, map, Option, None, Some, if◌then◌else◌, slice_get, bytes_eq, codes}
+use Rattle.std.specs.Prelude.{ℕ, suc, ◌+◌, ◌&&◌, ◌==◌, List, [], ◌∷◌, ◌++◌, length, map, Option, None, Some, if◌then◌else◌, slice_get, bytes_eq, codes}
 use Rattle.clu_types.specs.CluType.{Actuals, no_actuals, actual_type, actual_param, parameter}
-use Rattle.clu_syntax.specs.Syntax.{Identifier, Constant, TypeExpression, Typed, Equate, an_equate, a_set_equate, Equates, no_equates, equate_and, Variable, Taken, objects, any_objects, Statement, a_declare, an_init, a_call_init, a_while, a_for, a_for_of_names, an_if, a_tagcase, a_begin, a_resignal, an_except, Statements, no_statements, statement_and, Body, a_body, Clauses, no_clauses, clause_and, Otherwise, nothing_else, otherwise, TagArms, no_tag_arms, tag_arm_and, Whens, no_whens, when_and, Others, no_others, others, Parameter, Own, own_variables, own_init, own_call_init, Routine, Cluster, Module, a_routine, a_cluster}
+use Rattle.clu_syntax.specs.Syntax.{Identifier, Constant, TypeExpression, Typed, Equate, an_equate, a_set_equate, Equates, no_equates, equate_and, Variable, Taken, objects, any_objects, Statement, a_declare, an_init, a_call_init, a_while, a_for, a_for_of_names, an_if, a_tagcase, a_begin, a_resignal, an_except, Statements, no_statements, statement_and, Body, a_body, Clauses, no_clauses, clause_and, Otherwise, nothing_else, otherwise, TagArms, no_tag_arms, tag_arm_and, Whens, no_whens, when_and, Others, no_others, others, Parameter, Own, own_variables, own_init, own_call_init, Routine, Module, a_routine, a_cluster}
 use Rattle.clu_names.specs.declared.scopes.Declared.{Declared}
 use Rattle.clu_names.specs.Denotes.{found}
 

@@ -1,6 +1,6 @@
 -- The types and constants that a text names, as terms over the parameters of its module. An equate stands for its right
 -- side, which is found by unfolding as often as there are declarations.
-use Rattle.std.specs.Prelude.{ℕ, zero, suc, Bool, true, false, ◌&&◌, List, [], ◌∷◌, length, Option, None, Some, if◌then◌else◌, bytes_eq, codes}
+use Rattle.std.specs.Prelude.{ℕ, zero, suc, Bool, List, [], ◌∷◌, length, Option, None, Some, if◌then◌else◌, bytes_eq, codes}
 use Rattle.std.specs.Option.{option_and_then}
 use Rattle.std.specs.Ordering.{is_gt, nat_cmp}
 use Rattle.std.specs.Cmp.Lexicographic.{slice_cmp}
@@ -18,7 +18,7 @@ use Rattle.clu_syntax.specs.declared.words.RoutineKind.{RoutineKind}
 use Rattle.clu_syntax.specs.declared.words.RoutineKind.TheVariants as kind
 use Rattle.clu_syntax.specs.Syntax.{Identifier, Expression, an_infix, a_prefix, a_paren, a_literal, a_name, an_index, Constant, an_expression, a_type, Constants, no_constants, constant_and, TypeExpression, a_simple_type, a_list_type, a_fields_type, a_routine_type, a_named_type, TypeExpressions, no_types, type_and, Selectors, no_selectors, selector_and, Exceptions, no_exceptions, exception_and}
 use Rattle.clu_meaning.specs.Constants.{denoted, sugar, folded, prefixed}
-use Rattle.clu_meaning.specs.Scoping.{Meaning, is_equate, is_type_set, is_type_parameter, is_constant_parameter, is_local, is_own_of_routine, is_own_of_cluster, is_routine_of_cluster, is_module, Scope, meaning_of}
+use Rattle.clu_meaning.specs.Scoping.{Meaning, is_equate, is_type_parameter, is_constant_parameter, is_module, Scope, meaning_of}
 
 -- what a text settles to
 pub data Value : Type 0 where

@@ -1,11 +1,11 @@
 -- How statements are executed.
-use Rattle.std.specs.Prelude.{ℕ, suc, ◌*◌, Bool, true, false, List, [], ◌∷◌, length, Option, None, Some, if◌then◌else◌, slice_get, bytes_eq}
-use Rattle.clu_types.specs.CluType.{CluType, string_type}
+use Rattle.std.specs.Prelude.{ℕ, suc, ◌*◌, List, [], ◌∷◌, length, Option, None, Some, if◌then◌else◌, slice_get, bytes_eq}
+use Rattle.clu_types.specs.CluType.{string_type}
 use Rattle.clu_layout.specs.Objects.{Object, oneof_object, reference, string_object, Cell, variant_cell}
 use Rattle.clu_layout.specs.Actions.{World}
 use Rattle.clu_layout.specs.Places.{has_none}
-use Rattle.clu_meaning.specs.Programs.{Variable, HeadingType, plain, Expression, Expressions, Taken, named, dropped, Statement, declaration, initialisation, assignment, assignment_of_results, update, call_statement, while_statement, for_statement, if_statement, tagcase_statement, return_statement, yield_statement, signal_statement, exit_statement, break_statement, continue_statement, begin_statement, resignal_statement, except_statement, Statements, no_statements, statement_and, Clauses, no_clauses, clause_and, Otherwise, nothing_else, otherwise, TagArms, no_tag_arms, tag_arm_and, Whens, no_whens, when_and, Others, no_others, others, Program}
-use Rattle.clu_meaning.specs.Computations.{Ending, broken, continued, returned, signalled, raised, exited, through, wrong, Computation, gives, ends, goes_wrong, and_then, either_way, spends_a_turn, need, needed, with_bool, with_routine, either, sees_world, counts, node}
+use Rattle.clu_meaning.specs.Programs.{Variable, HeadingType, plain, Taken, named, dropped, Statement, declaration, initialisation, assignment, assignment_of_results, update, call_statement, while_statement, for_statement, if_statement, tagcase_statement, return_statement, yield_statement, signal_statement, exit_statement, break_statement, continue_statement, begin_statement, resignal_statement, except_statement, Statements, no_statements, statement_and, Clauses, no_clauses, clause_and, Otherwise, nothing_else, otherwise, TagArms, no_tag_arms, tag_arm_and, Whens, no_whens, when_and, Others, no_others, others, Program}
+use Rattle.clu_meaning.specs.Computations.{Ending, broken, continued, returned, signalled, raised, exited, Computation, gives, ends, goes_wrong, and_then, either_way, spends_a_turn, need, needed, with_routine, either, sees_world, counts, node}
 use Rattle.clu_meaning.specs.Binding.{Running, assigned, forgets, handed_out, signal_types}
 use Rattle.clu_meaning.specs.Operations.{defined, is_among}
 use Rattle.clu_meaning.specs.Calls.{Round, here, Level, iterates, yields}

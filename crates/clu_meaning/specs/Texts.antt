@@ -1,7 +1,7 @@
 -- The operations that are defined by texts. Each is the tree of the CLU text above it, in which `t` is the type of the
 -- elements, and each name denotes the declaration that has it.
 use Prim.Native.String.{String}
-use Rattle.std.specs.Prelude.{ℕ, suc, Bool, true, false, List, [], ◌∷◌, ◌++◌, map, Option, None, Some, if◌then◌else◌, bytes_eq, codes}
+use Rattle.std.specs.Prelude.{ℕ, Bool, List, [], ◌∷◌, map, Option, None, Some, if◌then◌else◌, bytes_eq, codes}
 use Rattle.std.specs.Option.{option_map}
 use Rattle.clu_types.specs.CluType.{CluType, int_type, string_type, array_of, sequence_of, record_of, struct_of, oneof_of, variant_of, Actuals, no_actuals, actual_type}
 use Rattle.clu_syntax.specs.declared.words.Operator.{Operator}
@@ -11,7 +11,7 @@ use Rattle.clu_syntax.specs.declared.words.SimpleType.TheVariants as simple
 use Rattle.clu_syntax.specs.declared.words.ListType.TheVariants as list
 use Rattle.clu_syntax.specs.declared.words.RoutineKind.{RoutineKind}
 use Rattle.clu_syntax.specs.declared.words.RoutineKind.TheVariants as kind
-use Rattle.clu_syntax.specs.Syntax.{Identifier, true_literal, false_literal, integer, Expression, an_infix, a_prefix, a_paren, a_literal, a_name, an_index, a_call, an_operation, Expressions, no_expressions, expression_and, an_expression, no_constants, constant_and, TypeExpression, a_simple_type, a_list_type, a_named_type, TypeExpressions, no_types, type_and, no_exceptions, Typed, no_equates, objects, Statement, an_init, an_assign, a_call_statement, a_while, a_for, an_if, a_return, a_yield, an_except, Statements, no_statements, statement_and, Body, a_body, no_clauses, clause_and, nothing_else, no_whens, when_and, no_others, Routine}
+use Rattle.clu_syntax.specs.Syntax.{true_literal, false_literal, integer, Expression, an_infix, a_prefix, a_paren, a_literal, a_name, an_index, a_call, an_operation, Expressions, no_expressions, expression_and, an_expression, no_constants, constant_and, TypeExpression, a_simple_type, a_list_type, a_named_type, TypeExpressions, no_types, type_and, no_exceptions, Typed, no_equates, objects, Statement, an_init, an_assign, a_call_statement, a_while, a_for, an_if, a_return, a_yield, an_except, Statements, no_statements, statement_and, Body, a_body, no_clauses, clause_and, nothing_else, no_whens, when_and, no_others, Routine}
 use Rattle.clu_names.specs.declared.scopes.Declared.{Declared}
 use Rattle.clu_meaning.specs.Programs.{RoutineDefinition}
 use Rattle.clu_meaning.specs.Scoping.{Bindings, binding, is_type_parameter, of_routine}
