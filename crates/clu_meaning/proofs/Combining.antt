@@ -32,13 +32,13 @@ pub record Goes {A : Type 0} (k : ℕ) (m more : Computation A) : Type 0 where
 
 -- ---- results
 
-pub goes_gives : {A : Type 0} {k : ℕ} {a : A} → Goes k (gives a) (gives a)
+pub goes_gives : {A : Type 0} {k : ℕ} (a : A) → Goes k (gives a) (gives a)
 unfolding gives
-goes_gives = record { follows = λ turns st. refl; grows = λ turns st. later_same st }
+goes_gives a = record { follows = λ turns st. refl; grows = λ turns st. later_same st }
 
-pub goes_ends : {A : Type 0} {k : ℕ} {e : Ending} → Goes {A = A} k (ends e) (ends e)
+pub goes_ends : {A : Type 0} {k : ℕ} (e : Ending) → Goes {A = A} k (ends e) (ends e)
 unfolding ends
-goes_ends = record { follows = λ turns st. refl; grows = λ turns st. later_same st }
+goes_ends e = record { follows = λ turns st. refl; grows = λ turns st. later_same st }
 
 continued_grows : {A B : Type 0} (f : A → Computation B) (r : Result A) (st : State) → Later st (state_of r) →
     ((a : A) (turns : ℕ) (now : State) → Later now (state_of (f a turns now))) → Later st (state_of (continue_with f r))
@@ -107,28 +107,28 @@ goes_spends {k = k} {m = m} {m' = m'} g = record { follows = spent_follows k m m
 pub goes_need : {A : Type 0} {k : ℕ} {m m' : Computation A} (b : Bool) → Goes k m m' → Goes k (need b m) (need b m')
 unfolding need
 goes_need true g = g
-goes_need false g = goes_ends
+goes_need false g = goes_ends _
 
 pub goes_needed : {A B : Type 0} {k : ℕ} {f f' : A → Computation B} (o : Option A) → ((a : A) → Goes k (f a) (f' a)) → Goes k (needed o f) (needed o f')
 unfolding needed
 goes_needed (Some x) g = g x
-goes_needed None g = goes_ends
+goes_needed None g = goes_ends _
 
 pub goes_with_one : {A : Type 0} {k : ℕ} {f f' : Object → Computation A} (os : List Object) → ((o : Object) → Goes k (f o) (f' o)) → Goes k (with_one os f) (with_one os f')
 unfolding with_one
 goes_with_one (o ∷ []) g = g o
-goes_with_one [] g = goes_ends
-goes_with_one (o ∷ x ∷ os) g = goes_ends
+goes_with_one [] g = goes_ends _
+goes_with_one (o ∷ x ∷ os) g = goes_ends _
 
 pub goes_with_bool : {A : Type 0} {k : ℕ} {f f' : Bool → Computation A} (o : Object) → ((b : Bool) → Goes k (f b) (f' b)) → Goes k (with_bool o f) (with_bool o f')
 unfolding with_bool
 goes_with_bool (bool_object b) g = g b
-goes_with_bool _ g = goes_ends
+goes_with_bool _ g = goes_ends _
 
 pub goes_with_routine : {A : Type 0} {k : ℕ} {f f' : Routine → Computation A} (o : Object) → ((r : Routine) → Goes k (f r) (f' r)) → Goes k (with_routine o f) (with_routine o f')
 unfolding with_routine
 goes_with_routine (routine_object r heading) g = g r
-goes_with_routine _ g = goes_ends
+goes_with_routine _ g = goes_ends _
 
 pub goes_either : {A : Type 0} {k : ℕ} {m m' n n' : Computation A} (b : Bool) → Goes k m m' → Goes k n n' → Goes k (either b m n) (either b m' n')
 unfolding either
@@ -167,39 +167,39 @@ changed k m m' change l g = record {
     grows = λ turns st. later_then st (change st) (state_of (m' turns (change st))) (l st) (g.grows turns (change st))
   }
 
-pub goes_with_frame : {A : Type 0} {k : ℕ} {m m' : Computation A} {f : Frame → Frame} → Goes k m m' → Goes k (with_frame f m) (with_frame f m')
+pub goes_with_frame : {A : Type 0} {k : ℕ} {m m' : Computation A} (f : Frame → Frame) → Goes k m m' → Goes k (with_frame f m) (with_frame f m')
 unfolding with_frame
-goes_with_frame {k = k} {m = m} {m' = m'} {f = f} g = changed k m m' (λ st. record st { frame = f st.frame })
+goes_with_frame {k = k} {m = m} {m' = m'} f g = changed k m m' (λ st. record st { frame = f st.frame })
     (λ st. record { more = []; output = sym (append-nil st.world.output); words = omega arith; work = omega arith; most = omega arith }) g
 
-pub goes_with_owns : {A : Type 0} {k : ℕ} {m m' : Computation A} {f : Owns → Owns} → Goes k m m' → Goes k (with_owns f m) (with_owns f m')
+pub goes_with_owns : {A : Type 0} {k : ℕ} {m m' : Computation A} (f : Owns → Owns) → Goes k m m' → Goes k (with_owns f m) (with_owns f m')
 unfolding with_owns
-goes_with_owns {k = k} {m = m} {m' = m'} {f = f} g = changed k m m' (λ st. record st { owns = f st.owns })
+goes_with_owns {k = k} {m = m} {m' = m'} f g = changed k m m' (λ st. record st { owns = f st.owns })
     (λ st. record { more = []; output = sym (append-nil st.world.output); words = omega arith; work = omega arith; most = omega arith }) g
 
-pub goes_enters : {A : Type 0} {k : ℕ} {m m' : Computation A} {i : Instance} {n : ℕ} → Goes k m m' → Goes k (enters i n m) (enters i n m')
+pub goes_enters : {A : Type 0} {k : ℕ} {m m' : Computation A} (i : Instance) (n : ℕ) → Goes k m m' → Goes k (enters i n m) (enters i n m')
 unfolding enters
-goes_enters {k = k} {m = m} {m' = m'} {i = i} {n = n} g = changed k m m' (λ st. record st { stack = entered i n st.stack; world = record st.world { work = st.world.work + n } })
+goes_enters {k = k} {m = m} {m' = m'} i n g = changed k m m' (λ st. record st { stack = entered i n st.stack; world = record st.world { work = st.world.work + n } })
     (λ st. record { more = []; output = sym (append-nil st.world.output); words = omega arith; work = omega arith; most = omega arith }) g
 
-pub goes_goes_deeper : {A : Type 0} {k : ℕ} {m m' : Computation A} {n : ℕ} → Goes k m m' → Goes k (goes_deeper n m) (goes_deeper n m')
+pub goes_goes_deeper : {A : Type 0} {k : ℕ} {m m' : Computation A} (n : ℕ) → Goes k m m' → Goes k (goes_deeper n m) (goes_deeper n m')
 unfolding goes_deeper
-goes_goes_deeper {k = k} {m = m} {m' = m'} {n = n} g = changed k m m' (λ st. record st { stack = deeper n st.stack })
+goes_goes_deeper {k = k} {m = m} {m' = m'} n g = changed k m m' (λ st. record st { stack = deeper n st.stack })
     (λ st. record { more = []; output = sym (append-nil st.world.output); words = omega arith; work = omega arith; most = omega arith }) g
 
-pub goes_leaves : {A : Type 0} {k : ℕ} {m m' : Computation A} {saved : Stack} → Goes k m m' → Goes k (leaves saved m) (leaves saved m')
+pub goes_leaves : {A : Type 0} {k : ℕ} {m m' : Computation A} (saved : Stack) → Goes k m m' → Goes k (leaves saved m) (leaves saved m')
 unfolding leaves
-goes_leaves {k = k} {m = m} {m' = m'} {saved = saved} g = changed k m m' (λ st. record st { stack = as_before saved st.stack })
+goes_leaves {k = k} {m = m} {m' = m'} saved g = changed k m m' (λ st. record st { stack = as_before saved st.stack })
     (λ st. record { more = []; output = sym (append-nil st.world.output); words = omega arith; work = omega arith; most = omega arith }) g
 
-pub goes_counts : {A : Type 0} {k : ℕ} {m m' : Computation A} {n : ℕ} → Goes k m m' → Goes k (counts n m) (counts n m')
+pub goes_counts : {A : Type 0} {k : ℕ} {m m' : Computation A} (n : ℕ) → Goes k m m' → Goes k (counts n m) (counts n m')
 unfolding counts
-goes_counts {k = k} {m = m} {m' = m'} {n = n} g = changed k m m' (λ st. record st { world = record st.world { work = st.world.work + n } })
+goes_counts {k = k} {m = m} {m' = m'} n g = changed k m m' (λ st. record st { world = record st.world { work = st.world.work + n } })
     (λ st. record { more = []; output = sym (append-nil st.world.output); words = omega arith; work = omega arith; most = omega arith }) g
 
-pub goes_takes : {A : Type 0} {k : ℕ} {m m' : Computation A} {n : ℕ} → Goes k m m' → Goes k (takes n m) (takes n m')
+pub goes_takes : {A : Type 0} {k : ℕ} {m m' : Computation A} (n : ℕ) → Goes k m m' → Goes k (takes n m) (takes n m')
 unfolding takes
-goes_takes {k = k} {m = m} {m' = m'} {n = n} g = changed k m m' (λ st. record st { world = record st.world { words = st.world.words + n; work = st.world.work + n } })
+goes_takes {k = k} {m = m} {m' = m'} n g = changed k m m' (λ st. record st { world = record st.world { words = st.world.words + n; work = st.world.work + n } })
     (λ st. record { more = []; output = sym (append-nil st.world.output); words = omega arith; work = omega arith; most = omega arith }) g
 
 pub goes_traced : {A : Type 0} {k : ℕ} {m m' : Computation A} → Goes k m m' → Goes k (traced m) (traced m')
@@ -207,8 +207,8 @@ unfolding traced
 goes_traced {k = k} {m = m} {m' = m'} g = changed k m m' (λ st. record st { trace = st.stack.live })
     (λ st. record { more = []; output = sym (append-nil st.world.output); words = omega arith; work = omega arith; most = omega arith }) g
 
-pub goes_raises : {A : Type 0} {k : ℕ} {name : List ℕ} {os : List Object} → Goes {A = A} k (raises name os) (raises name os)
-goes_raises = goes_counts (goes_traced goes_ends)
+pub goes_raises : {A : Type 0} {k : ℕ} (name : List ℕ) (os : List Object) → Goes {A = A} k (raises name os) (raises name os)
+goes_raises name os = goes_counts _ (goes_traced (goes_ends _))
 
 -- ---- operations
 
@@ -219,7 +219,7 @@ outcome_follows : (k : ℕ) (o : layout.Outcome) (turns : ℕ) (st : State) → 
 unfolding outcome
 outcome_follows k (layout.returned os w) turns st = refl
 outcome_follows k (layout.signalled name os w) turns st =
-    (goes_raises {A = List Object} {k = k} {name = name} {os = os}).follows turns (record st { world = w })
+    (goes_raises {A = List Object} {k = k} name os).follows turns (record st { world = w })
 outcome_follows k layout.wrong turns st = refl
 
 outcome_grows : (o : layout.Outcome) (turns : ℕ) (st : State) → EndsLater st.world o → Later st (state_of (outcome o turns st))
@@ -227,12 +227,12 @@ unfolding outcome
 outcome_grows (layout.returned os w) turns st l = world_later st w l
 outcome_grows (layout.signalled name os w) turns st l =
     later_then st (record st { world = w }) (state_of (raises {A = List Object} name os turns (record st { world = w }))) (world_later st w l)
-    ((goes_raises {A = List Object} {k = 0} {name = name} {os = os}).grows turns (record st { world = w }))
+    ((goes_raises {A = List Object} {k = 0} name os).grows turns (record st { world = w }))
 outcome_grows layout.wrong turns st l = later_same st
 
-pub goes_does : {k : ℕ} {action : Action} → Goes k (does action) (does action)
+pub goes_does : {k : ℕ} (action : Action) → Goes k (does action) (does action)
 unfolding does
-goes_does {k = k} {action = action} = record {
+goes_does {k = k} action = record {
     follows = λ turns st. outcome_follows k (done_in st.world action) turns st;
     grows = λ turns st. outcome_grows (done_in st.world action) turns st (done_later st.world action)
   }

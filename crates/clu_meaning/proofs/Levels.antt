@@ -1,5 +1,5 @@
 -- A run with more turns goes on from one with fewer.
-use Rattle.std.proofs.Common.{◌≡◌, ℕ, zero, suc, ◌+◌, List, [], refl, subst, arith}
+use Rattle.std.proofs.Common.{◌≡◌, ℕ, zero, suc, ◌+◌, List, [], ◌∷◌, refl, subst, arith}
 use Rattle.clu_layout.specs.Objects.{Object, string_object}
 use Rattle.clu_meaning.specs.Programs.{Statements, Program}
 use Rattle.clu_meaning.specs.State.{State}
@@ -39,18 +39,19 @@ higher_level program k (suc n) m e round body =
 
 goes_fails_with : {k : ℕ} (os : List Object) → Goes k (fails_with os) (fails_with os)
 unfolding fails_with
-goes_fails_with (string_object text ∷ []) = goes_gives
-goes_fails_with _ = goes_ends
+goes_fails_with [] = goes_ends _
+goes_fails_with (string_object text ∷ []) = goes_gives _
+goes_fails_with _ = goes_ends _
 
 goes_start_ending : {k : ℕ} (e : Ending) → Goes k (start_ending e) (start_ending e)
 unfolding start_ending
-goes_start_ending (returned os) = goes_gives
+goes_start_ending (returned os) = goes_gives _
 goes_start_ending (signalled name os) = goes_unhandled name os goes_fails_with
 goes_start_ending (raised name os) = goes_unhandled name os goes_fails_with
-goes_start_ending _ = goes_ends
+goes_start_ending _ = goes_ends _
 
 goes_starts : (k : ℕ) (low low' : Level) → AllGo k low low' → (r : Running) → Goes k (starts low r) (starts low' r)
-goes_starts k low low' lows r = goes_need _ (goes_spends (goes_either_way (goes_enters (goes_executes k low low' lows (in_procedure r) [])) (λ done. goes_gives) goes_start_ending))
+goes_starts k low low' lows r = goes_need _ (goes_spends (goes_either_way (goes_enters _ _ (goes_executes k low low' lows (in_procedure r) [])) (λ done. (goes_gives _)) goes_start_ending))
 
 -- the run with k turns more goes on from this one
 pub more_turns : (program : Program) (start input : List ℕ) (n k : ℕ) → GoesOn k (result_of_run program start input n) (result_of_run program start input (n + k))

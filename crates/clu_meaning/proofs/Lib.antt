@@ -4,3 +4,4 @@ pub mod Evaluating
 pub mod Executed
 pub mod Levels
 mod TextCounts
+mod Running

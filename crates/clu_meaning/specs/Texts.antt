@@ -20,8 +20,8 @@ use Rattle.clu_meaning.specs.Schemes.{scheme_of}
 
 -- ---- words for trees. All nodes have the number 0, and each declaration is in scope at all of them
 
-abbrev infix : Operator → Expression → Expression → Expression
-infix = an_infix 0
+abbrev infix_of : Operator → Expression → Expression → Expression
+infix_of = an_infix 0
 
 abbrev name : String → Expression
 name x = a_name 0 (codes x)
@@ -119,14 +119,14 @@ from_to_by = text "from_to_by" kind.Iterator (declared ("a" ∷ "b" ∷ "s" ∷ 
     ( init "x" int (name "a")
     ∷ an_except 0
         (a_while 0
-          (infix op.Cor
-            (infix op.Cor
-              (in_parentheses (infix op.Cand (infix op.Greater (name "s") (number "0")) (infix op.AtMost (name "x") (name "b"))))
-              (in_parentheses (infix op.Cand (infix op.Less (name "s") (number "0")) (infix op.AtLeast (name "x") (name "b")))))
-            (infix op.Equal (name "s") (number "0")))
+          (infix_of op.Cor
+            (infix_of op.Cor
+              (in_parentheses (infix_of op.Cand (infix_of op.Greater (name "s") (number "0")) (infix_of op.AtMost (name "x") (name "b"))))
+              (in_parentheses (infix_of op.Cand (infix_of op.Less (name "s") (number "0")) (infix_of op.AtLeast (name "x") (name "b")))))
+            (infix_of op.Equal (name "s") (number "0")))
           (block
             ( yield (name "x")
-            ∷ an_assign 0 (codes "x" ∷ []) (these (infix op.Add (name "x") (name "s") ∷ []))
+            ∷ an_assign 0 (codes "x" ∷ []) (these (infix_of op.Add (name "x") (name "s") ∷ []))
             ∷ [])))
         (when_and 0 (codes "overflow" ∷ []) (objects []) (block []) no_whens)
         no_others
@@ -166,7 +166,7 @@ array_indexes = text "indexes" kind.Iterator (declared ("a" ∷ []) array_t ∷ 
 abbrev pub array_elements : Routine
 array_elements = text "elements" kind.Iterator (declared ("a" ∷ []) array_t ∷ []) t
     (for "i" int (apply array_t "indexes" (name "a" ∷ []))
-      ( when_true (infix op.Or (infix op.Less (name "i") (apply array_t "low" (name "a" ∷ []))) (infix op.Greater (name "i") (apply array_t "high" (name "a" ∷ [])))) (return [])
+      ( when_true (infix_of op.Or (infix_of op.Less (name "i") (apply array_t "low" (name "a" ∷ []))) (infix_of op.Greater (name "i") (apply array_t "high" (name "a" ∷ [])))) (return [])
       ∷ yield (element "a" "i")
       ∷ [])
     ∷ [])
@@ -183,9 +183,9 @@ array_elements = text "elements" kind.Iterator (declared ("a" ∷ []) array_t �
 abbrev pub array_similar : String → String → Routine
 array_similar operation compares = text operation kind.Procedure (declared ("a" ∷ "b" ∷ []) array_t ∷ []) bool
     ( when_true
-        (infix op.Or
-          (infix op.NotEqual (apply array_t "low" (name "a" ∷ [])) (apply array_t "low" (name "b" ∷ [])))
-          (infix op.NotEqual (apply array_t "size" (name "a" ∷ [])) (apply array_t "size" (name "b" ∷ []))))
+        (infix_of op.Or
+          (infix_of op.NotEqual (apply array_t "low" (name "a" ∷ [])) (apply array_t "low" (name "b" ∷ [])))
+          (infix_of op.NotEqual (apply array_t "size" (name "a" ∷ [])) (apply array_t "size" (name "b" ∷ []))))
         (return (falsehood ∷ []))
     ∷ for "i" int (apply array_t "indexes" (name "a" ∷ []))
         (when_true (not (apply t compares (element "a" "i" ∷ element "b" "i" ∷ []))) (return (falsehood ∷ [])) ∷ [])
@@ -232,7 +232,7 @@ sequence_elements = text "elements" kind.Iterator (declared ("a" ∷ []) sequenc
 abbrev pub sequence_similar : String → Routine
 sequence_similar operation = text operation kind.Procedure (declared ("a" ∷ "b" ∷ []) sequence_t ∷ []) bool
     ( when_true
-        (infix op.NotEqual (apply sequence_t "size" (name "a" ∷ [])) (apply sequence_t "size" (name "b" ∷ [])))
+        (infix_of op.NotEqual (apply sequence_t "size" (name "a" ∷ [])) (apply sequence_t "size" (name "b" ∷ [])))
         (return (falsehood ∷ []))
     ∷ for "i" int (apply sequence_t "indexes" (name "a" ∷ []))
         (when_true (not (apply t operation (element "a" "i" ∷ element "b" "i" ∷ []))) (return (falsehood ∷ [])) ∷ [])

@@ -7,14 +7,12 @@ ghost use Rattle.clu_meaning.specs.More.{GoesOn, Later, state_of};
 
 /// A run that has ended ends the same with more turns, state and meters included; and a run that is out of turns has
 /// written a prefix of what one with more turns writes, and no meter of this one is less.
-#[tactic(auto, using(crate::proofs::Levels::more_turns))]
 pub fn more_turns()
     ensures { (program : Program) (start input : List ℕ) (n k : ℕ) → GoesOn k (result_of_run program start input n) (result_of_run program start input (n + k)) }
 {
 }
 
 /// A run only adds to its output, and none of its meters ever falls.
-#[tactic(auto, using(crate::proofs::Levels::only_grows))]
 pub fn only_grows()
     ensures { (program : Program) (start input : List ℕ) (n : ℕ) → Later (first_state input) (state_of (result_of_run program start input n)) }
 {
