@@ -49,7 +49,7 @@ goes_argued r os g = goes_bound _ os (goes_needed _ (λ opened. goes_names_each 
 
 pub goes_unhandled : {A : Type 0} {k : ℕ} {f f' : List Object → Computation A} (name : List ℕ) (os : List Object) →
     ((text : List Object) → Goes k (f text) (f' text)) → Goes k (unhandled name os f) (unhandled name os f')
-goes_unhandled name os g = goes_either _ (g os) (goes_takes _ (g _))
+goes_unhandled name os g = goes_takes _ (g _)
 
 goes_raises_unhandled : {A : Type 0} {k : ℕ} (name : List ℕ) (os : List Object) → Goes {A = A} k (raises_unhandled name os) (raises_unhandled name os)
 goes_raises_unhandled name os = goes_unhandled name os (λ text. goes_counts raise_count (goes_ends (raised failure text)))

@@ -46,7 +46,7 @@ goes_fails_with _ = goes_ends _
 goes_start_ending : {k : ℕ} (e : Ending) → Goes k (start_ending e) (start_ending e)
 unfolding start_ending
 goes_start_ending (returned os) = goes_gives _
-goes_start_ending (signalled name os) = goes_unhandled name os goes_fails_with
+goes_start_ending (signalled name os) = goes_fails_with _
 goes_start_ending (raised name os) = goes_unhandled name os goes_fails_with
 goes_start_ending _ = goes_ends _
 

@@ -10,7 +10,7 @@ use Rattle.clu_meaning.specs.Binding.{Running}
 use Rattle.clu_meaning.specs.Operations.{defined}
 use Rattle.clu_meaning.specs.Calls.{in_procedure, Level, call_words, executes}
 use Rattle.clu_meaning.specs.Statements.{exec_all}
-use Rattle.clu_meaning.specs.Unhandled.{unhandled}
+use Rattle.clu_meaning.specs.Unhandled.{failure_objects, unhandled}
 
 -- Execution at each level. Whatever goes on at the level below has spent a turn, so that no more levels are wanted than
 -- there are turns.
@@ -46,10 +46,10 @@ unfoldable pub fails_with : List Object → Computation Finish
 fails_with (string_object text ∷ []) = gives (failed text)
 fails_with _ = goes_wrong
 
--- the system handles no exception
+-- the system handles no exception. What the start signals takes no words there, since no routine makes its text
 unfoldable pub start_ending : Ending → Computation Finish
 start_ending (returned os) = gives finished
-start_ending (signalled name os) = unhandled name os fails_with
+start_ending (signalled name os) = fails_with (failure_objects name os)
 start_ending (raised name os) = unhandled name os fails_with
 start_ending _ = goes_wrong
 
