@@ -32,22 +32,22 @@ array_sizes_modules =
     "s"); type = (a_simple_type 3 simple.String) }) (an_infix 13 op.Concatenate (a_call 11 (an_operation 5 (a_simple_type 4 simple.Int) (codes
     "unparse")) (expression_and (a_call 10 (an_operation 8 (a_list_type 7 list.Array (a_simple_type 6 simple.Int)) (codes "low")) (expression_and
     (a_name 9 (codes "a")) no_expressions)) no_expressions)) (a_literal 12 (string (34 ∷ 58 ∷ 34 ∷ []))))) (statement_and (a_for 31 (record { node =
-    16; names = ((codes "x") ∷ []); type = (a_simple_type 15 simple.Int) } ∷ []) (a_call 21 (an_operation 19 (a_list_type 18 list.Array
-    (a_simple_type 17 simple.Int)) (codes "elements")) (expression_and (a_name 20 (codes "a")) no_expressions)) (a_body no_equates (statement_and
-    (an_assign 30 ((codes "s") ∷ []) (expression_and (an_infix 29 op.Concatenate (an_infix 24 op.Concatenate (a_name 22 (codes "s")) (a_literal 23
-    (string (34 ∷ 32 ∷ 34 ∷ [])))) (a_call 28 (an_operation 26 (a_simple_type 25 simple.Int) (codes "unparse")) (expression_and (a_name 27 (codes
-    "x")) no_expressions))) no_expressions)) no_statements))) (statement_and (a_call_statement 39 (a_call 38 (an_operation 33 (a_named_type 32 (codes
+    16; names = ((codes "x") ∷ []); type = (a_simple_type 15 simple.Int) } ∷ []) (a_call 21 (an_operation 19 (a_list_type 18 list.Array (a_simple_type
+    17 simple.Int)) (codes "elements")) (expression_and (a_name 20 (codes "a")) no_expressions)) (a_body no_equates (statement_and (an_assign 30
+    ((codes "s") ∷ []) (expression_and (an_infix 29 op.Concatenate (an_infix 24 op.Concatenate (a_name 22 (codes "s")) (a_literal 23 (string (34 ∷ 32
+    ∷ 34 ∷ [])))) (a_call 28 (an_operation 26 (a_simple_type 25 simple.Int) (codes "unparse")) (expression_and (a_name 27 (codes "x"))
+    no_expressions))) no_expressions)) no_statements))) (statement_and (a_call_statement 39 (a_call 38 (an_operation 33 (a_named_type 32 (codes
     "stream") no_constants) (codes "putl")) (expression_and (a_call 36 (an_operation 35 (a_named_type 34 (codes "stream") no_constants) (codes
     "primary_output")) no_expressions) (expression_and (a_name 37 (codes "s")) no_expressions)))) no_statements))) })) ∷ (a_routine 144 no_equates
-    (record { node = 143; name = (codes "start_up"); closing = (codes "start_up"); kind = kind.Procedure; parameters = []; arguments = ([]); results
-    = no_types; signals = no_exceptions; restrictions = ([]); equates = (equate_and (an_equate 44 (Some (codes "ai")) (a_type (a_list_type 43
-    list.Array (a_simple_type 42 simple.Int)))) no_equates); owns = ([]); statements = (statement_and (an_init 52 (record { name = (codes "a"); type
-    = (a_named_type 45 (codes "ai") no_constants) }) (elements_from 51 (a_named_type 46 (codes "ai") no_constants) (a_literal 47 (integer (codes
-    "5"))) (expression_and (a_literal 48 (integer (codes "1"))) (expression_and (a_literal 49 (integer (codes "2"))) (expression_and (a_literal 50
-    (integer (codes "3"))) no_expressions))))) (statement_and (a_call_statement 66 (a_call 65 (an_operation 54 (a_named_type 53 (codes "stream")
-    no_constants) (codes "putl")) (expression_and (a_call 57 (an_operation 56 (a_named_type 55 (codes "stream") no_constants) (codes
-    "primary_output")) no_expressions) (expression_and (a_call 64 (an_operation 59 (a_simple_type 58 simple.Int) (codes "unparse")) (expression_and
-    (a_call 63 (an_operation 61 (a_named_type 60 (codes "ai") no_constants) (codes "size")) (expression_and (a_name 62 (codes "a")) no_expressions))
+    (record { node = 143; name = (codes "start_up"); closing = (codes "start_up"); kind = kind.Procedure; parameters = []; arguments = ([]); results =
+    no_types; signals = no_exceptions; restrictions = ([]); equates = (equate_and (an_equate 44 (Some (codes "ai")) (a_type (a_list_type 43 list.Array
+    (a_simple_type 42 simple.Int)))) no_equates); owns = ([]); statements = (statement_and (an_init 52 (record { name = (codes "a"); type =
+    (a_named_type 45 (codes "ai") no_constants) }) (elements_from 51 (a_named_type 46 (codes "ai") no_constants) (a_literal 47 (integer (codes "5")))
+    (expression_and (a_literal 48 (integer (codes "1"))) (expression_and (a_literal 49 (integer (codes "2"))) (expression_and (a_literal 50 (integer
+    (codes "3"))) no_expressions))))) (statement_and (a_call_statement 66 (a_call 65 (an_operation 54 (a_named_type 53 (codes "stream") no_constants)
+    (codes "putl")) (expression_and (a_call 57 (an_operation 56 (a_named_type 55 (codes "stream") no_constants) (codes "primary_output"))
+    no_expressions) (expression_and (a_call 64 (an_operation 59 (a_simple_type 58 simple.Int) (codes "unparse")) (expression_and (a_call 63
+    (an_operation 61 (a_named_type 60 (codes "ai") no_constants) (codes "size")) (expression_and (a_name 62 (codes "a")) no_expressions))
     no_expressions)) no_expressions)))) (statement_and (a_call_statement 80 (a_call 79 (an_operation 68 (a_named_type 67 (codes "stream")
     no_constants) (codes "putl")) (expression_and (a_call 71 (an_operation 70 (a_named_type 69 (codes "stream") no_constants) (codes
     "primary_output")) no_expressions) (expression_and (a_call 78 (an_operation 73 (a_simple_type 72 simple.Int) (codes "unparse")) (expression_and
@@ -100,26 +100,26 @@ array_set_low_modules =
     "s"); type = (a_simple_type 3 simple.String) }) (an_infix 13 op.Concatenate (a_call 11 (an_operation 5 (a_simple_type 4 simple.Int) (codes
     "unparse")) (expression_and (a_call 10 (an_operation 8 (a_list_type 7 list.Array (a_simple_type 6 simple.Int)) (codes "low")) (expression_and
     (a_name 9 (codes "a")) no_expressions)) no_expressions)) (a_literal 12 (string (34 ∷ 58 ∷ 34 ∷ []))))) (statement_and (a_for 31 (record { node =
-    16; names = ((codes "x") ∷ []); type = (a_simple_type 15 simple.Int) } ∷ []) (a_call 21 (an_operation 19 (a_list_type 18 list.Array
-    (a_simple_type 17 simple.Int)) (codes "elements")) (expression_and (a_name 20 (codes "a")) no_expressions)) (a_body no_equates (statement_and
-    (an_assign 30 ((codes "s") ∷ []) (expression_and (an_infix 29 op.Concatenate (an_infix 24 op.Concatenate (a_name 22 (codes "s")) (a_literal 23
-    (string (34 ∷ 32 ∷ 34 ∷ [])))) (a_call 28 (an_operation 26 (a_simple_type 25 simple.Int) (codes "unparse")) (expression_and (a_name 27 (codes
-    "x")) no_expressions))) no_expressions)) no_statements))) (statement_and (a_call_statement 39 (a_call 38 (an_operation 33 (a_named_type 32 (codes
+    16; names = ((codes "x") ∷ []); type = (a_simple_type 15 simple.Int) } ∷ []) (a_call 21 (an_operation 19 (a_list_type 18 list.Array (a_simple_type
+    17 simple.Int)) (codes "elements")) (expression_and (a_name 20 (codes "a")) no_expressions)) (a_body no_equates (statement_and (an_assign 30
+    ((codes "s") ∷ []) (expression_and (an_infix 29 op.Concatenate (an_infix 24 op.Concatenate (a_name 22 (codes "s")) (a_literal 23 (string (34 ∷ 32
+    ∷ 34 ∷ [])))) (a_call 28 (an_operation 26 (a_simple_type 25 simple.Int) (codes "unparse")) (expression_and (a_name 27 (codes "x"))
+    no_expressions))) no_expressions)) no_statements))) (statement_and (a_call_statement 39 (a_call 38 (an_operation 33 (a_named_type 32 (codes
     "stream") no_constants) (codes "putl")) (expression_and (a_call 36 (an_operation 35 (a_named_type 34 (codes "stream") no_constants) (codes
     "primary_output")) no_expressions) (expression_and (a_name 37 (codes "s")) no_expressions)))) no_statements))) })) ∷ (a_routine 92 no_equates
     (record { node = 91; name = (codes "start_up"); closing = (codes "start_up"); kind = kind.Procedure; parameters = []; arguments = ([]); results =
-    no_types; signals = no_exceptions; restrictions = ([]); equates = (equate_and (an_equate 44 (Some (codes "ai")) (a_type (a_list_type 43
-    list.Array (a_simple_type 42 simple.Int)))) no_equates); owns = ([]); statements = (statement_and (an_init 50 (record { name = (codes "a"); type
-    = (a_named_type 45 (codes "ai") no_constants) }) (elements 49 (a_named_type 46 (codes "ai") no_constants) (expression_and (a_literal 47 (integer
-    (codes "1"))) (expression_and (a_literal 48 (integer (codes "2"))) no_expressions)))) (statement_and (a_call_statement 57 (a_call 56
-    (an_operation 52 (a_named_type 51 (codes "ai") no_constants) (codes "set_low")) (expression_and (a_name 53 (codes "a")) (expression_and (a_prefix
-    55 sign.Minus (a_literal 54 (integer (codes "5")))) no_expressions)))) (statement_and (a_call_statement 61 (a_call 60 (a_name 58 (codes "pa"))
-    (expression_and (a_name 59 (codes "a")) no_expressions))) (statement_and (a_call_statement 75 (a_call 74 (an_operation 63 (a_named_type 62 (codes
-    "stream") no_constants) (codes "putl")) (expression_and (a_call 66 (an_operation 65 (a_named_type 64 (codes "stream") no_constants) (codes
+    no_types; signals = no_exceptions; restrictions = ([]); equates = (equate_and (an_equate 44 (Some (codes "ai")) (a_type (a_list_type 43 list.Array
+    (a_simple_type 42 simple.Int)))) no_equates); owns = ([]); statements = (statement_and (an_init 50 (record { name = (codes "a"); type =
+    (a_named_type 45 (codes "ai") no_constants) }) (elements 49 (a_named_type 46 (codes "ai") no_constants) (expression_and (a_literal 47 (integer
+    (codes "1"))) (expression_and (a_literal 48 (integer (codes "2"))) no_expressions)))) (statement_and (a_call_statement 57 (a_call 56 (an_operation
+    52 (a_named_type 51 (codes "ai") no_constants) (codes "set_low")) (expression_and (a_name 53 (codes "a")) (expression_and (a_prefix 55 sign.Minus
+    (a_literal 54 (integer (codes "5")))) no_expressions)))) (statement_and (a_call_statement 61 (a_call 60 (a_name 58 (codes "pa")) (expression_and
+    (a_name 59 (codes "a")) no_expressions))) (statement_and (a_call_statement 75 (a_call 74 (an_operation 63 (a_named_type 62 (codes "stream")
+    no_constants) (codes "putl")) (expression_and (a_call 66 (an_operation 65 (a_named_type 64 (codes "stream") no_constants) (codes
     "primary_output")) no_expressions) (expression_and (a_call 73 (an_operation 68 (a_simple_type 67 simple.Int) (codes "unparse")) (expression_and
     (an_index 72 (a_name 69 (codes "a")) (constant_and (an_expression (a_prefix 71 sign.Minus (a_literal 70 (integer (codes "5"))))) no_constants))
-    no_expressions)) no_expressions)))) (statement_and (an_except 90 (an_init 80 (record { name = (codes "x"); type = (a_simple_type 76 simple.Int)
-    }) (an_index 79 (a_name 77 (codes "a")) (constant_and (an_expression (a_literal 78 (integer (codes "1")))) no_constants))) (when_and 89 ((codes
+    no_expressions)) no_expressions)))) (statement_and (an_except 90 (an_init 80 (record { name = (codes "x"); type = (a_simple_type 76 simple.Int) })
+    (an_index 79 (a_name 77 (codes "a")) (constant_and (an_expression (a_literal 78 (integer (codes "1")))) no_constants))) (when_and 89 ((codes
     "bounds") ∷ []) (objects []) (a_body no_equates (statement_and (a_call_statement 88 (a_call 87 (an_operation 82 (a_named_type 81 (codes "stream")
     no_constants) (codes "putl")) (expression_and (a_call 85 (an_operation 84 (a_named_type 83 (codes "stream") no_constants) (codes
     "primary_output")) no_expressions) (expression_and (a_literal 86 (string (34 ∷ 98 ∷ 34 ∷ []))) no_expressions)))) no_statements)) no_whens)
@@ -155,20 +155,20 @@ array_ends_modules =
     "s"); type = (a_simple_type 3 simple.String) }) (an_infix 13 op.Concatenate (a_call 11 (an_operation 5 (a_simple_type 4 simple.Int) (codes
     "unparse")) (expression_and (a_call 10 (an_operation 8 (a_list_type 7 list.Array (a_simple_type 6 simple.Int)) (codes "low")) (expression_and
     (a_name 9 (codes "a")) no_expressions)) no_expressions)) (a_literal 12 (string (34 ∷ 58 ∷ 34 ∷ []))))) (statement_and (a_for 31 (record { node =
-    16; names = ((codes "x") ∷ []); type = (a_simple_type 15 simple.Int) } ∷ []) (a_call 21 (an_operation 19 (a_list_type 18 list.Array
-    (a_simple_type 17 simple.Int)) (codes "elements")) (expression_and (a_name 20 (codes "a")) no_expressions)) (a_body no_equates (statement_and
-    (an_assign 30 ((codes "s") ∷ []) (expression_and (an_infix 29 op.Concatenate (an_infix 24 op.Concatenate (a_name 22 (codes "s")) (a_literal 23
-    (string (34 ∷ 32 ∷ 34 ∷ [])))) (a_call 28 (an_operation 26 (a_simple_type 25 simple.Int) (codes "unparse")) (expression_and (a_name 27 (codes
-    "x")) no_expressions))) no_expressions)) no_statements))) (statement_and (a_call_statement 39 (a_call 38 (an_operation 33 (a_named_type 32 (codes
+    16; names = ((codes "x") ∷ []); type = (a_simple_type 15 simple.Int) } ∷ []) (a_call 21 (an_operation 19 (a_list_type 18 list.Array (a_simple_type
+    17 simple.Int)) (codes "elements")) (expression_and (a_name 20 (codes "a")) no_expressions)) (a_body no_equates (statement_and (an_assign 30
+    ((codes "s") ∷ []) (expression_and (an_infix 29 op.Concatenate (an_infix 24 op.Concatenate (a_name 22 (codes "s")) (a_literal 23 (string (34 ∷ 32
+    ∷ 34 ∷ [])))) (a_call 28 (an_operation 26 (a_simple_type 25 simple.Int) (codes "unparse")) (expression_and (a_name 27 (codes "x"))
+    no_expressions))) no_expressions)) no_statements))) (statement_and (a_call_statement 39 (a_call 38 (an_operation 33 (a_named_type 32 (codes
     "stream") no_constants) (codes "putl")) (expression_and (a_call 36 (an_operation 35 (a_named_type 34 (codes "stream") no_constants) (codes
     "primary_output")) no_expressions) (expression_and (a_name 37 (codes "s")) no_expressions)))) no_statements))) })) ∷ (a_routine 116 no_equates
-    (record { node = 115; name = (codes "start_up"); closing = (codes "start_up"); kind = kind.Procedure; parameters = []; arguments = ([]); results
-    = no_types; signals = no_exceptions; restrictions = ([]); equates = (equate_and (an_equate 44 (Some (codes "ai")) (a_type (a_list_type 43
-    list.Array (a_simple_type 42 simple.Int)))) no_equates); owns = ([]); statements = (statement_and (an_init 51 (record { name = (codes "a"); type
-    = (a_named_type 45 (codes "ai") no_constants) }) (elements_from 50 (a_named_type 46 (codes "ai") no_constants) (a_literal 47 (integer (codes
-    "4"))) (expression_and (a_literal 48 (integer (codes "7"))) (expression_and (a_literal 49 (integer (codes "8"))) no_expressions))))
-    (statement_and (a_call_statement 65 (a_call 64 (an_operation 53 (a_named_type 52 (codes "stream") no_constants) (codes "putl")) (expression_and
-    (a_call 56 (an_operation 55 (a_named_type 54 (codes "stream") no_constants) (codes "primary_output")) no_expressions) (expression_and (a_call 63
+    (record { node = 115; name = (codes "start_up"); closing = (codes "start_up"); kind = kind.Procedure; parameters = []; arguments = ([]); results =
+    no_types; signals = no_exceptions; restrictions = ([]); equates = (equate_and (an_equate 44 (Some (codes "ai")) (a_type (a_list_type 43 list.Array
+    (a_simple_type 42 simple.Int)))) no_equates); owns = ([]); statements = (statement_and (an_init 51 (record { name = (codes "a"); type =
+    (a_named_type 45 (codes "ai") no_constants) }) (elements_from 50 (a_named_type 46 (codes "ai") no_constants) (a_literal 47 (integer (codes "4")))
+    (expression_and (a_literal 48 (integer (codes "7"))) (expression_and (a_literal 49 (integer (codes "8"))) no_expressions)))) (statement_and
+    (a_call_statement 65 (a_call 64 (an_operation 53 (a_named_type 52 (codes "stream") no_constants) (codes "putl")) (expression_and (a_call 56
+    (an_operation 55 (a_named_type 54 (codes "stream") no_constants) (codes "primary_output")) no_expressions) (expression_and (a_call 63
     (an_operation 58 (a_simple_type 57 simple.Int) (codes "unparse")) (expression_and (a_call 62 (an_operation 60 (a_named_type 59 (codes "ai")
     no_constants) (codes "bottom")) (expression_and (a_name 61 (codes "a")) no_expressions)) no_expressions)) no_expressions)))) (statement_and
     (a_call_statement 79 (a_call 78 (an_operation 67 (a_named_type 66 (codes "stream") no_constants) (codes "putl")) (expression_and (a_call 70
@@ -177,8 +177,8 @@ array_ends_modules =
     no_constants) (codes "top")) (expression_and (a_name 75 (codes "a")) no_expressions)) no_expressions)) no_expressions)))) (statement_and
     (an_except 97 (an_init 87 (record { name = (codes "x"); type = (a_simple_type 80 simple.Int) }) (a_call 86 (an_operation 82 (a_named_type 81
     (codes "ai") no_constants) (codes "bottom")) (expression_and (a_call 85 (an_operation 84 (a_named_type 83 (codes "ai") no_constants) (codes
-    "new")) no_expressions) no_expressions))) (when_and 96 ((codes "bounds") ∷ []) (objects []) (a_body no_equates (statement_and (a_call_statement
-    95 (a_call 94 (an_operation 89 (a_named_type 88 (codes "stream") no_constants) (codes "putl")) (expression_and (a_call 92 (an_operation 91
+    "new")) no_expressions) no_expressions))) (when_and 96 ((codes "bounds") ∷ []) (objects []) (a_body no_equates (statement_and (a_call_statement 95
+    (a_call 94 (an_operation 89 (a_named_type 88 (codes "stream") no_constants) (codes "putl")) (expression_and (a_call 92 (an_operation 91
     (a_named_type 90 (codes "stream") no_constants) (codes "primary_output")) no_expressions) (expression_and (a_literal 93 (string (34 ∷ 98 ∷ 34 ∷
     []))) no_expressions)))) no_statements)) no_whens) no_others) (statement_and (an_except 114 (an_assign 104 ((codes "x") ∷ []) (expression_and
     (a_call 103 (an_operation 99 (a_named_type 98 (codes "ai") no_constants) (codes "top")) (expression_and (a_call 102 (an_operation 101
@@ -191,8 +191,8 @@ array_ends_modules =
 abbrev array_ends_declared : List Declared
 array_ends_declared =
     (d (codes "a") 2 3 40 (Some 0) ∷ d (codes "s") 14 15 40 (Some 0) ∷ d (codes "x") 16 22 30 (Some 0) ∷ d (codes "pa") 40 0 4294967295 None ∷ d
-    (codes "ai") 44 42 115 (Some 0) ∷ d (codes "a") 51 52 115 (Some 0) ∷ d (codes "x") 87 88 115 (Some 0) ∷ d (codes "start_up") 115 0 4294967295
-    None ∷ [])
+    (codes "ai") 44 42 115 (Some 0) ∷ d (codes "a") 51 52 115 (Some 0) ∷ d (codes "x") 87 88 115 (Some 0) ∷ d (codes "start_up") 115 0 4294967295 None
+    ∷ [])
 
 array_ends : Runs array_ends_declared array_ends_modules (codes "") 10000 returned_normally (55 ∷ 10 ∷ 56 ∷ 10 ∷ 98 ∷ 10 ∷ 116 ∷ 10 ∷ []) 28 230
 unfolding executing computing digits
@@ -223,29 +223,29 @@ array_trim_modules =
     "s"); type = (a_simple_type 3 simple.String) }) (an_infix 13 op.Concatenate (a_call 11 (an_operation 5 (a_simple_type 4 simple.Int) (codes
     "unparse")) (expression_and (a_call 10 (an_operation 8 (a_list_type 7 list.Array (a_simple_type 6 simple.Int)) (codes "low")) (expression_and
     (a_name 9 (codes "a")) no_expressions)) no_expressions)) (a_literal 12 (string (34 ∷ 58 ∷ 34 ∷ []))))) (statement_and (a_for 31 (record { node =
-    16; names = ((codes "x") ∷ []); type = (a_simple_type 15 simple.Int) } ∷ []) (a_call 21 (an_operation 19 (a_list_type 18 list.Array
-    (a_simple_type 17 simple.Int)) (codes "elements")) (expression_and (a_name 20 (codes "a")) no_expressions)) (a_body no_equates (statement_and
-    (an_assign 30 ((codes "s") ∷ []) (expression_and (an_infix 29 op.Concatenate (an_infix 24 op.Concatenate (a_name 22 (codes "s")) (a_literal 23
-    (string (34 ∷ 32 ∷ 34 ∷ [])))) (a_call 28 (an_operation 26 (a_simple_type 25 simple.Int) (codes "unparse")) (expression_and (a_name 27 (codes
-    "x")) no_expressions))) no_expressions)) no_statements))) (statement_and (a_call_statement 39 (a_call 38 (an_operation 33 (a_named_type 32 (codes
+    16; names = ((codes "x") ∷ []); type = (a_simple_type 15 simple.Int) } ∷ []) (a_call 21 (an_operation 19 (a_list_type 18 list.Array (a_simple_type
+    17 simple.Int)) (codes "elements")) (expression_and (a_name 20 (codes "a")) no_expressions)) (a_body no_equates (statement_and (an_assign 30
+    ((codes "s") ∷ []) (expression_and (an_infix 29 op.Concatenate (an_infix 24 op.Concatenate (a_name 22 (codes "s")) (a_literal 23 (string (34 ∷ 32
+    ∷ 34 ∷ [])))) (a_call 28 (an_operation 26 (a_simple_type 25 simple.Int) (codes "unparse")) (expression_and (a_name 27 (codes "x"))
+    no_expressions))) no_expressions)) no_statements))) (statement_and (a_call_statement 39 (a_call 38 (an_operation 33 (a_named_type 32 (codes
     "stream") no_constants) (codes "putl")) (expression_and (a_call 36 (an_operation 35 (a_named_type 34 (codes "stream") no_constants) (codes
     "primary_output")) no_expressions) (expression_and (a_name 37 (codes "s")) no_expressions)))) no_statements))) })) ∷ (a_routine 193 no_equates
-    (record { node = 192; name = (codes "start_up"); closing = (codes "start_up"); kind = kind.Procedure; parameters = []; arguments = ([]); results
-    = no_types; signals = no_exceptions; restrictions = ([]); equates = (equate_and (an_equate 44 (Some (codes "ai")) (a_type (a_list_type 43
-    list.Array (a_simple_type 42 simple.Int)))) no_equates); owns = ([]); statements = (statement_and (an_init 53 (record { name = (codes "a"); type
-    = (a_named_type 45 (codes "ai") no_constants) }) (elements_from 52 (a_named_type 46 (codes "ai") no_constants) (a_literal 47 (integer (codes
-    "2"))) (expression_and (a_literal 48 (integer (codes "10"))) (expression_and (a_literal 49 (integer (codes "20"))) (expression_and (a_literal 50
-    (integer (codes "30"))) (expression_and (a_literal 51 (integer (codes "40"))) no_expressions)))))) (statement_and (a_call_statement 60 (a_call 59
-    (an_operation 55 (a_named_type 54 (codes "ai") no_constants) (codes "trim")) (expression_and (a_name 56 (codes "a")) (expression_and (a_literal
-    57 (integer (codes "3"))) (expression_and (a_literal 58 (integer (codes "2"))) no_expressions))))) (statement_and (a_call_statement 64 (a_call 63
-    (a_name 61 (codes "pa")) (expression_and (a_name 62 (codes "a")) no_expressions))) (statement_and (a_call_statement 71 (a_call 70 (an_operation
-    66 (a_named_type 65 (codes "ai") no_constants) (codes "trim")) (expression_and (a_name 67 (codes "a")) (expression_and (a_literal 68 (integer
-    (codes "4"))) (expression_and (a_literal 69 (integer (codes "100"))) no_expressions))))) (statement_and (a_call_statement 75 (a_call 74 (a_name
-    72 (codes "pa")) (expression_and (a_name 73 (codes "a")) no_expressions))) (statement_and (a_call_statement 82 (a_call 81 (an_operation 77
-    (a_named_type 76 (codes "ai") no_constants) (codes "trim")) (expression_and (a_name 78 (codes "a")) (expression_and (a_literal 79 (integer (codes
-    "5"))) (expression_and (a_literal 80 (integer (codes "3"))) no_expressions))))) (statement_and (a_call_statement 86 (a_call 85 (a_name 83 (codes
-    "pa")) (expression_and (a_name 84 (codes "a")) no_expressions))) (statement_and (an_init 92 (record { name = (codes "b"); type = (a_named_type 87
-    (codes "ai") no_constants) }) (elements 91 (a_named_type 88 (codes "ai") no_constants) (expression_and (a_literal 89 (integer (codes "1")))
+    (record { node = 192; name = (codes "start_up"); closing = (codes "start_up"); kind = kind.Procedure; parameters = []; arguments = ([]); results =
+    no_types; signals = no_exceptions; restrictions = ([]); equates = (equate_and (an_equate 44 (Some (codes "ai")) (a_type (a_list_type 43 list.Array
+    (a_simple_type 42 simple.Int)))) no_equates); owns = ([]); statements = (statement_and (an_init 53 (record { name = (codes "a"); type =
+    (a_named_type 45 (codes "ai") no_constants) }) (elements_from 52 (a_named_type 46 (codes "ai") no_constants) (a_literal 47 (integer (codes "2")))
+    (expression_and (a_literal 48 (integer (codes "10"))) (expression_and (a_literal 49 (integer (codes "20"))) (expression_and (a_literal 50 (integer
+    (codes "30"))) (expression_and (a_literal 51 (integer (codes "40"))) no_expressions)))))) (statement_and (a_call_statement 60 (a_call 59
+    (an_operation 55 (a_named_type 54 (codes "ai") no_constants) (codes "trim")) (expression_and (a_name 56 (codes "a")) (expression_and (a_literal 57
+    (integer (codes "3"))) (expression_and (a_literal 58 (integer (codes "2"))) no_expressions))))) (statement_and (a_call_statement 64 (a_call 63
+    (a_name 61 (codes "pa")) (expression_and (a_name 62 (codes "a")) no_expressions))) (statement_and (a_call_statement 71 (a_call 70 (an_operation 66
+    (a_named_type 65 (codes "ai") no_constants) (codes "trim")) (expression_and (a_name 67 (codes "a")) (expression_and (a_literal 68 (integer (codes
+    "4"))) (expression_and (a_literal 69 (integer (codes "100"))) no_expressions))))) (statement_and (a_call_statement 75 (a_call 74 (a_name 72 (codes
+    "pa")) (expression_and (a_name 73 (codes "a")) no_expressions))) (statement_and (a_call_statement 82 (a_call 81 (an_operation 77 (a_named_type 76
+    (codes "ai") no_constants) (codes "trim")) (expression_and (a_name 78 (codes "a")) (expression_and (a_literal 79 (integer (codes "5")))
+    (expression_and (a_literal 80 (integer (codes "3"))) no_expressions))))) (statement_and (a_call_statement 86 (a_call 85 (a_name 83 (codes "pa"))
+    (expression_and (a_name 84 (codes "a")) no_expressions))) (statement_and (an_init 92 (record { name = (codes "b"); type = (a_named_type 87 (codes
+    "ai") no_constants) }) (elements 91 (a_named_type 88 (codes "ai") no_constants) (expression_and (a_literal 89 (integer (codes "1")))
     (expression_and (a_literal 90 (integer (codes "2"))) no_expressions)))) (statement_and (a_call_statement 99 (a_call 98 (an_operation 94
     (a_named_type 93 (codes "ai") no_constants) (codes "trim")) (expression_and (a_name 95 (codes "b")) (expression_and (a_literal 96 (integer (codes
     "1"))) (expression_and (a_literal 97 (integer (codes "0"))) no_expressions))))) (statement_and (a_call_statement 103 (a_call 102 (a_name 100
@@ -253,38 +253,38 @@ array_trim_modules =
     (elements 107 (a_named_type 104 (codes "ai") no_constants) (expression_and (a_literal 105 (integer (codes "1"))) (expression_and (a_literal 106
     (integer (codes "2"))) no_expressions))) no_expressions)) (statement_and (an_except 125 (a_call_statement 115 (a_call 114 (an_operation 110
     (a_named_type 109 (codes "ai") no_constants) (codes "trim")) (expression_and (a_name 111 (codes "b")) (expression_and (a_literal 112 (integer
-    (codes "0"))) (expression_and (a_literal 113 (integer (codes "1"))) no_expressions))))) (when_and 124 ((codes "bounds") ∷ []) (objects [])
-    (a_body no_equates (statement_and (a_call_statement 123 (a_call 122 (an_operation 117 (a_named_type 116 (codes "stream") no_constants) (codes
-    "putl")) (expression_and (a_call 120 (an_operation 119 (a_named_type 118 (codes "stream") no_constants) (codes "primary_output")) no_expressions)
+    (codes "0"))) (expression_and (a_literal 113 (integer (codes "1"))) no_expressions))))) (when_and 124 ((codes "bounds") ∷ []) (objects []) (a_body
+    no_equates (statement_and (a_call_statement 123 (a_call 122 (an_operation 117 (a_named_type 116 (codes "stream") no_constants) (codes "putl"))
+    (expression_and (a_call 120 (an_operation 119 (a_named_type 118 (codes "stream") no_constants) (codes "primary_output")) no_expressions)
     (expression_and (a_literal 121 (string (34 ∷ 98 ∷ 48 ∷ 34 ∷ []))) no_expressions)))) no_statements)) no_whens) no_others) (statement_and
     (an_except 142 (a_call_statement 132 (a_call 131 (an_operation 127 (a_named_type 126 (codes "ai") no_constants) (codes "trim")) (expression_and
     (a_name 128 (codes "b")) (expression_and (a_literal 129 (integer (codes "4"))) (expression_and (a_literal 130 (integer (codes "1")))
     no_expressions))))) (when_and 141 ((codes "bounds") ∷ []) (objects []) (a_body no_equates (statement_and (a_call_statement 140 (a_call 139
-    (an_operation 134 (a_named_type 133 (codes "stream") no_constants) (codes "putl")) (expression_and (a_call 137 (an_operation 136 (a_named_type
-    135 (codes "stream") no_constants) (codes "primary_output")) no_expressions) (expression_and (a_literal 138 (string (34 ∷ 98 ∷ 52 ∷ 34 ∷ [])))
+    (an_operation 134 (a_named_type 133 (codes "stream") no_constants) (codes "putl")) (expression_and (a_call 137 (an_operation 136 (a_named_type 135
+    (codes "stream") no_constants) (codes "primary_output")) no_expressions) (expression_and (a_literal 138 (string (34 ∷ 98 ∷ 52 ∷ 34 ∷ [])))
     no_expressions)))) no_statements)) no_whens) no_others) (statement_and (an_except 160 (a_call_statement 150 (a_call 149 (an_operation 144
     (a_named_type 143 (codes "ai") no_constants) (codes "trim")) (expression_and (a_name 145 (codes "b")) (expression_and (a_literal 146 (integer
     (codes "1"))) (expression_and (a_prefix 148 sign.Minus (a_literal 147 (integer (codes "1")))) no_expressions))))) (when_and 159 ((codes
-    "negative_size") ∷ []) (objects []) (a_body no_equates (statement_and (a_call_statement 158 (a_call 157 (an_operation 152 (a_named_type 151
-    (codes "stream") no_constants) (codes "putl")) (expression_and (a_call 155 (an_operation 154 (a_named_type 153 (codes "stream") no_constants)
-    (codes "primary_output")) no_expressions) (expression_and (a_literal 156 (string (34 ∷ 110 ∷ 34 ∷ []))) no_expressions)))) no_statements))
-    no_whens) no_others) (statement_and (an_except 187 (a_call_statement 168 (a_call 167 (an_operation 162 (a_named_type 161 (codes "ai")
-    no_constants) (codes "trim")) (expression_and (a_name 163 (codes "b")) (expression_and (a_literal 164 (integer (codes "9"))) (expression_and
-    (a_prefix 166 sign.Minus (a_literal 165 (integer (codes "1")))) no_expressions))))) (when_and 177 ((codes "negative_size") ∷ []) (objects [])
-    (a_body no_equates (statement_and (a_call_statement 176 (a_call 175 (an_operation 170 (a_named_type 169 (codes "stream") no_constants) (codes
-    "putl")) (expression_and (a_call 173 (an_operation 172 (a_named_type 171 (codes "stream") no_constants) (codes "primary_output")) no_expressions)
+    "negative_size") ∷ []) (objects []) (a_body no_equates (statement_and (a_call_statement 158 (a_call 157 (an_operation 152 (a_named_type 151 (codes
+    "stream") no_constants) (codes "putl")) (expression_and (a_call 155 (an_operation 154 (a_named_type 153 (codes "stream") no_constants) (codes
+    "primary_output")) no_expressions) (expression_and (a_literal 156 (string (34 ∷ 110 ∷ 34 ∷ []))) no_expressions)))) no_statements)) no_whens)
+    no_others) (statement_and (an_except 187 (a_call_statement 168 (a_call 167 (an_operation 162 (a_named_type 161 (codes "ai") no_constants) (codes
+    "trim")) (expression_and (a_name 163 (codes "b")) (expression_and (a_literal 164 (integer (codes "9"))) (expression_and (a_prefix 166 sign.Minus
+    (a_literal 165 (integer (codes "1")))) no_expressions))))) (when_and 177 ((codes "negative_size") ∷ []) (objects []) (a_body no_equates
+    (statement_and (a_call_statement 176 (a_call 175 (an_operation 170 (a_named_type 169 (codes "stream") no_constants) (codes "putl"))
+    (expression_and (a_call 173 (an_operation 172 (a_named_type 171 (codes "stream") no_constants) (codes "primary_output")) no_expressions)
     (expression_and (a_literal 174 (string (34 ∷ 110 ∷ 57 ∷ 34 ∷ []))) no_expressions)))) no_statements)) (when_and 186 ((codes "bounds") ∷ [])
     (objects []) (a_body no_equates (statement_and (a_call_statement 185 (a_call 184 (an_operation 179 (a_named_type 178 (codes "stream")
     no_constants) (codes "putl")) (expression_and (a_call 182 (an_operation 181 (a_named_type 180 (codes "stream") no_constants) (codes
-    "primary_output")) no_expressions) (expression_and (a_literal 183 (string (34 ∷ 98 ∷ 57 ∷ 34 ∷ []))) no_expressions)))) no_statements))
-    no_whens)) no_others) (statement_and (a_call_statement 191 (a_call 190 (a_name 188 (codes "pa")) (expression_and (a_name 189 (codes "b"))
-    no_expressions))) no_statements)))))))))))))))) })) ∷ [])
+    "primary_output")) no_expressions) (expression_and (a_literal 183 (string (34 ∷ 98 ∷ 57 ∷ 34 ∷ []))) no_expressions)))) no_statements)) no_whens))
+    no_others) (statement_and (a_call_statement 191 (a_call 190 (a_name 188 (codes "pa")) (expression_and (a_name 189 (codes "b")) no_expressions)))
+    no_statements)))))))))))))))) })) ∷ [])
 
 abbrev array_trim_declared : List Declared
 array_trim_declared =
     (d (codes "a") 2 3 40 (Some 0) ∷ d (codes "s") 14 15 40 (Some 0) ∷ d (codes "x") 16 22 30 (Some 0) ∷ d (codes "pa") 40 0 4294967295 None ∷ d
-    (codes "ai") 44 42 192 (Some 0) ∷ d (codes "a") 53 54 192 (Some 0) ∷ d (codes "b") 92 93 192 (Some 0) ∷ d (codes "start_up") 192 0 4294967295
-    None ∷ [])
+    (codes "ai") 44 42 192 (Some 0) ∷ d (codes "a") 53 54 192 (Some 0) ∷ d (codes "b") 92 93 192 (Some 0) ∷ d (codes "start_up") 192 0 4294967295 None
+    ∷ [])
 
 array_trim : Runs array_trim_declared array_trim_modules (codes "") 10000 returned_normally (51 ∷ 58 ∷ 32 ∷ 50 ∷ 48 ∷ 32 ∷ 51 ∷ 48 ∷ 10 ∷ 52 ∷ 58 ∷ 32 ∷ 51 ∷ 48 ∷ 10 ∷ 53 ∷ 58 ∷ 10 ∷ 49 ∷ 58 ∷ 10 ∷ 98 ∷ 48 ∷ 10 ∷ 98 ∷ 52 ∷ 10 ∷ 110 ∷ 10 ∷ 110 ∷ 57 ∷ 10 ∷ 49 ∷ 58 ∷ 32 ∷ 49 ∷ 32 ∷ 50 ∷ 10 ∷ []) 96 852
 unfolding executing computing digits

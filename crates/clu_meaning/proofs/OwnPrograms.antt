@@ -26,18 +26,17 @@ own_variables_are_set_up_at_the_first_call_modules =
     (a_return 15 (expression_and (a_name 14 (codes "s")) no_expressions)) no_statements)) })) ∷ (a_routine 39 no_equates (record { node = 38; name =
     (codes "p"); closing = (codes "p"); kind = kind.Procedure; parameters = []; arguments = ([]); results = no_types; signals = no_exceptions;
     restrictions = ([]); equates = no_equates; owns = ((own_init 22 (record { name = (codes "a"); type = (a_simple_type 18 simple.String) }) (a_call
-    21 (a_name 19 (codes "init")) (expression_and (a_literal 20 (string (34 ∷ 97 ∷ 34 ∷ []))) no_expressions))) ∷ (own_init 29 (record { name =
-    (codes "b"); type = (a_simple_type 23 simple.String) }) (a_call 28 (a_name 24 (codes "init")) (expression_and (an_infix 27 op.Concatenate (a_name
-    25 (codes "a")) (a_literal 26 (string (34 ∷ 98 ∷ 34 ∷ [])))) no_expressions))) ∷ []); statements = (statement_and (a_call_statement 37 (a_call 36
+    21 (a_name 19 (codes "init")) (expression_and (a_literal 20 (string (34 ∷ 97 ∷ 34 ∷ []))) no_expressions))) ∷ (own_init 29 (record { name = (codes
+    "b"); type = (a_simple_type 23 simple.String) }) (a_call 28 (a_name 24 (codes "init")) (expression_and (an_infix 27 op.Concatenate (a_name 25
+    (codes "a")) (a_literal 26 (string (34 ∷ 98 ∷ 34 ∷ [])))) no_expressions))) ∷ []); statements = (statement_and (a_call_statement 37 (a_call 36
     (an_operation 31 (a_named_type 30 (codes "stream") no_constants) (codes "putl")) (expression_and (a_call 34 (an_operation 33 (a_named_type 32
-    (codes "stream") no_constants) (codes "primary_output")) no_expressions) (expression_and (a_name 35 (codes "b")) no_expressions))))
-    no_statements) })) ∷ (a_routine 55 no_equates (record { node = 54; name = (codes "start_up"); closing = (codes "start_up"); kind =
-    kind.Procedure; parameters = []; arguments = ([]); results = no_types; signals = no_exceptions; restrictions = ([]); equates = no_equates; owns =
-    ([]); statements = (statement_and (a_call_statement 47 (a_call 46 (an_operation 41 (a_named_type 40 (codes "stream") no_constants) (codes
-    "putl")) (expression_and (a_call 44 (an_operation 43 (a_named_type 42 (codes "stream") no_constants) (codes "primary_output")) no_expressions)
-    (expression_and (a_literal 45 (string (34 ∷ 115 ∷ 116 ∷ 97 ∷ 114 ∷ 116 ∷ 34 ∷ []))) no_expressions)))) (statement_and (a_call_statement 50
-    (a_call 49 (a_name 48 (codes "p")) no_expressions)) (statement_and (a_call_statement 53 (a_call 52 (a_name 51 (codes "p")) no_expressions))
-    no_statements))) })) ∷ [])
+    (codes "stream") no_constants) (codes "primary_output")) no_expressions) (expression_and (a_name 35 (codes "b")) no_expressions)))) no_statements)
+    })) ∷ (a_routine 55 no_equates (record { node = 54; name = (codes "start_up"); closing = (codes "start_up"); kind = kind.Procedure; parameters =
+    []; arguments = ([]); results = no_types; signals = no_exceptions; restrictions = ([]); equates = no_equates; owns = ([]); statements =
+    (statement_and (a_call_statement 47 (a_call 46 (an_operation 41 (a_named_type 40 (codes "stream") no_constants) (codes "putl")) (expression_and
+    (a_call 44 (an_operation 43 (a_named_type 42 (codes "stream") no_constants) (codes "primary_output")) no_expressions) (expression_and (a_literal
+    45 (string (34 ∷ 115 ∷ 116 ∷ 97 ∷ 114 ∷ 116 ∷ 34 ∷ []))) no_expressions)))) (statement_and (a_call_statement 50 (a_call 49 (a_name 48 (codes "p"))
+    no_expressions)) (statement_and (a_call_statement 53 (a_call 52 (a_name 51 (codes "p")) no_expressions)) no_statements))) })) ∷ [])
 
 abbrev own_variables_are_set_up_at_the_first_call_declared : List Declared
 own_variables_are_set_up_at_the_first_call_declared =
@@ -54,22 +53,22 @@ own_variables_are_set_up_at_the_first_call = refl
 abbrev own_variables_by_a_call_modules : List Module
 own_variables_by_a_call_modules =
     ((a_routine 7 no_equates (record { node = 6; name = (codes "two"); closing = (codes "two"); kind = kind.Procedure; parameters = []; arguments =
-    ([]); results = (type_and (a_simple_type 0 simple.Int) (type_and (a_simple_type 1 simple.String) no_types)); signals = no_exceptions;
-    restrictions = ([]); equates = no_equates; owns = ([]); statements = (statement_and (a_return 5 (expression_and (a_literal 3 (integer (codes
-    "1"))) (expression_and (a_literal 4 (string (34 ∷ 120 ∷ 34 ∷ []))) no_expressions))) no_statements) })) ∷ (a_routine 35 no_equates (record { node
-    = 34; name = (codes "p"); closing = (codes "p"); kind = kind.Procedure; parameters = []; arguments = ([]); results = no_types; signals =
-    no_exceptions; restrictions = ([]); equates = no_equates; owns = ((own_call_init 14 (record { node = 9; names = ((codes "n") ∷ []); type =
-    (a_simple_type 8 simple.Int) } ∷ record { node = 11; names = ((codes "s") ∷ []); type = (a_simple_type 10 simple.String) } ∷ []) (a_call 13
-    (a_name 12 (codes "two")) no_expressions)) ∷ []); statements = (statement_and (an_assign 18 ((codes "n") ∷ []) (expression_and (an_infix 17
-    op.Add (a_name 15 (codes "n")) (a_literal 16 (integer (codes "1")))) no_expressions)) (statement_and (an_assign 25 ((codes "s") ∷ [])
-    (expression_and (an_infix 24 op.Concatenate (a_name 19 (codes "s")) (a_call 23 (an_operation 21 (a_simple_type 20 simple.Int) (codes "unparse"))
-    (expression_and (a_name 22 (codes "n")) no_expressions))) no_expressions)) (statement_and (a_call_statement 33 (a_call 32 (an_operation 27
-    (a_named_type 26 (codes "stream") no_constants) (codes "putl")) (expression_and (a_call 30 (an_operation 29 (a_named_type 28 (codes "stream")
-    no_constants) (codes "primary_output")) no_expressions) (expression_and (a_name 31 (codes "s")) no_expressions)))) no_statements))) })) ∷
-    (a_routine 43 no_equates (record { node = 42; name = (codes "start_up"); closing = (codes "start_up"); kind = kind.Procedure; parameters = [];
-    arguments = ([]); results = no_types; signals = no_exceptions; restrictions = ([]); equates = no_equates; owns = ([]); statements =
-    (statement_and (a_call_statement 38 (a_call 37 (a_name 36 (codes "p")) no_expressions)) (statement_and (a_call_statement 41 (a_call 40 (a_name 39
-    (codes "p")) no_expressions)) no_statements)) })) ∷ [])
+    ([]); results = (type_and (a_simple_type 0 simple.Int) (type_and (a_simple_type 1 simple.String) no_types)); signals = no_exceptions; restrictions
+    = ([]); equates = no_equates; owns = ([]); statements = (statement_and (a_return 5 (expression_and (a_literal 3 (integer (codes "1")))
+    (expression_and (a_literal 4 (string (34 ∷ 120 ∷ 34 ∷ []))) no_expressions))) no_statements) })) ∷ (a_routine 35 no_equates (record { node = 34;
+    name = (codes "p"); closing = (codes "p"); kind = kind.Procedure; parameters = []; arguments = ([]); results = no_types; signals = no_exceptions;
+    restrictions = ([]); equates = no_equates; owns = ((own_call_init 14 (record { node = 9; names = ((codes "n") ∷ []); type = (a_simple_type 8
+    simple.Int) } ∷ record { node = 11; names = ((codes "s") ∷ []); type = (a_simple_type 10 simple.String) } ∷ []) (a_call 13 (a_name 12 (codes
+    "two")) no_expressions)) ∷ []); statements = (statement_and (an_assign 18 ((codes "n") ∷ []) (expression_and (an_infix 17 op.Add (a_name 15 (codes
+    "n")) (a_literal 16 (integer (codes "1")))) no_expressions)) (statement_and (an_assign 25 ((codes "s") ∷ []) (expression_and (an_infix 24
+    op.Concatenate (a_name 19 (codes "s")) (a_call 23 (an_operation 21 (a_simple_type 20 simple.Int) (codes "unparse")) (expression_and (a_name 22
+    (codes "n")) no_expressions))) no_expressions)) (statement_and (a_call_statement 33 (a_call 32 (an_operation 27 (a_named_type 26 (codes "stream")
+    no_constants) (codes "putl")) (expression_and (a_call 30 (an_operation 29 (a_named_type 28 (codes "stream") no_constants) (codes
+    "primary_output")) no_expressions) (expression_and (a_name 31 (codes "s")) no_expressions)))) no_statements))) })) ∷ (a_routine 43 no_equates
+    (record { node = 42; name = (codes "start_up"); closing = (codes "start_up"); kind = kind.Procedure; parameters = []; arguments = ([]); results =
+    no_types; signals = no_exceptions; restrictions = ([]); equates = no_equates; owns = ([]); statements = (statement_and (a_call_statement 38
+    (a_call 37 (a_name 36 (codes "p")) no_expressions)) (statement_and (a_call_statement 41 (a_call 40 (a_name 39 (codes "p")) no_expressions))
+    no_statements)) })) ∷ [])
 
 abbrev own_variables_by_a_call_declared : List Declared
 own_variables_by_a_call_declared =
@@ -89,27 +88,27 @@ an_exception_of_an_initialiser_modules =
     ([]); results = no_types; signals = no_exceptions; restrictions = ([]); equates = no_equates; owns = ((own_init 4 (record { name = (codes "n");
     type = (a_simple_type 0 simple.Int) }) (an_infix 3 op.Divide (a_literal 1 (integer (codes "1"))) (a_literal 2 (integer (codes "0"))))) ∷ []);
     statements = (statement_and (a_call_statement 12 (a_call 11 (an_operation 6 (a_named_type 5 (codes "stream") no_constants) (codes "putl"))
-    (expression_and (a_call 9 (an_operation 8 (a_named_type 7 (codes "stream") no_constants) (codes "primary_output")) no_expressions)
-    (expression_and (a_literal 10 (string (34 ∷ 112 ∷ 34 ∷ []))) no_expressions)))) (statement_and (a_call_statement 23 (a_call 22 (an_operation 14
-    (a_named_type 13 (codes "stream") no_constants) (codes "putl")) (expression_and (a_call 17 (an_operation 16 (a_named_type 15 (codes "stream")
-    no_constants) (codes "primary_output")) no_expressions) (expression_and (a_call 21 (an_operation 19 (a_simple_type 18 simple.Int) (codes
-    "unparse")) (expression_and (a_name 20 (codes "n")) no_expressions)) no_expressions)))) no_statements)) })) ∷ (a_routine 57 no_equates (record {
-    node = 56; name = (codes "start_up"); closing = (codes "start_up"); kind = kind.Procedure; parameters = []; arguments = ([]); results = no_types;
-    signals = no_exceptions; restrictions = ([]); equates = no_equates; owns = ([]); statements = (statement_and (an_except 40 (a_call_statement 28
-    (a_call 27 (a_name 26 (codes "p")) no_expressions)) (when_and 39 ((codes "failure") ∷ []) (objects (record { node = 30; names = ((codes "s") ∷
-    []); type = (a_simple_type 29 simple.String) } ∷ [])) (a_body no_equates (statement_and (a_call_statement 38 (a_call 37 (an_operation 32
-    (a_named_type 31 (codes "stream") no_constants) (codes "putl")) (expression_and (a_call 35 (an_operation 34 (a_named_type 33 (codes "stream")
-    no_constants) (codes "primary_output")) no_expressions) (expression_and (a_name 36 (codes "s")) no_expressions)))) no_statements)) no_whens)
-    no_others) (statement_and (an_except 55 (a_call_statement 43 (a_call 42 (a_name 41 (codes "p")) no_expressions)) (when_and 54 ((codes "failure")
-    ∷ []) (objects (record { node = 45; names = ((codes "s") ∷ []); type = (a_simple_type 44 simple.String) } ∷ [])) (a_body no_equates
-    (statement_and (a_call_statement 53 (a_call 52 (an_operation 47 (a_named_type 46 (codes "stream") no_constants) (codes "putl")) (expression_and
-    (a_call 50 (an_operation 49 (a_named_type 48 (codes "stream") no_constants) (codes "primary_output")) no_expressions) (expression_and (a_name 51
-    (codes "s")) no_expressions)))) no_statements)) no_whens) no_others) no_statements)) })) ∷ [])
+    (expression_and (a_call 9 (an_operation 8 (a_named_type 7 (codes "stream") no_constants) (codes "primary_output")) no_expressions) (expression_and
+    (a_literal 10 (string (34 ∷ 112 ∷ 34 ∷ []))) no_expressions)))) (statement_and (a_call_statement 23 (a_call 22 (an_operation 14 (a_named_type 13
+    (codes "stream") no_constants) (codes "putl")) (expression_and (a_call 17 (an_operation 16 (a_named_type 15 (codes "stream") no_constants) (codes
+    "primary_output")) no_expressions) (expression_and (a_call 21 (an_operation 19 (a_simple_type 18 simple.Int) (codes "unparse")) (expression_and
+    (a_name 20 (codes "n")) no_expressions)) no_expressions)))) no_statements)) })) ∷ (a_routine 57 no_equates (record { node = 56; name = (codes
+    "start_up"); closing = (codes "start_up"); kind = kind.Procedure; parameters = []; arguments = ([]); results = no_types; signals = no_exceptions;
+    restrictions = ([]); equates = no_equates; owns = ([]); statements = (statement_and (an_except 40 (a_call_statement 28 (a_call 27 (a_name 26
+    (codes "p")) no_expressions)) (when_and 39 ((codes "failure") ∷ []) (objects (record { node = 30; names = ((codes "s") ∷ []); type =
+    (a_simple_type 29 simple.String) } ∷ [])) (a_body no_equates (statement_and (a_call_statement 38 (a_call 37 (an_operation 32 (a_named_type 31
+    (codes "stream") no_constants) (codes "putl")) (expression_and (a_call 35 (an_operation 34 (a_named_type 33 (codes "stream") no_constants) (codes
+    "primary_output")) no_expressions) (expression_and (a_name 36 (codes "s")) no_expressions)))) no_statements)) no_whens) no_others) (statement_and
+    (an_except 55 (a_call_statement 43 (a_call 42 (a_name 41 (codes "p")) no_expressions)) (when_and 54 ((codes "failure") ∷ []) (objects (record {
+    node = 45; names = ((codes "s") ∷ []); type = (a_simple_type 44 simple.String) } ∷ [])) (a_body no_equates (statement_and (a_call_statement 53
+    (a_call 52 (an_operation 47 (a_named_type 46 (codes "stream") no_constants) (codes "putl")) (expression_and (a_call 50 (an_operation 49
+    (a_named_type 48 (codes "stream") no_constants) (codes "primary_output")) no_expressions) (expression_and (a_name 51 (codes "s"))
+    no_expressions)))) no_statements)) no_whens) no_others) no_statements)) })) ∷ [])
 
 abbrev an_exception_of_an_initialiser_declared : List Declared
 an_exception_of_an_initialiser_declared =
-    (d (codes "n") 4 5 24 (Some 0) ∷ d (codes "p") 24 0 4294967295 None ∷ d (codes "s") 30 31 38 (Some 0) ∷ d (codes "s") 45 46 53 (Some 0) ∷ d
-    (codes "start_up") 56 0 4294967295 None ∷ [])
+    (d (codes "n") 4 5 24 (Some 0) ∷ d (codes "p") 24 0 4294967295 None ∷ d (codes "s") 30 31 38 (Some 0) ∷ d (codes "s") 45 46 53 (Some 0) ∷ d (codes
+    "start_up") 56 0 4294967295 None ∷ [])
 
 an_exception_of_an_initialiser : Runs an_exception_of_an_initialiser_declared an_exception_of_an_initialiser_modules (codes "") 10000 returned_normally (117 ∷ 110 ∷ 104 ∷ 97 ∷ 110 ∷ 100 ∷ 108 ∷ 101 ∷ 100 ∷ 32 ∷ 101 ∷ 120 ∷ 99 ∷ 101 ∷ 112 ∷ 116 ∷ 105 ∷ 111 ∷ 110 ∷ 58 ∷ 32 ∷ 122 ∷ 101 ∷ 114 ∷ 111 ∷ 95 ∷ 100 ∷ 105 ∷ 118 ∷ 105 ∷ 100 ∷ 101 ∷ 10 ∷ 112 ∷ 10 ∷ 117 ∷ 110 ∷ 105 ∷ 110 ∷ 105 ∷ 116 ∷ 105 ∷ 97 ∷ 108 ∷ 105 ∷ 122 ∷ 101 ∷ 100 ∷ 32 ∷ 118 ∷ 97 ∷ 114 ∷ 105 ∷ 97 ∷ 98 ∷ 108 ∷ 101 ∷ 10 ∷ []) 5 212
 unfolding executing computing digits
@@ -133,17 +132,17 @@ own_variables_of_a_cluster_come_first_modules =
     []); restrictions = ([]); equates = (equate_and (an_equate 17 None (a_type (a_simple_type 16 simple.Null))) no_equates); owns = ((own_init 22
     (record { name = (codes "x"); type = (a_simple_type 18 simple.Int) }) (a_call 21 (a_name 19 (codes "say_it")) (expression_and (a_literal 20
     (string (34 ∷ 99 ∷ 108 ∷ 117 ∷ 115 ∷ 116 ∷ 101 ∷ 114 ∷ 34 ∷ []))) no_expressions))) ∷ []); routines = ((record { node = 43; name = (codes "a");
-    closing = (codes "a"); kind = kind.Procedure; parameters = []; arguments = ([]); results = no_types; signals = no_exceptions; restrictions =
-    ([]); equates = no_equates; owns = ((own_init 27 (record { name = (codes "y"); type = (a_simple_type 23 simple.Int) }) (a_call 26 (a_name 24
-    (codes "say_it")) (expression_and (a_literal 25 (string (34 ∷ 97 ∷ 34 ∷ []))) no_expressions))) ∷ []); statements = (statement_and
-    (a_call_statement 38 (a_call 37 (an_operation 29 (a_named_type 28 (codes "stream") no_constants) (codes "putl")) (expression_and (a_call 32
-    (an_operation 31 (a_named_type 30 (codes "stream") no_constants) (codes "primary_output")) no_expressions) (expression_and (a_call 36
-    (an_operation 34 (a_simple_type 33 simple.Int) (codes "unparse")) (expression_and (a_name 35 (codes "x")) no_expressions)) no_expressions))))
-    (statement_and (an_assign 42 ((codes "x") ∷ []) (expression_and (an_infix 41 op.Add (a_name 39 (codes "x")) (a_literal 40 (integer (codes "1"))))
+    closing = (codes "a"); kind = kind.Procedure; parameters = []; arguments = ([]); results = no_types; signals = no_exceptions; restrictions = ([]);
+    equates = no_equates; owns = ((own_init 27 (record { name = (codes "y"); type = (a_simple_type 23 simple.Int) }) (a_call 26 (a_name 24 (codes
+    "say_it")) (expression_and (a_literal 25 (string (34 ∷ 97 ∷ 34 ∷ []))) no_expressions))) ∷ []); statements = (statement_and (a_call_statement 38
+    (a_call 37 (an_operation 29 (a_named_type 28 (codes "stream") no_constants) (codes "putl")) (expression_and (a_call 32 (an_operation 31
+    (a_named_type 30 (codes "stream") no_constants) (codes "primary_output")) no_expressions) (expression_and (a_call 36 (an_operation 34
+    (a_simple_type 33 simple.Int) (codes "unparse")) (expression_and (a_name 35 (codes "x")) no_expressions)) no_expressions)))) (statement_and
+    (an_assign 42 ((codes "x") ∷ []) (expression_and (an_infix 41 op.Add (a_name 39 (codes "x")) (a_literal 40 (integer (codes "1"))))
     no_expressions)) no_statements)) }) ∷ (record { node = 55; name = (codes "b"); closing = (codes "b"); kind = kind.Procedure; parameters = [];
-    arguments = ([]); results = no_types; signals = no_exceptions; restrictions = ([]); equates = no_equates; owns = ([]); statements =
-    (statement_and (a_call_statement 54 (a_call 53 (an_operation 45 (a_named_type 44 (codes "stream") no_constants) (codes "putl")) (expression_and
-    (a_call 48 (an_operation 47 (a_named_type 46 (codes "stream") no_constants) (codes "primary_output")) no_expressions) (expression_and (a_call 52
+    arguments = ([]); results = no_types; signals = no_exceptions; restrictions = ([]); equates = no_equates; owns = ([]); statements = (statement_and
+    (a_call_statement 54 (a_call 53 (an_operation 45 (a_named_type 44 (codes "stream") no_constants) (codes "putl")) (expression_and (a_call 48
+    (an_operation 47 (a_named_type 46 (codes "stream") no_constants) (codes "primary_output")) no_expressions) (expression_and (a_call 52
     (an_operation 50 (a_simple_type 49 simple.Int) (codes "unparse")) (expression_and (a_name 51 (codes "x")) no_expressions)) no_expressions))))
     no_statements) }) ∷ []) })) ∷ (a_routine 75 no_equates (record { node = 74; name = (codes "start_up"); closing = (codes "start_up"); kind =
     kind.Procedure; parameters = []; arguments = ([]); results = no_types; signals = no_exceptions; restrictions = ([]); equates = no_equates; owns =
@@ -155,9 +154,9 @@ own_variables_of_a_cluster_come_first_modules =
 
 abbrev own_variables_of_a_cluster_come_first_declared : List Declared
 own_variables_of_a_cluster_come_first_declared =
-    (d (codes "s") 1 2 14 (Some 0) ∷ d (codes "say_it") 14 0 4294967295 None ∷ d (codes "rep") 17 16 56 (Some 0) ∷ d (codes "x") 22 23 56 (Some 0) ∷
-    d (codes "y") 27 28 43 (Some 0) ∷ d (codes "a") 43 16 56 (Some 0) ∷ d (codes "b") 55 16 56 (Some 0) ∷ d (codes "c") 56 0 4294967295 None ∷ d
-    (codes "start_up") 74 0 4294967295 None ∷ [])
+    (d (codes "s") 1 2 14 (Some 0) ∷ d (codes "say_it") 14 0 4294967295 None ∷ d (codes "rep") 17 16 56 (Some 0) ∷ d (codes "x") 22 23 56 (Some 0) ∷ d
+    (codes "y") 27 28 43 (Some 0) ∷ d (codes "a") 43 16 56 (Some 0) ∷ d (codes "b") 55 16 56 (Some 0) ∷ d (codes "c") 56 0 4294967295 None ∷ d (codes
+    "start_up") 74 0 4294967295 None ∷ [])
 
 own_variables_of_a_cluster_come_first : Runs own_variables_of_a_cluster_come_first_declared own_variables_of_a_cluster_come_first_modules (codes "") 10000 returned_normally (99 ∷ 108 ∷ 117 ∷ 115 ∷ 116 ∷ 101 ∷ 114 ∷ 10 ∷ 49 ∷ 10 ∷ 97 ∷ 10 ∷ 49 ∷ 10 ∷ 50 ∷ 10 ∷ 51 ∷ 10 ∷ []) 16 232
 unfolding executing computing digits
@@ -169,9 +168,9 @@ own_variables_of_a_cluster_come_first = refl
 abbrev own_variables_by_constants_modules : List Module
 own_variables_by_constants_modules =
     ((a_routine 14 no_equates (record { node = 13; name = (codes "p"); closing = (codes "p"); kind = kind.Procedure; parameters = (record { node = 1;
-    names = ((codes "k") ∷ []); type = (Some (a_simple_type 0 simple.Int)) } ∷ []); arguments = ([]); results = (type_and (a_simple_type 2
-    simple.Int) no_types); signals = no_exceptions; restrictions = ([]); equates = no_equates; owns = ((own_init 6 (record { name = (codes "n"); type
-    = (a_simple_type 4 simple.Int) }) (a_name 5 (codes "k"))) ∷ []); statements = (statement_and (an_assign 10 ((codes "n") ∷ []) (expression_and
+    names = ((codes "k") ∷ []); type = (Some (a_simple_type 0 simple.Int)) } ∷ []); arguments = ([]); results = (type_and (a_simple_type 2 simple.Int)
+    no_types); signals = no_exceptions; restrictions = ([]); equates = no_equates; owns = ((own_init 6 (record { name = (codes "n"); type =
+    (a_simple_type 4 simple.Int) }) (a_name 5 (codes "k"))) ∷ []); statements = (statement_and (an_assign 10 ((codes "n") ∷ []) (expression_and
     (an_infix 9 op.Add (a_name 7 (codes "n")) (a_literal 8 (integer (codes "1")))) no_expressions)) (statement_and (a_return 12 (expression_and
     (a_name 11 (codes "n")) no_expressions)) no_statements)) })) ∷ (a_routine 60 no_equates (record { node = 59; name = (codes "start_up"); closing =
     (codes "start_up"); kind = kind.Procedure; parameters = []; arguments = ([]); results = no_types; signals = no_exceptions; restrictions = ([]);

@@ -54,15 +54,15 @@ sequence_make_modules =
     (expression_and (a_call 68 (an_operation 66 (a_named_type 65 (codes "si") no_constants) (codes "e2s")) (expression_and (a_literal 67 (integer
     (codes "4"))) no_expressions)) no_expressions))) (statement_and (a_call_statement 78 (a_call 77 (a_name 71 (codes "ps")) (expression_and (a_call
     76 (an_operation 73 (a_named_type 72 (codes "si") no_constants) (codes "fill")) (expression_and (a_literal 74 (integer (codes "3")))
-    (expression_and (a_literal 75 (integer (codes "7"))) no_expressions))) no_expressions))) (statement_and (a_call_statement 86 (a_call 85 (a_name
-    79 (codes "ps")) (expression_and (a_call 84 (an_operation 81 (a_named_type 80 (codes "si") no_constants) (codes "fill")) (expression_and
-    (a_literal 82 (integer (codes "0"))) (expression_and (a_literal 83 (integer (codes "7"))) no_expressions))) no_expressions))) (statement_and
+    (expression_and (a_literal 75 (integer (codes "7"))) no_expressions))) no_expressions))) (statement_and (a_call_statement 86 (a_call 85 (a_name 79
+    (codes "ps")) (expression_and (a_call 84 (an_operation 81 (a_named_type 80 (codes "si") no_constants) (codes "fill")) (expression_and (a_literal
+    82 (integer (codes "0"))) (expression_and (a_literal 83 (integer (codes "7"))) no_expressions))) no_expressions))) (statement_and
     (a_call_statement 93 (a_call 92 (a_name 87 (codes "ps")) (expression_and (elements 91 (a_named_type 88 (codes "si") no_constants) (expression_and
     (a_literal 89 (integer (codes "1"))) (expression_and (a_literal 90 (integer (codes "2"))) no_expressions))) no_expressions))) (statement_and
     (a_call_statement 98 (a_call 97 (a_name 94 (codes "ps")) (expression_and (elements 96 (a_named_type 95 (codes "si") no_constants) no_expressions)
     no_expressions))) (statement_and (an_except 116 (an_init 106 (record { name = (codes "x"); type = (a_named_type 99 (codes "si") no_constants) })
-    (a_call 105 (an_operation 101 (a_named_type 100 (codes "si") no_constants) (codes "fill")) (expression_and (a_prefix 103 sign.Minus (a_literal
-    102 (integer (codes "1")))) (expression_and (a_literal 104 (integer (codes "0"))) no_expressions)))) (when_and 115 ((codes "negative_size") ∷ [])
+    (a_call 105 (an_operation 101 (a_named_type 100 (codes "si") no_constants) (codes "fill")) (expression_and (a_prefix 103 sign.Minus (a_literal 102
+    (integer (codes "1")))) (expression_and (a_literal 104 (integer (codes "0"))) no_expressions)))) (when_and 115 ((codes "negative_size") ∷ [])
     (objects []) (a_body no_equates (statement_and (a_call_statement 114 (a_call 113 (an_operation 108 (a_named_type 107 (codes "stream")
     no_constants) (codes "putl")) (expression_and (a_call 111 (an_operation 110 (a_named_type 109 (codes "stream") no_constants) (codes
     "primary_output")) no_expressions) (expression_and (a_literal 112 (string (34 ∷ 110 ∷ 34 ∷ []))) no_expressions)))) no_statements)) no_whens)
@@ -120,13 +120,13 @@ sequence_fetch_modules =
     (an_equate 57 (Some (codes "si")) (a_type (a_list_type 56 list.Sequence (a_simple_type 55 simple.Int)))) no_equates); owns = ([]); statements =
     (statement_and (an_init 63 (record { name = (codes "s"); type = (a_named_type 58 (codes "si") no_constants) }) (elements 62 (a_named_type 59
     (codes "si") no_constants) (expression_and (a_literal 60 (integer (codes "5"))) (expression_and (a_literal 61 (integer (codes "6")))
-    no_expressions)))) (statement_and (a_call_statement 82 (a_call 81 (an_operation 65 (a_named_type 64 (codes "stream") no_constants) (codes
-    "putl")) (expression_and (a_call 68 (an_operation 67 (a_named_type 66 (codes "stream") no_constants) (codes "primary_output")) no_expressions)
+    no_expressions)))) (statement_and (a_call_statement 82 (a_call 81 (an_operation 65 (a_named_type 64 (codes "stream") no_constants) (codes "putl"))
+    (expression_and (a_call 68 (an_operation 67 (a_named_type 66 (codes "stream") no_constants) (codes "primary_output")) no_expressions)
     (expression_and (a_call 80 (an_operation 70 (a_simple_type 69 simple.Int) (codes "unparse")) (expression_and (an_infix 79 op.Add (an_index 73
     (a_name 71 (codes "s")) (constant_and (an_expression (a_literal 72 (integer (codes "1")))) no_constants)) (a_call 78 (an_operation 75
-    (a_named_type 74 (codes "si") no_constants) (codes "fetch")) (expression_and (a_name 76 (codes "s")) (expression_and (a_literal 77 (integer
-    (codes "2"))) no_expressions)))) no_expressions)) no_expressions)))) (statement_and (an_except 97 (an_init 87 (record { name = (codes "x"); type
-    = (a_simple_type 83 simple.Int) }) (an_index 86 (a_name 84 (codes "s")) (constant_and (an_expression (a_literal 85 (integer (codes "0"))))
+    (a_named_type 74 (codes "si") no_constants) (codes "fetch")) (expression_and (a_name 76 (codes "s")) (expression_and (a_literal 77 (integer (codes
+    "2"))) no_expressions)))) no_expressions)) no_expressions)))) (statement_and (an_except 97 (an_init 87 (record { name = (codes "x"); type =
+    (a_simple_type 83 simple.Int) }) (an_index 86 (a_name 84 (codes "s")) (constant_and (an_expression (a_literal 85 (integer (codes "0"))))
     no_constants))) (when_and 96 ((codes "bounds") ∷ []) (objects []) (a_body no_equates (statement_and (a_call_statement 95 (a_call 94 (an_operation
     89 (a_named_type 88 (codes "stream") no_constants) (codes "putl")) (expression_and (a_call 92 (an_operation 91 (a_named_type 90 (codes "stream")
     no_constants) (codes "primary_output")) no_expressions) (expression_and (a_literal 93 (string (34 ∷ 98 ∷ 48 ∷ 34 ∷ []))) no_expressions))))
@@ -143,18 +143,18 @@ sequence_fetch_modules =
     "putl")) (expression_and (a_call 130 (an_operation 129 (a_named_type 128 (codes "stream") no_constants) (codes "primary_output")) no_expressions)
     (expression_and (a_call 137 (an_operation 132 (a_simple_type 131 simple.Int) (codes "unparse")) (expression_and (a_call 136 (an_operation 134
     (a_named_type 133 (codes "si") no_constants) (codes "top")) (expression_and (a_name 135 (codes "s")) no_expressions)) no_expressions))
-    no_expressions)))) (statement_and (an_except 156 (an_assign 146 ((codes "x") ∷ []) (expression_and (a_call 145 (an_operation 141 (a_named_type
-    140 (codes "si") no_constants) (codes "bottom")) (expression_and (a_call 144 (an_operation 143 (a_named_type 142 (codes "si") no_constants)
-    (codes "new")) no_expressions) no_expressions)) no_expressions)) (when_and 155 ((codes "bounds") ∷ []) (objects []) (a_body no_equates
-    (statement_and (a_call_statement 154 (a_call 153 (an_operation 148 (a_named_type 147 (codes "stream") no_constants) (codes "putl"))
-    (expression_and (a_call 151 (an_operation 150 (a_named_type 149 (codes "stream") no_constants) (codes "primary_output")) no_expressions)
-    (expression_and (a_literal 152 (string (34 ∷ 98 ∷ 98 ∷ 34 ∷ []))) no_expressions)))) no_statements)) no_whens) no_others) (statement_and
-    (an_except 173 (an_assign 163 ((codes "x") ∷ []) (expression_and (a_call 162 (an_operation 158 (a_named_type 157 (codes "si") no_constants)
-    (codes "top")) (expression_and (a_call 161 (an_operation 160 (a_named_type 159 (codes "si") no_constants) (codes "new")) no_expressions)
-    no_expressions)) no_expressions)) (when_and 172 ((codes "bounds") ∷ []) (objects []) (a_body no_equates (statement_and (a_call_statement 171
-    (a_call 170 (an_operation 165 (a_named_type 164 (codes "stream") no_constants) (codes "putl")) (expression_and (a_call 168 (an_operation 167
-    (a_named_type 166 (codes "stream") no_constants) (codes "primary_output")) no_expressions) (expression_and (a_literal 169 (string (34 ∷ 98 ∷ 116
-    ∷ 34 ∷ []))) no_expressions)))) no_statements)) no_whens) no_others) no_statements)))))))) })) ∷ [])
+    no_expressions)))) (statement_and (an_except 156 (an_assign 146 ((codes "x") ∷ []) (expression_and (a_call 145 (an_operation 141 (a_named_type 140
+    (codes "si") no_constants) (codes "bottom")) (expression_and (a_call 144 (an_operation 143 (a_named_type 142 (codes "si") no_constants) (codes
+    "new")) no_expressions) no_expressions)) no_expressions)) (when_and 155 ((codes "bounds") ∷ []) (objects []) (a_body no_equates (statement_and
+    (a_call_statement 154 (a_call 153 (an_operation 148 (a_named_type 147 (codes "stream") no_constants) (codes "putl")) (expression_and (a_call 151
+    (an_operation 150 (a_named_type 149 (codes "stream") no_constants) (codes "primary_output")) no_expressions) (expression_and (a_literal 152
+    (string (34 ∷ 98 ∷ 98 ∷ 34 ∷ []))) no_expressions)))) no_statements)) no_whens) no_others) (statement_and (an_except 173 (an_assign 163 ((codes
+    "x") ∷ []) (expression_and (a_call 162 (an_operation 158 (a_named_type 157 (codes "si") no_constants) (codes "top")) (expression_and (a_call 161
+    (an_operation 160 (a_named_type 159 (codes "si") no_constants) (codes "new")) no_expressions) no_expressions)) no_expressions)) (when_and 172
+    ((codes "bounds") ∷ []) (objects []) (a_body no_equates (statement_and (a_call_statement 171 (a_call 170 (an_operation 165 (a_named_type 164
+    (codes "stream") no_constants) (codes "putl")) (expression_and (a_call 168 (an_operation 167 (a_named_type 166 (codes "stream") no_constants)
+    (codes "primary_output")) no_expressions) (expression_and (a_literal 169 (string (34 ∷ 98 ∷ 116 ∷ 34 ∷ []))) no_expressions)))) no_statements))
+    no_whens) no_others) no_statements)))))))) })) ∷ [])
 
 abbrev sequence_fetch_declared : List Declared
 sequence_fetch_declared =
