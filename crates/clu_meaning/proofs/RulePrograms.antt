@@ -6,7 +6,7 @@ use Rattle.clu_syntax.specs.declared.words.Operator.TheVariants as op
 use Rattle.clu_syntax.specs.declared.words.SimpleType.TheVariants as simple
 use Rattle.clu_syntax.specs.declared.words.ListType.TheVariants as list
 use Rattle.clu_syntax.specs.declared.words.RoutineKind.TheVariants as kind
-use Rattle.clu_syntax.specs.Syntax.{integer, string, an_infix, a_literal, a_name, an_index, a_call, an_operation, a_force, no_expressions, expression_and, an_expression, a_type, no_constants, constant_and, a_simple_type, a_list_type, a_routine_type, a_named_type, no_types, type_and, no_exceptions, exception_and, an_equate, no_equates, equate_and, objects, an_init, an_assign, a_call_statement, a_while, a_for, an_if, a_return, a_yield, a_signal, a_begin, an_except, no_statements, statement_and, a_body, no_clauses, clause_and, nothing_else, no_whens, when_and, no_others, own_init, has_operations, Module, a_routine, a_cluster}
+use Rattle.clu_syntax.specs.Syntax.{integer, string, an_infix, a_paren, a_literal, a_name, an_index, a_call, an_operation, a_force, no_expressions, expression_and, an_expression, a_type, no_constants, constant_and, a_simple_type, a_list_type, a_routine_type, a_named_type, no_types, type_and, no_exceptions, exception_and, an_equate, no_equates, equate_and, objects, an_init, an_assign, a_call_statement, a_while, a_for, an_if, a_return, a_yield, a_signal, a_begin, an_except, no_statements, statement_and, a_body, no_clauses, clause_and, nothing_else, no_whens, when_and, no_others, own_init, has_operations, Module, a_routine, a_cluster}
 use Rattle.clu_layout.specs.Computing.{computing}
 use Rattle.clu_meaning.specs.Run.{running, returned_normally, failure_with}
 use Rattle.clu_meaning.specs.Executing.{executing}
@@ -295,6 +295,80 @@ trace = refl
 trace_trace : Traces trace_declared trace_modules (codes "") 10000 (m "q" ∷ m "it" ∷ m "start_up" ∷ [])
 unfolding executing computing digits
 trace_trace = refl
+
+-- q = proc () signals (e) signal e end q
+-- p = proc () q() end p
+-- start_up = proc () p() end start_up
+abbrev trace_of_signal_modules : List Module
+trace_of_signal_modules =
+    ((a_routine 4 no_equates (record { node = 3; name = (codes "q"); closing = (codes "q"); kind = kind.Procedure; parameters = []; arguments = ([]);
+    results = no_types; signals = (exception_and 0 (codes "e") no_types no_exceptions); restrictions = ([]); equates = no_equates; owns = ([]);
+    statements = (statement_and (a_signal 2 (codes "e") no_expressions) no_statements) })) ∷ (a_routine 9 no_equates (record { node = 8; name = (codes
+    "p"); closing = (codes "p"); kind = kind.Procedure; parameters = []; arguments = ([]); results = no_types; signals = no_exceptions; restrictions =
+    ([]); equates = no_equates; owns = ([]); statements = (statement_and (a_call_statement 7 (a_call 6 (a_name 5 (codes "q")) no_expressions))
+    no_statements) })) ∷ (a_routine 14 no_equates (record { node = 13; name = (codes "start_up"); closing = (codes "start_up"); kind = kind.Procedure;
+    parameters = []; arguments = ([]); results = no_types; signals = no_exceptions; restrictions = ([]); equates = no_equates; owns = ([]); statements
+    = (statement_and (a_call_statement 12 (a_call 11 (a_name 10 (codes "p")) no_expressions)) no_statements) })) ∷ [])
+
+abbrev trace_of_signal_declared : List Declared
+trace_of_signal_declared =
+    (d (codes "q") 3 0 4294967295 None ∷ d (codes "p") 8 0 4294967295 None ∷ d (codes "start_up") 13 0 4294967295 None ∷ [])
+
+trace_of_signal : Ends trace_of_signal_declared trace_of_signal_modules (codes "") 10000 (failure_with (codes "unhandled exception: e")) (codes "")
+unfolding executing computing digits
+trace_of_signal = refl
+
+trace_of_signal_trace : Traces trace_of_signal_declared trace_of_signal_modules (codes "") 10000 (m "p" ∷ m "start_up" ∷ [])
+unfolding executing computing digits
+trace_of_signal_trace = refl
+
+-- start_up = proc () signal failure("x") end start_up
+abbrev trace_of_failure_modules : List Module
+trace_of_failure_modules =
+    ((a_routine 3 no_equates (record { node = 2; name = (codes "start_up"); closing = (codes "start_up"); kind = kind.Procedure; parameters = [];
+    arguments = ([]); results = no_types; signals = no_exceptions; restrictions = ([]); equates = no_equates; owns = ([]); statements = (statement_and
+    (a_signal 1 (codes "failure") (expression_and (a_literal 0 (string (34 ∷ 120 ∷ 34 ∷ []))) no_expressions)) no_statements) })) ∷ [])
+
+abbrev trace_of_failure_declared : List Declared
+trace_of_failure_declared =
+    (d (codes "start_up") 2 0 4294967295 None ∷ [])
+
+trace_of_failure : Ends trace_of_failure_declared trace_of_failure_modules (codes "") 10000 (failure_with (codes "x")) (codes "")
+unfolding executing computing digits
+trace_of_failure = refl
+
+trace_of_failure_trace : Traces trace_of_failure_declared trace_of_failure_modules (codes "") 10000 ([])
+unfolding executing computing digits
+trace_of_failure_trace = refl
+
+-- start_up = proc ()
+--   i: int := 0
+--   while i < 2 do
+--     x: int := 5 / (1 - i) except when zero_divide: stream$putl(stream$primary_output(), int$unparse(x)) end
+--     i := i + 1
+--   end
+-- end start_up
+abbrev declared_again_modules : List Module
+declared_again_modules =
+    ((a_routine 33 no_equates (record { node = 32; name = (codes "start_up"); closing = (codes "start_up"); kind = kind.Procedure; parameters = [];
+    arguments = ([]); results = no_types; signals = no_exceptions; restrictions = ([]); equates = no_equates; owns = ([]); statements = (statement_and
+    (an_init 2 (record { name = (codes "i"); type = (a_simple_type 0 simple.Int) }) (a_literal 1 (integer (codes "0")))) (statement_and (a_while 31
+    (an_infix 5 op.Less (a_name 3 (codes "i")) (a_literal 4 (integer (codes "2")))) (a_body no_equates (statement_and (an_except 26 (an_init 13
+    (record { name = (codes "x"); type = (a_simple_type 6 simple.Int) }) (an_infix 12 op.Divide (a_literal 7 (integer (codes "5"))) (a_paren 11
+    (an_infix 10 op.Subtract (a_literal 8 (integer (codes "1"))) (a_name 9 (codes "i")))))) (when_and 25 ((codes "zero_divide") ∷ []) (objects [])
+    (a_body no_equates (statement_and (a_call_statement 24 (a_call 23 (an_operation 15 (a_named_type 14 (codes "stream") no_constants) (codes "putl"))
+    (expression_and (a_call 18 (an_operation 17 (a_named_type 16 (codes "stream") no_constants) (codes "primary_output")) no_expressions)
+    (expression_and (a_call 22 (an_operation 20 (a_simple_type 19 simple.Int) (codes "unparse")) (expression_and (a_name 21 (codes "x"))
+    no_expressions)) no_expressions)))) no_statements)) no_whens) no_others) (statement_and (an_assign 30 ((codes "i") ∷ []) (expression_and (an_infix
+    29 op.Add (a_name 27 (codes "i")) (a_literal 28 (integer (codes "1")))) no_expressions)) no_statements)))) no_statements)) })) ∷ [])
+
+abbrev declared_again_declared : List Declared
+declared_again_declared =
+    (d (codes "i") 2 3 32 (Some 0) ∷ d (codes "x") 13 14 30 (Some 0) ∷ d (codes "start_up") 32 0 4294967295 None ∷ [])
+
+declared_again : Ends declared_again_declared declared_again_modules (codes "") 10000 (failure_with (codes "uninitialized variable")) (codes "")
+unfolding executing computing digits
+declared_again = refl
 
 -- start_up = proc ()
 --   i: int := 0

@@ -17,6 +17,12 @@ state_of (normal a turns st) = st
 state_of (ended e turns st) = st
 state_of (out_of_turns st) = st
 
+-- the turns that are left
+abbrev pub turns_of : {A : Type 0} → Result A → ℕ
+turns_of (normal a turns st) = turns
+turns_of (ended e turns st) = turns
+turns_of (out_of_turns st) = 0
+
 -- the second result is what the first one comes to with k turns more
 abbrev pub GoesOn : {A : Type 0} → ℕ → Result A → Result A → Type 0
 GoesOn k (normal a turns st) more = more ≡ normal a (turns + k) st
