@@ -32,4 +32,5 @@ mod ParameterPrograms
 mod CopyPrograms
 mod FailurePrograms
 mod RulePrograms
+mod InstancePrograms
 mod CounterPrograms
