@@ -9,7 +9,7 @@ use Rattle.clu_syntax.specs.Syntax.{true_literal, false_literal, integer, charac
 use Rattle.clu_layout.specs.Computing.{computing}
 use Rattle.clu_meaning.specs.Run.{returned_normally, failure_with}
 use Rattle.clu_meaning.specs.Executing.{executing}
-use Rattle.clu_meaning.proofs.Running.{d, Runs}
+use Rattle.clu_meaning.proofs.Running.{d, a_variable, routine, Runs}
 
 -- % nothing
 -- start_up = proc ()
@@ -17,9 +17,8 @@ use Rattle.clu_meaning.proofs.Running.{d, Runs}
 -- end start_up
 abbrev nothing_modules : List Module
 nothing_modules =
-    ((a_routine 1 no_equates (record { node = 0; name = (codes "start_up"); closing = (codes "start_up"); kind = kind.Procedure; parameters = [];
-    arguments = ([]); results = no_types; signals = no_exceptions; restrictions = ([]); equates = no_equates; owns = ([]); statements = no_statements
-    })) ∷ [])
+    ((a_routine 1 no_equates (routine 0 (codes "start_up") (codes "start_up") kind.Procedure [] ([]) no_types no_exceptions ([]) no_equates ([])
+    no_statements)) ∷ [])
 
 abbrev nothing_declared : List Declared
 nothing_declared =
@@ -35,11 +34,10 @@ nothing = refl
 -- end start_up
 abbrev empty_bodies_modules : List Module
 empty_bodies_modules =
-    ((a_routine 6 no_equates (record { node = 5; name = (codes "start_up"); closing = (codes "start_up"); kind = kind.Procedure; parameters = [];
-    arguments = ([]); results = no_types; signals = no_exceptions; restrictions = ([]); equates = no_equates; owns = ([]); statements = (statement_and
-    (a_begin 0 (a_body no_equates no_statements)) (statement_and (an_if 2 (clause_and (a_literal 1 true_literal) (a_body no_equates no_statements)
-    no_clauses) (otherwise (a_body no_equates no_statements))) (statement_and (a_while 4 (a_literal 3 false_literal) (a_body no_equates
-    no_statements)) no_statements))) })) ∷ [])
+    ((a_routine 6 no_equates (routine 5 (codes "start_up") (codes "start_up") kind.Procedure [] ([]) no_types no_exceptions ([]) no_equates ([])
+    (statement_and (a_begin 0 (a_body no_equates no_statements)) (statement_and (an_if 2 (clause_and (a_literal 1 true_literal) (a_body no_equates
+    no_statements) no_clauses) (otherwise (a_body no_equates no_statements))) (statement_and (a_while 4 (a_literal 3 false_literal) (a_body no_equates
+    no_statements)) no_statements))))) ∷ [])
 
 abbrev empty_bodies_declared : List Declared
 empty_bodies_declared =
@@ -55,11 +53,10 @@ empty_bodies = refl
 -- end start_up
 abbrev one_line_modules : List Module
 one_line_modules =
-    ((a_routine 9 no_equates (record { node = 8; name = (codes "start_up"); closing = (codes "start_up"); kind = kind.Procedure; parameters = [];
-    arguments = ([]); results = no_types; signals = no_exceptions; restrictions = ([]); equates = no_equates; owns = ([]); statements = (statement_and
-    (a_call_statement 7 (a_call 6 (an_operation 1 (a_named_type 0 (codes "stream") no_constants) (codes "putl")) (expression_and (a_call 4
-    (an_operation 3 (a_named_type 2 (codes "stream") no_constants) (codes "primary_output")) no_expressions) (expression_and (a_literal 5 (string (34
-    ∷ 104 ∷ 105 ∷ 34 ∷ []))) no_expressions)))) no_statements) })) ∷ [])
+    ((a_routine 9 no_equates (routine 8 (codes "start_up") (codes "start_up") kind.Procedure [] ([]) no_types no_exceptions ([]) no_equates ([])
+    (statement_and (a_call_statement 7 (a_call 6 (an_operation 1 (a_named_type 0 (codes "stream") no_constants) (codes "putl")) (expression_and
+    (a_call 4 (an_operation 3 (a_named_type 2 (codes "stream") no_constants) (codes "primary_output")) no_expressions) (expression_and (a_literal 5
+    (string (34 ∷ 104 ∷ 105 ∷ 34 ∷ []))) no_expressions)))) no_statements))) ∷ [])
 
 abbrev one_line_declared : List Declared
 one_line_declared =
@@ -75,18 +72,17 @@ one_line = refl
 -- end start_up
 abbrev puts_and_putl_modules : List Module
 puts_and_putl_modules =
-    ((a_routine 33 no_equates (record { node = 32; name = (codes "start_up"); closing = (codes "start_up"); kind = kind.Procedure; parameters = [];
-    arguments = ([]); results = no_types; signals = no_exceptions; restrictions = ([]); equates = no_equates; owns = ([]); statements = (statement_and
-    (a_call_statement 7 (a_call 6 (an_operation 1 (a_named_type 0 (codes "stream") no_constants) (codes "puts")) (expression_and (a_call 4
-    (an_operation 3 (a_named_type 2 (codes "stream") no_constants) (codes "primary_output")) no_expressions) (expression_and (a_literal 5 (string (34
-    ∷ 97 ∷ 34 ∷ []))) no_expressions)))) (statement_and (a_call_statement 15 (a_call 14 (an_operation 9 (a_named_type 8 (codes "stream") no_constants)
-    (codes "puts")) (expression_and (a_call 12 (an_operation 11 (a_named_type 10 (codes "stream") no_constants) (codes "primary_output"))
-    no_expressions) (expression_and (a_literal 13 (string (34 ∷ 98 ∷ 34 ∷ []))) no_expressions)))) (statement_and (a_call_statement 23 (a_call 22
-    (an_operation 17 (a_named_type 16 (codes "stream") no_constants) (codes "putl")) (expression_and (a_call 20 (an_operation 19 (a_named_type 18
-    (codes "stream") no_constants) (codes "primary_output")) no_expressions) (expression_and (a_literal 21 (string (34 ∷ 99 ∷ 34 ∷ [])))
-    no_expressions)))) (statement_and (a_call_statement 31 (a_call 30 (an_operation 25 (a_named_type 24 (codes "stream") no_constants) (codes "puts"))
-    (expression_and (a_call 28 (an_operation 27 (a_named_type 26 (codes "stream") no_constants) (codes "primary_output")) no_expressions)
-    (expression_and (a_literal 29 (string (34 ∷ 34 ∷ []))) no_expressions)))) no_statements)))) })) ∷ [])
+    ((a_routine 33 no_equates (routine 32 (codes "start_up") (codes "start_up") kind.Procedure [] ([]) no_types no_exceptions ([]) no_equates ([])
+    (statement_and (a_call_statement 7 (a_call 6 (an_operation 1 (a_named_type 0 (codes "stream") no_constants) (codes "puts")) (expression_and
+    (a_call 4 (an_operation 3 (a_named_type 2 (codes "stream") no_constants) (codes "primary_output")) no_expressions) (expression_and (a_literal 5
+    (string (34 ∷ 97 ∷ 34 ∷ []))) no_expressions)))) (statement_and (a_call_statement 15 (a_call 14 (an_operation 9 (a_named_type 8 (codes "stream")
+    no_constants) (codes "puts")) (expression_and (a_call 12 (an_operation 11 (a_named_type 10 (codes "stream") no_constants) (codes
+    "primary_output")) no_expressions) (expression_and (a_literal 13 (string (34 ∷ 98 ∷ 34 ∷ []))) no_expressions)))) (statement_and (a_call_statement
+    23 (a_call 22 (an_operation 17 (a_named_type 16 (codes "stream") no_constants) (codes "putl")) (expression_and (a_call 20 (an_operation 19
+    (a_named_type 18 (codes "stream") no_constants) (codes "primary_output")) no_expressions) (expression_and (a_literal 21 (string (34 ∷ 99 ∷ 34 ∷
+    []))) no_expressions)))) (statement_and (a_call_statement 31 (a_call 30 (an_operation 25 (a_named_type 24 (codes "stream") no_constants) (codes
+    "puts")) (expression_and (a_call 28 (an_operation 27 (a_named_type 26 (codes "stream") no_constants) (codes "primary_output")) no_expressions)
+    (expression_and (a_literal 29 (string (34 ∷ 34 ∷ []))) no_expressions)))) no_statements)))))) ∷ [])
 
 abbrev puts_and_putl_declared : List Declared
 puts_and_putl_declared =
@@ -102,13 +98,12 @@ puts_and_putl = refl
 -- end start_up
 abbrev putc_modules : List Module
 putc_modules =
-    ((a_routine 17 no_equates (record { node = 16; name = (codes "start_up"); closing = (codes "start_up"); kind = kind.Procedure; parameters = [];
-    arguments = ([]); results = no_types; signals = no_exceptions; restrictions = ([]); equates = no_equates; owns = ([]); statements = (statement_and
-    (a_call_statement 7 (a_call 6 (an_operation 1 (a_named_type 0 (codes "stream") no_constants) (codes "putc")) (expression_and (a_call 4
-    (an_operation 3 (a_named_type 2 (codes "stream") no_constants) (codes "primary_output")) no_expressions) (expression_and (a_literal 5 (character
-    (codes "'x'"))) no_expressions)))) (statement_and (a_call_statement 15 (a_call 14 (an_operation 9 (a_named_type 8 (codes "stream") no_constants)
-    (codes "putc")) (expression_and (a_call 12 (an_operation 11 (a_named_type 10 (codes "stream") no_constants) (codes "primary_output"))
-    no_expressions) (expression_and (a_literal 13 (character (39 ∷ 92 ∷ 110 ∷ 39 ∷ []))) no_expressions)))) no_statements)) })) ∷ [])
+    ((a_routine 17 no_equates (routine 16 (codes "start_up") (codes "start_up") kind.Procedure [] ([]) no_types no_exceptions ([]) no_equates ([])
+    (statement_and (a_call_statement 7 (a_call 6 (an_operation 1 (a_named_type 0 (codes "stream") no_constants) (codes "putc")) (expression_and
+    (a_call 4 (an_operation 3 (a_named_type 2 (codes "stream") no_constants) (codes "primary_output")) no_expressions) (expression_and (a_literal 5
+    (character (codes "'x'"))) no_expressions)))) (statement_and (a_call_statement 15 (a_call 14 (an_operation 9 (a_named_type 8 (codes "stream")
+    no_constants) (codes "putc")) (expression_and (a_call 12 (an_operation 11 (a_named_type 10 (codes "stream") no_constants) (codes
+    "primary_output")) no_expressions) (expression_and (a_literal 13 (character (39 ∷ 92 ∷ 110 ∷ 39 ∷ []))) no_expressions)))) no_statements)))) ∷ [])
 
 abbrev putc_declared : List Declared
 putc_declared =
@@ -124,12 +119,11 @@ putc = refl
 -- end start_up
 abbrev escapes_modules : List Module
 escapes_modules =
-    ((a_routine 9 no_equates (record { node = 8; name = (codes "start_up"); closing = (codes "start_up"); kind = kind.Procedure; parameters = [];
-    arguments = ([]); results = no_types; signals = no_exceptions; restrictions = ([]); equates = no_equates; owns = ([]); statements = (statement_and
-    (a_call_statement 7 (a_call 6 (an_operation 1 (a_named_type 0 (codes "stream") no_constants) (codes "puts")) (expression_and (a_call 4
-    (an_operation 3 (a_named_type 2 (codes "stream") no_constants) (codes "primary_output")) no_expressions) (expression_and (a_literal 5 (string (34
-    ∷ 92 ∷ 110 ∷ 92 ∷ 116 ∷ 92 ∷ 112 ∷ 92 ∷ 98 ∷ 92 ∷ 114 ∷ 92 ∷ 118 ∷ 92 ∷ 92 ∷ 92 ∷ 39 ∷ 92 ∷ 34 ∷ 92 ∷ 49 ∷ 48 ∷ 49 ∷ 92 ∷ 48 ∷ 48 ∷ 48 ∷ 92 ∷ 51 ∷
-    55 ∷ 55 ∷ 92 ∷ 78 ∷ 34 ∷ []))) no_expressions)))) no_statements) })) ∷ [])
+    ((a_routine 9 no_equates (routine 8 (codes "start_up") (codes "start_up") kind.Procedure [] ([]) no_types no_exceptions ([]) no_equates ([])
+    (statement_and (a_call_statement 7 (a_call 6 (an_operation 1 (a_named_type 0 (codes "stream") no_constants) (codes "puts")) (expression_and
+    (a_call 4 (an_operation 3 (a_named_type 2 (codes "stream") no_constants) (codes "primary_output")) no_expressions) (expression_and (a_literal 5
+    (string (34 ∷ 92 ∷ 110 ∷ 92 ∷ 116 ∷ 92 ∷ 112 ∷ 92 ∷ 98 ∷ 92 ∷ 114 ∷ 92 ∷ 118 ∷ 92 ∷ 92 ∷ 92 ∷ 39 ∷ 92 ∷ 34 ∷ 92 ∷ 49 ∷ 48 ∷ 49 ∷ 92 ∷ 48 ∷ 48 ∷ 48
+    ∷ 92 ∷ 51 ∷ 55 ∷ 55 ∷ 92 ∷ 78 ∷ 34 ∷ []))) no_expressions)))) no_statements))) ∷ [])
 
 abbrev escapes_declared : List Declared
 escapes_declared =
@@ -143,13 +137,12 @@ escapes = refl
 -- START_UP = PROC () X: INT := 3 stream$putl(stream$primary_output(), int$unparse(x)) END START_UP
 abbrev upper_case_modules : List Module
 upper_case_modules =
-    ((a_routine 15 no_equates (record { node = 14; name = (codes "start_up"); closing = (codes "start_up"); kind = kind.Procedure; parameters = [];
-    arguments = ([]); results = no_types; signals = no_exceptions; restrictions = ([]); equates = no_equates; owns = ([]); statements = (statement_and
-    (an_init 2 (record { name = (codes "x"); type = (a_simple_type 0 simple.Int) }) (a_literal 1 (integer (codes "3")))) (statement_and
+    ((a_routine 15 no_equates (routine 14 (codes "start_up") (codes "start_up") kind.Procedure [] ([]) no_types no_exceptions ([]) no_equates ([])
+    (statement_and (an_init 2 (a_variable (codes "x") (a_simple_type 0 simple.Int)) (a_literal 1 (integer (codes "3")))) (statement_and
     (a_call_statement 13 (a_call 12 (an_operation 4 (a_named_type 3 (codes "stream") no_constants) (codes "putl")) (expression_and (a_call 7
     (an_operation 6 (a_named_type 5 (codes "stream") no_constants) (codes "primary_output")) no_expressions) (expression_and (a_call 11 (an_operation
-    9 (a_simple_type 8 simple.Int) (codes "unparse")) (expression_and (a_name 10 (codes "x")) no_expressions)) no_expressions)))) no_statements)) }))
-    ∷ [])
+    9 (a_simple_type 8 simple.Int) (codes "unparse")) (expression_and (a_name 10 (codes "x")) no_expressions)) no_expressions)))) no_statements)))) ∷
+    [])
 
 abbrev upper_case_declared : List Declared
 upper_case_declared =
@@ -167,13 +160,13 @@ upper_case = refl
 -- end start_up
 abbrev comments_modules : List Module
 comments_modules =
-    ((a_routine 17 no_equates (record { node = 16; name = (codes "start_up"); closing = (codes "start_up"); kind = kind.Procedure; parameters = [];
-    arguments = ([]); results = no_types; signals = no_exceptions; restrictions = ([]); equates = no_equates; owns = ([]); statements = (statement_and
-    (a_call_statement 7 (a_call 6 (an_operation 1 (a_named_type 0 (codes "stream") no_constants) (codes "putl")) (expression_and (a_call 4
-    (an_operation 3 (a_named_type 2 (codes "stream") no_constants) (codes "primary_output")) no_expressions) (expression_and (a_literal 5 (string (34
-    ∷ 97 ∷ 34 ∷ []))) no_expressions)))) (statement_and (a_call_statement 15 (a_call 14 (an_operation 9 (a_named_type 8 (codes "stream") no_constants)
-    (codes "putl")) (expression_and (a_call 12 (an_operation 11 (a_named_type 10 (codes "stream") no_constants) (codes "primary_output"))
-    no_expressions) (expression_and (a_literal 13 (string (34 ∷ 99 ∷ 37 ∷ 100 ∷ 34 ∷ []))) no_expressions)))) no_statements)) })) ∷ [])
+    ((a_routine 17 no_equates (routine 16 (codes "start_up") (codes "start_up") kind.Procedure [] ([]) no_types no_exceptions ([]) no_equates ([])
+    (statement_and (a_call_statement 7 (a_call 6 (an_operation 1 (a_named_type 0 (codes "stream") no_constants) (codes "putl")) (expression_and
+    (a_call 4 (an_operation 3 (a_named_type 2 (codes "stream") no_constants) (codes "primary_output")) no_expressions) (expression_and (a_literal 5
+    (string (34 ∷ 97 ∷ 34 ∷ []))) no_expressions)))) (statement_and (a_call_statement 15 (a_call 14 (an_operation 9 (a_named_type 8 (codes "stream")
+    no_constants) (codes "putl")) (expression_and (a_call 12 (an_operation 11 (a_named_type 10 (codes "stream") no_constants) (codes
+    "primary_output")) no_expressions) (expression_and (a_literal 13 (string (34 ∷ 99 ∷ 37 ∷ 100 ∷ 34 ∷ []))) no_expressions)))) no_statements)))) ∷
+    [])
 
 abbrev comments_declared : List Declared
 comments_declared =
@@ -189,14 +182,13 @@ comments = refl
 -- end start_up
 abbrev semicolons_modules : List Module
 semicolons_modules =
-    ((a_routine 19 no_equates (record { node = 18; name = (codes "start_up"); closing = (codes "start_up"); kind = kind.Procedure; parameters = [];
-    arguments = ([]); results = no_types; signals = no_exceptions; restrictions = ([]); equates = no_equates; owns = ([]); statements = (statement_and
-    (an_init 2 (record { name = (codes "x"); type = (a_simple_type 0 simple.Int) }) (a_literal 1 (integer (codes "1")))) (statement_and (an_assign 6
+    ((a_routine 19 no_equates (routine 18 (codes "start_up") (codes "start_up") kind.Procedure [] ([]) no_types no_exceptions ([]) no_equates ([])
+    (statement_and (an_init 2 (a_variable (codes "x") (a_simple_type 0 simple.Int)) (a_literal 1 (integer (codes "1")))) (statement_and (an_assign 6
     ((codes "x") ∷ []) (expression_and (an_infix 5 op.Add (a_name 3 (codes "x")) (a_literal 4 (integer (codes "1")))) no_expressions)) (statement_and
     (a_call_statement 17 (a_call 16 (an_operation 8 (a_named_type 7 (codes "stream") no_constants) (codes "putl")) (expression_and (a_call 11
     (an_operation 10 (a_named_type 9 (codes "stream") no_constants) (codes "primary_output")) no_expressions) (expression_and (a_call 15 (an_operation
-    13 (a_simple_type 12 simple.Int) (codes "unparse")) (expression_and (a_name 14 (codes "x")) no_expressions)) no_expressions)))) no_statements)))
-    })) ∷ [])
+    13 (a_simple_type 12 simple.Int) (codes "unparse")) (expression_and (a_name 14 (codes "x")) no_expressions)) no_expressions)))) no_statements)))))
+    ∷ [])
 
 abbrev semicolons_declared : List Declared
 semicolons_declared =
@@ -212,14 +204,13 @@ semicolons = refl
 -- end start_up
 abbrev a_failure_modules : List Module
 a_failure_modules =
-    ((a_routine 19 no_equates (record { node = 18; name = (codes "start_up"); closing = (codes "start_up"); kind = kind.Procedure; parameters = [];
-    arguments = ([]); results = no_types; signals = no_exceptions; restrictions = ([]); equates = no_equates; owns = ([]); statements = (statement_and
-    (a_call_statement 7 (a_call 6 (an_operation 1 (a_named_type 0 (codes "stream") no_constants) (codes "putl")) (expression_and (a_call 4
-    (an_operation 3 (a_named_type 2 (codes "stream") no_constants) (codes "primary_output")) no_expressions) (expression_and (a_literal 5 (string (34
-    ∷ 97 ∷ 34 ∷ []))) no_expressions)))) (statement_and (a_signal 9 (codes "failure") (expression_and (a_literal 8 (string (34 ∷ 116 ∷ 104 ∷ 101 ∷ 32
-    ∷ 101 ∷ 110 ∷ 100 ∷ 34 ∷ []))) no_expressions)) (statement_and (a_call_statement 17 (a_call 16 (an_operation 11 (a_named_type 10 (codes "stream")
-    no_constants) (codes "putl")) (expression_and (a_call 14 (an_operation 13 (a_named_type 12 (codes "stream") no_constants) (codes
-    "primary_output")) no_expressions) (expression_and (a_literal 15 (string (34 ∷ 98 ∷ 34 ∷ []))) no_expressions)))) no_statements))) })) ∷ [])
+    ((a_routine 19 no_equates (routine 18 (codes "start_up") (codes "start_up") kind.Procedure [] ([]) no_types no_exceptions ([]) no_equates ([])
+    (statement_and (a_call_statement 7 (a_call 6 (an_operation 1 (a_named_type 0 (codes "stream") no_constants) (codes "putl")) (expression_and
+    (a_call 4 (an_operation 3 (a_named_type 2 (codes "stream") no_constants) (codes "primary_output")) no_expressions) (expression_and (a_literal 5
+    (string (34 ∷ 97 ∷ 34 ∷ []))) no_expressions)))) (statement_and (a_signal 9 (codes "failure") (expression_and (a_literal 8 (string (34 ∷ 116 ∷ 104
+    ∷ 101 ∷ 32 ∷ 101 ∷ 110 ∷ 100 ∷ 34 ∷ []))) no_expressions)) (statement_and (a_call_statement 17 (a_call 16 (an_operation 11 (a_named_type 10 (codes
+    "stream") no_constants) (codes "putl")) (expression_and (a_call 14 (an_operation 13 (a_named_type 12 (codes "stream") no_constants) (codes
+    "primary_output")) no_expressions) (expression_and (a_literal 15 (string (34 ∷ 98 ∷ 34 ∷ []))) no_expressions)))) no_statements))))) ∷ [])
 
 abbrev a_failure_declared : List Declared
 a_failure_declared =
@@ -235,12 +226,11 @@ a_failure = refl
 -- end start_up
 abbrev an_unhandled_exception_modules : List Module
 an_unhandled_exception_modules =
-    ((a_routine 14 no_equates (record { node = 13; name = (codes "start_up"); closing = (codes "start_up"); kind = kind.Procedure; parameters = [];
-    arguments = ([]); results = no_types; signals = no_exceptions; restrictions = ([]); equates = no_equates; owns = ([]); statements = (statement_and
-    (a_call_statement 7 (a_call 6 (an_operation 1 (a_named_type 0 (codes "stream") no_constants) (codes "putl")) (expression_and (a_call 4
-    (an_operation 3 (a_named_type 2 (codes "stream") no_constants) (codes "primary_output")) no_expressions) (expression_and (a_literal 5 (string (34
-    ∷ 97 ∷ 34 ∷ []))) no_expressions)))) (statement_and (an_init 12 (record { name = (codes "x"); type = (a_simple_type 8 simple.Int) }) (an_infix 11
-    op.Divide (a_literal 9 (integer (codes "1"))) (a_literal 10 (integer (codes "0"))))) no_statements)) })) ∷ [])
+    ((a_routine 14 no_equates (routine 13 (codes "start_up") (codes "start_up") kind.Procedure [] ([]) no_types no_exceptions ([]) no_equates ([])
+    (statement_and (a_call_statement 7 (a_call 6 (an_operation 1 (a_named_type 0 (codes "stream") no_constants) (codes "putl")) (expression_and
+    (a_call 4 (an_operation 3 (a_named_type 2 (codes "stream") no_constants) (codes "primary_output")) no_expressions) (expression_and (a_literal 5
+    (string (34 ∷ 97 ∷ 34 ∷ []))) no_expressions)))) (statement_and (an_init 12 (a_variable (codes "x") (a_simple_type 8 simple.Int)) (an_infix 11
+    op.Divide (a_literal 9 (integer (codes "1"))) (a_literal 10 (integer (codes "0"))))) no_statements)))) ∷ [])
 
 abbrev an_unhandled_exception_declared : List Declared
 an_unhandled_exception_declared =
@@ -254,12 +244,11 @@ an_unhandled_exception = refl
 -- start_up = proc () signals (stop(int)) stream$putl(stream$primary_output(), "a") signal stop(3) end start_up
 abbrev a_signal_of_start_up_modules : List Module
 a_signal_of_start_up_modules =
-    ((a_routine 14 no_equates (record { node = 13; name = (codes "start_up"); closing = (codes "start_up"); kind = kind.Procedure; parameters = [];
-    arguments = ([]); results = no_types; signals = (exception_and 1 (codes "stop") (type_and (a_simple_type 0 simple.Int) no_types) no_exceptions);
-    restrictions = ([]); equates = no_equates; owns = ([]); statements = (statement_and (a_call_statement 10 (a_call 9 (an_operation 4 (a_named_type 3
-    (codes "stream") no_constants) (codes "putl")) (expression_and (a_call 7 (an_operation 6 (a_named_type 5 (codes "stream") no_constants) (codes
-    "primary_output")) no_expressions) (expression_and (a_literal 8 (string (34 ∷ 97 ∷ 34 ∷ []))) no_expressions)))) (statement_and (a_signal 12
-    (codes "stop") (expression_and (a_literal 11 (integer (codes "3"))) no_expressions)) no_statements)) })) ∷ [])
+    ((a_routine 14 no_equates (routine 13 (codes "start_up") (codes "start_up") kind.Procedure [] ([]) no_types (exception_and 1 (codes "stop")
+    (type_and (a_simple_type 0 simple.Int) no_types) no_exceptions) ([]) no_equates ([]) (statement_and (a_call_statement 10 (a_call 9 (an_operation 4
+    (a_named_type 3 (codes "stream") no_constants) (codes "putl")) (expression_and (a_call 7 (an_operation 6 (a_named_type 5 (codes "stream")
+    no_constants) (codes "primary_output")) no_expressions) (expression_and (a_literal 8 (string (34 ∷ 97 ∷ 34 ∷ []))) no_expressions))))
+    (statement_and (a_signal 12 (codes "stop") (expression_and (a_literal 11 (integer (codes "3"))) no_expressions)) no_statements)))) ∷ [])
 
 abbrev a_signal_of_start_up_declared : List Declared
 a_signal_of_start_up_declared =

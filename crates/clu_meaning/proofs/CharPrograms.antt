@@ -10,7 +10,7 @@ use Rattle.clu_syntax.specs.Syntax.{integer, character, string, an_infix, a_pref
 use Rattle.clu_layout.specs.Computing.{computing}
 use Rattle.clu_meaning.specs.Run.{returned_normally}
 use Rattle.clu_meaning.specs.Executing.{executing}
-use Rattle.clu_meaning.proofs.Running.{d, Runs}
+use Rattle.clu_meaning.proofs.Running.{d, typed, a_variable, routine, Runs}
 
 -- % char-orders
 -- tf = proc (b: bool) if b then stream$putl(stream$primary_output(), "T") else stream$putl(stream$primary_output(), "F") end end tf
@@ -21,17 +21,15 @@ use Rattle.clu_meaning.proofs.Running.{d, Runs}
 -- end start_up
 abbrev char_orders_modules : List Module
 char_orders_modules =
-    ((a_routine 21 no_equates (record { node = 20; name = (codes "tf"); closing = (codes "tf"); kind = kind.Procedure; parameters = []; arguments =
-    (record { node = 1; names = ((codes "b") ∷ []); type = (a_simple_type 0 simple.Bool) } ∷ []); results = no_types; signals = no_exceptions;
-    restrictions = ([]); equates = no_equates; owns = ([]); statements = (statement_and (an_if 19 (clause_and (a_name 2 (codes "b")) (a_body
-    no_equates (statement_and (a_call_statement 10 (a_call 9 (an_operation 4 (a_named_type 3 (codes "stream") no_constants) (codes "putl"))
-    (expression_and (a_call 7 (an_operation 6 (a_named_type 5 (codes "stream") no_constants) (codes "primary_output")) no_expressions) (expression_and
-    (a_literal 8 (string (34 ∷ 84 ∷ 34 ∷ []))) no_expressions)))) no_statements)) no_clauses) (otherwise (a_body no_equates (statement_and
-    (a_call_statement 18 (a_call 17 (an_operation 12 (a_named_type 11 (codes "stream") no_constants) (codes "putl")) (expression_and (a_call 15
-    (an_operation 14 (a_named_type 13 (codes "stream") no_constants) (codes "primary_output")) no_expressions) (expression_and (a_literal 16 (string
-    (34 ∷ 70 ∷ 34 ∷ []))) no_expressions)))) no_statements)))) no_statements) })) ∷ (a_routine 120 no_equates (record { node = 119; name = (codes
-    "start_up"); closing = (codes "start_up"); kind = kind.Procedure; parameters = []; arguments = ([]); results = no_types; signals = no_exceptions;
-    restrictions = ([]); equates = no_equates; owns = ([]); statements = (statement_and (a_call_statement 27 (a_call 26 (a_name 22 (codes "tf"))
+    ((a_routine 21 no_equates (routine 20 (codes "tf") (codes "tf") kind.Procedure [] (typed 1 ((codes "b") ∷ []) (a_simple_type 0 simple.Bool) ∷ [])
+    no_types no_exceptions ([]) no_equates ([]) (statement_and (an_if 19 (clause_and (a_name 2 (codes "b")) (a_body no_equates (statement_and
+    (a_call_statement 10 (a_call 9 (an_operation 4 (a_named_type 3 (codes "stream") no_constants) (codes "putl")) (expression_and (a_call 7
+    (an_operation 6 (a_named_type 5 (codes "stream") no_constants) (codes "primary_output")) no_expressions) (expression_and (a_literal 8 (string (34
+    ∷ 84 ∷ 34 ∷ []))) no_expressions)))) no_statements)) no_clauses) (otherwise (a_body no_equates (statement_and (a_call_statement 18 (a_call 17
+    (an_operation 12 (a_named_type 11 (codes "stream") no_constants) (codes "putl")) (expression_and (a_call 15 (an_operation 14 (a_named_type 13
+    (codes "stream") no_constants) (codes "primary_output")) no_expressions) (expression_and (a_literal 16 (string (34 ∷ 70 ∷ 34 ∷ [])))
+    no_expressions)))) no_statements)))) no_statements))) ∷ (a_routine 120 no_equates (routine 119 (codes "start_up") (codes "start_up")
+    kind.Procedure [] ([]) no_types no_exceptions ([]) no_equates ([]) (statement_and (a_call_statement 27 (a_call 26 (a_name 22 (codes "tf"))
     (expression_and (an_infix 25 op.Less (a_literal 23 (character (codes "'a'"))) (a_literal 24 (character (codes "'b'")))) no_expressions)))
     (statement_and (a_call_statement 33 (a_call 32 (a_name 28 (codes "tf")) (expression_and (an_infix 31 op.AtMost (a_literal 29 (character (codes
     "'b'"))) (a_literal 30 (character (codes "'a'")))) no_expressions))) (statement_and (a_call_statement 39 (a_call 38 (a_name 34 (codes "tf"))
@@ -57,7 +55,7 @@ char_orders_modules =
     106 (character (codes "'a'"))) (expression_and (a_literal 107 (character (codes "'b'"))) no_expressions))) no_expressions))) (statement_and
     (a_call_statement 118 (a_call 117 (a_name 111 (codes "tf")) (expression_and (a_call 116 (an_operation 113 (a_simple_type 112 simple.Char) (codes
     "gt")) (expression_and (a_literal 114 (character (codes "'b'"))) (expression_and (a_literal 115 (character (codes "'a'"))) no_expressions)))
-    no_expressions))) no_statements)))))))))))))) })) ∷ [])
+    no_expressions))) no_statements)))))))))))))))) ∷ [])
 
 abbrev char_orders_declared : List Declared
 char_orders_declared =
@@ -73,12 +71,11 @@ char_orders = refl
 -- end start_up
 abbrev string_literals_modules : List Module
 string_literals_modules =
-    ((a_routine 9 no_equates (record { node = 8; name = (codes "start_up"); closing = (codes "start_up"); kind = kind.Procedure; parameters = [];
-    arguments = ([]); results = no_types; signals = no_exceptions; restrictions = ([]); equates = no_equates; owns = ([]); statements = (statement_and
-    (a_call_statement 7 (a_call 6 (an_operation 1 (a_named_type 0 (codes "stream") no_constants) (codes "puts")) (expression_and (a_call 4
-    (an_operation 3 (a_named_type 2 (codes "stream") no_constants) (codes "primary_output")) no_expressions) (expression_and (a_literal 5 (string (34
-    ∷ 97 ∷ 92 ∷ 34 ∷ 98 ∷ 39 ∷ 99 ∷ 92 ∷ 39 ∷ 92 ∷ 92 ∷ 92 ∷ 110 ∷ 92 ∷ 116 ∷ 92 ∷ 51 ∷ 55 ∷ 55 ∷ 92 ∷ 48 ∷ 48 ∷ 49 ∷ 50 ∷ 34 ∷ [])))
-    no_expressions)))) no_statements) })) ∷ [])
+    ((a_routine 9 no_equates (routine 8 (codes "start_up") (codes "start_up") kind.Procedure [] ([]) no_types no_exceptions ([]) no_equates ([])
+    (statement_and (a_call_statement 7 (a_call 6 (an_operation 1 (a_named_type 0 (codes "stream") no_constants) (codes "puts")) (expression_and
+    (a_call 4 (an_operation 3 (a_named_type 2 (codes "stream") no_constants) (codes "primary_output")) no_expressions) (expression_and (a_literal 5
+    (string (34 ∷ 97 ∷ 92 ∷ 34 ∷ 98 ∷ 39 ∷ 99 ∷ 92 ∷ 39 ∷ 92 ∷ 92 ∷ 92 ∷ 110 ∷ 92 ∷ 116 ∷ 92 ∷ 51 ∷ 55 ∷ 55 ∷ 92 ∷ 48 ∷ 48 ∷ 49 ∷ 50 ∷ 34 ∷ [])))
+    no_expressions)))) no_statements))) ∷ [])
 
 abbrev string_literals_declared : List Declared
 string_literals_declared =
@@ -98,17 +95,15 @@ string_literals = refl
 -- end start_up
 abbrev string_orders_modules : List Module
 string_orders_modules =
-    ((a_routine 21 no_equates (record { node = 20; name = (codes "tf"); closing = (codes "tf"); kind = kind.Procedure; parameters = []; arguments =
-    (record { node = 1; names = ((codes "b") ∷ []); type = (a_simple_type 0 simple.Bool) } ∷ []); results = no_types; signals = no_exceptions;
-    restrictions = ([]); equates = no_equates; owns = ([]); statements = (statement_and (an_if 19 (clause_and (a_name 2 (codes "b")) (a_body
-    no_equates (statement_and (a_call_statement 10 (a_call 9 (an_operation 4 (a_named_type 3 (codes "stream") no_constants) (codes "putl"))
-    (expression_and (a_call 7 (an_operation 6 (a_named_type 5 (codes "stream") no_constants) (codes "primary_output")) no_expressions) (expression_and
-    (a_literal 8 (string (34 ∷ 84 ∷ 34 ∷ []))) no_expressions)))) no_statements)) no_clauses) (otherwise (a_body no_equates (statement_and
-    (a_call_statement 18 (a_call 17 (an_operation 12 (a_named_type 11 (codes "stream") no_constants) (codes "putl")) (expression_and (a_call 15
-    (an_operation 14 (a_named_type 13 (codes "stream") no_constants) (codes "primary_output")) no_expressions) (expression_and (a_literal 16 (string
-    (34 ∷ 70 ∷ 34 ∷ []))) no_expressions)))) no_statements)))) no_statements) })) ∷ (a_routine 146 no_equates (record { node = 145; name = (codes
-    "start_up"); closing = (codes "start_up"); kind = kind.Procedure; parameters = []; arguments = ([]); results = no_types; signals = no_exceptions;
-    restrictions = ([]); equates = no_equates; owns = ([]); statements = (statement_and (a_call_statement 27 (a_call 26 (a_name 22 (codes "tf"))
+    ((a_routine 21 no_equates (routine 20 (codes "tf") (codes "tf") kind.Procedure [] (typed 1 ((codes "b") ∷ []) (a_simple_type 0 simple.Bool) ∷ [])
+    no_types no_exceptions ([]) no_equates ([]) (statement_and (an_if 19 (clause_and (a_name 2 (codes "b")) (a_body no_equates (statement_and
+    (a_call_statement 10 (a_call 9 (an_operation 4 (a_named_type 3 (codes "stream") no_constants) (codes "putl")) (expression_and (a_call 7
+    (an_operation 6 (a_named_type 5 (codes "stream") no_constants) (codes "primary_output")) no_expressions) (expression_and (a_literal 8 (string (34
+    ∷ 84 ∷ 34 ∷ []))) no_expressions)))) no_statements)) no_clauses) (otherwise (a_body no_equates (statement_and (a_call_statement 18 (a_call 17
+    (an_operation 12 (a_named_type 11 (codes "stream") no_constants) (codes "putl")) (expression_and (a_call 15 (an_operation 14 (a_named_type 13
+    (codes "stream") no_constants) (codes "primary_output")) no_expressions) (expression_and (a_literal 16 (string (34 ∷ 70 ∷ 34 ∷ [])))
+    no_expressions)))) no_statements)))) no_statements))) ∷ (a_routine 146 no_equates (routine 145 (codes "start_up") (codes "start_up")
+    kind.Procedure [] ([]) no_types no_exceptions ([]) no_equates ([]) (statement_and (a_call_statement 27 (a_call 26 (a_name 22 (codes "tf"))
     (expression_and (an_infix 25 op.Less (a_literal 23 (string (34 ∷ 97 ∷ 34 ∷ []))) (a_literal 24 (string (34 ∷ 98 ∷ 34 ∷ [])))) no_expressions)))
     (statement_and (a_call_statement 33 (a_call 32 (a_name 28 (codes "tf")) (expression_and (an_infix 31 op.Less (a_literal 29 (string (34 ∷ 97 ∷ 34 ∷
     []))) (a_literal 30 (string (34 ∷ 97 ∷ 98 ∷ 34 ∷ [])))) no_expressions))) (statement_and (a_call_statement 39 (a_call 38 (a_name 34 (codes "tf"))
@@ -142,7 +137,7 @@ string_orders_modules =
     ∷ []))) (expression_and (a_literal 133 (string (34 ∷ 97 ∷ 34 ∷ []))) no_expressions))) no_expressions))) (statement_and (a_call_statement 144
     (a_call 143 (a_name 137 (codes "tf")) (expression_and (a_call 142 (an_operation 139 (a_simple_type 138 simple.String) (codes "gt"))
     (expression_and (a_literal 140 (string (34 ∷ 97 ∷ 34 ∷ []))) (expression_and (a_literal 141 (string (34 ∷ 97 ∷ 34 ∷ []))) no_expressions)))
-    no_expressions))) no_statements)))))))))))))))))) })) ∷ [])
+    no_expressions))) no_statements)))))))))))))))))))) ∷ [])
 
 abbrev string_orders_declared : List Declared
 string_orders_declared =
@@ -162,9 +157,8 @@ string_orders = refl
 -- end start_up
 abbrev string_fetch_modules : List Module
 string_fetch_modules =
-    ((a_routine 103 no_equates (record { node = 102; name = (codes "start_up"); closing = (codes "start_up"); kind = kind.Procedure; parameters = [];
-    arguments = ([]); results = no_types; signals = no_exceptions; restrictions = ([]); equates = no_equates; owns = ([]); statements = (statement_and
-    (an_init 2 (record { name = (codes "s"); type = (a_simple_type 0 simple.String) }) (a_literal 1 (string (34 ∷ 97 ∷ 98 ∷ 99 ∷ 34 ∷ []))))
+    ((a_routine 103 no_equates (routine 102 (codes "start_up") (codes "start_up") kind.Procedure [] ([]) no_types no_exceptions ([]) no_equates ([])
+    (statement_and (an_init 2 (a_variable (codes "s") (a_simple_type 0 simple.String)) (a_literal 1 (string (34 ∷ 97 ∷ 98 ∷ 99 ∷ 34 ∷ []))))
     (statement_and (a_call_statement 15 (a_call 14 (an_operation 4 (a_named_type 3 (codes "stream") no_constants) (codes "puts")) (expression_and
     (a_call 7 (an_operation 6 (a_named_type 5 (codes "stream") no_constants) (codes "primary_output")) no_expressions) (expression_and (a_call 13
     (an_operation 9 (a_simple_type 8 simple.String) (codes "c2s")) (expression_and (an_index 12 (a_name 10 (codes "s")) (constant_and (an_expression
@@ -176,27 +170,26 @@ string_fetch_modules =
     "stream") no_constants) (codes "puts")) (expression_and (a_call 33 (an_operation 32 (a_named_type 31 (codes "stream") no_constants) (codes
     "primary_output")) no_expressions) (expression_and (a_call 41 (an_operation 35 (a_simple_type 34 simple.String) (codes "c2s")) (expression_and
     (a_call 40 (an_operation 37 (a_simple_type 36 simple.String) (codes "fetch")) (expression_and (a_name 38 (codes "s")) (expression_and (a_literal
-    39 (integer (codes "2"))) no_expressions))) no_expressions)) no_expressions)))) (statement_and (an_except 58 (an_init 48 (record { name = (codes
-    "c"); type = (a_simple_type 44 simple.Char) }) (an_index 47 (a_name 45 (codes "s")) (constant_and (an_expression (a_literal 46 (integer (codes
-    "0")))) no_constants))) (when_and 57 ((codes "bounds") ∷ []) (objects []) (a_body no_equates (statement_and (a_call_statement 56 (a_call 55
-    (an_operation 50 (a_named_type 49 (codes "stream") no_constants) (codes "puts")) (expression_and (a_call 53 (an_operation 52 (a_named_type 51
-    (codes "stream") no_constants) (codes "primary_output")) no_expressions) (expression_and (a_literal 54 (string (34 ∷ 98 ∷ 48 ∷ 34 ∷ [])))
-    no_expressions)))) no_statements)) no_whens) no_others) (statement_and (an_except 72 (an_assign 62 ((codes "c") ∷ []) (expression_and (an_index 61
-    (a_name 59 (codes "s")) (constant_and (an_expression (a_literal 60 (integer (codes "4")))) no_constants)) no_expressions)) (when_and 71 ((codes
-    "bounds") ∷ []) (objects []) (a_body no_equates (statement_and (a_call_statement 70 (a_call 69 (an_operation 64 (a_named_type 63 (codes "stream")
-    no_constants) (codes "puts")) (expression_and (a_call 67 (an_operation 66 (a_named_type 65 (codes "stream") no_constants) (codes
-    "primary_output")) no_expressions) (expression_and (a_literal 68 (string (34 ∷ 98 ∷ 52 ∷ 34 ∷ []))) no_expressions)))) no_statements)) no_whens)
-    no_others) (statement_and (an_except 87 (an_assign 77 ((codes "c") ∷ []) (expression_and (an_index 76 (a_name 73 (codes "s")) (constant_and
-    (an_expression (a_prefix 75 sign.Minus (a_literal 74 (integer (codes "1"))))) no_constants)) no_expressions)) (when_and 86 ((codes "bounds") ∷ [])
-    (objects []) (a_body no_equates (statement_and (a_call_statement 85 (a_call 84 (an_operation 79 (a_named_type 78 (codes "stream") no_constants)
-    (codes "puts")) (expression_and (a_call 82 (an_operation 81 (a_named_type 80 (codes "stream") no_constants) (codes "primary_output"))
-    no_expressions) (expression_and (a_literal 83 (string (34 ∷ 98 ∷ 45 ∷ 49 ∷ 34 ∷ []))) no_expressions)))) no_statements)) no_whens) no_others)
-    (statement_and (an_except 101 (an_assign 91 ((codes "c") ∷ []) (expression_and (an_index 90 (a_literal 88 (string (34 ∷ 34 ∷ []))) (constant_and
-    (an_expression (a_literal 89 (integer (codes "1")))) no_constants)) no_expressions)) (when_and 100 ((codes "bounds") ∷ []) (objects []) (a_body
-    no_equates (statement_and (a_call_statement 99 (a_call 98 (an_operation 93 (a_named_type 92 (codes "stream") no_constants) (codes "puts"))
-    (expression_and (a_call 96 (an_operation 95 (a_named_type 94 (codes "stream") no_constants) (codes "primary_output")) no_expressions)
-    (expression_and (a_literal 97 (string (34 ∷ 98 ∷ 101 ∷ 34 ∷ []))) no_expressions)))) no_statements)) no_whens) no_others) no_statements))))))))
-    })) ∷ [])
+    39 (integer (codes "2"))) no_expressions))) no_expressions)) no_expressions)))) (statement_and (an_except 58 (an_init 48 (a_variable (codes "c")
+    (a_simple_type 44 simple.Char)) (an_index 47 (a_name 45 (codes "s")) (constant_and (an_expression (a_literal 46 (integer (codes "0"))))
+    no_constants))) (when_and 57 ((codes "bounds") ∷ []) (objects []) (a_body no_equates (statement_and (a_call_statement 56 (a_call 55 (an_operation
+    50 (a_named_type 49 (codes "stream") no_constants) (codes "puts")) (expression_and (a_call 53 (an_operation 52 (a_named_type 51 (codes "stream")
+    no_constants) (codes "primary_output")) no_expressions) (expression_and (a_literal 54 (string (34 ∷ 98 ∷ 48 ∷ 34 ∷ []))) no_expressions))))
+    no_statements)) no_whens) no_others) (statement_and (an_except 72 (an_assign 62 ((codes "c") ∷ []) (expression_and (an_index 61 (a_name 59 (codes
+    "s")) (constant_and (an_expression (a_literal 60 (integer (codes "4")))) no_constants)) no_expressions)) (when_and 71 ((codes "bounds") ∷ [])
+    (objects []) (a_body no_equates (statement_and (a_call_statement 70 (a_call 69 (an_operation 64 (a_named_type 63 (codes "stream") no_constants)
+    (codes "puts")) (expression_and (a_call 67 (an_operation 66 (a_named_type 65 (codes "stream") no_constants) (codes "primary_output"))
+    no_expressions) (expression_and (a_literal 68 (string (34 ∷ 98 ∷ 52 ∷ 34 ∷ []))) no_expressions)))) no_statements)) no_whens) no_others)
+    (statement_and (an_except 87 (an_assign 77 ((codes "c") ∷ []) (expression_and (an_index 76 (a_name 73 (codes "s")) (constant_and (an_expression
+    (a_prefix 75 sign.Minus (a_literal 74 (integer (codes "1"))))) no_constants)) no_expressions)) (when_and 86 ((codes "bounds") ∷ []) (objects [])
+    (a_body no_equates (statement_and (a_call_statement 85 (a_call 84 (an_operation 79 (a_named_type 78 (codes "stream") no_constants) (codes "puts"))
+    (expression_and (a_call 82 (an_operation 81 (a_named_type 80 (codes "stream") no_constants) (codes "primary_output")) no_expressions)
+    (expression_and (a_literal 83 (string (34 ∷ 98 ∷ 45 ∷ 49 ∷ 34 ∷ []))) no_expressions)))) no_statements)) no_whens) no_others) (statement_and
+    (an_except 101 (an_assign 91 ((codes "c") ∷ []) (expression_and (an_index 90 (a_literal 88 (string (34 ∷ 34 ∷ []))) (constant_and (an_expression
+    (a_literal 89 (integer (codes "1")))) no_constants)) no_expressions)) (when_and 100 ((codes "bounds") ∷ []) (objects []) (a_body no_equates
+    (statement_and (a_call_statement 99 (a_call 98 (an_operation 93 (a_named_type 92 (codes "stream") no_constants) (codes "puts")) (expression_and
+    (a_call 96 (an_operation 95 (a_named_type 94 (codes "stream") no_constants) (codes "primary_output")) no_expressions) (expression_and (a_literal
+    97 (string (34 ∷ 98 ∷ 101 ∷ 34 ∷ []))) no_expressions)))) no_statements)) no_whens) no_others) no_statements)))))))))) ∷ [])
 
 abbrev string_fetch_declared : List Declared
 string_fetch_declared =
@@ -213,24 +206,23 @@ string_fetch = refl
 -- end start_up
 abbrev chars_modules : List Module
 chars_modules =
-    ((a_routine 52 no_equates (record { node = 51; name = (codes "start_up"); closing = (codes "start_up"); kind = kind.Procedure; parameters = [];
-    arguments = ([]); results = no_types; signals = no_exceptions; restrictions = ([]); equates = no_equates; owns = ([]); statements = (statement_and
-    (a_for 20 (record { node = 1; names = ((codes "c") ∷ []); type = (a_simple_type 0 simple.Char) } ∷ []) (a_call 5 (an_operation 3 (a_simple_type 2
-    simple.String) (codes "chars")) (expression_and (a_literal 4 (string (34 ∷ 97 ∷ 90 ∷ 48 ∷ 34 ∷ []))) no_expressions)) (a_body no_equates
-    (statement_and (a_call_statement 19 (a_call 18 (an_operation 7 (a_named_type 6 (codes "stream") no_constants) (codes "putl")) (expression_and
-    (a_call 10 (an_operation 9 (a_named_type 8 (codes "stream") no_constants) (codes "primary_output")) no_expressions) (expression_and (a_call 17
-    (an_operation 12 (a_simple_type 11 simple.Int) (codes "unparse")) (expression_and (a_call 16 (an_operation 14 (a_simple_type 13 simple.Char)
-    (codes "c2i")) (expression_and (a_name 15 (codes "c")) no_expressions)) no_expressions)) no_expressions)))) no_statements))) (statement_and
-    (a_call_statement 34 (a_call 33 (an_operation 22 (a_named_type 21 (codes "stream") no_constants) (codes "putl")) (expression_and (a_call 25
-    (an_operation 24 (a_named_type 23 (codes "stream") no_constants) (codes "primary_output")) no_expressions) (expression_and (a_call 32
-    (an_operation 27 (a_simple_type 26 simple.String) (codes "c2s")) (expression_and (a_call 31 (an_operation 29 (a_simple_type 28 simple.Char) (codes
-    "i2c")) (expression_and (a_literal 30 (integer (codes "65"))) no_expressions)) no_expressions)) no_expressions)))) (statement_and (an_except 50
-    (an_init 40 (record { name = (codes "c"); type = (a_simple_type 35 simple.Char) }) (a_call 39 (an_operation 37 (a_simple_type 36 simple.Char)
-    (codes "i2c")) (expression_and (a_literal 38 (integer (codes "256"))) no_expressions))) (when_and 49 ((codes "illegal_char") ∷ []) (objects [])
-    (a_body no_equates (statement_and (a_call_statement 48 (a_call 47 (an_operation 42 (a_named_type 41 (codes "stream") no_constants) (codes "putl"))
+    ((a_routine 52 no_equates (routine 51 (codes "start_up") (codes "start_up") kind.Procedure [] ([]) no_types no_exceptions ([]) no_equates ([])
+    (statement_and (a_for 20 (typed 1 ((codes "c") ∷ []) (a_simple_type 0 simple.Char) ∷ []) (a_call 5 (an_operation 3 (a_simple_type 2 simple.String)
+    (codes "chars")) (expression_and (a_literal 4 (string (34 ∷ 97 ∷ 90 ∷ 48 ∷ 34 ∷ []))) no_expressions)) (a_body no_equates (statement_and
+    (a_call_statement 19 (a_call 18 (an_operation 7 (a_named_type 6 (codes "stream") no_constants) (codes "putl")) (expression_and (a_call 10
+    (an_operation 9 (a_named_type 8 (codes "stream") no_constants) (codes "primary_output")) no_expressions) (expression_and (a_call 17 (an_operation
+    12 (a_simple_type 11 simple.Int) (codes "unparse")) (expression_and (a_call 16 (an_operation 14 (a_simple_type 13 simple.Char) (codes "c2i"))
+    (expression_and (a_name 15 (codes "c")) no_expressions)) no_expressions)) no_expressions)))) no_statements))) (statement_and (a_call_statement 34
+    (a_call 33 (an_operation 22 (a_named_type 21 (codes "stream") no_constants) (codes "putl")) (expression_and (a_call 25 (an_operation 24
+    (a_named_type 23 (codes "stream") no_constants) (codes "primary_output")) no_expressions) (expression_and (a_call 32 (an_operation 27
+    (a_simple_type 26 simple.String) (codes "c2s")) (expression_and (a_call 31 (an_operation 29 (a_simple_type 28 simple.Char) (codes "i2c"))
+    (expression_and (a_literal 30 (integer (codes "65"))) no_expressions)) no_expressions)) no_expressions)))) (statement_and (an_except 50 (an_init
+    40 (a_variable (codes "c") (a_simple_type 35 simple.Char)) (a_call 39 (an_operation 37 (a_simple_type 36 simple.Char) (codes "i2c"))
+    (expression_and (a_literal 38 (integer (codes "256"))) no_expressions))) (when_and 49 ((codes "illegal_char") ∷ []) (objects []) (a_body
+    no_equates (statement_and (a_call_statement 48 (a_call 47 (an_operation 42 (a_named_type 41 (codes "stream") no_constants) (codes "putl"))
     (expression_and (a_call 45 (an_operation 44 (a_named_type 43 (codes "stream") no_constants) (codes "primary_output")) no_expressions)
     (expression_and (a_literal 46 (string (34 ∷ 105 ∷ 108 ∷ 108 ∷ 101 ∷ 103 ∷ 97 ∷ 108 ∷ 34 ∷ []))) no_expressions)))) no_statements)) no_whens)
-    no_others) no_statements))) })) ∷ [])
+    no_others) no_statements))))) ∷ [])
 
 abbrev chars_declared : List Declared
 chars_declared =
@@ -246,19 +238,17 @@ chars = refl
 -- end start_up
 abbrev characters_modules : List Module
 characters_modules =
-    ((a_routine 36 no_equates (record { node = 35; name = (codes "start_up"); closing = (codes "start_up"); kind = kind.Procedure; parameters = [];
-    arguments = ([]); results = no_types; signals = no_exceptions; restrictions = ([]); equates = no_equates; owns = ([]); statements = (statement_and
-    (an_init 4 (record { name = (codes "s"); type = (a_named_type 0 (codes "stream") no_constants) }) (a_call 3 (an_operation 2 (a_named_type 1 (codes
-    "stream") no_constants) (codes "primary_input")) no_expressions)) (statement_and (an_init 7 (record { name = (codes "n"); type = (a_simple_type 5
-    simple.Int) }) (a_literal 6 (integer (codes "0")))) (statement_and (a_while 23 (a_prefix 12 sign.Not (a_call 11 (an_operation 9 (a_named_type 8
-    (codes "stream") no_constants) (codes "empty")) (expression_and (a_name 10 (codes "s")) no_expressions))) (a_body no_equates (statement_and
-    (an_assign 22 ((codes "n") ∷ []) (expression_and (an_infix 21 op.Add (a_name 13 (codes "n")) (a_call 20 (an_operation 15 (a_simple_type 14
-    simple.Char) (codes "c2i")) (expression_and (a_call 19 (an_operation 17 (a_named_type 16 (codes "stream") no_constants) (codes "getc"))
-    (expression_and (a_name 18 (codes "s")) no_expressions)) no_expressions))) no_expressions)) no_statements))) (statement_and (a_call_statement 34
-    (a_call 33 (an_operation 25 (a_named_type 24 (codes "stream") no_constants) (codes "putl")) (expression_and (a_call 28 (an_operation 27
-    (a_named_type 26 (codes "stream") no_constants) (codes "primary_output")) no_expressions) (expression_and (a_call 32 (an_operation 30
-    (a_simple_type 29 simple.Int) (codes "unparse")) (expression_and (a_name 31 (codes "n")) no_expressions)) no_expressions)))) no_statements)))) }))
-    ∷ [])
+    ((a_routine 36 no_equates (routine 35 (codes "start_up") (codes "start_up") kind.Procedure [] ([]) no_types no_exceptions ([]) no_equates ([])
+    (statement_and (an_init 4 (a_variable (codes "s") (a_named_type 0 (codes "stream") no_constants)) (a_call 3 (an_operation 2 (a_named_type 1 (codes
+    "stream") no_constants) (codes "primary_input")) no_expressions)) (statement_and (an_init 7 (a_variable (codes "n") (a_simple_type 5 simple.Int))
+    (a_literal 6 (integer (codes "0")))) (statement_and (a_while 23 (a_prefix 12 sign.Not (a_call 11 (an_operation 9 (a_named_type 8 (codes "stream")
+    no_constants) (codes "empty")) (expression_and (a_name 10 (codes "s")) no_expressions))) (a_body no_equates (statement_and (an_assign 22 ((codes
+    "n") ∷ []) (expression_and (an_infix 21 op.Add (a_name 13 (codes "n")) (a_call 20 (an_operation 15 (a_simple_type 14 simple.Char) (codes "c2i"))
+    (expression_and (a_call 19 (an_operation 17 (a_named_type 16 (codes "stream") no_constants) (codes "getc")) (expression_and (a_name 18 (codes
+    "s")) no_expressions)) no_expressions))) no_expressions)) no_statements))) (statement_and (a_call_statement 34 (a_call 33 (an_operation 25
+    (a_named_type 24 (codes "stream") no_constants) (codes "putl")) (expression_and (a_call 28 (an_operation 27 (a_named_type 26 (codes "stream")
+    no_constants) (codes "primary_output")) no_expressions) (expression_and (a_call 32 (an_operation 30 (a_simple_type 29 simple.Int) (codes
+    "unparse")) (expression_and (a_name 31 (codes "n")) no_expressions)) no_expressions)))) no_statements)))))) ∷ [])
 
 abbrev characters_declared : List Declared
 characters_declared =

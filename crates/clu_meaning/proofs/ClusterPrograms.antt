@@ -11,7 +11,7 @@ use Rattle.clu_syntax.specs.Syntax.{integer, string, an_infix, a_literal, a_name
 use Rattle.clu_layout.specs.Computing.{computing}
 use Rattle.clu_meaning.specs.Run.{returned_normally}
 use Rattle.clu_meaning.specs.Executing.{executing}
-use Rattle.clu_meaning.proofs.Running.{d, Runs}
+use Rattle.clu_meaning.proofs.Running.{d, typed, a_variable, routine, cluster, Runs}
 
 -- % up and down
 -- c = cluster is make, next, get rep = int make = proc (n: int) returns (c) return (up(n)) end make
@@ -19,27 +19,22 @@ use Rattle.clu_meaning.proofs.Running.{d, Runs}
 -- start_up = proc () stream$putl(stream$primary_output(), int$unparse(c$get(c$next(c$make(4))))) end start_up
 abbrev up_and_down_modules : List Module
 up_and_down_modules =
-    ((a_cluster 29 no_equates (record { node = 28; name = (codes "c"); closing = (codes "c"); parameters = []; exports = ((codes "make") ∷ (codes
-    "next") ∷ (codes "get") ∷ []); restrictions = ([]); equates = (equate_and (an_equate 1 None (a_type (a_simple_type 0 simple.Int))) no_equates);
-    owns = ([]); routines = ((record { node = 9; name = (codes "make"); closing = (codes "make"); kind = kind.Procedure; parameters = []; arguments =
-    (record { node = 3; names = ((codes "n") ∷ []); type = (a_simple_type 2 simple.Int) } ∷ []); results = (type_and (a_named_type 4 (codes "c")
-    no_constants) no_types); signals = no_exceptions; restrictions = ([]); equates = no_equates; owns = ([]); statements = (statement_and (a_return 8
-    (expression_and (an_up 7 (a_name 6 (codes "n"))) no_expressions)) no_statements) }) ∷ (record { node = 20; name = (codes "next"); closing = (codes
-    "next"); kind = kind.Procedure; parameters = []; arguments = (record { node = 11; names = ((codes "x") ∷ []); type = (a_named_type 10 (codes "c")
-    no_constants) } ∷ []); results = (type_and (a_named_type 12 (codes "c") no_constants) no_types); signals = no_exceptions; restrictions = ([]);
-    equates = no_equates; owns = ([]); statements = (statement_and (a_return 19 (expression_and (an_up 18 (an_infix 17 op.Add (a_down 15 (a_name 14
-    (codes "x"))) (a_literal 16 (integer (codes "1"))))) no_expressions)) no_statements) }) ∷ (record { node = 27; name = (codes "get"); closing =
-    (codes "get"); kind = kind.Procedure; parameters = []; arguments = (record { node = 22; names = ((codes "x") ∷ []); type = (a_simple_type 21
-    simple.Cvt) } ∷ []); results = (type_and (a_simple_type 23 simple.Int) no_types); signals = no_exceptions; restrictions = ([]); equates =
-    no_equates; owns = ([]); statements = (statement_and (a_return 26 (expression_and (a_name 25 (codes "x")) no_expressions)) no_statements) }) ∷ [])
-    })) ∷ (a_routine 51 no_equates (record { node = 50; name = (codes "start_up"); closing = (codes "start_up"); kind = kind.Procedure; parameters =
-    []; arguments = ([]); results = no_types; signals = no_exceptions; restrictions = ([]); equates = no_equates; owns = ([]); statements =
-    (statement_and (a_call_statement 49 (a_call 48 (an_operation 31 (a_named_type 30 (codes "stream") no_constants) (codes "putl")) (expression_and
-    (a_call 34 (an_operation 33 (a_named_type 32 (codes "stream") no_constants) (codes "primary_output")) no_expressions) (expression_and (a_call 47
+    ((a_cluster 29 no_equates (cluster 28 (codes "c") (codes "c") [] ((codes "make") ∷ (codes "next") ∷ (codes "get") ∷ []) ([]) (equate_and
+    (an_equate 1 None (a_type (a_simple_type 0 simple.Int))) no_equates) ([]) ((routine 9 (codes "make") (codes "make") kind.Procedure [] (typed 3
+    ((codes "n") ∷ []) (a_simple_type 2 simple.Int) ∷ []) (type_and (a_named_type 4 (codes "c") no_constants) no_types) no_exceptions ([]) no_equates
+    ([]) (statement_and (a_return 8 (expression_and (an_up 7 (a_name 6 (codes "n"))) no_expressions)) no_statements)) ∷ (routine 20 (codes "next")
+    (codes "next") kind.Procedure [] (typed 11 ((codes "x") ∷ []) (a_named_type 10 (codes "c") no_constants) ∷ []) (type_and (a_named_type 12 (codes
+    "c") no_constants) no_types) no_exceptions ([]) no_equates ([]) (statement_and (a_return 19 (expression_and (an_up 18 (an_infix 17 op.Add (a_down
+    15 (a_name 14 (codes "x"))) (a_literal 16 (integer (codes "1"))))) no_expressions)) no_statements)) ∷ (routine 27 (codes "get") (codes "get")
+    kind.Procedure [] (typed 22 ((codes "x") ∷ []) (a_simple_type 21 simple.Cvt) ∷ []) (type_and (a_simple_type 23 simple.Int) no_types) no_exceptions
+    ([]) no_equates ([]) (statement_and (a_return 26 (expression_and (a_name 25 (codes "x")) no_expressions)) no_statements)) ∷ []))) ∷ (a_routine 51
+    no_equates (routine 50 (codes "start_up") (codes "start_up") kind.Procedure [] ([]) no_types no_exceptions ([]) no_equates ([]) (statement_and
+    (a_call_statement 49 (a_call 48 (an_operation 31 (a_named_type 30 (codes "stream") no_constants) (codes "putl")) (expression_and (a_call 34
+    (an_operation 33 (a_named_type 32 (codes "stream") no_constants) (codes "primary_output")) no_expressions) (expression_and (a_call 47
     (an_operation 36 (a_simple_type 35 simple.Int) (codes "unparse")) (expression_and (a_call 46 (an_operation 38 (a_named_type 37 (codes "c")
     no_constants) (codes "get")) (expression_and (a_call 45 (an_operation 40 (a_named_type 39 (codes "c") no_constants) (codes "next"))
     (expression_and (a_call 44 (an_operation 42 (a_named_type 41 (codes "c") no_constants) (codes "make")) (expression_and (a_literal 43 (integer
-    (codes "4"))) no_expressions)) no_expressions)) no_expressions)) no_expressions)) no_expressions)))) no_statements) })) ∷ [])
+    (codes "4"))) no_expressions)) no_expressions)) no_expressions)) no_expressions)) no_expressions)))) no_statements))) ∷ [])
 
 abbrev up_and_down_declared : List Declared
 up_and_down_declared =
@@ -56,23 +51,19 @@ up_and_down = refl
 -- g = proc (n: int) returns (int) return (n * n) end g end c start_up = proc () stream$putl(stream$primary_output(), int$unparse(c$f())) end start_up
 abbrev operations_that_are_not_exported_modules : List Module
 operations_that_are_not_exported_modules =
-    ((a_cluster 24 no_equates (record { node = 23; name = (codes "c"); closing = (codes "c"); parameters = []; exports = ((codes "f") ∷ []);
-    restrictions = ([]); equates = (equate_and (an_equate 1 None (a_type (a_simple_type 0 simple.Null))) no_equates); owns = ([]); routines = ((record
-    { node = 13; name = (codes "f"); closing = (codes "f"); kind = kind.Procedure; parameters = []; arguments = ([]); results = (type_and
-    (a_simple_type 2 simple.Int) no_types); signals = no_exceptions; restrictions = ([]); equates = no_equates; owns = ([]); statements =
-    (statement_and (a_return 12 (expression_and (an_infix 11 op.Add (a_call 6 (a_name 4 (codes "g")) (expression_and (a_literal 5 (integer (codes
-    "2"))) no_expressions)) (a_call 10 (an_operation 8 (a_named_type 7 (codes "c") no_constants) (codes "g")) (expression_and (a_literal 9 (integer
-    (codes "3"))) no_expressions))) no_expressions)) no_statements) }) ∷ (record { node = 22; name = (codes "g"); closing = (codes "g"); kind =
-    kind.Procedure; parameters = []; arguments = (record { node = 15; names = ((codes "n") ∷ []); type = (a_simple_type 14 simple.Int) } ∷ []);
-    results = (type_and (a_simple_type 16 simple.Int) no_types); signals = no_exceptions; restrictions = ([]); equates = no_equates; owns = ([]);
-    statements = (statement_and (a_return 21 (expression_and (an_infix 20 op.Multiply (a_name 18 (codes "n")) (a_name 19 (codes "n")))
-    no_expressions)) no_statements) }) ∷ []) })) ∷ (a_routine 39 no_equates (record { node = 38; name = (codes "start_up"); closing = (codes
-    "start_up"); kind = kind.Procedure; parameters = []; arguments = ([]); results = no_types; signals = no_exceptions; restrictions = ([]); equates =
-    no_equates; owns = ([]); statements = (statement_and (a_call_statement 37 (a_call 36 (an_operation 26 (a_named_type 25 (codes "stream")
+    ((a_cluster 24 no_equates (cluster 23 (codes "c") (codes "c") [] ((codes "f") ∷ []) ([]) (equate_and (an_equate 1 None (a_type (a_simple_type 0
+    simple.Null))) no_equates) ([]) ((routine 13 (codes "f") (codes "f") kind.Procedure [] ([]) (type_and (a_simple_type 2 simple.Int) no_types)
+    no_exceptions ([]) no_equates ([]) (statement_and (a_return 12 (expression_and (an_infix 11 op.Add (a_call 6 (a_name 4 (codes "g"))
+    (expression_and (a_literal 5 (integer (codes "2"))) no_expressions)) (a_call 10 (an_operation 8 (a_named_type 7 (codes "c") no_constants) (codes
+    "g")) (expression_and (a_literal 9 (integer (codes "3"))) no_expressions))) no_expressions)) no_statements)) ∷ (routine 22 (codes "g") (codes "g")
+    kind.Procedure [] (typed 15 ((codes "n") ∷ []) (a_simple_type 14 simple.Int) ∷ []) (type_and (a_simple_type 16 simple.Int) no_types) no_exceptions
+    ([]) no_equates ([]) (statement_and (a_return 21 (expression_and (an_infix 20 op.Multiply (a_name 18 (codes "n")) (a_name 19 (codes "n")))
+    no_expressions)) no_statements)) ∷ []))) ∷ (a_routine 39 no_equates (routine 38 (codes "start_up") (codes "start_up") kind.Procedure [] ([])
+    no_types no_exceptions ([]) no_equates ([]) (statement_and (a_call_statement 37 (a_call 36 (an_operation 26 (a_named_type 25 (codes "stream")
     no_constants) (codes "putl")) (expression_and (a_call 29 (an_operation 28 (a_named_type 27 (codes "stream") no_constants) (codes
     "primary_output")) no_expressions) (expression_and (a_call 35 (an_operation 31 (a_simple_type 30 simple.Int) (codes "unparse")) (expression_and
     (a_call 34 (an_operation 33 (a_named_type 32 (codes "c") no_constants) (codes "f")) no_expressions) no_expressions)) no_expressions))))
-    no_statements) })) ∷ [])
+    no_statements))) ∷ [])
 
 abbrev operations_that_are_not_exported_declared : List Declared
 operations_that_are_not_exported_declared =
@@ -89,28 +80,23 @@ operations_that_are_not_exported = refl
 -- start_up = proc () c$fail(c$make()) except when e (x: c): stream$putl(stream$primary_output(), int$unparse(c$get(x))) end end start_up
 abbrev a_cluster_in_a_signal_modules : List Module
 a_cluster_in_a_signal_modules =
-    ((a_cluster 25 no_equates (record { node = 24; name = (codes "c"); closing = (codes "c"); parameters = []; exports = ((codes "make") ∷ (codes
-    "fail") ∷ (codes "get") ∷ []); restrictions = ([]); equates = (equate_and (an_equate 1 None (a_type (a_simple_type 0 simple.Int))) no_equates);
-    owns = ([]); routines = ((record { node = 6; name = (codes "make"); closing = (codes "make"); kind = kind.Procedure; parameters = []; arguments =
-    ([]); results = (type_and (a_simple_type 2 simple.Cvt) no_types); signals = no_exceptions; restrictions = ([]); equates = no_equates; owns = ([]);
-    statements = (statement_and (a_return 5 (expression_and (a_literal 4 (integer (codes "4"))) no_expressions)) no_statements) }) ∷ (record { node =
-    16; name = (codes "fail"); closing = (codes "fail"); kind = kind.Procedure; parameters = []; arguments = (record { node = 8; names = ((codes "x")
-    ∷ []); type = (a_simple_type 7 simple.Cvt) } ∷ []); results = no_types; signals = (exception_and 10 (codes "e") (type_and (a_simple_type 9
-    simple.Cvt) no_types) no_exceptions); restrictions = ([]); equates = no_equates; owns = ([]); statements = (statement_and (a_signal 15 (codes "e")
-    (expression_and (an_infix 14 op.Add (a_name 12 (codes "x")) (a_literal 13 (integer (codes "1")))) no_expressions)) no_statements) }) ∷ (record {
-    node = 23; name = (codes "get"); closing = (codes "get"); kind = kind.Procedure; parameters = []; arguments = (record { node = 18; names = ((codes
-    "x") ∷ []); type = (a_simple_type 17 simple.Cvt) } ∷ []); results = (type_and (a_simple_type 19 simple.Int) no_types); signals = no_exceptions;
-    restrictions = ([]); equates = no_equates; owns = ([]); statements = (statement_and (a_return 22 (expression_and (a_name 21 (codes "x"))
-    no_expressions)) no_statements) }) ∷ []) })) ∷ (a_routine 52 no_equates (record { node = 51; name = (codes "start_up"); closing = (codes
-    "start_up"); kind = kind.Procedure; parameters = []; arguments = ([]); results = no_types; signals = no_exceptions; restrictions = ([]); equates =
-    no_equates; owns = ([]); statements = (statement_and (an_except 50 (a_call_statement 32 (a_call 31 (an_operation 27 (a_named_type 26 (codes "c")
-    no_constants) (codes "fail")) (expression_and (a_call 30 (an_operation 29 (a_named_type 28 (codes "c") no_constants) (codes "make"))
-    no_expressions) no_expressions))) (when_and 49 ((codes "e") ∷ []) (objects (record { node = 34; names = ((codes "x") ∷ []); type = (a_named_type
-    33 (codes "c") no_constants) } ∷ [])) (a_body no_equates (statement_and (a_call_statement 48 (a_call 47 (an_operation 36 (a_named_type 35 (codes
-    "stream") no_constants) (codes "putl")) (expression_and (a_call 39 (an_operation 38 (a_named_type 37 (codes "stream") no_constants) (codes
-    "primary_output")) no_expressions) (expression_and (a_call 46 (an_operation 41 (a_simple_type 40 simple.Int) (codes "unparse")) (expression_and
-    (a_call 45 (an_operation 43 (a_named_type 42 (codes "c") no_constants) (codes "get")) (expression_and (a_name 44 (codes "x")) no_expressions))
-    no_expressions)) no_expressions)))) no_statements)) no_whens) no_others) no_statements) })) ∷ [])
+    ((a_cluster 25 no_equates (cluster 24 (codes "c") (codes "c") [] ((codes "make") ∷ (codes "fail") ∷ (codes "get") ∷ []) ([]) (equate_and
+    (an_equate 1 None (a_type (a_simple_type 0 simple.Int))) no_equates) ([]) ((routine 6 (codes "make") (codes "make") kind.Procedure [] ([])
+    (type_and (a_simple_type 2 simple.Cvt) no_types) no_exceptions ([]) no_equates ([]) (statement_and (a_return 5 (expression_and (a_literal 4
+    (integer (codes "4"))) no_expressions)) no_statements)) ∷ (routine 16 (codes "fail") (codes "fail") kind.Procedure [] (typed 8 ((codes "x") ∷ [])
+    (a_simple_type 7 simple.Cvt) ∷ []) no_types (exception_and 10 (codes "e") (type_and (a_simple_type 9 simple.Cvt) no_types) no_exceptions) ([])
+    no_equates ([]) (statement_and (a_signal 15 (codes "e") (expression_and (an_infix 14 op.Add (a_name 12 (codes "x")) (a_literal 13 (integer (codes
+    "1")))) no_expressions)) no_statements)) ∷ (routine 23 (codes "get") (codes "get") kind.Procedure [] (typed 18 ((codes "x") ∷ []) (a_simple_type
+    17 simple.Cvt) ∷ []) (type_and (a_simple_type 19 simple.Int) no_types) no_exceptions ([]) no_equates ([]) (statement_and (a_return 22
+    (expression_and (a_name 21 (codes "x")) no_expressions)) no_statements)) ∷ []))) ∷ (a_routine 52 no_equates (routine 51 (codes "start_up") (codes
+    "start_up") kind.Procedure [] ([]) no_types no_exceptions ([]) no_equates ([]) (statement_and (an_except 50 (a_call_statement 32 (a_call 31
+    (an_operation 27 (a_named_type 26 (codes "c") no_constants) (codes "fail")) (expression_and (a_call 30 (an_operation 29 (a_named_type 28 (codes
+    "c") no_constants) (codes "make")) no_expressions) no_expressions))) (when_and 49 ((codes "e") ∷ []) (objects (typed 34 ((codes "x") ∷ [])
+    (a_named_type 33 (codes "c") no_constants) ∷ [])) (a_body no_equates (statement_and (a_call_statement 48 (a_call 47 (an_operation 36 (a_named_type
+    35 (codes "stream") no_constants) (codes "putl")) (expression_and (a_call 39 (an_operation 38 (a_named_type 37 (codes "stream") no_constants)
+    (codes "primary_output")) no_expressions) (expression_and (a_call 46 (an_operation 41 (a_simple_type 40 simple.Int) (codes "unparse"))
+    (expression_and (a_call 45 (an_operation 43 (a_named_type 42 (codes "c") no_constants) (codes "get")) (expression_and (a_name 44 (codes "x"))
+    no_expressions)) no_expressions)) no_expressions)))) no_statements)) no_whens) no_others) no_statements))) ∷ [])
 
 abbrev a_cluster_in_a_signal_declared : List Declared
 a_cluster_in_a_signal_declared =
@@ -131,24 +117,20 @@ a_cluster_in_a_signal = refl
 -- if struct[x: c]${x: a[1]} = struct[x: c]${x: b[1]} then stream$putl(stream$primary_output(), "structs") end end start_up
 abbrev abstract_equality_in_arrays_modules : List Module
 abstract_equality_in_arrays_modules =
-    ((a_cluster 23 no_equates (record { node = 22; name = (codes "c"); closing = (codes "c"); parameters = []; exports = ((codes "make") ∷ (codes
-    "equal") ∷ []); restrictions = ([]); equates = (equate_and (an_equate 1 None (a_type (a_simple_type 0 simple.Int))) no_equates); owns = ([]);
-    routines = ((record { node = 8; name = (codes "make"); closing = (codes "make"); kind = kind.Procedure; parameters = []; arguments = (record {
-    node = 3; names = ((codes "n") ∷ []); type = (a_simple_type 2 simple.Int) } ∷ []); results = (type_and (a_simple_type 4 simple.Cvt) no_types);
-    signals = no_exceptions; restrictions = ([]); equates = no_equates; owns = ([]); statements = (statement_and (a_return 7 (expression_and (a_name 6
-    (codes "n")) no_expressions)) no_statements) }) ∷ (record { node = 21; name = (codes "equal"); closing = (codes "equal"); kind = kind.Procedure;
-    parameters = []; arguments = (record { node = 10; names = ((codes "a") ∷ (codes "b") ∷ []); type = (a_simple_type 9 simple.Cvt) } ∷ []); results =
-    (type_and (a_simple_type 11 simple.Bool) no_types); signals = no_exceptions; restrictions = ([]); equates = no_equates; owns = ([]); statements =
-    (statement_and (a_return 20 (expression_and (an_infix 19 op.Equal (an_infix 15 op.Remainder (a_name 13 (codes "a")) (a_literal 14 (integer (codes
-    "10")))) (an_infix 18 op.Remainder (a_name 16 (codes "b")) (a_literal 17 (integer (codes "10"))))) no_expressions)) no_statements) }) ∷ []) })) ∷
-    (a_routine 130 no_equates (record { node = 129; name = (codes "start_up"); closing = (codes "start_up"); kind = kind.Procedure; parameters = [];
-    arguments = ([]); results = no_types; signals = no_exceptions; restrictions = ([]); equates = no_equates; owns = ([]); statements = (statement_and
-    (an_init 37 (record { name = (codes "a"); type = (a_list_type 25 list.Array (a_named_type 24 (codes "c") no_constants)) }) (elements 36
-    (a_list_type 27 list.Array (a_named_type 26 (codes "c") no_constants)) (expression_and (a_call 31 (an_operation 29 (a_named_type 28 (codes "c")
-    no_constants) (codes "make")) (expression_and (a_literal 30 (integer (codes "1"))) no_expressions)) (expression_and (a_call 35 (an_operation 33
-    (a_named_type 32 (codes "c") no_constants) (codes "make")) (expression_and (a_literal 34 (integer (codes "2"))) no_expressions))
-    no_expressions)))) (statement_and (an_init 51 (record { name = (codes "b"); type = (a_list_type 39 list.Array (a_named_type 38 (codes "c")
-    no_constants)) }) (elements 50 (a_list_type 41 list.Array (a_named_type 40 (codes "c") no_constants)) (expression_and (a_call 45 (an_operation 43
+    ((a_cluster 23 no_equates (cluster 22 (codes "c") (codes "c") [] ((codes "make") ∷ (codes "equal") ∷ []) ([]) (equate_and (an_equate 1 None
+    (a_type (a_simple_type 0 simple.Int))) no_equates) ([]) ((routine 8 (codes "make") (codes "make") kind.Procedure [] (typed 3 ((codes "n") ∷ [])
+    (a_simple_type 2 simple.Int) ∷ []) (type_and (a_simple_type 4 simple.Cvt) no_types) no_exceptions ([]) no_equates ([]) (statement_and (a_return 7
+    (expression_and (a_name 6 (codes "n")) no_expressions)) no_statements)) ∷ (routine 21 (codes "equal") (codes "equal") kind.Procedure [] (typed 10
+    ((codes "a") ∷ (codes "b") ∷ []) (a_simple_type 9 simple.Cvt) ∷ []) (type_and (a_simple_type 11 simple.Bool) no_types) no_exceptions ([])
+    no_equates ([]) (statement_and (a_return 20 (expression_and (an_infix 19 op.Equal (an_infix 15 op.Remainder (a_name 13 (codes "a")) (a_literal 14
+    (integer (codes "10")))) (an_infix 18 op.Remainder (a_name 16 (codes "b")) (a_literal 17 (integer (codes "10"))))) no_expressions))
+    no_statements)) ∷ []))) ∷ (a_routine 130 no_equates (routine 129 (codes "start_up") (codes "start_up") kind.Procedure [] ([]) no_types
+    no_exceptions ([]) no_equates ([]) (statement_and (an_init 37 (a_variable (codes "a") (a_list_type 25 list.Array (a_named_type 24 (codes "c")
+    no_constants))) (elements 36 (a_list_type 27 list.Array (a_named_type 26 (codes "c") no_constants)) (expression_and (a_call 31 (an_operation 29
+    (a_named_type 28 (codes "c") no_constants) (codes "make")) (expression_and (a_literal 30 (integer (codes "1"))) no_expressions)) (expression_and
+    (a_call 35 (an_operation 33 (a_named_type 32 (codes "c") no_constants) (codes "make")) (expression_and (a_literal 34 (integer (codes "2")))
+    no_expressions)) no_expressions)))) (statement_and (an_init 51 (a_variable (codes "b") (a_list_type 39 list.Array (a_named_type 38 (codes "c")
+    no_constants))) (elements 50 (a_list_type 41 list.Array (a_named_type 40 (codes "c") no_constants)) (expression_and (a_call 45 (an_operation 43
     (a_named_type 42 (codes "c") no_constants) (codes "make")) (expression_and (a_literal 44 (integer (codes "11"))) no_expressions)) (expression_and
     (a_call 49 (an_operation 47 (a_named_type 46 (codes "c") no_constants) (codes "make")) (expression_and (a_literal 48 (integer (codes "22")))
     no_expressions)) no_expressions)))) (statement_and (an_if 63 (clause_and (an_infix 54 op.NotEqual (a_name 52 (codes "a")) (a_name 53 (codes "b")))
@@ -160,22 +142,22 @@ abstract_equality_in_arrays_modules =
     (a_call_statement 77 (a_call 76 (an_operation 71 (a_named_type 70 (codes "stream") no_constants) (codes "putl")) (expression_and (a_call 74
     (an_operation 73 (a_named_type 72 (codes "stream") no_constants) (codes "primary_output")) no_expressions) (expression_and (a_literal 75 (string
     (34 ∷ 115 ∷ 105 ∷ 109 ∷ 105 ∷ 108 ∷ 97 ∷ 114 ∷ 49 ∷ 34 ∷ []))) no_expressions)))) no_statements)) no_clauses) nothing_else) (statement_and
-    (an_init 86 (record { name = (codes "s"); type = (a_list_type 80 list.Sequence (a_named_type 79 (codes "c") no_constants)) }) (a_call 85
-    (an_operation 83 (a_list_type 82 list.Sequence (a_named_type 81 (codes "c") no_constants)) (codes "a2s")) (expression_and (a_name 84 (codes "a"))
-    no_expressions))) (statement_and (an_if 102 (clause_and (an_infix 93 op.Equal (a_name 87 (codes "s")) (a_call 92 (an_operation 90 (a_list_type 89
-    list.Sequence (a_named_type 88 (codes "c") no_constants)) (codes "a2s")) (expression_and (a_name 91 (codes "b")) no_expressions))) (a_body
-    no_equates (statement_and (a_call_statement 101 (a_call 100 (an_operation 95 (a_named_type 94 (codes "stream") no_constants) (codes "putl"))
-    (expression_and (a_call 98 (an_operation 97 (a_named_type 96 (codes "stream") no_constants) (codes "primary_output")) no_expressions)
-    (expression_and (a_literal 99 (string (34 ∷ 101 ∷ 113 ∷ 117 ∷ 97 ∷ 108 ∷ 34 ∷ []))) no_expressions)))) no_statements)) no_clauses) nothing_else)
-    (statement_and (an_if 128 (clause_and (an_infix 119 op.Equal (fields 110 (a_fields_type 105 fields_word.Struct (selector_and 104 ((codes "x") ∷
-    []) (a_named_type 103 (codes "c") no_constants) no_selectors)) (component_and 109 ((codes "x") ∷ []) (an_index 108 (a_name 106 (codes "a"))
-    (constant_and (an_expression (a_literal 107 (integer (codes "1")))) no_constants)) no_components)) (fields 118 (a_fields_type 113
-    fields_word.Struct (selector_and 112 ((codes "x") ∷ []) (a_named_type 111 (codes "c") no_constants) no_selectors)) (component_and 117 ((codes "x")
-    ∷ []) (an_index 116 (a_name 114 (codes "b")) (constant_and (an_expression (a_literal 115 (integer (codes "1")))) no_constants)) no_components)))
-    (a_body no_equates (statement_and (a_call_statement 127 (a_call 126 (an_operation 121 (a_named_type 120 (codes "stream") no_constants) (codes
-    "putl")) (expression_and (a_call 124 (an_operation 123 (a_named_type 122 (codes "stream") no_constants) (codes "primary_output")) no_expressions)
-    (expression_and (a_literal 125 (string (34 ∷ 115 ∷ 116 ∷ 114 ∷ 117 ∷ 99 ∷ 116 ∷ 115 ∷ 34 ∷ []))) no_expressions)))) no_statements)) no_clauses)
-    nothing_else) no_statements))))))) })) ∷ [])
+    (an_init 86 (a_variable (codes "s") (a_list_type 80 list.Sequence (a_named_type 79 (codes "c") no_constants))) (a_call 85 (an_operation 83
+    (a_list_type 82 list.Sequence (a_named_type 81 (codes "c") no_constants)) (codes "a2s")) (expression_and (a_name 84 (codes "a")) no_expressions)))
+    (statement_and (an_if 102 (clause_and (an_infix 93 op.Equal (a_name 87 (codes "s")) (a_call 92 (an_operation 90 (a_list_type 89 list.Sequence
+    (a_named_type 88 (codes "c") no_constants)) (codes "a2s")) (expression_and (a_name 91 (codes "b")) no_expressions))) (a_body no_equates
+    (statement_and (a_call_statement 101 (a_call 100 (an_operation 95 (a_named_type 94 (codes "stream") no_constants) (codes "putl")) (expression_and
+    (a_call 98 (an_operation 97 (a_named_type 96 (codes "stream") no_constants) (codes "primary_output")) no_expressions) (expression_and (a_literal
+    99 (string (34 ∷ 101 ∷ 113 ∷ 117 ∷ 97 ∷ 108 ∷ 34 ∷ []))) no_expressions)))) no_statements)) no_clauses) nothing_else) (statement_and (an_if 128
+    (clause_and (an_infix 119 op.Equal (fields 110 (a_fields_type 105 fields_word.Struct (selector_and 104 ((codes "x") ∷ []) (a_named_type 103 (codes
+    "c") no_constants) no_selectors)) (component_and 109 ((codes "x") ∷ []) (an_index 108 (a_name 106 (codes "a")) (constant_and (an_expression
+    (a_literal 107 (integer (codes "1")))) no_constants)) no_components)) (fields 118 (a_fields_type 113 fields_word.Struct (selector_and 112 ((codes
+    "x") ∷ []) (a_named_type 111 (codes "c") no_constants) no_selectors)) (component_and 117 ((codes "x") ∷ []) (an_index 116 (a_name 114 (codes "b"))
+    (constant_and (an_expression (a_literal 115 (integer (codes "1")))) no_constants)) no_components))) (a_body no_equates (statement_and
+    (a_call_statement 127 (a_call 126 (an_operation 121 (a_named_type 120 (codes "stream") no_constants) (codes "putl")) (expression_and (a_call 124
+    (an_operation 123 (a_named_type 122 (codes "stream") no_constants) (codes "primary_output")) no_expressions) (expression_and (a_literal 125
+    (string (34 ∷ 115 ∷ 116 ∷ 114 ∷ 117 ∷ 99 ∷ 116 ∷ 115 ∷ 34 ∷ []))) no_expressions)))) no_statements)) no_clauses) nothing_else)
+    no_statements))))))))) ∷ [])
 
 abbrev abstract_equality_in_arrays_declared : List Declared
 abstract_equality_in_arrays_declared =

@@ -17,12 +17,12 @@ later_same st = record { more = []; output = sym (append-nil st.world.output); w
 
 pub later_then : (a b c : State) → Later a b → Later b c → Later a c
 later_then a b c l m = record {
-    more = l.more ++ m.more;
-    output = m.output ∙ ap (λ (bytes : List ℕ). bytes ++ m.more) l.output ∙ append_assoc a.world.output l.more m.more;
-    words = omega (arith, l.words, m.words);
-    work = omega (arith, l.work, m.work);
-    most = omega (arith, l.most, m.most)
-  }
+  more = l.more ++ m.more;
+  output = m.output ∙ ap (λ (bytes : List ℕ). bytes ++ m.more) l.output ∙ append_assoc a.world.output l.more m.more;
+  words = omega (arith, l.words, m.words);
+  work = omega (arith, l.work, m.work);
+  most = omega (arith, l.most, m.most);
+}
 
 -- ---- the law: with k turns more the second computation goes on from the first; with fewer than b turns they are the same;
 -- and the second only adds to output and meters, and gets no turns
@@ -78,11 +78,11 @@ pub goes_and_then : {A B : Type 0} {k b : ℕ} {m m' : Computation A} {f f' : A 
     Goes k b (and_then m f) (and_then m' f')
 unfolding and_then
 goes_and_then {k = k} {b = b} {m = m} {m' = m'} {f = f} {f' = f'} g h = record {
-    follows = λ turns st. continued_follows k b f f' (m turns st) (m' (turns + k) st) (g.follows turns st) h;
-    grows = λ turns st. continued_grows f' (m' turns st) st (g.grows turns st) (λ a. (h a).grows);
-    same = λ turns l st. ap (continue_with f) (g.same turns l st) ∙ continued_same k b f f' (m' turns st) (omega (arith, l, g.fewer turns st)) h;
-    fewer = λ turns st. continued_fewer f' (m' turns st) turns (g.fewer turns st) (λ a. (h a).fewer)
-  }
+  follows = λ turns st. continued_follows k b f f' (m turns st) (m' (turns + k) st) (g.follows turns st) h;
+  grows = λ turns st. continued_grows f' (m' turns st) st (g.grows turns st) (λ a. (h a).grows);
+  same = λ turns l st. ap (continue_with f) (g.same turns l st) ∙ continued_same k b f f' (m' turns st) (omega (arith, l, g.fewer turns st)) h;
+  fewer = λ turns st. continued_fewer f' (m' turns st) turns (g.fewer turns st) (λ a. (h a).fewer);
+}
 
 either_grows : {A B : Type 0} (f : A → Computation B) (u : Ending → Computation B) (r : Result A) (st : State) → Later st (state_of r) →
     ((a : A) (turns : ℕ) (now : State) → Later now (state_of (f a turns now))) → ((e : Ending) (turns : ℕ) (now : State) → Later now (state_of (u e turns now))) →
@@ -118,11 +118,11 @@ pub goes_either_way : {A B : Type 0} {k b : ℕ} {m m' : Computation A} {f f' : 
     ((a : A) → Goes k b (f a) (f' a)) → ((e : Ending) → Goes k b (u e) (u' e)) → Goes k b (either_way m f u) (either_way m' f' u')
 unfolding either_way
 goes_either_way {k = k} {b = b} {m = m} {m' = m'} {f = f} {f' = f'} {u = u} {u' = u'} g h i = record {
-    follows = λ turns st. either_follows k b f f' u u' (m turns st) (m' (turns + k) st) (g.follows turns st) h i;
-    grows = λ turns st. either_grows f' u' (m' turns st) st (g.grows turns st) (λ a. (h a).grows) (λ e. (i e).grows);
-    same = λ turns l st. ap (continue_either_way f u) (g.same turns l st) ∙ either_same k b f f' u u' (m' turns st) (omega (arith, l, g.fewer turns st)) h i;
-    fewer = λ turns st. either_fewer f' u' (m' turns st) turns (g.fewer turns st) (λ a. (h a).fewer) (λ e. (i e).fewer)
-  }
+  follows = λ turns st. either_follows k b f f' u u' (m turns st) (m' (turns + k) st) (g.follows turns st) h i;
+  grows = λ turns st. either_grows f' u' (m' turns st) st (g.grows turns st) (λ a. (h a).grows) (λ e. (i e).grows);
+  same = λ turns l st. ap (continue_either_way f u) (g.same turns l st) ∙ either_same k b f f' u u' (m' turns st) (omega (arith, l, g.fewer turns st)) h i;
+  fewer = λ turns st. either_fewer f' u' (m' turns st) turns (g.fewer turns st) (λ a. (h a).fewer) (λ e. (i e).fewer);
+}
 
 -- ---- turns
 
@@ -212,11 +212,11 @@ goes_sees_stack g = record { follows = λ turns st. (g st.stack).follows turns s
 changed : {A : Type 0} (k b : ℕ) (m m' : Computation A) (change : State → State) → ((st : State) → Later st (change st)) → Goes k b m m' →
     Goes k b (λ turns st. m turns (change st)) (λ turns st. m' turns (change st))
 changed k b m m' change l g = record {
-    follows = λ turns st. g.follows turns (change st);
-    grows = λ turns st. later_then st (change st) (state_of (m' turns (change st))) (l st) (g.grows turns (change st));
-    same = λ turns few st. g.same turns few (change st);
-    fewer = λ turns st. g.fewer turns (change st)
-  }
+  follows = λ turns st. g.follows turns (change st);
+  grows = λ turns st. later_then st (change st) (state_of (m' turns (change st))) (l st) (g.grows turns (change st));
+  same = λ turns few st. g.same turns few (change st);
+  fewer = λ turns st. g.fewer turns (change st);
+}
 
 pub goes_with_frame : {A : Type 0} {k b : ℕ} {m m' : Computation A} (f : Frame → Frame) → Goes k b m m' → Goes k b (with_frame f m) (with_frame f m')
 unfolding with_frame
@@ -290,8 +290,8 @@ outcome_fewer layout.wrong turns st = omega arith
 pub goes_does : {k b : ℕ} (action : Action) → Goes k b (does action) (does action)
 unfolding does
 goes_does {k = k} {b = b} action = record {
-    follows = λ turns st. outcome_follows k (done_in st.world action) turns st;
-    grows = λ turns st. outcome_grows (done_in st.world action) turns st (done_later st.world action);
-    same = λ turns l st. refl;
-    fewer = λ turns st. outcome_fewer (done_in st.world action) turns st
-  }
+  follows = λ turns st. outcome_follows k (done_in st.world action) turns st;
+  grows = λ turns st. outcome_grows (done_in st.world action) turns st (done_later st.world action);
+  same = λ turns l st. refl;
+  fewer = λ turns st. outcome_fewer (done_in st.world action) turns st;
+}

@@ -71,6 +71,7 @@ module _ (program : Program) (k b : ℕ) (low low' : Level) (lows : AllGo k b lo
 
   mutual
     unfolding eval
+
     pub goes_eval : (e : Expression) → Goes k (suc b) (eval program low round e) (eval program low' round e)
     goes_eval (constant c) = goes_counts _ (goes_gives _)
     goes_eval (constant_parameter n) = goes_counts _ (goes_needed _ (λ c. (goes_gives _)))

@@ -49,6 +49,7 @@ goes_resignals r names name os = goes_either _ (goes_counts _ (goes_signals r na
 module _ (program : Program) (k b : ℕ) (low low' : Level) (lows : AllGo k b low low') (round : Round) where
   mutual
     unfolding exec
+
     pub goes_exec : (s : Statement) → Goes k (suc b) (exec program low round s) (exec program low' round s)
     goes_exec (declaration xs) = goes_counts _ (goes_counts _ (goes_forgets xs (goes_gives _)))
     goes_exec (initialisation xs e) = goes_counts _ (goes_counts _ (goes_forgets xs (goes_and_then (goes_eval program k b low low' lows round e) (λ os. goes_assigned (here round) xs os (goes_gives _)))))

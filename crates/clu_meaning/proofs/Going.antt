@@ -97,8 +97,8 @@ module _ (k b : ℕ) (low low' : Level) (lows : AllGo k b low low') where
   goes_calls_set_up : (r : Running) → Goes k (suc b) (calls_set_up low r) (calls_set_up low' r)
   goes_calls_set_up r = goes_spends (goes_sees_frame (λ frame. goes_sees_stack (λ stack.
       goes_either_way (goes_enters _ _ (goes_with_frame _ (lows _ _)))
-        (λ done. goes_with_frame _ (goes_leaves _ (goes_gives _)))
-        (λ e. goes_with_frame _ (goes_leaves _ (goes_set_up_ending e))))))
+      (λ done. goes_with_frame _ (goes_leaves _ (goes_gives _)))
+      (λ e. goes_with_frame _ (goes_leaves _ (goes_set_up_ending e))))))
 
   goes_cluster_set_up : (home : Option ClusterDefinition) (r : Running) → Goes k (suc b) (cluster_set_up low home r) (cluster_set_up low' home r)
   goes_cluster_set_up None r = goes_gives _
@@ -114,15 +114,15 @@ module _ (k b : ℕ) (low low' : Level) (lows : AllGo k b low low') where
   pub goes_calls : (r : Running) (os : List Object) → Goes k (suc b) (calls low r os) (calls low' r os)
   goes_calls r os = goes_need _ (goes_spends (goes_sees_frame (λ frame. goes_sees_stack (λ stack.
       goes_either_way (goes_enters _ _ (goes_with_frame _ (goes_executes (in_procedure r) os)))
-        (λ done. goes_with_frame _ (goes_leaves _ (goes_without_return _)))
-        (λ e. goes_with_frame _ (goes_leaves _ (goes_procedure_ending e)))))))
+      (λ done. goes_with_frame _ (goes_leaves _ (goes_without_return _)))
+      (λ e. goes_with_frame _ (goes_leaves _ (goes_procedure_ending e)))))))
 
   pub goes_iterates : (r : Running) (os : List Object) (body : Statements) (declared : ℕ) (xs : List Variable) (caller : Round) →
       Goes k (suc b) (iterates low r os body declared xs caller) (iterates low' r os body declared xs caller)
   goes_iterates r os body declared xs caller = goes_need _ (goes_spends (goes_sees_stack (λ stack.
       goes_either_way (goes_enters _ _ (goes_with_frame _ (goes_executes (in_iterator r body declared xs caller) os)))
-        (λ done. goes_with_frame _ (goes_leaves _ (goes_gives _)))
-        (λ e. goes_with_frame _ (goes_leaves _ (goes_loop_ending e))))))
+      (λ done. goes_with_frame _ (goes_leaves _ (goes_gives _)))
+      (λ e. goes_with_frame _ (goes_leaves _ (goes_loop_ending e))))))
 
   goes_runs_body : (body : Statements) (declared : ℕ) (xs : List Variable) (caller : Round) (os : List Object) →
       Goes k b (runs_body low body declared xs caller os) (runs_body low' body declared xs caller os)
@@ -134,5 +134,5 @@ module _ (k b : ℕ) (low low' : Level) (lows : AllGo k b low low') where
   goes_yields (in_iterator r body declared xs caller) os = goes_handed_out r _ os (λ handed.
       goes_spends (goes_sees_frame (λ frame. goes_sees_stack (λ stack.
       goes_either_way (goes_goes_deeper loop_words (goes_with_frame caller_of (goes_runs_body body declared xs caller handed)))
-        (λ done. goes_with_frame (back_to frame.variables) (goes_leaves stack (goes_gives tt)))
-        (λ e. goes_with_frame (back_to frame.variables) (goes_leaves stack (goes_body_ending e)))))))
+      (λ done. goes_with_frame (back_to frame.variables) (goes_leaves stack (goes_gives tt)))
+      (λ e. goes_with_frame (back_to frame.variables) (goes_leaves stack (goes_body_ending e)))))))

@@ -11,7 +11,7 @@ use Rattle.clu_syntax.specs.Syntax.{integer, string, an_infix, a_prefix, a_paren
 use Rattle.clu_layout.specs.Computing.{computing}
 use Rattle.clu_meaning.specs.Run.{returned_normally}
 use Rattle.clu_meaning.specs.Executing.{executing}
-use Rattle.clu_meaning.proofs.Running.{d, Runs}
+use Rattle.clu_meaning.proofs.Running.{d, typed, a_variable, routine, Runs}
 
 -- % int-edges
 -- start_up = proc ()
@@ -20,12 +20,11 @@ use Rattle.clu_meaning.proofs.Running.{d, Runs}
 -- end start_up
 abbrev int_edges_modules : List Module
 int_edges_modules =
-    ((a_routine 122 no_equates (record { node = 121; name = (codes "start_up"); closing = (codes "start_up"); kind = kind.Procedure; parameters = [];
-    arguments = ([]); results = no_types; signals = no_exceptions; restrictions = ([]); equates = no_equates; owns = ([]); statements = (statement_and
-    (a_call_statement 14 (a_call 13 (an_operation 1 (a_named_type 0 (codes "stream") no_constants) (codes "putl")) (expression_and (a_call 4
-    (an_operation 3 (a_named_type 2 (codes "stream") no_constants) (codes "primary_output")) no_expressions) (expression_and (a_call 12 (an_operation
-    6 (a_simple_type 5 simple.Int) (codes "unparse")) (expression_and (an_infix 11 op.Add (an_infix 9 op.Subtract (a_literal 7 (integer (codes
-    "9223372036854775807"))) (a_literal 8 (integer (codes "1")))) (a_literal 10 (integer (codes "1")))) no_expressions)) no_expressions))))
+    ((a_routine 122 no_equates (routine 121 (codes "start_up") (codes "start_up") kind.Procedure [] ([]) no_types no_exceptions ([]) no_equates ([])
+    (statement_and (a_call_statement 14 (a_call 13 (an_operation 1 (a_named_type 0 (codes "stream") no_constants) (codes "putl")) (expression_and
+    (a_call 4 (an_operation 3 (a_named_type 2 (codes "stream") no_constants) (codes "primary_output")) no_expressions) (expression_and (a_call 12
+    (an_operation 6 (a_simple_type 5 simple.Int) (codes "unparse")) (expression_and (an_infix 11 op.Add (an_infix 9 op.Subtract (a_literal 7 (integer
+    (codes "9223372036854775807"))) (a_literal 8 (integer (codes "1")))) (a_literal 10 (integer (codes "1")))) no_expressions)) no_expressions))))
     (statement_and (a_call_statement 33 (a_call 32 (an_operation 16 (a_named_type 15 (codes "stream") no_constants) (codes "putl")) (expression_and
     (a_call 19 (an_operation 18 (a_named_type 17 (codes "stream") no_constants) (codes "primary_output")) no_expressions) (expression_and (a_call 31
     (an_operation 21 (a_simple_type 20 simple.Int) (codes "unparse")) (expression_and (an_infix 30 op.Subtract (an_infix 28 op.Add (a_paren 26
@@ -54,7 +53,7 @@ int_edges_modules =
     (expression_and (a_call 108 (an_operation 107 (a_named_type 106 (codes "stream") no_constants) (codes "primary_output")) no_expressions)
     (expression_and (a_call 118 (an_operation 110 (a_simple_type 109 simple.Int) (codes "unparse")) (expression_and (an_infix 117 op.Multiply (a_paren
     115 (an_infix 114 op.Subtract (a_prefix 112 sign.Minus (a_literal 111 (integer (codes "9223372036854775807")))) (a_literal 113 (integer (codes
-    "1"))))) (a_literal 116 (integer (codes "1")))) no_expressions)) no_expressions)))) no_statements)))))))) })) ∷ [])
+    "1"))))) (a_literal 116 (integer (codes "1")))) no_expressions)) no_expressions)))) no_statements)))))))))) ∷ [])
 
 abbrev int_edges_declared : List Declared
 int_edges_declared =
@@ -73,9 +72,8 @@ int_edges = refl
 -- end start_up
 abbrev int_zero_divide_modules : List Module
 int_zero_divide_modules =
-    ((a_routine 72 no_equates (record { node = 71; name = (codes "start_up"); closing = (codes "start_up"); kind = kind.Procedure; parameters = [];
-    arguments = ([]); results = no_types; signals = no_exceptions; restrictions = ([]); equates = no_equates; owns = ([]); statements = (statement_and
-    (an_except 14 (an_init 4 (record { name = (codes "x"); type = (a_simple_type 0 simple.Int) }) (an_infix 3 op.Divide (a_literal 1 (integer (codes
+    ((a_routine 72 no_equates (routine 71 (codes "start_up") (codes "start_up") kind.Procedure [] ([]) no_types no_exceptions ([]) no_equates ([])
+    (statement_and (an_except 14 (an_init 4 (a_variable (codes "x") (a_simple_type 0 simple.Int)) (an_infix 3 op.Divide (a_literal 1 (integer (codes
     "1"))) (a_literal 2 (integer (codes "0"))))) (when_and 13 ((codes "zero_divide") ∷ []) (objects []) (a_body no_equates (statement_and
     (a_call_statement 12 (a_call 11 (an_operation 6 (a_named_type 5 (codes "stream") no_constants) (codes "putl")) (expression_and (a_call 9
     (an_operation 8 (a_named_type 7 (codes "stream") no_constants) (codes "primary_output")) no_expressions) (expression_and (a_literal 10 (string (34
@@ -94,10 +92,10 @@ int_zero_divide_modules =
     (a_call 50 (an_operation 49 (a_named_type 48 (codes "stream") no_constants) (codes "primary_output")) no_expressions) (expression_and (a_literal
     51 (string (34 ∷ 122 ∷ 51 ∷ 34 ∷ []))) no_expressions)))) no_statements)) no_whens) no_others) (statement_and (an_except 70 (an_assign 59 ((codes
     "x") ∷ []) (expression_and (an_infix 58 op.Divide (a_literal 56 (integer (codes "0"))) (a_literal 57 (integer (codes "0")))) no_expressions))
-    no_whens (others 69 (Some (record { name = (codes "s"); type = (a_simple_type 60 simple.String) })) (a_body no_equates (statement_and
-    (a_call_statement 68 (a_call 67 (an_operation 62 (a_named_type 61 (codes "stream") no_constants) (codes "putl")) (expression_and (a_call 65
-    (an_operation 64 (a_named_type 63 (codes "stream") no_constants) (codes "primary_output")) no_expressions) (expression_and (a_name 66 (codes "s"))
-    no_expressions)))) no_statements)))) no_statements)))) })) ∷ [])
+    no_whens (others 69 (Some (a_variable (codes "s") (a_simple_type 60 simple.String))) (a_body no_equates (statement_and (a_call_statement 68
+    (a_call 67 (an_operation 62 (a_named_type 61 (codes "stream") no_constants) (codes "putl")) (expression_and (a_call 65 (an_operation 64
+    (a_named_type 63 (codes "stream") no_constants) (codes "primary_output")) no_expressions) (expression_and (a_name 66 (codes "s"))
+    no_expressions)))) no_statements)))) no_statements)))))) ∷ [])
 
 abbrev int_zero_divide_declared : List Declared
 int_zero_divide_declared =
@@ -115,17 +113,15 @@ int_zero_divide = refl
 -- end start_up
 abbrev int_orders_modules : List Module
 int_orders_modules =
-    ((a_routine 21 no_equates (record { node = 20; name = (codes "tf"); closing = (codes "tf"); kind = kind.Procedure; parameters = []; arguments =
-    (record { node = 1; names = ((codes "b") ∷ []); type = (a_simple_type 0 simple.Bool) } ∷ []); results = no_types; signals = no_exceptions;
-    restrictions = ([]); equates = no_equates; owns = ([]); statements = (statement_and (an_if 19 (clause_and (a_name 2 (codes "b")) (a_body
-    no_equates (statement_and (a_call_statement 10 (a_call 9 (an_operation 4 (a_named_type 3 (codes "stream") no_constants) (codes "putl"))
-    (expression_and (a_call 7 (an_operation 6 (a_named_type 5 (codes "stream") no_constants) (codes "primary_output")) no_expressions) (expression_and
-    (a_literal 8 (string (34 ∷ 84 ∷ 34 ∷ []))) no_expressions)))) no_statements)) no_clauses) (otherwise (a_body no_equates (statement_and
-    (a_call_statement 18 (a_call 17 (an_operation 12 (a_named_type 11 (codes "stream") no_constants) (codes "putl")) (expression_and (a_call 15
-    (an_operation 14 (a_named_type 13 (codes "stream") no_constants) (codes "primary_output")) no_expressions) (expression_and (a_literal 16 (string
-    (34 ∷ 70 ∷ 34 ∷ []))) no_expressions)))) no_statements)))) no_statements) })) ∷ (a_routine 118 no_equates (record { node = 117; name = (codes
-    "start_up"); closing = (codes "start_up"); kind = kind.Procedure; parameters = []; arguments = ([]); results = no_types; signals = no_exceptions;
-    restrictions = ([]); equates = no_equates; owns = ([]); statements = (statement_and (a_call_statement 27 (a_call 26 (a_name 22 (codes "tf"))
+    ((a_routine 21 no_equates (routine 20 (codes "tf") (codes "tf") kind.Procedure [] (typed 1 ((codes "b") ∷ []) (a_simple_type 0 simple.Bool) ∷ [])
+    no_types no_exceptions ([]) no_equates ([]) (statement_and (an_if 19 (clause_and (a_name 2 (codes "b")) (a_body no_equates (statement_and
+    (a_call_statement 10 (a_call 9 (an_operation 4 (a_named_type 3 (codes "stream") no_constants) (codes "putl")) (expression_and (a_call 7
+    (an_operation 6 (a_named_type 5 (codes "stream") no_constants) (codes "primary_output")) no_expressions) (expression_and (a_literal 8 (string (34
+    ∷ 84 ∷ 34 ∷ []))) no_expressions)))) no_statements)) no_clauses) (otherwise (a_body no_equates (statement_and (a_call_statement 18 (a_call 17
+    (an_operation 12 (a_named_type 11 (codes "stream") no_constants) (codes "putl")) (expression_and (a_call 15 (an_operation 14 (a_named_type 13
+    (codes "stream") no_constants) (codes "primary_output")) no_expressions) (expression_and (a_literal 16 (string (34 ∷ 70 ∷ 34 ∷ [])))
+    no_expressions)))) no_statements)))) no_statements))) ∷ (a_routine 118 no_equates (routine 117 (codes "start_up") (codes "start_up")
+    kind.Procedure [] ([]) no_types no_exceptions ([]) no_equates ([]) (statement_and (a_call_statement 27 (a_call 26 (a_name 22 (codes "tf"))
     (expression_and (an_infix 25 op.Less (a_literal 23 (integer (codes "1"))) (a_literal 24 (integer (codes "2")))) no_expressions))) (statement_and
     (a_call_statement 33 (a_call 32 (a_name 28 (codes "tf")) (expression_and (an_infix 31 op.AtMost (a_literal 29 (integer (codes "2"))) (a_literal 30
     (integer (codes "2")))) no_expressions))) (statement_and (a_call_statement 39 (a_call 38 (a_name 34 (codes "tf")) (expression_and (an_infix 37
@@ -149,7 +145,7 @@ int_orders_modules =
     (a_literal 104 (integer (codes "4"))) (expression_and (a_literal 105 (integer (codes "5"))) no_expressions))) no_expressions))) (statement_and
     (a_call_statement 116 (a_call 115 (a_name 109 (codes "tf")) (expression_and (a_call 114 (an_operation 111 (a_simple_type 110 simple.Int) (codes
     "gt")) (expression_and (a_literal 112 (integer (codes "5"))) (expression_and (a_literal 113 (integer (codes "4"))) no_expressions)))
-    no_expressions))) no_statements))))))))))))) })) ∷ [])
+    no_expressions))) no_statements))))))))))))))) ∷ [])
 
 abbrev int_orders_declared : List Declared
 int_orders_declared =
@@ -168,49 +164,47 @@ int_orders = refl
 --   p("99999999999999999999999999") p("1.0") p("1\000") end start_up
 abbrev int_parse_modules : List Module
 int_parse_modules =
-    ((a_routine 28 no_equates (record { node = 27; name = (codes "p"); closing = (codes "p"); kind = kind.Procedure; parameters = []; arguments =
-    (record { node = 1; names = ((codes "s") ∷ []); type = (a_simple_type 0 simple.String) } ∷ []); results = no_types; signals = no_exceptions;
-    restrictions = ([]); equates = no_equates; owns = ([]); statements = (statement_and (an_except 26 (a_call_statement 15 (a_call 14 (an_operation 3
-    (a_named_type 2 (codes "stream") no_constants) (codes "putl")) (expression_and (a_call 6 (an_operation 5 (a_named_type 4 (codes "stream")
-    no_constants) (codes "primary_output")) no_expressions) (expression_and (a_call 13 (an_operation 8 (a_simple_type 7 simple.Int) (codes "unparse"))
-    (expression_and (a_call 12 (an_operation 10 (a_simple_type 9 simple.Int) (codes "parse")) (expression_and (a_name 11 (codes "s")) no_expressions))
-    no_expressions)) no_expressions)))) no_whens (others 25 (Some (record { name = (codes "e"); type = (a_simple_type 16 simple.String) })) (a_body
-    no_equates (statement_and (a_call_statement 24 (a_call 23 (an_operation 18 (a_named_type 17 (codes "stream") no_constants) (codes "putl"))
-    (expression_and (a_call 21 (an_operation 20 (a_named_type 19 (codes "stream") no_constants) (codes "primary_output")) no_expressions)
-    (expression_and (a_name 22 (codes "e")) no_expressions)))) no_statements)))) no_statements) })) ∷ (a_routine 122 no_equates (record { node = 121;
-    name = (codes "start_up"); closing = (codes "start_up"); kind = kind.Procedure; parameters = []; arguments = ([]); results = no_types; signals =
-    no_exceptions; restrictions = ([]); equates = no_equates; owns = ([]); statements = (statement_and (a_call_statement 32 (a_call 31 (a_name 29
-    (codes "p")) (expression_and (a_literal 30 (string (34 ∷ 49 ∷ 50 ∷ 34 ∷ []))) no_expressions))) (statement_and (a_call_statement 36 (a_call 35
-    (a_name 33 (codes "p")) (expression_and (a_literal 34 (string (34 ∷ 43 ∷ 53 ∷ 34 ∷ []))) no_expressions))) (statement_and (a_call_statement 40
-    (a_call 39 (a_name 37 (codes "p")) (expression_and (a_literal 38 (string (34 ∷ 45 ∷ 55 ∷ 34 ∷ []))) no_expressions))) (statement_and
-    (a_call_statement 44 (a_call 43 (a_name 41 (codes "p")) (expression_and (a_literal 42 (string (34 ∷ 34 ∷ []))) no_expressions))) (statement_and
-    (a_call_statement 48 (a_call 47 (a_name 45 (codes "p")) (expression_and (a_literal 46 (string (34 ∷ 43 ∷ 34 ∷ []))) no_expressions)))
-    (statement_and (a_call_statement 52 (a_call 51 (a_name 49 (codes "p")) (expression_and (a_literal 50 (string (34 ∷ 45 ∷ 34 ∷ [])))
-    no_expressions))) (statement_and (a_call_statement 56 (a_call 55 (a_name 53 (codes "p")) (expression_and (a_literal 54 (string (34 ∷ 49 ∷ 32 ∷ 34
-    ∷ []))) no_expressions))) (statement_and (a_call_statement 60 (a_call 59 (a_name 57 (codes "p")) (expression_and (a_literal 58 (string (34 ∷ 32 ∷
-    49 ∷ 34 ∷ []))) no_expressions))) (statement_and (a_call_statement 64 (a_call 63 (a_name 61 (codes "p")) (expression_and (a_literal 62 (string (34
-    ∷ 49 ∷ 97 ∷ 50 ∷ 34 ∷ []))) no_expressions))) (statement_and (a_call_statement 68 (a_call 67 (a_name 65 (codes "p")) (expression_and (a_literal 66
-    (string (34 ∷ 45 ∷ 45 ∷ 49 ∷ 34 ∷ []))) no_expressions))) (statement_and (a_call_statement 72 (a_call 71 (a_name 69 (codes "p")) (expression_and
-    (a_literal 70 (string (34 ∷ 43 ∷ 45 ∷ 49 ∷ 34 ∷ []))) no_expressions))) (statement_and (a_call_statement 76 (a_call 75 (a_name 73 (codes "p"))
-    (expression_and (a_literal 74 (string (34 ∷ 57 ∷ 50 ∷ 50 ∷ 51 ∷ 51 ∷ 55 ∷ 50 ∷ 48 ∷ 51 ∷ 54 ∷ 56 ∷ 53 ∷ 52 ∷ 55 ∷ 55 ∷ 53 ∷ 56 ∷ 48 ∷ 55 ∷ 34 ∷
-    []))) no_expressions))) (statement_and (a_call_statement 80 (a_call 79 (a_name 77 (codes "p")) (expression_and (a_literal 78 (string (34 ∷ 57 ∷ 50
-    ∷ 50 ∷ 51 ∷ 51 ∷ 55 ∷ 50 ∷ 48 ∷ 51 ∷ 54 ∷ 56 ∷ 53 ∷ 52 ∷ 55 ∷ 55 ∷ 53 ∷ 56 ∷ 48 ∷ 56 ∷ 34 ∷ []))) no_expressions))) (statement_and
-    (a_call_statement 84 (a_call 83 (a_name 81 (codes "p")) (expression_and (a_literal 82 (string (34 ∷ 45 ∷ 57 ∷ 50 ∷ 50 ∷ 51 ∷ 51 ∷ 55 ∷ 50 ∷ 48 ∷
-    51 ∷ 54 ∷ 56 ∷ 53 ∷ 52 ∷ 55 ∷ 55 ∷ 53 ∷ 56 ∷ 48 ∷ 56 ∷ 34 ∷ []))) no_expressions))) (statement_and (a_call_statement 88 (a_call 87 (a_name 85
-    (codes "p")) (expression_and (a_literal 86 (string (34 ∷ 45 ∷ 57 ∷ 50 ∷ 50 ∷ 51 ∷ 51 ∷ 55 ∷ 50 ∷ 48 ∷ 51 ∷ 54 ∷ 56 ∷ 53 ∷ 52 ∷ 55 ∷ 55 ∷ 53 ∷ 56 ∷
-    48 ∷ 57 ∷ 34 ∷ []))) no_expressions))) (statement_and (a_call_statement 92 (a_call 91 (a_name 89 (codes "p")) (expression_and (a_literal 90
-    (string (34 ∷ 48 ∷ 48 ∷ 55 ∷ 34 ∷ []))) no_expressions))) (statement_and (a_call_statement 96 (a_call 95 (a_name 93 (codes "p")) (expression_and
-    (a_literal 94 (string (34 ∷ 45 ∷ 48 ∷ 34 ∷ []))) no_expressions))) (statement_and (a_call_statement 100 (a_call 99 (a_name 97 (codes "p"))
-    (expression_and (a_literal 98 (string (34 ∷ 43 ∷ 48 ∷ 34 ∷ []))) no_expressions))) (statement_and (a_call_statement 104 (a_call 103 (a_name 101
-    (codes "p")) (expression_and (a_literal 102 (string (34 ∷ 48 ∷ 48 ∷ 48 ∷ 48 ∷ 48 ∷ 48 ∷ 48 ∷ 48 ∷ 48 ∷ 48 ∷ 48 ∷ 48 ∷ 48 ∷ 48 ∷ 48 ∷ 48 ∷ 48 ∷ 48
-    ∷ 48 ∷ 48 ∷ 48 ∷ 48 ∷ 48 ∷ 48 ∷ 48 ∷ 48 ∷ 48 ∷ 49 ∷ 50 ∷ 34 ∷ []))) no_expressions))) (statement_and (a_call_statement 108 (a_call 107 (a_name 105
-    (codes "p")) (expression_and (a_literal 106 (string (34 ∷ 57 ∷ 57 ∷ 57 ∷ 57 ∷ 57 ∷ 57 ∷ 57 ∷ 57 ∷ 57 ∷ 57 ∷ 57 ∷ 57 ∷ 57 ∷ 57 ∷ 57 ∷ 57 ∷ 57 ∷ 57
-    ∷ 57 ∷ 57 ∷ 57 ∷ 57 ∷ 57 ∷ 57 ∷ 57 ∷ 57 ∷ 120 ∷ 34 ∷ []))) no_expressions))) (statement_and (a_call_statement 112 (a_call 111 (a_name 109 (codes
-    "p")) (expression_and (a_literal 110 (string (34 ∷ 57 ∷ 57 ∷ 57 ∷ 57 ∷ 57 ∷ 57 ∷ 57 ∷ 57 ∷ 57 ∷ 57 ∷ 57 ∷ 57 ∷ 57 ∷ 57 ∷ 57 ∷ 57 ∷ 57 ∷ 57 ∷ 57 ∷
-    57 ∷ 57 ∷ 57 ∷ 57 ∷ 57 ∷ 57 ∷ 57 ∷ 34 ∷ []))) no_expressions))) (statement_and (a_call_statement 116 (a_call 115 (a_name 113 (codes "p"))
+    ((a_routine 28 no_equates (routine 27 (codes "p") (codes "p") kind.Procedure [] (typed 1 ((codes "s") ∷ []) (a_simple_type 0 simple.String) ∷ [])
+    no_types no_exceptions ([]) no_equates ([]) (statement_and (an_except 26 (a_call_statement 15 (a_call 14 (an_operation 3 (a_named_type 2 (codes
+    "stream") no_constants) (codes "putl")) (expression_and (a_call 6 (an_operation 5 (a_named_type 4 (codes "stream") no_constants) (codes
+    "primary_output")) no_expressions) (expression_and (a_call 13 (an_operation 8 (a_simple_type 7 simple.Int) (codes "unparse")) (expression_and
+    (a_call 12 (an_operation 10 (a_simple_type 9 simple.Int) (codes "parse")) (expression_and (a_name 11 (codes "s")) no_expressions))
+    no_expressions)) no_expressions)))) no_whens (others 25 (Some (a_variable (codes "e") (a_simple_type 16 simple.String))) (a_body no_equates
+    (statement_and (a_call_statement 24 (a_call 23 (an_operation 18 (a_named_type 17 (codes "stream") no_constants) (codes "putl")) (expression_and
+    (a_call 21 (an_operation 20 (a_named_type 19 (codes "stream") no_constants) (codes "primary_output")) no_expressions) (expression_and (a_name 22
+    (codes "e")) no_expressions)))) no_statements)))) no_statements))) ∷ (a_routine 122 no_equates (routine 121 (codes "start_up") (codes "start_up")
+    kind.Procedure [] ([]) no_types no_exceptions ([]) no_equates ([]) (statement_and (a_call_statement 32 (a_call 31 (a_name 29 (codes "p"))
+    (expression_and (a_literal 30 (string (34 ∷ 49 ∷ 50 ∷ 34 ∷ []))) no_expressions))) (statement_and (a_call_statement 36 (a_call 35 (a_name 33
+    (codes "p")) (expression_and (a_literal 34 (string (34 ∷ 43 ∷ 53 ∷ 34 ∷ []))) no_expressions))) (statement_and (a_call_statement 40 (a_call 39
+    (a_name 37 (codes "p")) (expression_and (a_literal 38 (string (34 ∷ 45 ∷ 55 ∷ 34 ∷ []))) no_expressions))) (statement_and (a_call_statement 44
+    (a_call 43 (a_name 41 (codes "p")) (expression_and (a_literal 42 (string (34 ∷ 34 ∷ []))) no_expressions))) (statement_and (a_call_statement 48
+    (a_call 47 (a_name 45 (codes "p")) (expression_and (a_literal 46 (string (34 ∷ 43 ∷ 34 ∷ []))) no_expressions))) (statement_and (a_call_statement
+    52 (a_call 51 (a_name 49 (codes "p")) (expression_and (a_literal 50 (string (34 ∷ 45 ∷ 34 ∷ []))) no_expressions))) (statement_and
+    (a_call_statement 56 (a_call 55 (a_name 53 (codes "p")) (expression_and (a_literal 54 (string (34 ∷ 49 ∷ 32 ∷ 34 ∷ []))) no_expressions)))
+    (statement_and (a_call_statement 60 (a_call 59 (a_name 57 (codes "p")) (expression_and (a_literal 58 (string (34 ∷ 32 ∷ 49 ∷ 34 ∷ [])))
+    no_expressions))) (statement_and (a_call_statement 64 (a_call 63 (a_name 61 (codes "p")) (expression_and (a_literal 62 (string (34 ∷ 49 ∷ 97 ∷ 50
+    ∷ 34 ∷ []))) no_expressions))) (statement_and (a_call_statement 68 (a_call 67 (a_name 65 (codes "p")) (expression_and (a_literal 66 (string (34 ∷
+    45 ∷ 45 ∷ 49 ∷ 34 ∷ []))) no_expressions))) (statement_and (a_call_statement 72 (a_call 71 (a_name 69 (codes "p")) (expression_and (a_literal 70
+    (string (34 ∷ 43 ∷ 45 ∷ 49 ∷ 34 ∷ []))) no_expressions))) (statement_and (a_call_statement 76 (a_call 75 (a_name 73 (codes "p")) (expression_and
+    (a_literal 74 (string (34 ∷ 57 ∷ 50 ∷ 50 ∷ 51 ∷ 51 ∷ 55 ∷ 50 ∷ 48 ∷ 51 ∷ 54 ∷ 56 ∷ 53 ∷ 52 ∷ 55 ∷ 55 ∷ 53 ∷ 56 ∷ 48 ∷ 55 ∷ 34 ∷ [])))
+    no_expressions))) (statement_and (a_call_statement 80 (a_call 79 (a_name 77 (codes "p")) (expression_and (a_literal 78 (string (34 ∷ 57 ∷ 50 ∷ 50
+    ∷ 51 ∷ 51 ∷ 55 ∷ 50 ∷ 48 ∷ 51 ∷ 54 ∷ 56 ∷ 53 ∷ 52 ∷ 55 ∷ 55 ∷ 53 ∷ 56 ∷ 48 ∷ 56 ∷ 34 ∷ []))) no_expressions))) (statement_and (a_call_statement 84
+    (a_call 83 (a_name 81 (codes "p")) (expression_and (a_literal 82 (string (34 ∷ 45 ∷ 57 ∷ 50 ∷ 50 ∷ 51 ∷ 51 ∷ 55 ∷ 50 ∷ 48 ∷ 51 ∷ 54 ∷ 56 ∷ 53 ∷ 52
+    ∷ 55 ∷ 55 ∷ 53 ∷ 56 ∷ 48 ∷ 56 ∷ 34 ∷ []))) no_expressions))) (statement_and (a_call_statement 88 (a_call 87 (a_name 85 (codes "p"))
+    (expression_and (a_literal 86 (string (34 ∷ 45 ∷ 57 ∷ 50 ∷ 50 ∷ 51 ∷ 51 ∷ 55 ∷ 50 ∷ 48 ∷ 51 ∷ 54 ∷ 56 ∷ 53 ∷ 52 ∷ 55 ∷ 55 ∷ 53 ∷ 56 ∷ 48 ∷ 57 ∷ 34
+    ∷ []))) no_expressions))) (statement_and (a_call_statement 92 (a_call 91 (a_name 89 (codes "p")) (expression_and (a_literal 90 (string (34 ∷ 48 ∷
+    48 ∷ 55 ∷ 34 ∷ []))) no_expressions))) (statement_and (a_call_statement 96 (a_call 95 (a_name 93 (codes "p")) (expression_and (a_literal 94
+    (string (34 ∷ 45 ∷ 48 ∷ 34 ∷ []))) no_expressions))) (statement_and (a_call_statement 100 (a_call 99 (a_name 97 (codes "p")) (expression_and
+    (a_literal 98 (string (34 ∷ 43 ∷ 48 ∷ 34 ∷ []))) no_expressions))) (statement_and (a_call_statement 104 (a_call 103 (a_name 101 (codes "p"))
+    (expression_and (a_literal 102 (string (34 ∷ 48 ∷ 48 ∷ 48 ∷ 48 ∷ 48 ∷ 48 ∷ 48 ∷ 48 ∷ 48 ∷ 48 ∷ 48 ∷ 48 ∷ 48 ∷ 48 ∷ 48 ∷ 48 ∷ 48 ∷ 48 ∷ 48 ∷ 48 ∷
+    48 ∷ 48 ∷ 48 ∷ 48 ∷ 48 ∷ 48 ∷ 48 ∷ 49 ∷ 50 ∷ 34 ∷ []))) no_expressions))) (statement_and (a_call_statement 108 (a_call 107 (a_name 105 (codes
+    "p")) (expression_and (a_literal 106 (string (34 ∷ 57 ∷ 57 ∷ 57 ∷ 57 ∷ 57 ∷ 57 ∷ 57 ∷ 57 ∷ 57 ∷ 57 ∷ 57 ∷ 57 ∷ 57 ∷ 57 ∷ 57 ∷ 57 ∷ 57 ∷ 57 ∷ 57 ∷
+    57 ∷ 57 ∷ 57 ∷ 57 ∷ 57 ∷ 57 ∷ 57 ∷ 120 ∷ 34 ∷ []))) no_expressions))) (statement_and (a_call_statement 112 (a_call 111 (a_name 109 (codes "p"))
+    (expression_and (a_literal 110 (string (34 ∷ 57 ∷ 57 ∷ 57 ∷ 57 ∷ 57 ∷ 57 ∷ 57 ∷ 57 ∷ 57 ∷ 57 ∷ 57 ∷ 57 ∷ 57 ∷ 57 ∷ 57 ∷ 57 ∷ 57 ∷ 57 ∷ 57 ∷ 57 ∷
+    57 ∷ 57 ∷ 57 ∷ 57 ∷ 57 ∷ 57 ∷ 34 ∷ []))) no_expressions))) (statement_and (a_call_statement 116 (a_call 115 (a_name 113 (codes "p"))
     (expression_and (a_literal 114 (string (34 ∷ 49 ∷ 46 ∷ 48 ∷ 34 ∷ []))) no_expressions))) (statement_and (a_call_statement 120 (a_call 119 (a_name
     117 (codes "p")) (expression_and (a_literal 118 (string (34 ∷ 49 ∷ 92 ∷ 48 ∷ 48 ∷ 48 ∷ 34 ∷ []))) no_expressions)))
-    no_statements))))))))))))))))))))))) })) ∷ [])
+    no_statements))))))))))))))))))))))))) ∷ [])
 
 abbrev int_parse_declared : List Declared
 int_parse_declared =
@@ -231,36 +225,35 @@ int_parse = refl
 -- end start_up
 abbrev int_from_to_modules : List Module
 int_from_to_modules =
-    ((a_routine 96 no_equates (record { node = 95; name = (codes "start_up"); closing = (codes "start_up"); kind = kind.Procedure; parameters = [];
-    arguments = ([]); results = no_types; signals = no_exceptions; restrictions = ([]); equates = no_equates; owns = ([]); statements = (statement_and
-    (a_for 18 (record { node = 1; names = ((codes "i") ∷ []); type = (a_simple_type 0 simple.Int) } ∷ []) (a_call 6 (an_operation 3 (a_simple_type 2
-    simple.Int) (codes "from_to")) (expression_and (a_literal 4 (integer (codes "2"))) (expression_and (a_literal 5 (integer (codes "4")))
-    no_expressions))) (a_body no_equates (statement_and (a_call_statement 17 (a_call 16 (an_operation 8 (a_named_type 7 (codes "stream") no_constants)
-    (codes "putl")) (expression_and (a_call 11 (an_operation 10 (a_named_type 9 (codes "stream") no_constants) (codes "primary_output"))
-    no_expressions) (expression_and (a_call 15 (an_operation 13 (a_simple_type 12 simple.Int) (codes "unparse")) (expression_and (a_name 14 (codes
-    "i")) no_expressions)) no_expressions)))) no_statements))) (statement_and (a_for 34 (record { node = 20; names = ((codes "i") ∷ []); type =
-    (a_simple_type 19 simple.Int) } ∷ []) (a_call 25 (an_operation 22 (a_simple_type 21 simple.Int) (codes "from_to")) (expression_and (a_literal 23
-    (integer (codes "2"))) (expression_and (a_literal 24 (integer (codes "1"))) no_expressions))) (a_body no_equates (statement_and (a_call_statement
-    33 (a_call 32 (an_operation 27 (a_named_type 26 (codes "stream") no_constants) (codes "putl")) (expression_and (a_call 30 (an_operation 29
-    (a_named_type 28 (codes "stream") no_constants) (codes "primary_output")) no_expressions) (expression_and (a_literal 31 (string (34 ∷ 110 ∷ 111 ∷
-    34 ∷ []))) no_expressions)))) no_statements))) (statement_and (a_for 53 (record { node = 36; names = ((codes "i") ∷ []); type = (a_simple_type 35
-    simple.Int) } ∷ []) (a_call 41 (an_operation 38 (a_simple_type 37 simple.Int) (codes "from_to")) (expression_and (a_literal 39 (integer (codes
-    "3"))) (expression_and (a_literal 40 (integer (codes "3"))) no_expressions))) (a_body no_equates (statement_and (a_call_statement 52 (a_call 51
-    (an_operation 43 (a_named_type 42 (codes "stream") no_constants) (codes "putl")) (expression_and (a_call 46 (an_operation 45 (a_named_type 44
-    (codes "stream") no_constants) (codes "primary_output")) no_expressions) (expression_and (a_call 50 (an_operation 48 (a_simple_type 47 simple.Int)
-    (codes "unparse")) (expression_and (a_name 49 (codes "i")) no_expressions)) no_expressions)))) no_statements))) (statement_and (a_for 74 (record {
-    node = 55; names = ((codes "i") ∷ []); type = (a_simple_type 54 simple.Int) } ∷ []) (a_call 62 (an_operation 57 (a_simple_type 56 simple.Int)
-    (codes "from_to")) (expression_and (an_infix 60 op.Subtract (a_literal 58 (integer (codes "9223372036854775807"))) (a_literal 59 (integer (codes
-    "1")))) (expression_and (a_literal 61 (integer (codes "9223372036854775807"))) no_expressions))) (a_body no_equates (statement_and
-    (a_call_statement 73 (a_call 72 (an_operation 64 (a_named_type 63 (codes "stream") no_constants) (codes "putl")) (expression_and (a_call 67
-    (an_operation 66 (a_named_type 65 (codes "stream") no_constants) (codes "primary_output")) no_expressions) (expression_and (a_call 71
-    (an_operation 69 (a_simple_type 68 simple.Int) (codes "unparse")) (expression_and (a_name 70 (codes "i")) no_expressions)) no_expressions))))
-    no_statements))) (statement_and (a_for 94 (record { node = 76; names = ((codes "i") ∷ []); type = (a_simple_type 75 simple.Int) } ∷ []) (a_call 82
-    (an_operation 78 (a_simple_type 77 simple.Int) (codes "from_to")) (expression_and (a_prefix 80 sign.Minus (a_literal 79 (integer (codes "1"))))
-    (expression_and (a_literal 81 (integer (codes "1"))) no_expressions))) (a_body no_equates (statement_and (a_call_statement 93 (a_call 92
-    (an_operation 84 (a_named_type 83 (codes "stream") no_constants) (codes "putl")) (expression_and (a_call 87 (an_operation 86 (a_named_type 85
-    (codes "stream") no_constants) (codes "primary_output")) no_expressions) (expression_and (a_call 91 (an_operation 89 (a_simple_type 88 simple.Int)
-    (codes "unparse")) (expression_and (a_name 90 (codes "i")) no_expressions)) no_expressions)))) no_statements))) no_statements))))) })) ∷ [])
+    ((a_routine 96 no_equates (routine 95 (codes "start_up") (codes "start_up") kind.Procedure [] ([]) no_types no_exceptions ([]) no_equates ([])
+    (statement_and (a_for 18 (typed 1 ((codes "i") ∷ []) (a_simple_type 0 simple.Int) ∷ []) (a_call 6 (an_operation 3 (a_simple_type 2 simple.Int)
+    (codes "from_to")) (expression_and (a_literal 4 (integer (codes "2"))) (expression_and (a_literal 5 (integer (codes "4"))) no_expressions)))
+    (a_body no_equates (statement_and (a_call_statement 17 (a_call 16 (an_operation 8 (a_named_type 7 (codes "stream") no_constants) (codes "putl"))
+    (expression_and (a_call 11 (an_operation 10 (a_named_type 9 (codes "stream") no_constants) (codes "primary_output")) no_expressions)
+    (expression_and (a_call 15 (an_operation 13 (a_simple_type 12 simple.Int) (codes "unparse")) (expression_and (a_name 14 (codes "i"))
+    no_expressions)) no_expressions)))) no_statements))) (statement_and (a_for 34 (typed 20 ((codes "i") ∷ []) (a_simple_type 19 simple.Int) ∷ [])
+    (a_call 25 (an_operation 22 (a_simple_type 21 simple.Int) (codes "from_to")) (expression_and (a_literal 23 (integer (codes "2"))) (expression_and
+    (a_literal 24 (integer (codes "1"))) no_expressions))) (a_body no_equates (statement_and (a_call_statement 33 (a_call 32 (an_operation 27
+    (a_named_type 26 (codes "stream") no_constants) (codes "putl")) (expression_and (a_call 30 (an_operation 29 (a_named_type 28 (codes "stream")
+    no_constants) (codes "primary_output")) no_expressions) (expression_and (a_literal 31 (string (34 ∷ 110 ∷ 111 ∷ 34 ∷ []))) no_expressions))))
+    no_statements))) (statement_and (a_for 53 (typed 36 ((codes "i") ∷ []) (a_simple_type 35 simple.Int) ∷ []) (a_call 41 (an_operation 38
+    (a_simple_type 37 simple.Int) (codes "from_to")) (expression_and (a_literal 39 (integer (codes "3"))) (expression_and (a_literal 40 (integer
+    (codes "3"))) no_expressions))) (a_body no_equates (statement_and (a_call_statement 52 (a_call 51 (an_operation 43 (a_named_type 42 (codes
+    "stream") no_constants) (codes "putl")) (expression_and (a_call 46 (an_operation 45 (a_named_type 44 (codes "stream") no_constants) (codes
+    "primary_output")) no_expressions) (expression_and (a_call 50 (an_operation 48 (a_simple_type 47 simple.Int) (codes "unparse")) (expression_and
+    (a_name 49 (codes "i")) no_expressions)) no_expressions)))) no_statements))) (statement_and (a_for 74 (typed 55 ((codes "i") ∷ []) (a_simple_type
+    54 simple.Int) ∷ []) (a_call 62 (an_operation 57 (a_simple_type 56 simple.Int) (codes "from_to")) (expression_and (an_infix 60 op.Subtract
+    (a_literal 58 (integer (codes "9223372036854775807"))) (a_literal 59 (integer (codes "1")))) (expression_and (a_literal 61 (integer (codes
+    "9223372036854775807"))) no_expressions))) (a_body no_equates (statement_and (a_call_statement 73 (a_call 72 (an_operation 64 (a_named_type 63
+    (codes "stream") no_constants) (codes "putl")) (expression_and (a_call 67 (an_operation 66 (a_named_type 65 (codes "stream") no_constants) (codes
+    "primary_output")) no_expressions) (expression_and (a_call 71 (an_operation 69 (a_simple_type 68 simple.Int) (codes "unparse")) (expression_and
+    (a_name 70 (codes "i")) no_expressions)) no_expressions)))) no_statements))) (statement_and (a_for 94 (typed 76 ((codes "i") ∷ []) (a_simple_type
+    75 simple.Int) ∷ []) (a_call 82 (an_operation 78 (a_simple_type 77 simple.Int) (codes "from_to")) (expression_and (a_prefix 80 sign.Minus
+    (a_literal 79 (integer (codes "1")))) (expression_and (a_literal 81 (integer (codes "1"))) no_expressions))) (a_body no_equates (statement_and
+    (a_call_statement 93 (a_call 92 (an_operation 84 (a_named_type 83 (codes "stream") no_constants) (codes "putl")) (expression_and (a_call 87
+    (an_operation 86 (a_named_type 85 (codes "stream") no_constants) (codes "primary_output")) no_expressions) (expression_and (a_call 91
+    (an_operation 89 (a_simple_type 88 simple.Int) (codes "unparse")) (expression_and (a_name 90 (codes "i")) no_expressions)) no_expressions))))
+    no_statements))) no_statements))))))) ∷ [])
 
 abbrev int_from_to_declared : List Declared
 int_from_to_declared =
@@ -279,19 +272,18 @@ int_from_to = refl
 -- end start_up
 abbrev int_from_to_body_overflow_modules : List Module
 int_from_to_body_overflow_modules =
-    ((a_routine 35 no_equates (record { node = 34; name = (codes "start_up"); closing = (codes "start_up"); kind = kind.Procedure; parameters = [];
-    arguments = ([]); results = no_types; signals = no_exceptions; restrictions = ([]); equates = no_equates; owns = ([]); statements = (statement_and
-    (an_except 33 (a_for 23 (record { node = 1; names = ((codes "i") ∷ []); type = (a_simple_type 0 simple.Int) } ∷ []) (a_call 6 (an_operation 3
-    (a_simple_type 2 simple.Int) (codes "from_to")) (expression_and (a_literal 4 (integer (codes "1"))) (expression_and (a_literal 5 (integer (codes
-    "3"))) no_expressions))) (a_body no_equates (statement_and (a_call_statement 17 (a_call 16 (an_operation 8 (a_named_type 7 (codes "stream")
-    no_constants) (codes "putl")) (expression_and (a_call 11 (an_operation 10 (a_named_type 9 (codes "stream") no_constants) (codes "primary_output"))
+    ((a_routine 35 no_equates (routine 34 (codes "start_up") (codes "start_up") kind.Procedure [] ([]) no_types no_exceptions ([]) no_equates ([])
+    (statement_and (an_except 33 (a_for 23 (typed 1 ((codes "i") ∷ []) (a_simple_type 0 simple.Int) ∷ []) (a_call 6 (an_operation 3 (a_simple_type 2
+    simple.Int) (codes "from_to")) (expression_and (a_literal 4 (integer (codes "1"))) (expression_and (a_literal 5 (integer (codes "3")))
+    no_expressions))) (a_body no_equates (statement_and (a_call_statement 17 (a_call 16 (an_operation 8 (a_named_type 7 (codes "stream") no_constants)
+    (codes "putl")) (expression_and (a_call 11 (an_operation 10 (a_named_type 9 (codes "stream") no_constants) (codes "primary_output"))
     no_expressions) (expression_and (a_call 15 (an_operation 13 (a_simple_type 12 simple.Int) (codes "unparse")) (expression_and (a_name 14 (codes
-    "i")) no_expressions)) no_expressions)))) (statement_and (an_init 22 (record { name = (codes "x"); type = (a_simple_type 18 simple.Int) })
-    (an_infix 21 op.Add (a_literal 19 (integer (codes "9223372036854775807"))) (a_name 20 (codes "i")))) no_statements)))) (when_and 32 ((codes
-    "overflow") ∷ []) (objects []) (a_body no_equates (statement_and (a_call_statement 31 (a_call 30 (an_operation 25 (a_named_type 24 (codes
-    "stream") no_constants) (codes "putl")) (expression_and (a_call 28 (an_operation 27 (a_named_type 26 (codes "stream") no_constants) (codes
-    "primary_output")) no_expressions) (expression_and (a_literal 29 (string (34 ∷ 99 ∷ 97 ∷ 117 ∷ 103 ∷ 104 ∷ 116 ∷ 34 ∷ []))) no_expressions))))
-    no_statements)) no_whens) no_others) no_statements) })) ∷ [])
+    "i")) no_expressions)) no_expressions)))) (statement_and (an_init 22 (a_variable (codes "x") (a_simple_type 18 simple.Int)) (an_infix 21 op.Add
+    (a_literal 19 (integer (codes "9223372036854775807"))) (a_name 20 (codes "i")))) no_statements)))) (when_and 32 ((codes "overflow") ∷ []) (objects
+    []) (a_body no_equates (statement_and (a_call_statement 31 (a_call 30 (an_operation 25 (a_named_type 24 (codes "stream") no_constants) (codes
+    "putl")) (expression_and (a_call 28 (an_operation 27 (a_named_type 26 (codes "stream") no_constants) (codes "primary_output")) no_expressions)
+    (expression_and (a_literal 29 (string (34 ∷ 99 ∷ 97 ∷ 117 ∷ 103 ∷ 104 ∷ 116 ∷ 34 ∷ []))) no_expressions)))) no_statements)) no_whens) no_others)
+    no_statements))) ∷ [])
 
 abbrev int_from_to_body_overflow_declared : List Declared
 int_from_to_body_overflow_declared =
@@ -308,25 +300,24 @@ int_from_to_body_overflow = refl
 -- end start_up
 abbrev parse_modules : List Module
 parse_modules =
-    ((a_routine 51 no_equates (record { node = 50; name = (codes "start_up"); closing = (codes "start_up"); kind = kind.Procedure; parameters = [];
-    arguments = ([]); results = no_types; signals = no_exceptions; restrictions = ([]); equates = no_equates; owns = ([]); statements = (statement_and
-    (a_for 49 (record { node = 1; names = ((codes "s") ∷ []); type = (a_simple_type 0 simple.String) } ∷ []) (a_call 15 (an_operation 4 (a_list_type 3
-    list.Array (a_simple_type 2 simple.String)) (codes "elements")) (expression_and (elements 14 (a_list_type 6 list.Array (a_simple_type 5
-    simple.String)) (expression_and (a_literal 7 (string (34 ∷ 49 ∷ 50 ∷ 34 ∷ []))) (expression_and (a_literal 8 (string (34 ∷ 45 ∷ 53 ∷ 34 ∷ [])))
-    (expression_and (a_literal 9 (string (34 ∷ 43 ∷ 55 ∷ 34 ∷ []))) (expression_and (a_literal 10 (string (34 ∷ 34 ∷ []))) (expression_and (a_literal
-    11 (string (34 ∷ 49 ∷ 32 ∷ 34 ∷ []))) (expression_and (a_literal 12 (string (34 ∷ 57 ∷ 57 ∷ 57 ∷ 57 ∷ 57 ∷ 57 ∷ 57 ∷ 57 ∷ 57 ∷ 57 ∷ 57 ∷ 57 ∷ 57 ∷
-    57 ∷ 57 ∷ 57 ∷ 57 ∷ 57 ∷ 57 ∷ 57 ∷ 34 ∷ []))) (expression_and (a_literal 13 (string (34 ∷ 120 ∷ 34 ∷ []))) no_expressions)))))))) no_expressions))
-    (a_body no_equates (statement_and (an_except 48 (a_call_statement 29 (a_call 28 (an_operation 17 (a_named_type 16 (codes "stream") no_constants)
-    (codes "putl")) (expression_and (a_call 20 (an_operation 19 (a_named_type 18 (codes "stream") no_constants) (codes "primary_output"))
-    no_expressions) (expression_and (a_call 27 (an_operation 22 (a_simple_type 21 simple.Int) (codes "unparse")) (expression_and (a_call 26
-    (an_operation 24 (a_simple_type 23 simple.Int) (codes "parse")) (expression_and (a_name 25 (codes "s")) no_expressions)) no_expressions))
-    no_expressions)))) (when_and 38 ((codes "bad_format") ∷ []) (objects []) (a_body no_equates (statement_and (a_call_statement 37 (a_call 36
-    (an_operation 31 (a_named_type 30 (codes "stream") no_constants) (codes "putl")) (expression_and (a_call 34 (an_operation 33 (a_named_type 32
-    (codes "stream") no_constants) (codes "primary_output")) no_expressions) (expression_and (a_literal 35 (string (34 ∷ 98 ∷ 97 ∷ 100 ∷ 34 ∷ [])))
-    no_expressions)))) no_statements)) (when_and 47 ((codes "overflow") ∷ []) (objects []) (a_body no_equates (statement_and (a_call_statement 46
-    (a_call 45 (an_operation 40 (a_named_type 39 (codes "stream") no_constants) (codes "putl")) (expression_and (a_call 43 (an_operation 42
-    (a_named_type 41 (codes "stream") no_constants) (codes "primary_output")) no_expressions) (expression_and (a_literal 44 (string (34 ∷ 109 ∷ 117 ∷
-    99 ∷ 104 ∷ 34 ∷ []))) no_expressions)))) no_statements)) no_whens)) no_others) no_statements))) no_statements) })) ∷ [])
+    ((a_routine 51 no_equates (routine 50 (codes "start_up") (codes "start_up") kind.Procedure [] ([]) no_types no_exceptions ([]) no_equates ([])
+    (statement_and (a_for 49 (typed 1 ((codes "s") ∷ []) (a_simple_type 0 simple.String) ∷ []) (a_call 15 (an_operation 4 (a_list_type 3 list.Array
+    (a_simple_type 2 simple.String)) (codes "elements")) (expression_and (elements 14 (a_list_type 6 list.Array (a_simple_type 5 simple.String))
+    (expression_and (a_literal 7 (string (34 ∷ 49 ∷ 50 ∷ 34 ∷ []))) (expression_and (a_literal 8 (string (34 ∷ 45 ∷ 53 ∷ 34 ∷ []))) (expression_and
+    (a_literal 9 (string (34 ∷ 43 ∷ 55 ∷ 34 ∷ []))) (expression_and (a_literal 10 (string (34 ∷ 34 ∷ []))) (expression_and (a_literal 11 (string (34 ∷
+    49 ∷ 32 ∷ 34 ∷ []))) (expression_and (a_literal 12 (string (34 ∷ 57 ∷ 57 ∷ 57 ∷ 57 ∷ 57 ∷ 57 ∷ 57 ∷ 57 ∷ 57 ∷ 57 ∷ 57 ∷ 57 ∷ 57 ∷ 57 ∷ 57 ∷ 57 ∷
+    57 ∷ 57 ∷ 57 ∷ 57 ∷ 34 ∷ []))) (expression_and (a_literal 13 (string (34 ∷ 120 ∷ 34 ∷ []))) no_expressions)))))))) no_expressions)) (a_body
+    no_equates (statement_and (an_except 48 (a_call_statement 29 (a_call 28 (an_operation 17 (a_named_type 16 (codes "stream") no_constants) (codes
+    "putl")) (expression_and (a_call 20 (an_operation 19 (a_named_type 18 (codes "stream") no_constants) (codes "primary_output")) no_expressions)
+    (expression_and (a_call 27 (an_operation 22 (a_simple_type 21 simple.Int) (codes "unparse")) (expression_and (a_call 26 (an_operation 24
+    (a_simple_type 23 simple.Int) (codes "parse")) (expression_and (a_name 25 (codes "s")) no_expressions)) no_expressions)) no_expressions))))
+    (when_and 38 ((codes "bad_format") ∷ []) (objects []) (a_body no_equates (statement_and (a_call_statement 37 (a_call 36 (an_operation 31
+    (a_named_type 30 (codes "stream") no_constants) (codes "putl")) (expression_and (a_call 34 (an_operation 33 (a_named_type 32 (codes "stream")
+    no_constants) (codes "primary_output")) no_expressions) (expression_and (a_literal 35 (string (34 ∷ 98 ∷ 97 ∷ 100 ∷ 34 ∷ []))) no_expressions))))
+    no_statements)) (when_and 47 ((codes "overflow") ∷ []) (objects []) (a_body no_equates (statement_and (a_call_statement 46 (a_call 45
+    (an_operation 40 (a_named_type 39 (codes "stream") no_constants) (codes "putl")) (expression_and (a_call 43 (an_operation 42 (a_named_type 41
+    (codes "stream") no_constants) (codes "primary_output")) no_expressions) (expression_and (a_literal 44 (string (34 ∷ 109 ∷ 117 ∷ 99 ∷ 104 ∷ 34 ∷
+    []))) no_expressions)))) no_statements)) no_whens)) no_others) no_statements))) no_statements))) ∷ [])
 
 abbrev parse_declared : List Declared
 parse_declared =

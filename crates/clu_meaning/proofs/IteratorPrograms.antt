@@ -11,32 +11,30 @@ use Rattle.clu_syntax.specs.Syntax.{integer, string, an_infix, a_prefix, a_liter
 use Rattle.clu_layout.specs.Computing.{computing}
 use Rattle.clu_meaning.specs.Run.{returned_normally}
 use Rattle.clu_meaning.specs.Executing.{executing}
-use Rattle.clu_meaning.proofs.Running.{d, Runs}
+use Rattle.clu_meaning.proofs.Running.{d, typed, a_variable, routine, Runs}
 
 -- % an own exception of an iterator
 -- it = iter () yields (int) begin yield (1) x: int := 1 / 0 end except when zero_divide: stream$putl(stream$primary_output(), "it") end yield (2) end it
 -- start_up = proc () for x: int in it() do stream$putl(stream$primary_output(), int$unparse(x)) end except when zero_divide: stream$putl(stream$primary_output(), "!") end end start_up
 abbrev an_own_exception_of_an_iterator_modules : List Module
 an_own_exception_of_an_iterator_modules =
-    ((a_routine 23 no_equates (record { node = 22; name = (codes "it"); closing = (codes "it"); kind = kind.Iterator; parameters = []; arguments =
-    ([]); results = (type_and (a_simple_type 0 simple.Int) no_types); signals = no_exceptions; restrictions = ([]); equates = no_equates; owns = ([]);
-    statements = (statement_and (an_except 19 (a_begin 9 (a_body no_equates (statement_and (a_yield 3 (expression_and (a_literal 2 (integer (codes
-    "1"))) no_expressions)) (statement_and (an_init 8 (record { name = (codes "x"); type = (a_simple_type 4 simple.Int) }) (an_infix 7 op.Divide
+    ((a_routine 23 no_equates (routine 22 (codes "it") (codes "it") kind.Iterator [] ([]) (type_and (a_simple_type 0 simple.Int) no_types)
+    no_exceptions ([]) no_equates ([]) (statement_and (an_except 19 (a_begin 9 (a_body no_equates (statement_and (a_yield 3 (expression_and (a_literal
+    2 (integer (codes "1"))) no_expressions)) (statement_and (an_init 8 (a_variable (codes "x") (a_simple_type 4 simple.Int)) (an_infix 7 op.Divide
     (a_literal 5 (integer (codes "1"))) (a_literal 6 (integer (codes "0"))))) no_statements)))) (when_and 18 ((codes "zero_divide") ∷ []) (objects [])
     (a_body no_equates (statement_and (a_call_statement 17 (a_call 16 (an_operation 11 (a_named_type 10 (codes "stream") no_constants) (codes "putl"))
     (expression_and (a_call 14 (an_operation 13 (a_named_type 12 (codes "stream") no_constants) (codes "primary_output")) no_expressions)
     (expression_and (a_literal 15 (string (34 ∷ 105 ∷ 116 ∷ 34 ∷ []))) no_expressions)))) no_statements)) no_whens) no_others) (statement_and (a_yield
-    21 (expression_and (a_literal 20 (integer (codes "2"))) no_expressions)) no_statements)) })) ∷ (a_routine 51 no_equates (record { node = 50; name
-    = (codes "start_up"); closing = (codes "start_up"); kind = kind.Procedure; parameters = []; arguments = ([]); results = no_types; signals =
-    no_exceptions; restrictions = ([]); equates = no_equates; owns = ([]); statements = (statement_and (an_except 49 (a_for 39 (record { node = 25;
-    names = ((codes "x") ∷ []); type = (a_simple_type 24 simple.Int) } ∷ []) (a_call 27 (a_name 26 (codes "it")) no_expressions) (a_body no_equates
-    (statement_and (a_call_statement 38 (a_call 37 (an_operation 29 (a_named_type 28 (codes "stream") no_constants) (codes "putl")) (expression_and
-    (a_call 32 (an_operation 31 (a_named_type 30 (codes "stream") no_constants) (codes "primary_output")) no_expressions) (expression_and (a_call 36
+    21 (expression_and (a_literal 20 (integer (codes "2"))) no_expressions)) no_statements)))) ∷ (a_routine 51 no_equates (routine 50 (codes
+    "start_up") (codes "start_up") kind.Procedure [] ([]) no_types no_exceptions ([]) no_equates ([]) (statement_and (an_except 49 (a_for 39 (typed 25
+    ((codes "x") ∷ []) (a_simple_type 24 simple.Int) ∷ []) (a_call 27 (a_name 26 (codes "it")) no_expressions) (a_body no_equates (statement_and
+    (a_call_statement 38 (a_call 37 (an_operation 29 (a_named_type 28 (codes "stream") no_constants) (codes "putl")) (expression_and (a_call 32
+    (an_operation 31 (a_named_type 30 (codes "stream") no_constants) (codes "primary_output")) no_expressions) (expression_and (a_call 36
     (an_operation 34 (a_simple_type 33 simple.Int) (codes "unparse")) (expression_and (a_name 35 (codes "x")) no_expressions)) no_expressions))))
     no_statements))) (when_and 48 ((codes "zero_divide") ∷ []) (objects []) (a_body no_equates (statement_and (a_call_statement 47 (a_call 46
     (an_operation 41 (a_named_type 40 (codes "stream") no_constants) (codes "putl")) (expression_and (a_call 44 (an_operation 43 (a_named_type 42
     (codes "stream") no_constants) (codes "primary_output")) no_expressions) (expression_and (a_literal 45 (string (34 ∷ 33 ∷ 34 ∷ [])))
-    no_expressions)))) no_statements)) no_whens) no_others) no_statements) })) ∷ [])
+    no_expressions)))) no_statements)) no_whens) no_others) no_statements))) ∷ [])
 
 abbrev an_own_exception_of_an_iterator_declared : List Declared
 an_own_exception_of_an_iterator_declared =
@@ -53,29 +51,27 @@ an_own_exception_of_an_iterator = refl
 -- except when out (n: int): stream$putl(stream$primary_output(), int$unparse(n)) end end start_up
 abbrev an_exit_out_of_nested_loops_modules : List Module
 an_exit_out_of_nested_loops_modules =
-    ((a_routine 18 no_equates (record { node = 17; name = (codes "it"); closing = (codes "it"); kind = kind.Iterator; parameters = []; arguments =
-    ([]); results = (type_and (a_simple_type 0 simple.Int) no_types); signals = no_exceptions; restrictions = ([]); equates = no_equates; owns = ([]);
-    statements = (statement_and (an_except 16 (a_begin 6 (a_body no_equates (statement_and (a_yield 3 (expression_and (a_literal 2 (integer (codes
-    "1"))) no_expressions)) (statement_and (a_yield 5 (expression_and (a_literal 4 (integer (codes "2"))) no_expressions)) no_statements)))) no_whens
-    (others 15 None (a_body no_equates (statement_and (a_call_statement 14 (a_call 13 (an_operation 8 (a_named_type 7 (codes "stream") no_constants)
-    (codes "putl")) (expression_and (a_call 11 (an_operation 10 (a_named_type 9 (codes "stream") no_constants) (codes "primary_output"))
-    no_expressions) (expression_and (a_literal 12 (string (34 ∷ 33 ∷ 34 ∷ []))) no_expressions)))) no_statements)))) no_statements) })) ∷ (a_routine
-    68 no_equates (record { node = 67; name = (codes "start_up"); closing = (codes "start_up"); kind = kind.Procedure; parameters = []; arguments =
-    ([]); results = no_types; signals = no_exceptions; restrictions = ([]); equates = no_equates; owns = ([]); statements = (statement_and (an_except
-    66 (a_for 51 (record { node = 20; names = ((codes "x") ∷ []); type = (a_simple_type 19 simple.Int) } ∷ []) (a_call 22 (a_name 21 (codes "it"))
-    no_expressions) (a_body no_equates (statement_and (a_for 50 (record { node = 24; names = ((codes "y") ∷ []); type = (a_simple_type 23 simple.Int)
-    } ∷ []) (a_call 26 (a_name 25 (codes "it")) no_expressions) (a_body no_equates (statement_and (an_if 34 (clause_and (an_infix 31 op.Equal
-    (an_infix 29 op.Add (a_name 27 (codes "x")) (a_name 28 (codes "y"))) (a_literal 30 (integer (codes "4")))) (a_body no_equates (statement_and
-    (an_exit 33 (codes "out") (expression_and (a_name 32 (codes "x")) no_expressions)) no_statements)) no_clauses) nothing_else) (statement_and
-    (a_call_statement 49 (a_call 48 (an_operation 36 (a_named_type 35 (codes "stream") no_constants) (codes "putl")) (expression_and (a_call 39
-    (an_operation 38 (a_named_type 37 (codes "stream") no_constants) (codes "primary_output")) no_expressions) (expression_and (a_call 47
-    (an_operation 41 (a_simple_type 40 simple.Int) (codes "unparse")) (expression_and (an_infix 46 op.Add (an_infix 44 op.Multiply (a_name 42 (codes
-    "x")) (a_literal 43 (integer (codes "10")))) (a_name 45 (codes "y"))) no_expressions)) no_expressions)))) no_statements)))) no_statements)))
-    (when_and 65 ((codes "out") ∷ []) (objects (record { node = 53; names = ((codes "n") ∷ []); type = (a_simple_type 52 simple.Int) } ∷ [])) (a_body
-    no_equates (statement_and (a_call_statement 64 (a_call 63 (an_operation 55 (a_named_type 54 (codes "stream") no_constants) (codes "putl"))
-    (expression_and (a_call 58 (an_operation 57 (a_named_type 56 (codes "stream") no_constants) (codes "primary_output")) no_expressions)
-    (expression_and (a_call 62 (an_operation 60 (a_simple_type 59 simple.Int) (codes "unparse")) (expression_and (a_name 61 (codes "n"))
-    no_expressions)) no_expressions)))) no_statements)) no_whens) no_others) no_statements) })) ∷ [])
+    ((a_routine 18 no_equates (routine 17 (codes "it") (codes "it") kind.Iterator [] ([]) (type_and (a_simple_type 0 simple.Int) no_types)
+    no_exceptions ([]) no_equates ([]) (statement_and (an_except 16 (a_begin 6 (a_body no_equates (statement_and (a_yield 3 (expression_and (a_literal
+    2 (integer (codes "1"))) no_expressions)) (statement_and (a_yield 5 (expression_and (a_literal 4 (integer (codes "2"))) no_expressions))
+    no_statements)))) no_whens (others 15 None (a_body no_equates (statement_and (a_call_statement 14 (a_call 13 (an_operation 8 (a_named_type 7
+    (codes "stream") no_constants) (codes "putl")) (expression_and (a_call 11 (an_operation 10 (a_named_type 9 (codes "stream") no_constants) (codes
+    "primary_output")) no_expressions) (expression_and (a_literal 12 (string (34 ∷ 33 ∷ 34 ∷ []))) no_expressions)))) no_statements))))
+    no_statements))) ∷ (a_routine 68 no_equates (routine 67 (codes "start_up") (codes "start_up") kind.Procedure [] ([]) no_types no_exceptions ([])
+    no_equates ([]) (statement_and (an_except 66 (a_for 51 (typed 20 ((codes "x") ∷ []) (a_simple_type 19 simple.Int) ∷ []) (a_call 22 (a_name 21
+    (codes "it")) no_expressions) (a_body no_equates (statement_and (a_for 50 (typed 24 ((codes "y") ∷ []) (a_simple_type 23 simple.Int) ∷ []) (a_call
+    26 (a_name 25 (codes "it")) no_expressions) (a_body no_equates (statement_and (an_if 34 (clause_and (an_infix 31 op.Equal (an_infix 29 op.Add
+    (a_name 27 (codes "x")) (a_name 28 (codes "y"))) (a_literal 30 (integer (codes "4")))) (a_body no_equates (statement_and (an_exit 33 (codes "out")
+    (expression_and (a_name 32 (codes "x")) no_expressions)) no_statements)) no_clauses) nothing_else) (statement_and (a_call_statement 49 (a_call 48
+    (an_operation 36 (a_named_type 35 (codes "stream") no_constants) (codes "putl")) (expression_and (a_call 39 (an_operation 38 (a_named_type 37
+    (codes "stream") no_constants) (codes "primary_output")) no_expressions) (expression_and (a_call 47 (an_operation 41 (a_simple_type 40 simple.Int)
+    (codes "unparse")) (expression_and (an_infix 46 op.Add (an_infix 44 op.Multiply (a_name 42 (codes "x")) (a_literal 43 (integer (codes "10"))))
+    (a_name 45 (codes "y"))) no_expressions)) no_expressions)))) no_statements)))) no_statements))) (when_and 65 ((codes "out") ∷ []) (objects (typed
+    53 ((codes "n") ∷ []) (a_simple_type 52 simple.Int) ∷ [])) (a_body no_equates (statement_and (a_call_statement 64 (a_call 63 (an_operation 55
+    (a_named_type 54 (codes "stream") no_constants) (codes "putl")) (expression_and (a_call 58 (an_operation 57 (a_named_type 56 (codes "stream")
+    no_constants) (codes "primary_output")) no_expressions) (expression_and (a_call 62 (an_operation 60 (a_simple_type 59 simple.Int) (codes
+    "unparse")) (expression_and (a_name 61 (codes "n")) no_expressions)) no_expressions)))) no_statements)) no_whens) no_others) no_statements))) ∷
+    [])
 
 abbrev an_exit_out_of_nested_loops_declared : List Declared
 an_exit_out_of_nested_loops_declared =
@@ -91,24 +87,21 @@ an_exit_out_of_nested_loops = refl
 -- start_up = proc () a: array[int] := array[int]$[1] n: int := 0 for x: int in it(a) do n := n + x a[1] := 10 end stream$putl(stream$primary_output(), int$unparse(n)) end start_up
 abbrev the_body_changes_the_caller_s_variables_modules : List Module
 the_body_changes_the_caller_s_variables_modules =
-    ((a_routine 14 no_equates (record { node = 13; name = (codes "it"); closing = (codes "it"); kind = kind.Iterator; parameters = []; arguments =
-    (record { node = 2; names = ((codes "a") ∷ []); type = (a_list_type 1 list.Array (a_simple_type 0 simple.Int)) } ∷ []); results = (type_and
-    (a_simple_type 3 simple.Int) no_types); signals = no_exceptions; restrictions = ([]); equates = no_equates; owns = ([]); statements =
-    (statement_and (a_yield 8 (expression_and (an_index 7 (a_name 5 (codes "a")) (constant_and (an_expression (a_literal 6 (integer (codes "1"))))
-    no_constants)) no_expressions)) (statement_and (a_yield 12 (expression_and (an_index 11 (a_name 9 (codes "a")) (constant_and (an_expression
-    (a_literal 10 (integer (codes "1")))) no_constants)) no_expressions)) no_statements)) })) ∷ (a_routine 51 no_equates (record { node = 50; name =
-    (codes "start_up"); closing = (codes "start_up"); kind = kind.Procedure; parameters = []; arguments = ([]); results = no_types; signals =
-    no_exceptions; restrictions = ([]); equates = no_equates; owns = ([]); statements = (statement_and (an_init 21 (record { name = (codes "a"); type
-    = (a_list_type 16 list.Array (a_simple_type 15 simple.Int)) }) (elements 20 (a_list_type 18 list.Array (a_simple_type 17 simple.Int))
-    (expression_and (a_literal 19 (integer (codes "1"))) no_expressions))) (statement_and (an_init 24 (record { name = (codes "n"); type =
-    (a_simple_type 22 simple.Int) }) (a_literal 23 (integer (codes "0")))) (statement_and (a_for 38 (record { node = 26; names = ((codes "x") ∷ []);
-    type = (a_simple_type 25 simple.Int) } ∷ []) (a_call 29 (a_name 27 (codes "it")) (expression_and (a_name 28 (codes "a")) no_expressions)) (a_body
-    no_equates (statement_and (an_assign 33 ((codes "n") ∷ []) (expression_and (an_infix 32 op.Add (a_name 30 (codes "n")) (a_name 31 (codes "x")))
-    no_expressions)) (statement_and (a_set_index 37 (a_name 34 (codes "a")) (a_literal 35 (integer (codes "1"))) (a_literal 36 (integer (codes
-    "10")))) no_statements)))) (statement_and (a_call_statement 49 (a_call 48 (an_operation 40 (a_named_type 39 (codes "stream") no_constants) (codes
-    "putl")) (expression_and (a_call 43 (an_operation 42 (a_named_type 41 (codes "stream") no_constants) (codes "primary_output")) no_expressions)
-    (expression_and (a_call 47 (an_operation 45 (a_simple_type 44 simple.Int) (codes "unparse")) (expression_and (a_name 46 (codes "n"))
-    no_expressions)) no_expressions)))) no_statements)))) })) ∷ [])
+    ((a_routine 14 no_equates (routine 13 (codes "it") (codes "it") kind.Iterator [] (typed 2 ((codes "a") ∷ []) (a_list_type 1 list.Array
+    (a_simple_type 0 simple.Int)) ∷ []) (type_and (a_simple_type 3 simple.Int) no_types) no_exceptions ([]) no_equates ([]) (statement_and (a_yield 8
+    (expression_and (an_index 7 (a_name 5 (codes "a")) (constant_and (an_expression (a_literal 6 (integer (codes "1")))) no_constants))
+    no_expressions)) (statement_and (a_yield 12 (expression_and (an_index 11 (a_name 9 (codes "a")) (constant_and (an_expression (a_literal 10
+    (integer (codes "1")))) no_constants)) no_expressions)) no_statements)))) ∷ (a_routine 51 no_equates (routine 50 (codes "start_up") (codes
+    "start_up") kind.Procedure [] ([]) no_types no_exceptions ([]) no_equates ([]) (statement_and (an_init 21 (a_variable (codes "a") (a_list_type 16
+    list.Array (a_simple_type 15 simple.Int))) (elements 20 (a_list_type 18 list.Array (a_simple_type 17 simple.Int)) (expression_and (a_literal 19
+    (integer (codes "1"))) no_expressions))) (statement_and (an_init 24 (a_variable (codes "n") (a_simple_type 22 simple.Int)) (a_literal 23 (integer
+    (codes "0")))) (statement_and (a_for 38 (typed 26 ((codes "x") ∷ []) (a_simple_type 25 simple.Int) ∷ []) (a_call 29 (a_name 27 (codes "it"))
+    (expression_and (a_name 28 (codes "a")) no_expressions)) (a_body no_equates (statement_and (an_assign 33 ((codes "n") ∷ []) (expression_and
+    (an_infix 32 op.Add (a_name 30 (codes "n")) (a_name 31 (codes "x"))) no_expressions)) (statement_and (a_set_index 37 (a_name 34 (codes "a"))
+    (a_literal 35 (integer (codes "1"))) (a_literal 36 (integer (codes "10")))) no_statements)))) (statement_and (a_call_statement 49 (a_call 48
+    (an_operation 40 (a_named_type 39 (codes "stream") no_constants) (codes "putl")) (expression_and (a_call 43 (an_operation 42 (a_named_type 41
+    (codes "stream") no_constants) (codes "primary_output")) no_expressions) (expression_and (a_call 47 (an_operation 45 (a_simple_type 44 simple.Int)
+    (codes "unparse")) (expression_and (a_name 46 (codes "n")) no_expressions)) no_expressions)))) no_statements)))))) ∷ [])
 
 abbrev the_body_changes_the_caller_s_variables_declared : List Declared
 the_body_changes_the_caller_s_variables_declared =
@@ -126,32 +119,28 @@ the_body_changes_the_caller_s_variables = refl
 -- end start_up
 abbrev an_iterator_as_an_object_modules : List Module
 an_iterator_as_an_object_modules =
-    ((a_routine 11 no_equates (record { node = 10; name = (codes "it"); closing = (codes "it"); kind = kind.Iterator; parameters = []; arguments =
-    (record { node = 1; names = ((codes "n") ∷ []); type = (a_simple_type 0 simple.Int) } ∷ []); results = (type_and (a_simple_type 2 simple.Int)
-    no_types); signals = no_exceptions; restrictions = ([]); equates = no_equates; owns = ([]); statements = (statement_and (a_yield 5 (expression_and
-    (a_name 4 (codes "n")) no_expressions)) (statement_and (a_yield 9 (expression_and (an_infix 8 op.Add (a_name 6 (codes "n")) (a_literal 7 (integer
-    (codes "1")))) no_expressions)) no_statements)) })) ∷ (a_routine 35 no_equates (record { node = 34; name = (codes "p"); closing = (codes "p");
-    kind = kind.Procedure; parameters = []; arguments = (record { node = 16; names = ((codes "f") ∷ []); type = (a_routine_type 15 kind.Iterator
-    (type_and (a_simple_type 12 simple.Int) no_types) (type_and (a_simple_type 13 simple.Int) no_types) no_exceptions) } ∷ []); results = (type_and
-    (a_simple_type 17 simple.Int) no_types); signals = no_exceptions; restrictions = ([]); equates = no_equates; owns = ([]); statements =
-    (statement_and (an_init 21 (record { name = (codes "s"); type = (a_simple_type 19 simple.Int) }) (a_literal 20 (integer (codes "0"))))
-    (statement_and (a_for 31 (record { node = 23; names = ((codes "i") ∷ []); type = (a_simple_type 22 simple.Int) } ∷ []) (a_call 26 (a_name 24
-    (codes "f")) (expression_and (a_literal 25 (integer (codes "5"))) no_expressions)) (a_body no_equates (statement_and (an_assign 30 ((codes "s") ∷
-    []) (expression_and (an_infix 29 op.Add (a_name 27 (codes "s")) (a_name 28 (codes "i"))) no_expressions)) no_statements))) (statement_and
-    (a_return 33 (expression_and (a_name 32 (codes "s")) no_expressions)) no_statements))) })) ∷ (a_routine 76 no_equates (record { node = 75; name =
-    (codes "start_up"); closing = (codes "start_up"); kind = kind.Procedure; parameters = []; arguments = ([]); results = no_types; signals =
-    no_exceptions; restrictions = ([]); equates = no_equates; owns = ([]); statements = (statement_and (a_call_statement 48 (a_call 47 (an_operation
-    37 (a_named_type 36 (codes "stream") no_constants) (codes "putl")) (expression_and (a_call 40 (an_operation 39 (a_named_type 38 (codes "stream")
-    no_constants) (codes "primary_output")) no_expressions) (expression_and (a_call 46 (an_operation 42 (a_simple_type 41 simple.Int) (codes
-    "unparse")) (expression_and (a_call 45 (a_name 43 (codes "p")) (expression_and (a_name 44 (codes "it")) no_expressions)) no_expressions))
-    no_expressions)))) (statement_and (an_init 56 (record { name = (codes "f"); type = (a_routine_type 53 kind.Iterator (type_and (a_simple_type 49
-    simple.Int) (type_and (a_simple_type 50 simple.Int) no_types)) (type_and (a_simple_type 51 simple.Int) no_types) no_exceptions) }) (an_operation
-    55 (a_simple_type 54 simple.Int) (codes "from_to"))) (statement_and (a_for 74 (record { node = 58; names = ((codes "i") ∷ []); type =
-    (a_simple_type 57 simple.Int) } ∷ []) (a_call 62 (a_name 59 (codes "f")) (expression_and (a_literal 60 (integer (codes "1"))) (expression_and
+    ((a_routine 11 no_equates (routine 10 (codes "it") (codes "it") kind.Iterator [] (typed 1 ((codes "n") ∷ []) (a_simple_type 0 simple.Int) ∷ [])
+    (type_and (a_simple_type 2 simple.Int) no_types) no_exceptions ([]) no_equates ([]) (statement_and (a_yield 5 (expression_and (a_name 4 (codes
+    "n")) no_expressions)) (statement_and (a_yield 9 (expression_and (an_infix 8 op.Add (a_name 6 (codes "n")) (a_literal 7 (integer (codes "1"))))
+    no_expressions)) no_statements)))) ∷ (a_routine 35 no_equates (routine 34 (codes "p") (codes "p") kind.Procedure [] (typed 16 ((codes "f") ∷ [])
+    (a_routine_type 15 kind.Iterator (type_and (a_simple_type 12 simple.Int) no_types) (type_and (a_simple_type 13 simple.Int) no_types)
+    no_exceptions) ∷ []) (type_and (a_simple_type 17 simple.Int) no_types) no_exceptions ([]) no_equates ([]) (statement_and (an_init 21 (a_variable
+    (codes "s") (a_simple_type 19 simple.Int)) (a_literal 20 (integer (codes "0")))) (statement_and (a_for 31 (typed 23 ((codes "i") ∷ [])
+    (a_simple_type 22 simple.Int) ∷ []) (a_call 26 (a_name 24 (codes "f")) (expression_and (a_literal 25 (integer (codes "5"))) no_expressions))
+    (a_body no_equates (statement_and (an_assign 30 ((codes "s") ∷ []) (expression_and (an_infix 29 op.Add (a_name 27 (codes "s")) (a_name 28 (codes
+    "i"))) no_expressions)) no_statements))) (statement_and (a_return 33 (expression_and (a_name 32 (codes "s")) no_expressions)) no_statements))))) ∷
+    (a_routine 76 no_equates (routine 75 (codes "start_up") (codes "start_up") kind.Procedure [] ([]) no_types no_exceptions ([]) no_equates ([])
+    (statement_and (a_call_statement 48 (a_call 47 (an_operation 37 (a_named_type 36 (codes "stream") no_constants) (codes "putl")) (expression_and
+    (a_call 40 (an_operation 39 (a_named_type 38 (codes "stream") no_constants) (codes "primary_output")) no_expressions) (expression_and (a_call 46
+    (an_operation 42 (a_simple_type 41 simple.Int) (codes "unparse")) (expression_and (a_call 45 (a_name 43 (codes "p")) (expression_and (a_name 44
+    (codes "it")) no_expressions)) no_expressions)) no_expressions)))) (statement_and (an_init 56 (a_variable (codes "f") (a_routine_type 53
+    kind.Iterator (type_and (a_simple_type 49 simple.Int) (type_and (a_simple_type 50 simple.Int) no_types)) (type_and (a_simple_type 51 simple.Int)
+    no_types) no_exceptions)) (an_operation 55 (a_simple_type 54 simple.Int) (codes "from_to"))) (statement_and (a_for 74 (typed 58 ((codes "i") ∷ [])
+    (a_simple_type 57 simple.Int) ∷ []) (a_call 62 (a_name 59 (codes "f")) (expression_and (a_literal 60 (integer (codes "1"))) (expression_and
     (a_literal 61 (integer (codes "2"))) no_expressions))) (a_body no_equates (statement_and (a_call_statement 73 (a_call 72 (an_operation 64
     (a_named_type 63 (codes "stream") no_constants) (codes "putl")) (expression_and (a_call 67 (an_operation 66 (a_named_type 65 (codes "stream")
     no_constants) (codes "primary_output")) no_expressions) (expression_and (a_call 71 (an_operation 69 (a_simple_type 68 simple.Int) (codes
-    "unparse")) (expression_and (a_name 70 (codes "i")) no_expressions)) no_expressions)))) no_statements))) no_statements))) })) ∷ [])
+    "unparse")) (expression_and (a_name 70 (codes "i")) no_expressions)) no_expressions)))) no_statements))) no_statements))))) ∷ [])
 
 abbrev an_iterator_as_an_object_declared : List Declared
 an_iterator_as_an_object_declared =
@@ -168,31 +157,28 @@ an_iterator_as_an_object = refl
 -- start_up = proc () for x: int in it() do if x = 2 then exit done end stream$putl(stream$primary_output(), int$unparse(x)) end except when done: stream$putl(stream$primary_output(), "done") end end start_up
 abbrev an_iterator_does_not_see_an_exit_modules : List Module
 an_iterator_does_not_see_an_exit_modules =
-    ((a_routine 35 no_equates (record { node = 34; name = (codes "it"); closing = (codes "it"); kind = kind.Iterator; parameters = []; arguments =
-    ([]); results = (type_and (a_simple_type 0 simple.Int) no_types); signals = no_exceptions; restrictions = ([]); equates = no_equates; owns = ([]);
-    statements = (statement_and (an_except 25 (a_begin 6 (a_body no_equates (statement_and (a_yield 3 (expression_and (a_literal 2 (integer (codes
-    "1"))) no_expressions)) (statement_and (a_yield 5 (expression_and (a_literal 4 (integer (codes "2"))) no_expressions)) no_statements)))) (when_and
-    15 ((codes "done") ∷ []) (objects []) (a_body no_equates (statement_and (a_call_statement 14 (a_call 13 (an_operation 8 (a_named_type 7 (codes
-    "stream") no_constants) (codes "putl")) (expression_and (a_call 11 (an_operation 10 (a_named_type 9 (codes "stream") no_constants) (codes
-    "primary_output")) no_expressions) (expression_and (a_literal 12 (string (34 ∷ 33 ∷ 34 ∷ []))) no_expressions)))) no_statements)) no_whens)
-    (others 24 None (a_body no_equates (statement_and (a_call_statement 23 (a_call 22 (an_operation 17 (a_named_type 16 (codes "stream") no_constants)
-    (codes "putl")) (expression_and (a_call 20 (an_operation 19 (a_named_type 18 (codes "stream") no_constants) (codes "primary_output"))
-    no_expressions) (expression_and (a_literal 21 (string (34 ∷ 33 ∷ 33 ∷ 34 ∷ []))) no_expressions)))) no_statements)))) (statement_and
-    (a_call_statement 33 (a_call 32 (an_operation 27 (a_named_type 26 (codes "stream") no_constants) (codes "putl")) (expression_and (a_call 30
-    (an_operation 29 (a_named_type 28 (codes "stream") no_constants) (codes "primary_output")) no_expressions) (expression_and (a_literal 31 (string
-    (34 ∷ 33 ∷ 33 ∷ 33 ∷ 34 ∷ []))) no_expressions)))) no_statements)) })) ∷ (a_routine 68 no_equates (record { node = 67; name = (codes "start_up");
-    closing = (codes "start_up"); kind = kind.Procedure; parameters = []; arguments = ([]); results = no_types; signals = no_exceptions; restrictions
-    = ([]); equates = no_equates; owns = ([]); statements = (statement_and (an_except 66 (a_for 56 (record { node = 37; names = ((codes "x") ∷ []);
-    type = (a_simple_type 36 simple.Int) } ∷ []) (a_call 39 (a_name 38 (codes "it")) no_expressions) (a_body no_equates (statement_and (an_if 44
-    (clause_and (an_infix 42 op.Equal (a_name 40 (codes "x")) (a_literal 41 (integer (codes "2")))) (a_body no_equates (statement_and (an_exit 43
-    (codes "done") no_expressions) no_statements)) no_clauses) nothing_else) (statement_and (a_call_statement 55 (a_call 54 (an_operation 46
-    (a_named_type 45 (codes "stream") no_constants) (codes "putl")) (expression_and (a_call 49 (an_operation 48 (a_named_type 47 (codes "stream")
-    no_constants) (codes "primary_output")) no_expressions) (expression_and (a_call 53 (an_operation 51 (a_simple_type 50 simple.Int) (codes
-    "unparse")) (expression_and (a_name 52 (codes "x")) no_expressions)) no_expressions)))) no_statements)))) (when_and 65 ((codes "done") ∷ [])
-    (objects []) (a_body no_equates (statement_and (a_call_statement 64 (a_call 63 (an_operation 58 (a_named_type 57 (codes "stream") no_constants)
-    (codes "putl")) (expression_and (a_call 61 (an_operation 60 (a_named_type 59 (codes "stream") no_constants) (codes "primary_output"))
-    no_expressions) (expression_and (a_literal 62 (string (34 ∷ 100 ∷ 111 ∷ 110 ∷ 101 ∷ 34 ∷ []))) no_expressions)))) no_statements)) no_whens)
-    no_others) no_statements) })) ∷ [])
+    ((a_routine 35 no_equates (routine 34 (codes "it") (codes "it") kind.Iterator [] ([]) (type_and (a_simple_type 0 simple.Int) no_types)
+    no_exceptions ([]) no_equates ([]) (statement_and (an_except 25 (a_begin 6 (a_body no_equates (statement_and (a_yield 3 (expression_and (a_literal
+    2 (integer (codes "1"))) no_expressions)) (statement_and (a_yield 5 (expression_and (a_literal 4 (integer (codes "2"))) no_expressions))
+    no_statements)))) (when_and 15 ((codes "done") ∷ []) (objects []) (a_body no_equates (statement_and (a_call_statement 14 (a_call 13 (an_operation
+    8 (a_named_type 7 (codes "stream") no_constants) (codes "putl")) (expression_and (a_call 11 (an_operation 10 (a_named_type 9 (codes "stream")
+    no_constants) (codes "primary_output")) no_expressions) (expression_and (a_literal 12 (string (34 ∷ 33 ∷ 34 ∷ []))) no_expressions))))
+    no_statements)) no_whens) (others 24 None (a_body no_equates (statement_and (a_call_statement 23 (a_call 22 (an_operation 17 (a_named_type 16
+    (codes "stream") no_constants) (codes "putl")) (expression_and (a_call 20 (an_operation 19 (a_named_type 18 (codes "stream") no_constants) (codes
+    "primary_output")) no_expressions) (expression_and (a_literal 21 (string (34 ∷ 33 ∷ 33 ∷ 34 ∷ []))) no_expressions)))) no_statements))))
+    (statement_and (a_call_statement 33 (a_call 32 (an_operation 27 (a_named_type 26 (codes "stream") no_constants) (codes "putl")) (expression_and
+    (a_call 30 (an_operation 29 (a_named_type 28 (codes "stream") no_constants) (codes "primary_output")) no_expressions) (expression_and (a_literal
+    31 (string (34 ∷ 33 ∷ 33 ∷ 33 ∷ 34 ∷ []))) no_expressions)))) no_statements)))) ∷ (a_routine 68 no_equates (routine 67 (codes "start_up") (codes
+    "start_up") kind.Procedure [] ([]) no_types no_exceptions ([]) no_equates ([]) (statement_and (an_except 66 (a_for 56 (typed 37 ((codes "x") ∷ [])
+    (a_simple_type 36 simple.Int) ∷ []) (a_call 39 (a_name 38 (codes "it")) no_expressions) (a_body no_equates (statement_and (an_if 44 (clause_and
+    (an_infix 42 op.Equal (a_name 40 (codes "x")) (a_literal 41 (integer (codes "2")))) (a_body no_equates (statement_and (an_exit 43 (codes "done")
+    no_expressions) no_statements)) no_clauses) nothing_else) (statement_and (a_call_statement 55 (a_call 54 (an_operation 46 (a_named_type 45 (codes
+    "stream") no_constants) (codes "putl")) (expression_and (a_call 49 (an_operation 48 (a_named_type 47 (codes "stream") no_constants) (codes
+    "primary_output")) no_expressions) (expression_and (a_call 53 (an_operation 51 (a_simple_type 50 simple.Int) (codes "unparse")) (expression_and
+    (a_name 52 (codes "x")) no_expressions)) no_expressions)))) no_statements)))) (when_and 65 ((codes "done") ∷ []) (objects []) (a_body no_equates
+    (statement_and (a_call_statement 64 (a_call 63 (an_operation 58 (a_named_type 57 (codes "stream") no_constants) (codes "putl")) (expression_and
+    (a_call 61 (an_operation 60 (a_named_type 59 (codes "stream") no_constants) (codes "primary_output")) no_expressions) (expression_and (a_literal
+    62 (string (34 ∷ 100 ∷ 111 ∷ 110 ∷ 101 ∷ 34 ∷ []))) no_expressions)))) no_statements)) no_whens) no_others) no_statements))) ∷ [])
 
 abbrev an_iterator_does_not_see_an_exit_declared : List Declared
 an_iterator_does_not_see_an_exit_declared =
@@ -210,42 +196,38 @@ an_iterator_does_not_see_an_exit = refl
 -- start_up = proc () stream$putl(stream$primary_output(), int$unparse(p())) end start_up
 abbrev a_return_through_nested_iterators_modules : List Module
 a_return_through_nested_iterators_modules =
-    ((a_routine 26 no_equates (record { node = 25; name = (codes "count"); closing = (codes "count"); kind = kind.Iterator; parameters = []; arguments
-    = (record { node = 1; names = ((codes "a") ∷ (codes "b") ∷ []); type = (a_simple_type 0 simple.Int) } ∷ []); results = (type_and (a_simple_type 2
-    simple.Int) no_types); signals = no_exceptions; restrictions = ([]); equates = no_equates; owns = ([]); statements = (statement_and (an_init 6
-    (record { name = (codes "i"); type = (a_simple_type 4 simple.Int) }) (a_name 5 (codes "a"))) (statement_and (a_while 16 (an_infix 9 op.AtMost
-    (a_name 7 (codes "i")) (a_name 8 (codes "b"))) (a_body no_equates (statement_and (a_yield 11 (expression_and (a_name 10 (codes "i"))
-    no_expressions)) (statement_and (an_assign 15 ((codes "i") ∷ []) (expression_and (an_infix 14 op.Add (a_name 12 (codes "i")) (a_literal 13
-    (integer (codes "1")))) no_expressions)) no_statements)))) (statement_and (a_call_statement 24 (a_call 23 (an_operation 18 (a_named_type 17 (codes
-    "stream") no_constants) (codes "putl")) (expression_and (a_call 21 (an_operation 20 (a_named_type 19 (codes "stream") no_constants) (codes
-    "primary_output")) no_expressions) (expression_and (a_literal 22 (string (34 ∷ 33 ∷ 34 ∷ []))) no_expressions)))) no_statements))) })) ∷
-    (a_routine 51 no_equates (record { node = 50; name = (codes "twice"); closing = (codes "twice"); kind = kind.Iterator; parameters = []; arguments
-    = (record { node = 28; names = ((codes "n") ∷ []); type = (a_simple_type 27 simple.Int) } ∷ []); results = (type_and (a_simple_type 29 simple.Int)
-    no_types); signals = no_exceptions; restrictions = ([]); equates = no_equates; owns = ([]); statements = (statement_and (a_for 41 (record { node =
-    32; names = ((codes "i") ∷ []); type = (a_simple_type 31 simple.Int) } ∷ []) (a_call 36 (a_name 33 (codes "count")) (expression_and (a_literal 34
-    (integer (codes "1"))) (expression_and (a_name 35 (codes "n")) no_expressions))) (a_body no_equates (statement_and (a_yield 38 (expression_and
-    (a_name 37 (codes "i")) no_expressions)) (statement_and (a_yield 40 (expression_and (a_name 39 (codes "i")) no_expressions)) no_statements))))
-    (statement_and (a_call_statement 49 (a_call 48 (an_operation 43 (a_named_type 42 (codes "stream") no_constants) (codes "putl")) (expression_and
-    (a_call 46 (an_operation 45 (a_named_type 44 (codes "stream") no_constants) (codes "primary_output")) no_expressions) (expression_and (a_literal
-    47 (string (34 ∷ 33 ∷ 33 ∷ 34 ∷ []))) no_expressions)))) no_statements)) })) ∷ (a_routine 90 no_equates (record { node = 89; name = (codes "p");
-    closing = (codes "p"); kind = kind.Procedure; parameters = []; arguments = ([]); results = (type_and (a_simple_type 52 simple.Int) no_types);
-    signals = no_exceptions; restrictions = ([]); equates = no_equates; owns = ([]); statements = (statement_and (an_init 56 (record { name = (codes
-    "s"); type = (a_simple_type 54 simple.Int) }) (a_literal 55 (integer (codes "0")))) (statement_and (a_for 85 (record { node = 58; names = ((codes
-    "i") ∷ []); type = (a_simple_type 57 simple.Int) } ∷ []) (a_call 61 (a_name 59 (codes "twice")) (expression_and (a_literal 60 (integer (codes
-    "9"))) no_expressions)) (a_body no_equates (statement_and (a_for 78 (record { node = 63; names = ((codes "j") ∷ []); type = (a_simple_type 62
-    simple.Int) } ∷ []) (a_call 67 (a_name 64 (codes "count")) (expression_and (a_name 65 (codes "i")) (expression_and (a_literal 66 (integer (codes
-    "9"))) no_expressions))) (a_body no_equates (statement_and (an_assign 71 ((codes "s") ∷ []) (expression_and (an_infix 70 op.Add (a_name 68 (codes
-    "s")) (a_name 69 (codes "j"))) no_expressions)) (statement_and (an_if 77 (clause_and (an_infix 74 op.Greater (a_name 72 (codes "s")) (a_literal 73
-    (integer (codes "20")))) (a_body no_equates (statement_and (a_return 76 (expression_and (a_name 75 (codes "s")) no_expressions)) no_statements))
-    no_clauses) nothing_else) no_statements)))) (statement_and (an_if 84 (clause_and (an_infix 81 op.Equal (a_name 79 (codes "i")) (a_literal 80
-    (integer (codes "9")))) (a_body no_equates (statement_and (a_return 83 (expression_and (a_literal 82 (integer (codes "0"))) no_expressions))
-    no_statements)) no_clauses) nothing_else) no_statements)))) (statement_and (a_return 88 (expression_and (a_prefix 87 sign.Minus (a_literal 86
-    (integer (codes "1")))) no_expressions)) no_statements))) })) ∷ (a_routine 104 no_equates (record { node = 103; name = (codes "start_up"); closing
-    = (codes "start_up"); kind = kind.Procedure; parameters = []; arguments = ([]); results = no_types; signals = no_exceptions; restrictions = ([]);
-    equates = no_equates; owns = ([]); statements = (statement_and (a_call_statement 102 (a_call 101 (an_operation 92 (a_named_type 91 (codes
-    "stream") no_constants) (codes "putl")) (expression_and (a_call 95 (an_operation 94 (a_named_type 93 (codes "stream") no_constants) (codes
-    "primary_output")) no_expressions) (expression_and (a_call 100 (an_operation 97 (a_simple_type 96 simple.Int) (codes "unparse")) (expression_and
-    (a_call 99 (a_name 98 (codes "p")) no_expressions) no_expressions)) no_expressions)))) no_statements) })) ∷ [])
+    ((a_routine 26 no_equates (routine 25 (codes "count") (codes "count") kind.Iterator [] (typed 1 ((codes "a") ∷ (codes "b") ∷ []) (a_simple_type 0
+    simple.Int) ∷ []) (type_and (a_simple_type 2 simple.Int) no_types) no_exceptions ([]) no_equates ([]) (statement_and (an_init 6 (a_variable (codes
+    "i") (a_simple_type 4 simple.Int)) (a_name 5 (codes "a"))) (statement_and (a_while 16 (an_infix 9 op.AtMost (a_name 7 (codes "i")) (a_name 8
+    (codes "b"))) (a_body no_equates (statement_and (a_yield 11 (expression_and (a_name 10 (codes "i")) no_expressions)) (statement_and (an_assign 15
+    ((codes "i") ∷ []) (expression_and (an_infix 14 op.Add (a_name 12 (codes "i")) (a_literal 13 (integer (codes "1")))) no_expressions))
+    no_statements)))) (statement_and (a_call_statement 24 (a_call 23 (an_operation 18 (a_named_type 17 (codes "stream") no_constants) (codes "putl"))
+    (expression_and (a_call 21 (an_operation 20 (a_named_type 19 (codes "stream") no_constants) (codes "primary_output")) no_expressions)
+    (expression_and (a_literal 22 (string (34 ∷ 33 ∷ 34 ∷ []))) no_expressions)))) no_statements))))) ∷ (a_routine 51 no_equates (routine 50 (codes
+    "twice") (codes "twice") kind.Iterator [] (typed 28 ((codes "n") ∷ []) (a_simple_type 27 simple.Int) ∷ []) (type_and (a_simple_type 29 simple.Int)
+    no_types) no_exceptions ([]) no_equates ([]) (statement_and (a_for 41 (typed 32 ((codes "i") ∷ []) (a_simple_type 31 simple.Int) ∷ []) (a_call 36
+    (a_name 33 (codes "count")) (expression_and (a_literal 34 (integer (codes "1"))) (expression_and (a_name 35 (codes "n")) no_expressions))) (a_body
+    no_equates (statement_and (a_yield 38 (expression_and (a_name 37 (codes "i")) no_expressions)) (statement_and (a_yield 40 (expression_and (a_name
+    39 (codes "i")) no_expressions)) no_statements)))) (statement_and (a_call_statement 49 (a_call 48 (an_operation 43 (a_named_type 42 (codes
+    "stream") no_constants) (codes "putl")) (expression_and (a_call 46 (an_operation 45 (a_named_type 44 (codes "stream") no_constants) (codes
+    "primary_output")) no_expressions) (expression_and (a_literal 47 (string (34 ∷ 33 ∷ 33 ∷ 34 ∷ []))) no_expressions)))) no_statements)))) ∷
+    (a_routine 90 no_equates (routine 89 (codes "p") (codes "p") kind.Procedure [] ([]) (type_and (a_simple_type 52 simple.Int) no_types)
+    no_exceptions ([]) no_equates ([]) (statement_and (an_init 56 (a_variable (codes "s") (a_simple_type 54 simple.Int)) (a_literal 55 (integer (codes
+    "0")))) (statement_and (a_for 85 (typed 58 ((codes "i") ∷ []) (a_simple_type 57 simple.Int) ∷ []) (a_call 61 (a_name 59 (codes "twice"))
+    (expression_and (a_literal 60 (integer (codes "9"))) no_expressions)) (a_body no_equates (statement_and (a_for 78 (typed 63 ((codes "j") ∷ [])
+    (a_simple_type 62 simple.Int) ∷ []) (a_call 67 (a_name 64 (codes "count")) (expression_and (a_name 65 (codes "i")) (expression_and (a_literal 66
+    (integer (codes "9"))) no_expressions))) (a_body no_equates (statement_and (an_assign 71 ((codes "s") ∷ []) (expression_and (an_infix 70 op.Add
+    (a_name 68 (codes "s")) (a_name 69 (codes "j"))) no_expressions)) (statement_and (an_if 77 (clause_and (an_infix 74 op.Greater (a_name 72 (codes
+    "s")) (a_literal 73 (integer (codes "20")))) (a_body no_equates (statement_and (a_return 76 (expression_and (a_name 75 (codes "s"))
+    no_expressions)) no_statements)) no_clauses) nothing_else) no_statements)))) (statement_and (an_if 84 (clause_and (an_infix 81 op.Equal (a_name 79
+    (codes "i")) (a_literal 80 (integer (codes "9")))) (a_body no_equates (statement_and (a_return 83 (expression_and (a_literal 82 (integer (codes
+    "0"))) no_expressions)) no_statements)) no_clauses) nothing_else) no_statements)))) (statement_and (a_return 88 (expression_and (a_prefix 87
+    sign.Minus (a_literal 86 (integer (codes "1")))) no_expressions)) no_statements))))) ∷ (a_routine 104 no_equates (routine 103 (codes "start_up")
+    (codes "start_up") kind.Procedure [] ([]) no_types no_exceptions ([]) no_equates ([]) (statement_and (a_call_statement 102 (a_call 101
+    (an_operation 92 (a_named_type 91 (codes "stream") no_constants) (codes "putl")) (expression_and (a_call 95 (an_operation 94 (a_named_type 93
+    (codes "stream") no_constants) (codes "primary_output")) no_expressions) (expression_and (a_call 100 (an_operation 97 (a_simple_type 96
+    simple.Int) (codes "unparse")) (expression_and (a_call 99 (a_name 98 (codes "p")) no_expressions) no_expressions)) no_expressions))))
+    no_statements))) ∷ [])
 
 abbrev a_return_through_nested_iterators_declared : List Declared
 a_return_through_nested_iterators_declared =
@@ -263,25 +245,22 @@ a_return_through_nested_iterators = refl
 -- start_up = proc () p() except when failure (s: string): stream$putl(stream$primary_output(), s) end end start_up
 abbrev a_failure_passes_others_of_the_iterator_modules : List Module
 a_failure_passes_others_of_the_iterator_modules =
-    ((a_routine 19 no_equates (record { node = 18; name = (codes "it"); closing = (codes "it"); kind = kind.Iterator; parameters = []; arguments =
-    ([]); results = (type_and (a_simple_type 0 simple.Int) no_types); signals = no_exceptions; restrictions = ([]); equates = no_equates; owns = ([]);
-    statements = (statement_and (an_except 17 (a_begin 4 (a_body no_equates (statement_and (a_yield 3 (expression_and (a_literal 2 (integer (codes
-    "1"))) no_expressions)) no_statements))) no_whens (others 16 (Some (record { name = (codes "s"); type = (a_simple_type 5 simple.String) }))
+    ((a_routine 19 no_equates (routine 18 (codes "it") (codes "it") kind.Iterator [] ([]) (type_and (a_simple_type 0 simple.Int) no_types)
+    no_exceptions ([]) no_equates ([]) (statement_and (an_except 17 (a_begin 4 (a_body no_equates (statement_and (a_yield 3 (expression_and (a_literal
+    2 (integer (codes "1"))) no_expressions)) no_statements))) no_whens (others 16 (Some (a_variable (codes "s") (a_simple_type 5 simple.String)))
     (a_body no_equates (statement_and (a_call_statement 15 (a_call 14 (an_operation 7 (a_named_type 6 (codes "stream") no_constants) (codes "putl"))
     (expression_and (a_call 10 (an_operation 9 (a_named_type 8 (codes "stream") no_constants) (codes "primary_output")) no_expressions)
     (expression_and (an_infix 13 op.Concatenate (a_literal 11 (string (34 ∷ 105 ∷ 116 ∷ 32 ∷ 34 ∷ []))) (a_name 12 (codes "s"))) no_expressions))))
-    no_statements)))) no_statements) })) ∷ (a_routine 28 no_equates (record { node = 27; name = (codes "p"); closing = (codes "p"); kind =
-    kind.Procedure; parameters = []; arguments = ([]); results = no_types; signals = no_exceptions; restrictions = ([]); equates = no_equates; owns =
-    ([]); statements = (statement_and (a_for 26 (record { node = 21; names = ((codes "x") ∷ []); type = (a_simple_type 20 simple.Int) } ∷ []) (a_call
-    23 (a_name 22 (codes "it")) no_expressions) (a_body no_equates (statement_and (a_signal 25 (codes "failure") (expression_and (a_literal 24 (string
-    (34 ∷ 102 ∷ 114 ∷ 111 ∷ 109 ∷ 32 ∷ 116 ∷ 104 ∷ 101 ∷ 32 ∷ 98 ∷ 111 ∷ 100 ∷ 121 ∷ 34 ∷ []))) no_expressions)) no_statements))) no_statements) })) ∷
-    (a_routine 45 no_equates (record { node = 44; name = (codes "start_up"); closing = (codes "start_up"); kind = kind.Procedure; parameters = [];
-    arguments = ([]); results = no_types; signals = no_exceptions; restrictions = ([]); equates = no_equates; owns = ([]); statements = (statement_and
-    (an_except 43 (a_call_statement 31 (a_call 30 (a_name 29 (codes "p")) no_expressions)) (when_and 42 ((codes "failure") ∷ []) (objects (record {
-    node = 33; names = ((codes "s") ∷ []); type = (a_simple_type 32 simple.String) } ∷ [])) (a_body no_equates (statement_and (a_call_statement 41
-    (a_call 40 (an_operation 35 (a_named_type 34 (codes "stream") no_constants) (codes "putl")) (expression_and (a_call 38 (an_operation 37
-    (a_named_type 36 (codes "stream") no_constants) (codes "primary_output")) no_expressions) (expression_and (a_name 39 (codes "s"))
-    no_expressions)))) no_statements)) no_whens) no_others) no_statements) })) ∷ [])
+    no_statements)))) no_statements))) ∷ (a_routine 28 no_equates (routine 27 (codes "p") (codes "p") kind.Procedure [] ([]) no_types no_exceptions
+    ([]) no_equates ([]) (statement_and (a_for 26 (typed 21 ((codes "x") ∷ []) (a_simple_type 20 simple.Int) ∷ []) (a_call 23 (a_name 22 (codes "it"))
+    no_expressions) (a_body no_equates (statement_and (a_signal 25 (codes "failure") (expression_and (a_literal 24 (string (34 ∷ 102 ∷ 114 ∷ 111 ∷ 109
+    ∷ 32 ∷ 116 ∷ 104 ∷ 101 ∷ 32 ∷ 98 ∷ 111 ∷ 100 ∷ 121 ∷ 34 ∷ []))) no_expressions)) no_statements))) no_statements))) ∷ (a_routine 45 no_equates
+    (routine 44 (codes "start_up") (codes "start_up") kind.Procedure [] ([]) no_types no_exceptions ([]) no_equates ([]) (statement_and (an_except 43
+    (a_call_statement 31 (a_call 30 (a_name 29 (codes "p")) no_expressions)) (when_and 42 ((codes "failure") ∷ []) (objects (typed 33 ((codes "s") ∷
+    []) (a_simple_type 32 simple.String) ∷ [])) (a_body no_equates (statement_and (a_call_statement 41 (a_call 40 (an_operation 35 (a_named_type 34
+    (codes "stream") no_constants) (codes "putl")) (expression_and (a_call 38 (an_operation 37 (a_named_type 36 (codes "stream") no_constants) (codes
+    "primary_output")) no_expressions) (expression_and (a_name 39 (codes "s")) no_expressions)))) no_statements)) no_whens) no_others)
+    no_statements))) ∷ [])
 
 abbrev a_failure_passes_others_of_the_iterator_declared : List Declared
 a_failure_passes_others_of_the_iterator_declared =
@@ -297,34 +276,31 @@ a_failure_passes_others_of_the_iterator = refl
 -- start_up = proc () for a: int in gen(2) do for b: int in gen(2) do stream$puts(stream$primary_output(), int$unparse(a)) stream$puts(stream$primary_output(), " ") stream$puts(stream$primary_output(), int$unparse(b)) stream$puts(stream$primary_output(), ";") end end stream$putl(stream$primary_output(), "") end start_up
 abbrev the_state_of_loops_side_by_side_modules : List Module
 the_state_of_loops_side_by_side_modules =
-    ((a_routine 22 no_equates (record { node = 21; name = (codes "gen"); closing = (codes "gen"); kind = kind.Iterator; parameters = []; arguments =
-    (record { node = 1; names = ((codes "n") ∷ []); type = (a_simple_type 0 simple.Int) } ∷ []); results = (type_and (a_simple_type 2 simple.Int)
-    no_types); signals = no_exceptions; restrictions = ([]); equates = no_equates; owns = ((own_init 6 (record { name = (codes "total"); type =
-    (a_simple_type 4 simple.Int) }) (a_literal 5 (integer (codes "0")))) ∷ []); statements = (statement_and (a_for 20 (record { node = 8; names =
-    ((codes "i") ∷ []); type = (a_simple_type 7 simple.Int) } ∷ []) (a_call 13 (an_operation 10 (a_simple_type 9 simple.Int) (codes "from_to"))
-    (expression_and (a_literal 11 (integer (codes "1"))) (expression_and (a_name 12 (codes "n")) no_expressions))) (a_body no_equates (statement_and
-    (an_assign 17 ((codes "total") ∷ []) (expression_and (an_infix 16 op.Add (a_name 14 (codes "total")) (a_name 15 (codes "i"))) no_expressions))
-    (statement_and (a_yield 19 (expression_and (a_name 18 (codes "total")) no_expressions)) no_statements)))) no_statements) })) ∷ (a_routine 82
-    no_equates (record { node = 81; name = (codes "start_up"); closing = (codes "start_up"); kind = kind.Procedure; parameters = []; arguments = ([]);
-    results = no_types; signals = no_exceptions; restrictions = ([]); equates = no_equates; owns = ([]); statements = (statement_and (a_for 72 (record
-    { node = 24; names = ((codes "a") ∷ []); type = (a_simple_type 23 simple.Int) } ∷ []) (a_call 27 (a_name 25 (codes "gen")) (expression_and
-    (a_literal 26 (integer (codes "2"))) no_expressions)) (a_body no_equates (statement_and (a_for 71 (record { node = 29; names = ((codes "b") ∷ []);
-    type = (a_simple_type 28 simple.Int) } ∷ []) (a_call 32 (a_name 30 (codes "gen")) (expression_and (a_literal 31 (integer (codes "2")))
-    no_expressions)) (a_body no_equates (statement_and (a_call_statement 43 (a_call 42 (an_operation 34 (a_named_type 33 (codes "stream")
-    no_constants) (codes "puts")) (expression_and (a_call 37 (an_operation 36 (a_named_type 35 (codes "stream") no_constants) (codes
-    "primary_output")) no_expressions) (expression_and (a_call 41 (an_operation 39 (a_simple_type 38 simple.Int) (codes "unparse")) (expression_and
-    (a_name 40 (codes "a")) no_expressions)) no_expressions)))) (statement_and (a_call_statement 51 (a_call 50 (an_operation 45 (a_named_type 44
-    (codes "stream") no_constants) (codes "puts")) (expression_and (a_call 48 (an_operation 47 (a_named_type 46 (codes "stream") no_constants) (codes
-    "primary_output")) no_expressions) (expression_and (a_literal 49 (string (34 ∷ 32 ∷ 34 ∷ []))) no_expressions)))) (statement_and (a_call_statement
-    62 (a_call 61 (an_operation 53 (a_named_type 52 (codes "stream") no_constants) (codes "puts")) (expression_and (a_call 56 (an_operation 55
-    (a_named_type 54 (codes "stream") no_constants) (codes "primary_output")) no_expressions) (expression_and (a_call 60 (an_operation 58
-    (a_simple_type 57 simple.Int) (codes "unparse")) (expression_and (a_name 59 (codes "b")) no_expressions)) no_expressions)))) (statement_and
-    (a_call_statement 70 (a_call 69 (an_operation 64 (a_named_type 63 (codes "stream") no_constants) (codes "puts")) (expression_and (a_call 67
-    (an_operation 66 (a_named_type 65 (codes "stream") no_constants) (codes "primary_output")) no_expressions) (expression_and (a_literal 68 (string
-    (34 ∷ 59 ∷ 34 ∷ []))) no_expressions)))) no_statements)))))) no_statements))) (statement_and (a_call_statement 80 (a_call 79 (an_operation 74
-    (a_named_type 73 (codes "stream") no_constants) (codes "putl")) (expression_and (a_call 77 (an_operation 76 (a_named_type 75 (codes "stream")
-    no_constants) (codes "primary_output")) no_expressions) (expression_and (a_literal 78 (string (34 ∷ 34 ∷ []))) no_expressions)))) no_statements))
-    })) ∷ [])
+    ((a_routine 22 no_equates (routine 21 (codes "gen") (codes "gen") kind.Iterator [] (typed 1 ((codes "n") ∷ []) (a_simple_type 0 simple.Int) ∷ [])
+    (type_and (a_simple_type 2 simple.Int) no_types) no_exceptions ([]) no_equates ((own_init 6 (a_variable (codes "total") (a_simple_type 4
+    simple.Int)) (a_literal 5 (integer (codes "0")))) ∷ []) (statement_and (a_for 20 (typed 8 ((codes "i") ∷ []) (a_simple_type 7 simple.Int) ∷ [])
+    (a_call 13 (an_operation 10 (a_simple_type 9 simple.Int) (codes "from_to")) (expression_and (a_literal 11 (integer (codes "1"))) (expression_and
+    (a_name 12 (codes "n")) no_expressions))) (a_body no_equates (statement_and (an_assign 17 ((codes "total") ∷ []) (expression_and (an_infix 16
+    op.Add (a_name 14 (codes "total")) (a_name 15 (codes "i"))) no_expressions)) (statement_and (a_yield 19 (expression_and (a_name 18 (codes
+    "total")) no_expressions)) no_statements)))) no_statements))) ∷ (a_routine 82 no_equates (routine 81 (codes "start_up") (codes "start_up")
+    kind.Procedure [] ([]) no_types no_exceptions ([]) no_equates ([]) (statement_and (a_for 72 (typed 24 ((codes "a") ∷ []) (a_simple_type 23
+    simple.Int) ∷ []) (a_call 27 (a_name 25 (codes "gen")) (expression_and (a_literal 26 (integer (codes "2"))) no_expressions)) (a_body no_equates
+    (statement_and (a_for 71 (typed 29 ((codes "b") ∷ []) (a_simple_type 28 simple.Int) ∷ []) (a_call 32 (a_name 30 (codes "gen")) (expression_and
+    (a_literal 31 (integer (codes "2"))) no_expressions)) (a_body no_equates (statement_and (a_call_statement 43 (a_call 42 (an_operation 34
+    (a_named_type 33 (codes "stream") no_constants) (codes "puts")) (expression_and (a_call 37 (an_operation 36 (a_named_type 35 (codes "stream")
+    no_constants) (codes "primary_output")) no_expressions) (expression_and (a_call 41 (an_operation 39 (a_simple_type 38 simple.Int) (codes
+    "unparse")) (expression_and (a_name 40 (codes "a")) no_expressions)) no_expressions)))) (statement_and (a_call_statement 51 (a_call 50
+    (an_operation 45 (a_named_type 44 (codes "stream") no_constants) (codes "puts")) (expression_and (a_call 48 (an_operation 47 (a_named_type 46
+    (codes "stream") no_constants) (codes "primary_output")) no_expressions) (expression_and (a_literal 49 (string (34 ∷ 32 ∷ 34 ∷ [])))
+    no_expressions)))) (statement_and (a_call_statement 62 (a_call 61 (an_operation 53 (a_named_type 52 (codes "stream") no_constants) (codes "puts"))
+    (expression_and (a_call 56 (an_operation 55 (a_named_type 54 (codes "stream") no_constants) (codes "primary_output")) no_expressions)
+    (expression_and (a_call 60 (an_operation 58 (a_simple_type 57 simple.Int) (codes "unparse")) (expression_and (a_name 59 (codes "b"))
+    no_expressions)) no_expressions)))) (statement_and (a_call_statement 70 (a_call 69 (an_operation 64 (a_named_type 63 (codes "stream")
+    no_constants) (codes "puts")) (expression_and (a_call 67 (an_operation 66 (a_named_type 65 (codes "stream") no_constants) (codes
+    "primary_output")) no_expressions) (expression_and (a_literal 68 (string (34 ∷ 59 ∷ 34 ∷ []))) no_expressions)))) no_statements))))))
+    no_statements))) (statement_and (a_call_statement 80 (a_call 79 (an_operation 74 (a_named_type 73 (codes "stream") no_constants) (codes "putl"))
+    (expression_and (a_call 77 (an_operation 76 (a_named_type 75 (codes "stream") no_constants) (codes "primary_output")) no_expressions)
+    (expression_and (a_literal 78 (string (34 ∷ 34 ∷ []))) no_expressions)))) no_statements)))) ∷ [])
 
 abbrev the_state_of_loops_side_by_side_declared : List Declared
 the_state_of_loops_side_by_side_declared =

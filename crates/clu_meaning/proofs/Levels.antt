@@ -23,11 +23,11 @@ same_level program (suc n) round body =
 higher_level : (program : Program) (k n m : ℕ) → m ≡ n + k → AllGo k n (level program n) (level program m)
 unfolding level
 higher_level program k zero m e round body = record {
-    follows = λ turns st. (same_level program m round body).grows (turns + k) st;
-    grows = (same_level program m round body).grows;
-    same = λ turns l st. absurd (omega (arith, l));
-    fewer = (same_level program m round body).fewer
-  }
+  follows = λ turns st. (same_level program m round body).grows (turns + k) st;
+  grows = (same_level program m round body).grows;
+  same = λ turns l st. absurd (omega (arith, l));
+  fewer = (same_level program m round body).fewer;
+}
 higher_level program k (suc n) m e round body =
     let now = goes_exec_all program k n (level program n) (level program (n + k)) (higher_level program k n (n + k) refl) round body in
     let s : suc (n + k) ≡ m = omega (arith, e) in

@@ -10,7 +10,7 @@ use Rattle.clu_syntax.specs.Syntax.{integer, string, an_infix, a_prefix, a_liter
 use Rattle.clu_layout.specs.Computing.{computing}
 use Rattle.clu_meaning.specs.Run.{returned_normally}
 use Rattle.clu_meaning.specs.Executing.{executing}
-use Rattle.clu_meaning.proofs.Running.{d, m, Runs}
+use Rattle.clu_meaning.proofs.Running.{d, typed, routine, Runs}
 
 -- % from_to
 -- start_up = proc ()
@@ -21,46 +21,44 @@ use Rattle.clu_meaning.proofs.Running.{d, m, Runs}
 -- end start_up
 abbrev from_to_modules : List Module
 from_to_modules =
-    ((a_routine 124 no_equates (record { node = 123; name = (codes "start_up"); closing = (codes "start_up"); kind = kind.Procedure; parameters = [];
-    arguments = ([]); results = no_types; signals = no_exceptions; restrictions = ([]); equates = no_equates; owns = ([]); statements = (statement_and
-    (a_for 18 (record { node = 1; names = ((codes "i") ∷ []); type = (a_simple_type 0 simple.Int) } ∷ []) (a_call 6 (an_operation 3 (a_simple_type 2
-    simple.Int) (codes "from_to")) (expression_and (a_literal 4 (integer (codes "3"))) (expression_and (a_literal 5 (integer (codes "5")))
-    no_expressions))) (a_body no_equates (statement_and (a_call_statement 17 (a_call 16 (an_operation 8 (a_named_type 7 (codes "stream") no_constants)
-    (codes "puts")) (expression_and (a_call 11 (an_operation 10 (a_named_type 9 (codes "stream") no_constants) (codes "primary_output"))
-    no_expressions) (expression_and (a_call 15 (an_operation 13 (a_simple_type 12 simple.Int) (codes "unparse")) (expression_and (a_name 14 (codes
-    "i")) no_expressions)) no_expressions)))) no_statements))) (statement_and (a_for 34 (record { node = 20; names = ((codes "i") ∷ []); type =
-    (a_simple_type 19 simple.Int) } ∷ []) (a_call 25 (an_operation 22 (a_simple_type 21 simple.Int) (codes "from_to")) (expression_and (a_literal 23
-    (integer (codes "3"))) (expression_and (a_literal 24 (integer (codes "2"))) no_expressions))) (a_body no_equates (statement_and (a_call_statement
-    33 (a_call 32 (an_operation 27 (a_named_type 26 (codes "stream") no_constants) (codes "puts")) (expression_and (a_call 30 (an_operation 29
-    (a_named_type 28 (codes "stream") no_constants) (codes "primary_output")) no_expressions) (expression_and (a_literal 31 (string (34 ∷ 33 ∷ 34 ∷
-    []))) no_expressions)))) no_statements))) (statement_and (a_for 54 (record { node = 36; names = ((codes "i") ∷ []); type = (a_simple_type 35
-    simple.Int) } ∷ []) (a_call 42 (an_operation 38 (a_simple_type 37 simple.Int) (codes "from_to_by")) (expression_and (a_literal 39 (integer (codes
-    "1"))) (expression_and (a_literal 40 (integer (codes "9"))) (expression_and (a_literal 41 (integer (codes "4"))) no_expressions)))) (a_body
-    no_equates (statement_and (a_call_statement 53 (a_call 52 (an_operation 44 (a_named_type 43 (codes "stream") no_constants) (codes "puts"))
-    (expression_and (a_call 47 (an_operation 46 (a_named_type 45 (codes "stream") no_constants) (codes "primary_output")) no_expressions)
-    (expression_and (a_call 51 (an_operation 49 (a_simple_type 48 simple.Int) (codes "unparse")) (expression_and (a_name 50 (codes "i"))
-    no_expressions)) no_expressions)))) no_statements))) (statement_and (a_for 75 (record { node = 56; names = ((codes "i") ∷ []); type =
-    (a_simple_type 55 simple.Int) } ∷ []) (a_call 63 (an_operation 58 (a_simple_type 57 simple.Int) (codes "from_to_by")) (expression_and (a_literal
-    59 (integer (codes "3"))) (expression_and (a_literal 60 (integer (codes "1"))) (expression_and (a_prefix 62 sign.Minus (a_literal 61 (integer
-    (codes "1")))) no_expressions)))) (a_body no_equates (statement_and (a_call_statement 74 (a_call 73 (an_operation 65 (a_named_type 64 (codes
-    "stream") no_constants) (codes "puts")) (expression_and (a_call 68 (an_operation 67 (a_named_type 66 (codes "stream") no_constants) (codes
-    "primary_output")) no_expressions) (expression_and (a_call 72 (an_operation 70 (a_simple_type 69 simple.Int) (codes "unparse")) (expression_and
-    (a_name 71 (codes "i")) no_expressions)) no_expressions)))) no_statements))) (statement_and (a_for 96 (record { node = 77; names = ((codes "i") ∷
-    []); type = (a_simple_type 76 simple.Int) } ∷ []) (a_call 83 (an_operation 79 (a_simple_type 78 simple.Int) (codes "from_to_by")) (expression_and
-    (a_literal 80 (integer (codes "2"))) (expression_and (a_literal 81 (integer (codes "5"))) (expression_and (a_literal 82 (integer (codes "0")))
-    no_expressions)))) (a_body no_equates (statement_and (a_call_statement 94 (a_call 93 (an_operation 85 (a_named_type 84 (codes "stream")
-    no_constants) (codes "puts")) (expression_and (a_call 88 (an_operation 87 (a_named_type 86 (codes "stream") no_constants) (codes
-    "primary_output")) no_expressions) (expression_and (a_call 92 (an_operation 90 (a_simple_type 89 simple.Int) (codes "unparse")) (expression_and
-    (a_name 91 (codes "i")) no_expressions)) no_expressions)))) (statement_and (a_break 95) no_statements)))) (statement_and (a_for 114 (record { node
-    = 98; names = ((codes "i") ∷ []); type = (a_simple_type 97 simple.Int) } ∷ []) (a_call 105 (an_operation 100 (a_simple_type 99 simple.Int) (codes
-    "from_to")) (expression_and (an_infix 103 op.Subtract (a_literal 101 (integer (codes "9223372036854775807"))) (a_literal 102 (integer (codes
-    "1")))) (expression_and (a_literal 104 (integer (codes "9223372036854775807"))) no_expressions))) (a_body no_equates (statement_and
-    (a_call_statement 113 (a_call 112 (an_operation 107 (a_named_type 106 (codes "stream") no_constants) (codes "puts")) (expression_and (a_call 110
-    (an_operation 109 (a_named_type 108 (codes "stream") no_constants) (codes "primary_output")) no_expressions) (expression_and (a_literal 111
-    (string (34 ∷ 109 ∷ 34 ∷ []))) no_expressions)))) no_statements))) (statement_and (a_call_statement 122 (a_call 121 (an_operation 116
-    (a_named_type 115 (codes "stream") no_constants) (codes "putl")) (expression_and (a_call 119 (an_operation 118 (a_named_type 117 (codes "stream")
-    no_constants) (codes "primary_output")) no_expressions) (expression_and (a_literal 120 (string (34 ∷ 34 ∷ []))) no_expressions))))
-    no_statements))))))) })) ∷ [])
+    ((a_routine 124 no_equates (routine 123 (codes "start_up") (codes "start_up") kind.Procedure [] ([]) no_types no_exceptions ([]) no_equates ([])
+    (statement_and (a_for 18 (typed 1 ((codes "i") ∷ []) (a_simple_type 0 simple.Int) ∷ []) (a_call 6 (an_operation 3 (a_simple_type 2 simple.Int)
+    (codes "from_to")) (expression_and (a_literal 4 (integer (codes "3"))) (expression_and (a_literal 5 (integer (codes "5"))) no_expressions)))
+    (a_body no_equates (statement_and (a_call_statement 17 (a_call 16 (an_operation 8 (a_named_type 7 (codes "stream") no_constants) (codes "puts"))
+    (expression_and (a_call 11 (an_operation 10 (a_named_type 9 (codes "stream") no_constants) (codes "primary_output")) no_expressions)
+    (expression_and (a_call 15 (an_operation 13 (a_simple_type 12 simple.Int) (codes "unparse")) (expression_and (a_name 14 (codes "i"))
+    no_expressions)) no_expressions)))) no_statements))) (statement_and (a_for 34 (typed 20 ((codes "i") ∷ []) (a_simple_type 19 simple.Int) ∷ [])
+    (a_call 25 (an_operation 22 (a_simple_type 21 simple.Int) (codes "from_to")) (expression_and (a_literal 23 (integer (codes "3"))) (expression_and
+    (a_literal 24 (integer (codes "2"))) no_expressions))) (a_body no_equates (statement_and (a_call_statement 33 (a_call 32 (an_operation 27
+    (a_named_type 26 (codes "stream") no_constants) (codes "puts")) (expression_and (a_call 30 (an_operation 29 (a_named_type 28 (codes "stream")
+    no_constants) (codes "primary_output")) no_expressions) (expression_and (a_literal 31 (string (34 ∷ 33 ∷ 34 ∷ []))) no_expressions))))
+    no_statements))) (statement_and (a_for 54 (typed 36 ((codes "i") ∷ []) (a_simple_type 35 simple.Int) ∷ []) (a_call 42 (an_operation 38
+    (a_simple_type 37 simple.Int) (codes "from_to_by")) (expression_and (a_literal 39 (integer (codes "1"))) (expression_and (a_literal 40 (integer
+    (codes "9"))) (expression_and (a_literal 41 (integer (codes "4"))) no_expressions)))) (a_body no_equates (statement_and (a_call_statement 53
+    (a_call 52 (an_operation 44 (a_named_type 43 (codes "stream") no_constants) (codes "puts")) (expression_and (a_call 47 (an_operation 46
+    (a_named_type 45 (codes "stream") no_constants) (codes "primary_output")) no_expressions) (expression_and (a_call 51 (an_operation 49
+    (a_simple_type 48 simple.Int) (codes "unparse")) (expression_and (a_name 50 (codes "i")) no_expressions)) no_expressions)))) no_statements)))
+    (statement_and (a_for 75 (typed 56 ((codes "i") ∷ []) (a_simple_type 55 simple.Int) ∷ []) (a_call 63 (an_operation 58 (a_simple_type 57
+    simple.Int) (codes "from_to_by")) (expression_and (a_literal 59 (integer (codes "3"))) (expression_and (a_literal 60 (integer (codes "1")))
+    (expression_and (a_prefix 62 sign.Minus (a_literal 61 (integer (codes "1")))) no_expressions)))) (a_body no_equates (statement_and
+    (a_call_statement 74 (a_call 73 (an_operation 65 (a_named_type 64 (codes "stream") no_constants) (codes "puts")) (expression_and (a_call 68
+    (an_operation 67 (a_named_type 66 (codes "stream") no_constants) (codes "primary_output")) no_expressions) (expression_and (a_call 72
+    (an_operation 70 (a_simple_type 69 simple.Int) (codes "unparse")) (expression_and (a_name 71 (codes "i")) no_expressions)) no_expressions))))
+    no_statements))) (statement_and (a_for 96 (typed 77 ((codes "i") ∷ []) (a_simple_type 76 simple.Int) ∷ []) (a_call 83 (an_operation 79
+    (a_simple_type 78 simple.Int) (codes "from_to_by")) (expression_and (a_literal 80 (integer (codes "2"))) (expression_and (a_literal 81 (integer
+    (codes "5"))) (expression_and (a_literal 82 (integer (codes "0"))) no_expressions)))) (a_body no_equates (statement_and (a_call_statement 94
+    (a_call 93 (an_operation 85 (a_named_type 84 (codes "stream") no_constants) (codes "puts")) (expression_and (a_call 88 (an_operation 87
+    (a_named_type 86 (codes "stream") no_constants) (codes "primary_output")) no_expressions) (expression_and (a_call 92 (an_operation 90
+    (a_simple_type 89 simple.Int) (codes "unparse")) (expression_and (a_name 91 (codes "i")) no_expressions)) no_expressions)))) (statement_and
+    (a_break 95) no_statements)))) (statement_and (a_for 114 (typed 98 ((codes "i") ∷ []) (a_simple_type 97 simple.Int) ∷ []) (a_call 105
+    (an_operation 100 (a_simple_type 99 simple.Int) (codes "from_to")) (expression_and (an_infix 103 op.Subtract (a_literal 101 (integer (codes
+    "9223372036854775807"))) (a_literal 102 (integer (codes "1")))) (expression_and (a_literal 104 (integer (codes "9223372036854775807")))
+    no_expressions))) (a_body no_equates (statement_and (a_call_statement 113 (a_call 112 (an_operation 107 (a_named_type 106 (codes "stream")
+    no_constants) (codes "puts")) (expression_and (a_call 110 (an_operation 109 (a_named_type 108 (codes "stream") no_constants) (codes
+    "primary_output")) no_expressions) (expression_and (a_literal 111 (string (34 ∷ 109 ∷ 34 ∷ []))) no_expressions)))) no_statements)))
+    (statement_and (a_call_statement 122 (a_call 121 (an_operation 116 (a_named_type 115 (codes "stream") no_constants) (codes "putl"))
+    (expression_and (a_call 119 (an_operation 118 (a_named_type 117 (codes "stream") no_constants) (codes "primary_output")) no_expressions)
+    (expression_and (a_literal 120 (string (34 ∷ 34 ∷ []))) no_expressions)))) no_statements))))))))) ∷ [])
 
 abbrev from_to_declared : List Declared
 from_to_declared =
@@ -78,25 +76,24 @@ from_to = refl
 -- end start_up
 abbrev nested_loops_modules : List Module
 nested_loops_modules =
-    ((a_routine 58 no_equates (record { node = 57; name = (codes "start_up"); closing = (codes "start_up"); kind = kind.Procedure; parameters = [];
-    arguments = ([]); results = no_types; signals = no_exceptions; restrictions = ([]); equates = no_equates; owns = ([]); statements = (statement_and
-    (a_for 48 (record { node = 1; names = ((codes "i") ∷ []); type = (a_simple_type 0 simple.Int) } ∷ []) (a_call 6 (an_operation 3 (a_simple_type 2
-    simple.Int) (codes "from_to")) (expression_and (a_literal 4 (integer (codes "1"))) (expression_and (a_literal 5 (integer (codes "3")))
-    no_expressions))) (a_body no_equates (statement_and (a_for 47 (record { node = 8; names = ((codes "j") ∷ []); type = (a_simple_type 7 simple.Int)
-    } ∷ []) (a_call 13 (an_operation 10 (a_simple_type 9 simple.Int) (codes "from_to")) (expression_and (a_name 11 (codes "i")) (expression_and
-    (a_literal 12 (integer (codes "3"))) no_expressions))) (a_body no_equates (statement_and (an_if 18 (clause_and (an_infix 16 op.Equal (a_name 14
-    (codes "j")) (a_literal 15 (integer (codes "2")))) (a_body no_equates (statement_and (a_continue 17) no_statements)) no_clauses) nothing_else)
-    (statement_and (an_if 23 (clause_and (an_infix 21 op.Equal (a_name 19 (codes "i")) (a_literal 20 (integer (codes "3")))) (a_body no_equates
-    (statement_and (a_break 22) no_statements)) no_clauses) nothing_else) (statement_and (a_call_statement 38 (a_call 37 (an_operation 25
-    (a_named_type 24 (codes "stream") no_constants) (codes "puts")) (expression_and (a_call 28 (an_operation 27 (a_named_type 26 (codes "stream")
-    no_constants) (codes "primary_output")) no_expressions) (expression_and (a_call 36 (an_operation 30 (a_simple_type 29 simple.Int) (codes
-    "unparse")) (expression_and (an_infix 35 op.Add (an_infix 33 op.Multiply (a_name 31 (codes "i")) (a_literal 32 (integer (codes "10")))) (a_name 34
-    (codes "j"))) no_expressions)) no_expressions)))) (statement_and (a_call_statement 46 (a_call 45 (an_operation 40 (a_named_type 39 (codes
-    "stream") no_constants) (codes "puts")) (expression_and (a_call 43 (an_operation 42 (a_named_type 41 (codes "stream") no_constants) (codes
-    "primary_output")) no_expressions) (expression_and (a_literal 44 (string (34 ∷ 32 ∷ 34 ∷ []))) no_expressions)))) no_statements))))))
-    no_statements))) (statement_and (a_call_statement 56 (a_call 55 (an_operation 50 (a_named_type 49 (codes "stream") no_constants) (codes "putl"))
-    (expression_and (a_call 53 (an_operation 52 (a_named_type 51 (codes "stream") no_constants) (codes "primary_output")) no_expressions)
-    (expression_and (a_literal 54 (string (34 ∷ 34 ∷ []))) no_expressions)))) no_statements)) })) ∷ [])
+    ((a_routine 58 no_equates (routine 57 (codes "start_up") (codes "start_up") kind.Procedure [] ([]) no_types no_exceptions ([]) no_equates ([])
+    (statement_and (a_for 48 (typed 1 ((codes "i") ∷ []) (a_simple_type 0 simple.Int) ∷ []) (a_call 6 (an_operation 3 (a_simple_type 2 simple.Int)
+    (codes "from_to")) (expression_and (a_literal 4 (integer (codes "1"))) (expression_and (a_literal 5 (integer (codes "3"))) no_expressions)))
+    (a_body no_equates (statement_and (a_for 47 (typed 8 ((codes "j") ∷ []) (a_simple_type 7 simple.Int) ∷ []) (a_call 13 (an_operation 10
+    (a_simple_type 9 simple.Int) (codes "from_to")) (expression_and (a_name 11 (codes "i")) (expression_and (a_literal 12 (integer (codes "3")))
+    no_expressions))) (a_body no_equates (statement_and (an_if 18 (clause_and (an_infix 16 op.Equal (a_name 14 (codes "j")) (a_literal 15 (integer
+    (codes "2")))) (a_body no_equates (statement_and (a_continue 17) no_statements)) no_clauses) nothing_else) (statement_and (an_if 23 (clause_and
+    (an_infix 21 op.Equal (a_name 19 (codes "i")) (a_literal 20 (integer (codes "3")))) (a_body no_equates (statement_and (a_break 22) no_statements))
+    no_clauses) nothing_else) (statement_and (a_call_statement 38 (a_call 37 (an_operation 25 (a_named_type 24 (codes "stream") no_constants) (codes
+    "puts")) (expression_and (a_call 28 (an_operation 27 (a_named_type 26 (codes "stream") no_constants) (codes "primary_output")) no_expressions)
+    (expression_and (a_call 36 (an_operation 30 (a_simple_type 29 simple.Int) (codes "unparse")) (expression_and (an_infix 35 op.Add (an_infix 33
+    op.Multiply (a_name 31 (codes "i")) (a_literal 32 (integer (codes "10")))) (a_name 34 (codes "j"))) no_expressions)) no_expressions))))
+    (statement_and (a_call_statement 46 (a_call 45 (an_operation 40 (a_named_type 39 (codes "stream") no_constants) (codes "puts")) (expression_and
+    (a_call 43 (an_operation 42 (a_named_type 41 (codes "stream") no_constants) (codes "primary_output")) no_expressions) (expression_and (a_literal
+    44 (string (34 ∷ 32 ∷ 34 ∷ []))) no_expressions)))) no_statements)))))) no_statements))) (statement_and (a_call_statement 56 (a_call 55
+    (an_operation 50 (a_named_type 49 (codes "stream") no_constants) (codes "putl")) (expression_and (a_call 53 (an_operation 52 (a_named_type 51
+    (codes "stream") no_constants) (codes "primary_output")) no_expressions) (expression_and (a_literal 54 (string (34 ∷ 34 ∷ []))) no_expressions))))
+    no_statements)))) ∷ [])
 
 abbrev nested_loops_declared : List Declared
 nested_loops_declared =
@@ -111,29 +108,26 @@ nested_loops = refl
 -- start_up = proc () for x: int in it() do stream$putl(stream$primary_output(), int$unparse(x)) if x = 2 then break end end stream$putl(stream$primary_output(), "on") end start_up
 abbrev break_ends_the_iterator_modules : List Module
 break_ends_the_iterator_modules =
-    ((a_routine 33 no_equates (record { node = 32; name = (codes "it"); closing = (codes "it"); kind = kind.Iterator; parameters = []; arguments =
-    ([]); results = (type_and (a_simple_type 0 simple.Int) no_types); signals = no_exceptions; restrictions = ([]); equates = no_equates; owns = ([]);
-    statements = (statement_and (a_yield 3 (expression_and (a_literal 2 (integer (codes "1"))) no_expressions)) (statement_and (a_call_statement 11
-    (a_call 10 (an_operation 5 (a_named_type 4 (codes "stream") no_constants) (codes "putl")) (expression_and (a_call 8 (an_operation 7 (a_named_type
-    6 (codes "stream") no_constants) (codes "primary_output")) no_expressions) (expression_and (a_literal 9 (string (34 ∷ 97 ∷ 34 ∷ [])))
-    no_expressions)))) (statement_and (a_yield 13 (expression_and (a_literal 12 (integer (codes "2"))) no_expressions)) (statement_and
-    (a_call_statement 21 (a_call 20 (an_operation 15 (a_named_type 14 (codes "stream") no_constants) (codes "putl")) (expression_and (a_call 18
-    (an_operation 17 (a_named_type 16 (codes "stream") no_constants) (codes "primary_output")) no_expressions) (expression_and (a_literal 19 (string
-    (34 ∷ 98 ∷ 34 ∷ []))) no_expressions)))) (statement_and (a_yield 23 (expression_and (a_literal 22 (integer (codes "3"))) no_expressions))
-    (statement_and (a_call_statement 31 (a_call 30 (an_operation 25 (a_named_type 24 (codes "stream") no_constants) (codes "putl")) (expression_and
-    (a_call 28 (an_operation 27 (a_named_type 26 (codes "stream") no_constants) (codes "primary_output")) no_expressions) (expression_and (a_literal
-    29 (string (34 ∷ 99 ∷ 34 ∷ []))) no_expressions)))) no_statements)))))) })) ∷ (a_routine 64 no_equates (record { node = 63; name = (codes
-    "start_up"); closing = (codes "start_up"); kind = kind.Procedure; parameters = []; arguments = ([]); results = no_types; signals = no_exceptions;
-    restrictions = ([]); equates = no_equates; owns = ([]); statements = (statement_and (a_for 54 (record { node = 35; names = ((codes "x") ∷ []);
-    type = (a_simple_type 34 simple.Int) } ∷ []) (a_call 37 (a_name 36 (codes "it")) no_expressions) (a_body no_equates (statement_and
-    (a_call_statement 48 (a_call 47 (an_operation 39 (a_named_type 38 (codes "stream") no_constants) (codes "putl")) (expression_and (a_call 42
-    (an_operation 41 (a_named_type 40 (codes "stream") no_constants) (codes "primary_output")) no_expressions) (expression_and (a_call 46
-    (an_operation 44 (a_simple_type 43 simple.Int) (codes "unparse")) (expression_and (a_name 45 (codes "x")) no_expressions)) no_expressions))))
-    (statement_and (an_if 53 (clause_and (an_infix 51 op.Equal (a_name 49 (codes "x")) (a_literal 50 (integer (codes "2")))) (a_body no_equates
-    (statement_and (a_break 52) no_statements)) no_clauses) nothing_else) no_statements)))) (statement_and (a_call_statement 62 (a_call 61
-    (an_operation 56 (a_named_type 55 (codes "stream") no_constants) (codes "putl")) (expression_and (a_call 59 (an_operation 58 (a_named_type 57
-    (codes "stream") no_constants) (codes "primary_output")) no_expressions) (expression_and (a_literal 60 (string (34 ∷ 111 ∷ 110 ∷ 34 ∷ [])))
-    no_expressions)))) no_statements)) })) ∷ [])
+    ((a_routine 33 no_equates (routine 32 (codes "it") (codes "it") kind.Iterator [] ([]) (type_and (a_simple_type 0 simple.Int) no_types)
+    no_exceptions ([]) no_equates ([]) (statement_and (a_yield 3 (expression_and (a_literal 2 (integer (codes "1"))) no_expressions)) (statement_and
+    (a_call_statement 11 (a_call 10 (an_operation 5 (a_named_type 4 (codes "stream") no_constants) (codes "putl")) (expression_and (a_call 8
+    (an_operation 7 (a_named_type 6 (codes "stream") no_constants) (codes "primary_output")) no_expressions) (expression_and (a_literal 9 (string (34
+    ∷ 97 ∷ 34 ∷ []))) no_expressions)))) (statement_and (a_yield 13 (expression_and (a_literal 12 (integer (codes "2"))) no_expressions))
+    (statement_and (a_call_statement 21 (a_call 20 (an_operation 15 (a_named_type 14 (codes "stream") no_constants) (codes "putl")) (expression_and
+    (a_call 18 (an_operation 17 (a_named_type 16 (codes "stream") no_constants) (codes "primary_output")) no_expressions) (expression_and (a_literal
+    19 (string (34 ∷ 98 ∷ 34 ∷ []))) no_expressions)))) (statement_and (a_yield 23 (expression_and (a_literal 22 (integer (codes "3")))
+    no_expressions)) (statement_and (a_call_statement 31 (a_call 30 (an_operation 25 (a_named_type 24 (codes "stream") no_constants) (codes "putl"))
+    (expression_and (a_call 28 (an_operation 27 (a_named_type 26 (codes "stream") no_constants) (codes "primary_output")) no_expressions)
+    (expression_and (a_literal 29 (string (34 ∷ 99 ∷ 34 ∷ []))) no_expressions)))) no_statements)))))))) ∷ (a_routine 64 no_equates (routine 63 (codes
+    "start_up") (codes "start_up") kind.Procedure [] ([]) no_types no_exceptions ([]) no_equates ([]) (statement_and (a_for 54 (typed 35 ((codes "x")
+    ∷ []) (a_simple_type 34 simple.Int) ∷ []) (a_call 37 (a_name 36 (codes "it")) no_expressions) (a_body no_equates (statement_and (a_call_statement
+    48 (a_call 47 (an_operation 39 (a_named_type 38 (codes "stream") no_constants) (codes "putl")) (expression_and (a_call 42 (an_operation 41
+    (a_named_type 40 (codes "stream") no_constants) (codes "primary_output")) no_expressions) (expression_and (a_call 46 (an_operation 44
+    (a_simple_type 43 simple.Int) (codes "unparse")) (expression_and (a_name 45 (codes "x")) no_expressions)) no_expressions)))) (statement_and (an_if
+    53 (clause_and (an_infix 51 op.Equal (a_name 49 (codes "x")) (a_literal 50 (integer (codes "2")))) (a_body no_equates (statement_and (a_break 52)
+    no_statements)) no_clauses) nothing_else) no_statements)))) (statement_and (a_call_statement 62 (a_call 61 (an_operation 56 (a_named_type 55
+    (codes "stream") no_constants) (codes "putl")) (expression_and (a_call 59 (an_operation 58 (a_named_type 57 (codes "stream") no_constants) (codes
+    "primary_output")) no_expressions) (expression_and (a_literal 60 (string (34 ∷ 111 ∷ 110 ∷ 34 ∷ []))) no_expressions)))) no_statements)))) ∷ [])
 
 abbrev break_ends_the_iterator_declared : List Declared
 break_ends_the_iterator_declared =
@@ -148,24 +142,22 @@ break_ends_the_iterator = refl
 -- start_up = proc () for i: int in int$from_to(1, 2) do for x: int in it(i) do stream$putl(stream$primary_output(), int$unparse(x)) end stream$putl(stream$primary_output(), "-") end end start_up
 abbrev return_in_an_iterator_modules : List Module
 return_in_an_iterator_modules =
-    ((a_routine 14 no_equates (record { node = 13; name = (codes "it"); closing = (codes "it"); kind = kind.Iterator; parameters = []; arguments =
-    (record { node = 1; names = ((codes "n") ∷ []); type = (a_simple_type 0 simple.Int) } ∷ []); results = (type_and (a_simple_type 2 simple.Int)
-    no_types); signals = no_exceptions; restrictions = ([]); equates = no_equates; owns = ([]); statements = (statement_and (a_yield 5 (expression_and
-    (a_literal 4 (integer (codes "1"))) no_expressions)) (statement_and (an_if 10 (clause_and (an_infix 8 op.Equal (a_name 6 (codes "n")) (a_literal 7
-    (integer (codes "1")))) (a_body no_equates (statement_and (a_return 9 no_expressions) no_statements)) no_clauses) nothing_else) (statement_and
-    (a_yield 12 (expression_and (a_literal 11 (integer (codes "2"))) no_expressions)) no_statements))) })) ∷ (a_routine 49 no_equates (record { node =
-    48; name = (codes "start_up"); closing = (codes "start_up"); kind = kind.Procedure; parameters = []; arguments = ([]); results = no_types; signals
-    = no_exceptions; restrictions = ([]); equates = no_equates; owns = ([]); statements = (statement_and (a_for 47 (record { node = 16; names =
-    ((codes "i") ∷ []); type = (a_simple_type 15 simple.Int) } ∷ []) (a_call 21 (an_operation 18 (a_simple_type 17 simple.Int) (codes "from_to"))
-    (expression_and (a_literal 19 (integer (codes "1"))) (expression_and (a_literal 20 (integer (codes "2"))) no_expressions))) (a_body no_equates
-    (statement_and (a_for 38 (record { node = 23; names = ((codes "x") ∷ []); type = (a_simple_type 22 simple.Int) } ∷ []) (a_call 26 (a_name 24
-    (codes "it")) (expression_and (a_name 25 (codes "i")) no_expressions)) (a_body no_equates (statement_and (a_call_statement 37 (a_call 36
-    (an_operation 28 (a_named_type 27 (codes "stream") no_constants) (codes "putl")) (expression_and (a_call 31 (an_operation 30 (a_named_type 29
-    (codes "stream") no_constants) (codes "primary_output")) no_expressions) (expression_and (a_call 35 (an_operation 33 (a_simple_type 32 simple.Int)
-    (codes "unparse")) (expression_and (a_name 34 (codes "x")) no_expressions)) no_expressions)))) no_statements))) (statement_and (a_call_statement
-    46 (a_call 45 (an_operation 40 (a_named_type 39 (codes "stream") no_constants) (codes "putl")) (expression_and (a_call 43 (an_operation 42
-    (a_named_type 41 (codes "stream") no_constants) (codes "primary_output")) no_expressions) (expression_and (a_literal 44 (string (34 ∷ 45 ∷ 34 ∷
-    []))) no_expressions)))) no_statements)))) no_statements) })) ∷ [])
+    ((a_routine 14 no_equates (routine 13 (codes "it") (codes "it") kind.Iterator [] (typed 1 ((codes "n") ∷ []) (a_simple_type 0 simple.Int) ∷ [])
+    (type_and (a_simple_type 2 simple.Int) no_types) no_exceptions ([]) no_equates ([]) (statement_and (a_yield 5 (expression_and (a_literal 4
+    (integer (codes "1"))) no_expressions)) (statement_and (an_if 10 (clause_and (an_infix 8 op.Equal (a_name 6 (codes "n")) (a_literal 7 (integer
+    (codes "1")))) (a_body no_equates (statement_and (a_return 9 no_expressions) no_statements)) no_clauses) nothing_else) (statement_and (a_yield 12
+    (expression_and (a_literal 11 (integer (codes "2"))) no_expressions)) no_statements))))) ∷ (a_routine 49 no_equates (routine 48 (codes "start_up")
+    (codes "start_up") kind.Procedure [] ([]) no_types no_exceptions ([]) no_equates ([]) (statement_and (a_for 47 (typed 16 ((codes "i") ∷ [])
+    (a_simple_type 15 simple.Int) ∷ []) (a_call 21 (an_operation 18 (a_simple_type 17 simple.Int) (codes "from_to")) (expression_and (a_literal 19
+    (integer (codes "1"))) (expression_and (a_literal 20 (integer (codes "2"))) no_expressions))) (a_body no_equates (statement_and (a_for 38 (typed
+    23 ((codes "x") ∷ []) (a_simple_type 22 simple.Int) ∷ []) (a_call 26 (a_name 24 (codes "it")) (expression_and (a_name 25 (codes "i"))
+    no_expressions)) (a_body no_equates (statement_and (a_call_statement 37 (a_call 36 (an_operation 28 (a_named_type 27 (codes "stream")
+    no_constants) (codes "putl")) (expression_and (a_call 31 (an_operation 30 (a_named_type 29 (codes "stream") no_constants) (codes
+    "primary_output")) no_expressions) (expression_and (a_call 35 (an_operation 33 (a_simple_type 32 simple.Int) (codes "unparse")) (expression_and
+    (a_name 34 (codes "x")) no_expressions)) no_expressions)))) no_statements))) (statement_and (a_call_statement 46 (a_call 45 (an_operation 40
+    (a_named_type 39 (codes "stream") no_constants) (codes "putl")) (expression_and (a_call 43 (an_operation 42 (a_named_type 41 (codes "stream")
+    no_constants) (codes "primary_output")) no_expressions) (expression_and (a_literal 44 (string (34 ∷ 45 ∷ 34 ∷ []))) no_expressions))))
+    no_statements)))) no_statements))) ∷ [])
 
 abbrev return_in_an_iterator_declared : List Declared
 return_in_an_iterator_declared =
@@ -182,27 +174,24 @@ return_in_an_iterator = refl
 -- for a: int, b: any in it() do stream$putl(stream$primary_output(), force[string](b)) end end start_up
 abbrev several_objects_modules : List Module
 several_objects_modules =
-    ((a_routine 10 no_equates (record { node = 9; name = (codes "it"); closing = (codes "it"); kind = kind.Iterator; parameters = []; arguments =
-    ([]); results = (type_and (a_simple_type 0 simple.Int) (type_and (a_simple_type 1 simple.String) no_types)); signals = no_exceptions; restrictions
-    = ([]); equates = no_equates; owns = ([]); statements = (statement_and (a_yield 5 (expression_and (a_literal 3 (integer (codes "1")))
-    (expression_and (a_literal 4 (string (34 ∷ 111 ∷ 110 ∷ 101 ∷ 34 ∷ []))) no_expressions))) (statement_and (a_yield 8 (expression_and (a_literal 6
-    (integer (codes "2"))) (expression_and (a_literal 7 (string (34 ∷ 116 ∷ 119 ∷ 111 ∷ 34 ∷ []))) no_expressions))) no_statements)) })) ∷ (a_routine
-    60 no_equates (record { node = 59; name = (codes "start_up"); closing = (codes "start_up"); kind = kind.Procedure; parameters = []; arguments =
-    ([]); results = no_types; signals = no_exceptions; restrictions = ([]); equates = no_equates; owns = ([]); statements = (statement_and (a_declare
-    13 (record { node = 12; names = ((codes "n") ∷ []); type = (a_simple_type 11 simple.Int) })) (statement_and (a_declare 16 (record { node = 15;
-    names = ((codes "s") ∷ []); type = (a_simple_type 14 simple.String) })) (statement_and (a_for_of_names 27 ((codes "n") ∷ (codes "s") ∷ []) (a_call
-    18 (a_name 17 (codes "it")) no_expressions) (a_body no_equates (statement_and (a_call_statement 26 (a_call 25 (an_operation 20 (a_named_type 19
-    (codes "stream") no_constants) (codes "putl")) (expression_and (a_call 23 (an_operation 22 (a_named_type 21 (codes "stream") no_constants) (codes
-    "primary_output")) no_expressions) (expression_and (a_name 24 (codes "s")) no_expressions)))) no_statements))) (statement_and (a_call_statement 40
-    (a_call 39 (an_operation 29 (a_named_type 28 (codes "stream") no_constants) (codes "putl")) (expression_and (a_call 32 (an_operation 31
-    (a_named_type 30 (codes "stream") no_constants) (codes "primary_output")) no_expressions) (expression_and (an_infix 38 op.Concatenate (a_call 36
-    (an_operation 34 (a_simple_type 33 simple.Int) (codes "unparse")) (expression_and (a_name 35 (codes "n")) no_expressions)) (a_name 37 (codes
-    "s"))) no_expressions)))) (statement_and (a_for 58 (record { node = 42; names = ((codes "a") ∷ []); type = (a_simple_type 41 simple.Int) } ∷
-    record { node = 44; names = ((codes "b") ∷ []); type = (a_simple_type 43 simple.Any) } ∷ []) (a_call 46 (a_name 45 (codes "it")) no_expressions)
-    (a_body no_equates (statement_and (a_call_statement 57 (a_call 56 (an_operation 48 (a_named_type 47 (codes "stream") no_constants) (codes "putl"))
-    (expression_and (a_call 51 (an_operation 50 (a_named_type 49 (codes "stream") no_constants) (codes "primary_output")) no_expressions)
-    (expression_and (a_call 55 (a_force 53 (a_simple_type 52 simple.String)) (expression_and (a_name 54 (codes "b")) no_expressions))
-    no_expressions)))) no_statements))) no_statements))))) })) ∷ [])
+    ((a_routine 10 no_equates (routine 9 (codes "it") (codes "it") kind.Iterator [] ([]) (type_and (a_simple_type 0 simple.Int) (type_and
+    (a_simple_type 1 simple.String) no_types)) no_exceptions ([]) no_equates ([]) (statement_and (a_yield 5 (expression_and (a_literal 3 (integer
+    (codes "1"))) (expression_and (a_literal 4 (string (34 ∷ 111 ∷ 110 ∷ 101 ∷ 34 ∷ []))) no_expressions))) (statement_and (a_yield 8 (expression_and
+    (a_literal 6 (integer (codes "2"))) (expression_and (a_literal 7 (string (34 ∷ 116 ∷ 119 ∷ 111 ∷ 34 ∷ []))) no_expressions))) no_statements)))) ∷
+    (a_routine 60 no_equates (routine 59 (codes "start_up") (codes "start_up") kind.Procedure [] ([]) no_types no_exceptions ([]) no_equates ([])
+    (statement_and (a_declare 13 (typed 12 ((codes "n") ∷ []) (a_simple_type 11 simple.Int))) (statement_and (a_declare 16 (typed 15 ((codes "s") ∷
+    []) (a_simple_type 14 simple.String))) (statement_and (a_for_of_names 27 ((codes "n") ∷ (codes "s") ∷ []) (a_call 18 (a_name 17 (codes "it"))
+    no_expressions) (a_body no_equates (statement_and (a_call_statement 26 (a_call 25 (an_operation 20 (a_named_type 19 (codes "stream") no_constants)
+    (codes "putl")) (expression_and (a_call 23 (an_operation 22 (a_named_type 21 (codes "stream") no_constants) (codes "primary_output"))
+    no_expressions) (expression_and (a_name 24 (codes "s")) no_expressions)))) no_statements))) (statement_and (a_call_statement 40 (a_call 39
+    (an_operation 29 (a_named_type 28 (codes "stream") no_constants) (codes "putl")) (expression_and (a_call 32 (an_operation 31 (a_named_type 30
+    (codes "stream") no_constants) (codes "primary_output")) no_expressions) (expression_and (an_infix 38 op.Concatenate (a_call 36 (an_operation 34
+    (a_simple_type 33 simple.Int) (codes "unparse")) (expression_and (a_name 35 (codes "n")) no_expressions)) (a_name 37 (codes "s")))
+    no_expressions)))) (statement_and (a_for 58 (typed 42 ((codes "a") ∷ []) (a_simple_type 41 simple.Int) ∷ typed 44 ((codes "b") ∷ [])
+    (a_simple_type 43 simple.Any) ∷ []) (a_call 46 (a_name 45 (codes "it")) no_expressions) (a_body no_equates (statement_and (a_call_statement 57
+    (a_call 56 (an_operation 48 (a_named_type 47 (codes "stream") no_constants) (codes "putl")) (expression_and (a_call 51 (an_operation 50
+    (a_named_type 49 (codes "stream") no_constants) (codes "primary_output")) no_expressions) (expression_and (a_call 55 (a_force 53 (a_simple_type 52
+    simple.String)) (expression_and (a_name 54 (codes "b")) no_expressions)) no_expressions)))) no_statements))) no_statements))))))) ∷ [])
 
 abbrev several_objects_declared : List Declared
 several_objects_declared =
@@ -219,28 +208,24 @@ several_objects = refl
 -- start_up = proc () for i: int in odd(7) do if i = 5 then break end stream$putl(stream$primary_output(), int$unparse(i)) end end start_up
 abbrev an_iterator_over_an_iterator_modules : List Module
 an_iterator_over_an_iterator_modules =
-    ((a_routine 15 no_equates (record { node = 14; name = (codes "base"); closing = (codes "base"); kind = kind.Iterator; parameters = []; arguments =
-    (record { node = 1; names = ((codes "n") ∷ []); type = (a_simple_type 0 simple.Int) } ∷ []); results = (type_and (a_simple_type 2 simple.Int)
-    no_types); signals = no_exceptions; restrictions = ([]); equates = no_equates; owns = ([]); statements = (statement_and (a_for 13 (record { node =
-    5; names = ((codes "i") ∷ []); type = (a_simple_type 4 simple.Int) } ∷ []) (a_call 10 (an_operation 7 (a_simple_type 6 simple.Int) (codes
-    "from_to")) (expression_and (a_literal 8 (integer (codes "1"))) (expression_and (a_name 9 (codes "n")) no_expressions))) (a_body no_equates
-    (statement_and (a_yield 12 (expression_and (a_name 11 (codes "i")) no_expressions)) no_statements))) no_statements) })) ∷ (a_routine 35 no_equates
-    (record { node = 34; name = (codes "odd"); closing = (codes "odd"); kind = kind.Iterator; parameters = []; arguments = (record { node = 17; names
-    = ((codes "n") ∷ []); type = (a_simple_type 16 simple.Int) } ∷ []); results = (type_and (a_simple_type 18 simple.Int) no_types); signals =
-    no_exceptions; restrictions = ([]); equates = no_equates; owns = ([]); statements = (statement_and (a_for 33 (record { node = 21; names = ((codes
-    "i") ∷ []); type = (a_simple_type 20 simple.Int) } ∷ []) (a_call 24 (a_name 22 (codes "base")) (expression_and (a_name 23 (codes "n"))
-    no_expressions)) (a_body no_equates (statement_and (an_if 32 (clause_and (an_infix 29 op.Equal (an_infix 27 op.Remainder (a_name 25 (codes "i"))
-    (a_literal 26 (integer (codes "2")))) (a_literal 28 (integer (codes "1")))) (a_body no_equates (statement_and (a_yield 31 (expression_and (a_name
-    30 (codes "i")) no_expressions)) no_statements)) no_clauses) nothing_else) no_statements))) no_statements) })) ∷ (a_routine 59 no_equates (record
-    { node = 58; name = (codes "start_up"); closing = (codes "start_up"); kind = kind.Procedure; parameters = []; arguments = ([]); results =
-    no_types; signals = no_exceptions; restrictions = ([]); equates = no_equates; owns = ([]); statements = (statement_and (a_for 57 (record { node =
-    37; names = ((codes "i") ∷ []); type = (a_simple_type 36 simple.Int) } ∷ []) (a_call 40 (a_name 38 (codes "odd")) (expression_and (a_literal 39
-    (integer (codes "7"))) no_expressions)) (a_body no_equates (statement_and (an_if 45 (clause_and (an_infix 43 op.Equal (a_name 41 (codes "i"))
-    (a_literal 42 (integer (codes "5")))) (a_body no_equates (statement_and (a_break 44) no_statements)) no_clauses) nothing_else) (statement_and
-    (a_call_statement 56 (a_call 55 (an_operation 47 (a_named_type 46 (codes "stream") no_constants) (codes "putl")) (expression_and (a_call 50
-    (an_operation 49 (a_named_type 48 (codes "stream") no_constants) (codes "primary_output")) no_expressions) (expression_and (a_call 54
-    (an_operation 52 (a_simple_type 51 simple.Int) (codes "unparse")) (expression_and (a_name 53 (codes "i")) no_expressions)) no_expressions))))
-    no_statements)))) no_statements) })) ∷ [])
+    ((a_routine 15 no_equates (routine 14 (codes "base") (codes "base") kind.Iterator [] (typed 1 ((codes "n") ∷ []) (a_simple_type 0 simple.Int) ∷
+    []) (type_and (a_simple_type 2 simple.Int) no_types) no_exceptions ([]) no_equates ([]) (statement_and (a_for 13 (typed 5 ((codes "i") ∷ [])
+    (a_simple_type 4 simple.Int) ∷ []) (a_call 10 (an_operation 7 (a_simple_type 6 simple.Int) (codes "from_to")) (expression_and (a_literal 8
+    (integer (codes "1"))) (expression_and (a_name 9 (codes "n")) no_expressions))) (a_body no_equates (statement_and (a_yield 12 (expression_and
+    (a_name 11 (codes "i")) no_expressions)) no_statements))) no_statements))) ∷ (a_routine 35 no_equates (routine 34 (codes "odd") (codes "odd")
+    kind.Iterator [] (typed 17 ((codes "n") ∷ []) (a_simple_type 16 simple.Int) ∷ []) (type_and (a_simple_type 18 simple.Int) no_types) no_exceptions
+    ([]) no_equates ([]) (statement_and (a_for 33 (typed 21 ((codes "i") ∷ []) (a_simple_type 20 simple.Int) ∷ []) (a_call 24 (a_name 22 (codes
+    "base")) (expression_and (a_name 23 (codes "n")) no_expressions)) (a_body no_equates (statement_and (an_if 32 (clause_and (an_infix 29 op.Equal
+    (an_infix 27 op.Remainder (a_name 25 (codes "i")) (a_literal 26 (integer (codes "2")))) (a_literal 28 (integer (codes "1")))) (a_body no_equates
+    (statement_and (a_yield 31 (expression_and (a_name 30 (codes "i")) no_expressions)) no_statements)) no_clauses) nothing_else) no_statements)))
+    no_statements))) ∷ (a_routine 59 no_equates (routine 58 (codes "start_up") (codes "start_up") kind.Procedure [] ([]) no_types no_exceptions ([])
+    no_equates ([]) (statement_and (a_for 57 (typed 37 ((codes "i") ∷ []) (a_simple_type 36 simple.Int) ∷ []) (a_call 40 (a_name 38 (codes "odd"))
+    (expression_and (a_literal 39 (integer (codes "7"))) no_expressions)) (a_body no_equates (statement_and (an_if 45 (clause_and (an_infix 43
+    op.Equal (a_name 41 (codes "i")) (a_literal 42 (integer (codes "5")))) (a_body no_equates (statement_and (a_break 44) no_statements)) no_clauses)
+    nothing_else) (statement_and (a_call_statement 56 (a_call 55 (an_operation 47 (a_named_type 46 (codes "stream") no_constants) (codes "putl"))
+    (expression_and (a_call 50 (an_operation 49 (a_named_type 48 (codes "stream") no_constants) (codes "primary_output")) no_expressions)
+    (expression_and (a_call 54 (an_operation 52 (a_simple_type 51 simple.Int) (codes "unparse")) (expression_and (a_name 53 (codes "i"))
+    no_expressions)) no_expressions)))) no_statements)))) no_statements))) ∷ [])
 
 abbrev an_iterator_over_an_iterator_declared : List Declared
 an_iterator_over_an_iterator_declared =
@@ -258,27 +243,24 @@ an_iterator_over_an_iterator = refl
 -- except when e (k: int): stream$putl(stream$primary_output(), int$unparse(k)) end end end start_up
 abbrev an_iterator_signals_modules : List Module
 an_iterator_signals_modules =
-    ((a_routine 18 no_equates (record { node = 17; name = (codes "it"); closing = (codes "it"); kind = kind.Iterator; parameters = []; arguments =
-    (record { node = 1; names = ((codes "n") ∷ []); type = (a_simple_type 0 simple.Int) } ∷ []); results = (type_and (a_simple_type 2 simple.Int)
-    no_types); signals = (exception_and 5 (codes "e") (type_and (a_simple_type 4 simple.Int) no_types) no_exceptions); restrictions = ([]); equates =
-    no_equates; owns = ([]); statements = (statement_and (a_yield 8 (expression_and (a_literal 7 (integer (codes "1"))) no_expressions))
-    (statement_and (an_if 14 (clause_and (an_infix 11 op.Equal (a_name 9 (codes "n")) (a_literal 10 (integer (codes "0")))) (a_body no_equates
-    (statement_and (a_signal 13 (codes "e") (expression_and (a_literal 12 (integer (codes "5"))) no_expressions)) no_statements)) no_clauses)
-    nothing_else) (statement_and (a_yield 16 (expression_and (a_literal 15 (integer (codes "2"))) no_expressions)) no_statements))) })) ∷ (a_routine
-    60 no_equates (record { node = 59; name = (codes "start_up"); closing = (codes "start_up"); kind = kind.Procedure; parameters = []; arguments =
-    ([]); results = no_types; signals = no_exceptions; restrictions = ([]); equates = no_equates; owns = ([]); statements = (statement_and (a_for 58
-    (record { node = 20; names = ((codes "i") ∷ []); type = (a_simple_type 19 simple.Int) } ∷ []) (a_call 25 (an_operation 22 (a_simple_type 21
-    simple.Int) (codes "from_to")) (expression_and (a_literal 23 (integer (codes "0"))) (expression_and (a_literal 24 (integer (codes "1")))
-    no_expressions))) (a_body no_equates (statement_and (an_except 57 (a_for 42 (record { node = 27; names = ((codes "x") ∷ []); type = (a_simple_type
-    26 simple.Int) } ∷ []) (a_call 30 (a_name 28 (codes "it")) (expression_and (a_name 29 (codes "i")) no_expressions)) (a_body no_equates
-    (statement_and (a_call_statement 41 (a_call 40 (an_operation 32 (a_named_type 31 (codes "stream") no_constants) (codes "putl")) (expression_and
-    (a_call 35 (an_operation 34 (a_named_type 33 (codes "stream") no_constants) (codes "primary_output")) no_expressions) (expression_and (a_call 39
-    (an_operation 37 (a_simple_type 36 simple.Int) (codes "unparse")) (expression_and (a_name 38 (codes "x")) no_expressions)) no_expressions))))
-    no_statements))) (when_and 56 ((codes "e") ∷ []) (objects (record { node = 44; names = ((codes "k") ∷ []); type = (a_simple_type 43 simple.Int) }
-    ∷ [])) (a_body no_equates (statement_and (a_call_statement 55 (a_call 54 (an_operation 46 (a_named_type 45 (codes "stream") no_constants) (codes
-    "putl")) (expression_and (a_call 49 (an_operation 48 (a_named_type 47 (codes "stream") no_constants) (codes "primary_output")) no_expressions)
-    (expression_and (a_call 53 (an_operation 51 (a_simple_type 50 simple.Int) (codes "unparse")) (expression_and (a_name 52 (codes "k"))
-    no_expressions)) no_expressions)))) no_statements)) no_whens) no_others) no_statements))) no_statements) })) ∷ [])
+    ((a_routine 18 no_equates (routine 17 (codes "it") (codes "it") kind.Iterator [] (typed 1 ((codes "n") ∷ []) (a_simple_type 0 simple.Int) ∷ [])
+    (type_and (a_simple_type 2 simple.Int) no_types) (exception_and 5 (codes "e") (type_and (a_simple_type 4 simple.Int) no_types) no_exceptions) ([])
+    no_equates ([]) (statement_and (a_yield 8 (expression_and (a_literal 7 (integer (codes "1"))) no_expressions)) (statement_and (an_if 14
+    (clause_and (an_infix 11 op.Equal (a_name 9 (codes "n")) (a_literal 10 (integer (codes "0")))) (a_body no_equates (statement_and (a_signal 13
+    (codes "e") (expression_and (a_literal 12 (integer (codes "5"))) no_expressions)) no_statements)) no_clauses) nothing_else) (statement_and
+    (a_yield 16 (expression_and (a_literal 15 (integer (codes "2"))) no_expressions)) no_statements))))) ∷ (a_routine 60 no_equates (routine 59 (codes
+    "start_up") (codes "start_up") kind.Procedure [] ([]) no_types no_exceptions ([]) no_equates ([]) (statement_and (a_for 58 (typed 20 ((codes "i")
+    ∷ []) (a_simple_type 19 simple.Int) ∷ []) (a_call 25 (an_operation 22 (a_simple_type 21 simple.Int) (codes "from_to")) (expression_and (a_literal
+    23 (integer (codes "0"))) (expression_and (a_literal 24 (integer (codes "1"))) no_expressions))) (a_body no_equates (statement_and (an_except 57
+    (a_for 42 (typed 27 ((codes "x") ∷ []) (a_simple_type 26 simple.Int) ∷ []) (a_call 30 (a_name 28 (codes "it")) (expression_and (a_name 29 (codes
+    "i")) no_expressions)) (a_body no_equates (statement_and (a_call_statement 41 (a_call 40 (an_operation 32 (a_named_type 31 (codes "stream")
+    no_constants) (codes "putl")) (expression_and (a_call 35 (an_operation 34 (a_named_type 33 (codes "stream") no_constants) (codes
+    "primary_output")) no_expressions) (expression_and (a_call 39 (an_operation 37 (a_simple_type 36 simple.Int) (codes "unparse")) (expression_and
+    (a_name 38 (codes "x")) no_expressions)) no_expressions)))) no_statements))) (when_and 56 ((codes "e") ∷ []) (objects (typed 44 ((codes "k") ∷ [])
+    (a_simple_type 43 simple.Int) ∷ [])) (a_body no_equates (statement_and (a_call_statement 55 (a_call 54 (an_operation 46 (a_named_type 45 (codes
+    "stream") no_constants) (codes "putl")) (expression_and (a_call 49 (an_operation 48 (a_named_type 47 (codes "stream") no_constants) (codes
+    "primary_output")) no_expressions) (expression_and (a_call 53 (an_operation 51 (a_simple_type 50 simple.Int) (codes "unparse")) (expression_and
+    (a_name 52 (codes "k")) no_expressions)) no_expressions)))) no_statements)) no_whens) no_others) no_statements))) no_statements))) ∷ [])
 
 abbrev an_iterator_signals_declared : List Declared
 an_iterator_signals_declared =

@@ -11,7 +11,7 @@ use Rattle.clu_syntax.specs.Syntax.{integer, string, an_infix, a_prefix, a_paren
 use Rattle.clu_layout.specs.Computing.{computing}
 use Rattle.clu_meaning.specs.Run.{returned_normally, failure_with}
 use Rattle.clu_meaning.specs.Executing.{executing}
-use Rattle.clu_meaning.proofs.Running.{d, m, Runs}
+use Rattle.clu_meaning.proofs.Running.{d, typed, a_variable, routine, Runs}
 
 -- % array-range-fill
 -- pa = proc (a: array[int])
@@ -28,57 +28,54 @@ use Rattle.clu_meaning.proofs.Running.{d, m, Runs}
 -- end start_up
 abbrev array_range_fill_modules : List Module
 array_range_fill_modules =
-    ((a_routine 41 no_equates (record { node = 40; name = (codes "pa"); closing = (codes "pa"); kind = kind.Procedure; parameters = []; arguments =
-    (record { node = 2; names = ((codes "a") ∷ []); type = (a_list_type 1 list.Array (a_simple_type 0 simple.Int)) } ∷ []); results = no_types;
-    signals = no_exceptions; restrictions = ([]); equates = no_equates; owns = ([]); statements = (statement_and (an_init 14 (record { name = (codes
-    "s"); type = (a_simple_type 3 simple.String) }) (an_infix 13 op.Concatenate (a_call 11 (an_operation 5 (a_simple_type 4 simple.Int) (codes
-    "unparse")) (expression_and (a_call 10 (an_operation 8 (a_list_type 7 list.Array (a_simple_type 6 simple.Int)) (codes "low")) (expression_and
-    (a_name 9 (codes "a")) no_expressions)) no_expressions)) (a_literal 12 (string (34 ∷ 58 ∷ 34 ∷ []))))) (statement_and (a_for 31 (record { node =
-    16; names = ((codes "x") ∷ []); type = (a_simple_type 15 simple.Int) } ∷ []) (a_call 21 (an_operation 19 (a_list_type 18 list.Array (a_simple_type
-    17 simple.Int)) (codes "elements")) (expression_and (a_name 20 (codes "a")) no_expressions)) (a_body no_equates (statement_and (an_assign 30
-    ((codes "s") ∷ []) (expression_and (an_infix 29 op.Concatenate (an_infix 24 op.Concatenate (a_name 22 (codes "s")) (a_literal 23 (string (34 ∷ 32
-    ∷ 34 ∷ [])))) (a_call 28 (an_operation 26 (a_simple_type 25 simple.Int) (codes "unparse")) (expression_and (a_name 27 (codes "x"))
-    no_expressions))) no_expressions)) no_statements))) (statement_and (a_call_statement 39 (a_call 38 (an_operation 33 (a_named_type 32 (codes
-    "stream") no_constants) (codes "putl")) (expression_and (a_call 36 (an_operation 35 (a_named_type 34 (codes "stream") no_constants) (codes
-    "primary_output")) no_expressions) (expression_and (a_name 37 (codes "s")) no_expressions)))) no_statements))) })) ∷ (a_routine 155 no_equates
-    (record { node = 154; name = (codes "start_up"); closing = (codes "start_up"); kind = kind.Procedure; parameters = []; arguments = ([]); results =
-    no_types; signals = no_exceptions; restrictions = ([]); equates = (equate_and (an_equate 44 (Some (codes "ai")) (a_type (a_list_type 43 list.Array
-    (a_simple_type 42 simple.Int)))) no_equates); owns = ([]); statements = (statement_and (an_except 64 (an_init 52 (record { name = (codes "a");
-    type = (a_named_type 45 (codes "ai") no_constants) }) (a_call 51 (an_operation 47 (a_named_type 46 (codes "ai") no_constants) (codes "fill"))
-    (expression_and (a_literal 48 (integer (codes "9223372036854775807"))) (expression_and (a_literal 49 (integer (codes "2"))) (expression_and
-    (a_literal 50 (integer (codes "0"))) no_expressions))))) (when_and 63 ((codes "failure") ∷ []) (objects (record { node = 54; names = ((codes "s")
-    ∷ []); type = (a_simple_type 53 simple.String) } ∷ [])) (a_body no_equates (statement_and (a_call_statement 62 (a_call 61 (an_operation 56
-    (a_named_type 55 (codes "stream") no_constants) (codes "putl")) (expression_and (a_call 59 (an_operation 58 (a_named_type 57 (codes "stream")
-    no_constants) (codes "primary_output")) no_expressions) (expression_and (a_name 60 (codes "s")) no_expressions)))) no_statements)) no_whens)
-    no_others) (statement_and (an_assign 71 ((codes "a") ∷ []) (expression_and (a_call 70 (an_operation 66 (a_named_type 65 (codes "ai") no_constants)
-    (codes "fill")) (expression_and (a_literal 67 (integer (codes "9223372036854775807"))) (expression_and (a_literal 68 (integer (codes "1")))
-    (expression_and (a_literal 69 (integer (codes "0"))) no_expressions)))) no_expressions)) (statement_and (a_call_statement 85 (a_call 84
-    (an_operation 73 (a_named_type 72 (codes "stream") no_constants) (codes "putl")) (expression_and (a_call 76 (an_operation 75 (a_named_type 74
-    (codes "stream") no_constants) (codes "primary_output")) no_expressions) (expression_and (a_call 83 (an_operation 78 (a_simple_type 77 simple.Int)
-    (codes "unparse")) (expression_and (a_call 82 (an_operation 80 (a_named_type 79 (codes "ai") no_constants) (codes "high")) (expression_and (a_name
-    81 (codes "a")) no_expressions)) no_expressions)) no_expressions)))) (statement_and (an_except 108 (an_assign 96 ((codes "a") ∷ [])
-    (expression_and (a_call 95 (an_operation 87 (a_named_type 86 (codes "ai") no_constants) (codes "fill")) (expression_and (a_paren 92 (an_infix 91
-    op.Subtract (a_prefix 89 sign.Minus (a_literal 88 (integer (codes "9223372036854775807")))) (a_literal 90 (integer (codes "1"))))) (expression_and
-    (a_literal 93 (integer (codes "1"))) (expression_and (a_literal 94 (integer (codes "0"))) no_expressions)))) no_expressions)) (when_and 107
-    ((codes "failure") ∷ []) (objects (record { node = 98; names = ((codes "s") ∷ []); type = (a_simple_type 97 simple.String) } ∷ [])) (a_body
-    no_equates (statement_and (a_call_statement 106 (a_call 105 (an_operation 100 (a_named_type 99 (codes "stream") no_constants) (codes "putl"))
-    (expression_and (a_call 103 (an_operation 102 (a_named_type 101 (codes "stream") no_constants) (codes "primary_output")) no_expressions)
-    (expression_and (a_name 104 (codes "s")) no_expressions)))) no_statements)) no_whens) no_others) (statement_and (an_except 130 (an_assign 120
-    ((codes "a") ∷ []) (expression_and (a_call 119 (an_operation 110 (a_named_type 109 (codes "ai") no_constants) (codes "fill")) (expression_and
-    (a_paren 115 (an_infix 114 op.Subtract (a_prefix 112 sign.Minus (a_literal 111 (integer (codes "9223372036854775807")))) (a_literal 113 (integer
-    (codes "1"))))) (expression_and (a_prefix 117 sign.Minus (a_literal 116 (integer (codes "1")))) (expression_and (a_literal 118 (integer (codes
-    "0"))) no_expressions)))) no_expressions)) (when_and 129 ((codes "negative_size") ∷ []) (objects []) (a_body no_equates (statement_and
-    (a_call_statement 128 (a_call 127 (an_operation 122 (a_named_type 121 (codes "stream") no_constants) (codes "putl")) (expression_and (a_call 125
-    (an_operation 124 (a_named_type 123 (codes "stream") no_constants) (codes "primary_output")) no_expressions) (expression_and (a_literal 126
-    (string (34 ∷ 110 ∷ 34 ∷ []))) no_expressions)))) no_statements)) no_whens) no_others) (statement_and (an_except 153 (an_assign 141 ((codes "a") ∷
-    []) (expression_and (a_call 140 (an_operation 132 (a_named_type 131 (codes "ai") no_constants) (codes "fill")) (expression_and (a_paren 137
-    (an_infix 136 op.Subtract (a_prefix 134 sign.Minus (a_literal 133 (integer (codes "9223372036854775807")))) (a_literal 135 (integer (codes
-    "1"))))) (expression_and (a_literal 138 (integer (codes "0"))) (expression_and (a_literal 139 (integer (codes "0"))) no_expressions))))
-    no_expressions)) (when_and 152 ((codes "failure") ∷ []) (objects (record { node = 143; names = ((codes "s") ∷ []); type = (a_simple_type 142
-    simple.String) } ∷ [])) (a_body no_equates (statement_and (a_call_statement 151 (a_call 150 (an_operation 145 (a_named_type 144 (codes "stream")
-    no_constants) (codes "putl")) (expression_and (a_call 148 (an_operation 147 (a_named_type 146 (codes "stream") no_constants) (codes
-    "primary_output")) no_expressions) (expression_and (a_name 149 (codes "s")) no_expressions)))) no_statements)) no_whens) no_others)
-    no_statements)))))) })) ∷ [])
+    ((a_routine 41 no_equates (routine 40 (codes "pa") (codes "pa") kind.Procedure [] (typed 2 ((codes "a") ∷ []) (a_list_type 1 list.Array
+    (a_simple_type 0 simple.Int)) ∷ []) no_types no_exceptions ([]) no_equates ([]) (statement_and (an_init 14 (a_variable (codes "s") (a_simple_type
+    3 simple.String)) (an_infix 13 op.Concatenate (a_call 11 (an_operation 5 (a_simple_type 4 simple.Int) (codes "unparse")) (expression_and (a_call
+    10 (an_operation 8 (a_list_type 7 list.Array (a_simple_type 6 simple.Int)) (codes "low")) (expression_and (a_name 9 (codes "a")) no_expressions))
+    no_expressions)) (a_literal 12 (string (34 ∷ 58 ∷ 34 ∷ []))))) (statement_and (a_for 31 (typed 16 ((codes "x") ∷ []) (a_simple_type 15 simple.Int)
+    ∷ []) (a_call 21 (an_operation 19 (a_list_type 18 list.Array (a_simple_type 17 simple.Int)) (codes "elements")) (expression_and (a_name 20 (codes
+    "a")) no_expressions)) (a_body no_equates (statement_and (an_assign 30 ((codes "s") ∷ []) (expression_and (an_infix 29 op.Concatenate (an_infix 24
+    op.Concatenate (a_name 22 (codes "s")) (a_literal 23 (string (34 ∷ 32 ∷ 34 ∷ [])))) (a_call 28 (an_operation 26 (a_simple_type 25 simple.Int)
+    (codes "unparse")) (expression_and (a_name 27 (codes "x")) no_expressions))) no_expressions)) no_statements))) (statement_and (a_call_statement 39
+    (a_call 38 (an_operation 33 (a_named_type 32 (codes "stream") no_constants) (codes "putl")) (expression_and (a_call 36 (an_operation 35
+    (a_named_type 34 (codes "stream") no_constants) (codes "primary_output")) no_expressions) (expression_and (a_name 37 (codes "s"))
+    no_expressions)))) no_statements))))) ∷ (a_routine 155 no_equates (routine 154 (codes "start_up") (codes "start_up") kind.Procedure [] ([])
+    no_types no_exceptions ([]) (equate_and (an_equate 44 (Some (codes "ai")) (a_type (a_list_type 43 list.Array (a_simple_type 42 simple.Int))))
+    no_equates) ([]) (statement_and (an_except 64 (an_init 52 (a_variable (codes "a") (a_named_type 45 (codes "ai") no_constants)) (a_call 51
+    (an_operation 47 (a_named_type 46 (codes "ai") no_constants) (codes "fill")) (expression_and (a_literal 48 (integer (codes
+    "9223372036854775807"))) (expression_and (a_literal 49 (integer (codes "2"))) (expression_and (a_literal 50 (integer (codes "0")))
+    no_expressions))))) (when_and 63 ((codes "failure") ∷ []) (objects (typed 54 ((codes "s") ∷ []) (a_simple_type 53 simple.String) ∷ [])) (a_body
+    no_equates (statement_and (a_call_statement 62 (a_call 61 (an_operation 56 (a_named_type 55 (codes "stream") no_constants) (codes "putl"))
+    (expression_and (a_call 59 (an_operation 58 (a_named_type 57 (codes "stream") no_constants) (codes "primary_output")) no_expressions)
+    (expression_and (a_name 60 (codes "s")) no_expressions)))) no_statements)) no_whens) no_others) (statement_and (an_assign 71 ((codes "a") ∷ [])
+    (expression_and (a_call 70 (an_operation 66 (a_named_type 65 (codes "ai") no_constants) (codes "fill")) (expression_and (a_literal 67 (integer
+    (codes "9223372036854775807"))) (expression_and (a_literal 68 (integer (codes "1"))) (expression_and (a_literal 69 (integer (codes "0")))
+    no_expressions)))) no_expressions)) (statement_and (a_call_statement 85 (a_call 84 (an_operation 73 (a_named_type 72 (codes "stream")
+    no_constants) (codes "putl")) (expression_and (a_call 76 (an_operation 75 (a_named_type 74 (codes "stream") no_constants) (codes
+    "primary_output")) no_expressions) (expression_and (a_call 83 (an_operation 78 (a_simple_type 77 simple.Int) (codes "unparse")) (expression_and
+    (a_call 82 (an_operation 80 (a_named_type 79 (codes "ai") no_constants) (codes "high")) (expression_and (a_name 81 (codes "a")) no_expressions))
+    no_expressions)) no_expressions)))) (statement_and (an_except 108 (an_assign 96 ((codes "a") ∷ []) (expression_and (a_call 95 (an_operation 87
+    (a_named_type 86 (codes "ai") no_constants) (codes "fill")) (expression_and (a_paren 92 (an_infix 91 op.Subtract (a_prefix 89 sign.Minus
+    (a_literal 88 (integer (codes "9223372036854775807")))) (a_literal 90 (integer (codes "1"))))) (expression_and (a_literal 93 (integer (codes
+    "1"))) (expression_and (a_literal 94 (integer (codes "0"))) no_expressions)))) no_expressions)) (when_and 107 ((codes "failure") ∷ []) (objects
+    (typed 98 ((codes "s") ∷ []) (a_simple_type 97 simple.String) ∷ [])) (a_body no_equates (statement_and (a_call_statement 106 (a_call 105
+    (an_operation 100 (a_named_type 99 (codes "stream") no_constants) (codes "putl")) (expression_and (a_call 103 (an_operation 102 (a_named_type 101
+    (codes "stream") no_constants) (codes "primary_output")) no_expressions) (expression_and (a_name 104 (codes "s")) no_expressions))))
+    no_statements)) no_whens) no_others) (statement_and (an_except 130 (an_assign 120 ((codes "a") ∷ []) (expression_and (a_call 119 (an_operation 110
+    (a_named_type 109 (codes "ai") no_constants) (codes "fill")) (expression_and (a_paren 115 (an_infix 114 op.Subtract (a_prefix 112 sign.Minus
+    (a_literal 111 (integer (codes "9223372036854775807")))) (a_literal 113 (integer (codes "1"))))) (expression_and (a_prefix 117 sign.Minus
+    (a_literal 116 (integer (codes "1")))) (expression_and (a_literal 118 (integer (codes "0"))) no_expressions)))) no_expressions)) (when_and 129
+    ((codes "negative_size") ∷ []) (objects []) (a_body no_equates (statement_and (a_call_statement 128 (a_call 127 (an_operation 122 (a_named_type
+    121 (codes "stream") no_constants) (codes "putl")) (expression_and (a_call 125 (an_operation 124 (a_named_type 123 (codes "stream") no_constants)
+    (codes "primary_output")) no_expressions) (expression_and (a_literal 126 (string (34 ∷ 110 ∷ 34 ∷ []))) no_expressions)))) no_statements))
+    no_whens) no_others) (statement_and (an_except 153 (an_assign 141 ((codes "a") ∷ []) (expression_and (a_call 140 (an_operation 132 (a_named_type
+    131 (codes "ai") no_constants) (codes "fill")) (expression_and (a_paren 137 (an_infix 136 op.Subtract (a_prefix 134 sign.Minus (a_literal 133
+    (integer (codes "9223372036854775807")))) (a_literal 135 (integer (codes "1"))))) (expression_and (a_literal 138 (integer (codes "0")))
+    (expression_and (a_literal 139 (integer (codes "0"))) no_expressions)))) no_expressions)) (when_and 152 ((codes "failure") ∷ []) (objects (typed
+    143 ((codes "s") ∷ []) (a_simple_type 142 simple.String) ∷ [])) (a_body no_equates (statement_and (a_call_statement 151 (a_call 150 (an_operation
+    145 (a_named_type 144 (codes "stream") no_constants) (codes "putl")) (expression_and (a_call 148 (an_operation 147 (a_named_type 146 (codes
+    "stream") no_constants) (codes "primary_output")) no_expressions) (expression_and (a_name 149 (codes "s")) no_expressions)))) no_statements))
+    no_whens) no_others) no_statements)))))))) ∷ [])
 
 abbrev array_range_fill_declared : List Declared
 array_range_fill_declared =
@@ -103,39 +100,37 @@ array_range_fill = refl
 -- end start_up
 abbrev array_range_addh_modules : List Module
 array_range_addh_modules =
-    ((a_routine 41 no_equates (record { node = 40; name = (codes "pa"); closing = (codes "pa"); kind = kind.Procedure; parameters = []; arguments =
-    (record { node = 2; names = ((codes "a") ∷ []); type = (a_list_type 1 list.Array (a_simple_type 0 simple.Int)) } ∷ []); results = no_types;
-    signals = no_exceptions; restrictions = ([]); equates = no_equates; owns = ([]); statements = (statement_and (an_init 14 (record { name = (codes
-    "s"); type = (a_simple_type 3 simple.String) }) (an_infix 13 op.Concatenate (a_call 11 (an_operation 5 (a_simple_type 4 simple.Int) (codes
-    "unparse")) (expression_and (a_call 10 (an_operation 8 (a_list_type 7 list.Array (a_simple_type 6 simple.Int)) (codes "low")) (expression_and
-    (a_name 9 (codes "a")) no_expressions)) no_expressions)) (a_literal 12 (string (34 ∷ 58 ∷ 34 ∷ []))))) (statement_and (a_for 31 (record { node =
-    16; names = ((codes "x") ∷ []); type = (a_simple_type 15 simple.Int) } ∷ []) (a_call 21 (an_operation 19 (a_list_type 18 list.Array (a_simple_type
-    17 simple.Int)) (codes "elements")) (expression_and (a_name 20 (codes "a")) no_expressions)) (a_body no_equates (statement_and (an_assign 30
-    ((codes "s") ∷ []) (expression_and (an_infix 29 op.Concatenate (an_infix 24 op.Concatenate (a_name 22 (codes "s")) (a_literal 23 (string (34 ∷ 32
-    ∷ 34 ∷ [])))) (a_call 28 (an_operation 26 (a_simple_type 25 simple.Int) (codes "unparse")) (expression_and (a_name 27 (codes "x"))
-    no_expressions))) no_expressions)) no_statements))) (statement_and (a_call_statement 39 (a_call 38 (an_operation 33 (a_named_type 32 (codes
-    "stream") no_constants) (codes "putl")) (expression_and (a_call 36 (an_operation 35 (a_named_type 34 (codes "stream") no_constants) (codes
-    "primary_output")) no_expressions) (expression_and (a_name 37 (codes "s")) no_expressions)))) no_statements))) })) ∷ (a_routine 104 no_equates
-    (record { node = 103; name = (codes "start_up"); closing = (codes "start_up"); kind = kind.Procedure; parameters = []; arguments = ([]); results =
-    no_types; signals = no_exceptions; restrictions = ([]); equates = (equate_and (an_equate 44 (Some (codes "ai")) (a_type (a_list_type 43 list.Array
-    (a_simple_type 42 simple.Int)))) no_equates); owns = ([]); statements = (statement_and (an_init 50 (record { name = (codes "a"); type =
-    (a_named_type 45 (codes "ai") no_constants) }) (a_call 49 (an_operation 47 (a_named_type 46 (codes "ai") no_constants) (codes "create"))
-    (expression_and (a_literal 48 (integer (codes "9223372036854775807"))) no_expressions))) (statement_and (a_call_statement 56 (a_call 55
-    (an_operation 52 (a_named_type 51 (codes "ai") no_constants) (codes "addh")) (expression_and (a_name 53 (codes "a")) (expression_and (a_literal 54
-    (integer (codes "1"))) no_expressions)))) (statement_and (a_call_statement 70 (a_call 69 (an_operation 58 (a_named_type 57 (codes "stream")
-    no_constants) (codes "putl")) (expression_and (a_call 61 (an_operation 60 (a_named_type 59 (codes "stream") no_constants) (codes
-    "primary_output")) no_expressions) (expression_and (a_call 68 (an_operation 63 (a_simple_type 62 simple.Int) (codes "unparse")) (expression_and
-    (a_call 67 (an_operation 65 (a_named_type 64 (codes "ai") no_constants) (codes "high")) (expression_and (a_name 66 (codes "a")) no_expressions))
-    no_expressions)) no_expressions)))) (statement_and (an_except 88 (a_call_statement 76 (a_call 75 (an_operation 72 (a_named_type 71 (codes "ai")
-    no_constants) (codes "addh")) (expression_and (a_name 73 (codes "a")) (expression_and (a_literal 74 (integer (codes "2"))) no_expressions))))
-    (when_and 87 ((codes "failure") ∷ []) (objects (record { node = 78; names = ((codes "s") ∷ []); type = (a_simple_type 77 simple.String) } ∷ []))
-    (a_body no_equates (statement_and (a_call_statement 86 (a_call 85 (an_operation 80 (a_named_type 79 (codes "stream") no_constants) (codes "putl"))
-    (expression_and (a_call 83 (an_operation 82 (a_named_type 81 (codes "stream") no_constants) (codes "primary_output")) no_expressions)
-    (expression_and (a_name 84 (codes "s")) no_expressions)))) no_statements)) no_whens) no_others) (statement_and (a_call_statement 102 (a_call 101
-    (an_operation 90 (a_named_type 89 (codes "stream") no_constants) (codes "putl")) (expression_and (a_call 93 (an_operation 92 (a_named_type 91
-    (codes "stream") no_constants) (codes "primary_output")) no_expressions) (expression_and (a_call 100 (an_operation 95 (a_simple_type 94
-    simple.Int) (codes "unparse")) (expression_and (a_call 99 (an_operation 97 (a_named_type 96 (codes "ai") no_constants) (codes "size"))
-    (expression_and (a_name 98 (codes "a")) no_expressions)) no_expressions)) no_expressions)))) no_statements))))) })) ∷ [])
+    ((a_routine 41 no_equates (routine 40 (codes "pa") (codes "pa") kind.Procedure [] (typed 2 ((codes "a") ∷ []) (a_list_type 1 list.Array
+    (a_simple_type 0 simple.Int)) ∷ []) no_types no_exceptions ([]) no_equates ([]) (statement_and (an_init 14 (a_variable (codes "s") (a_simple_type
+    3 simple.String)) (an_infix 13 op.Concatenate (a_call 11 (an_operation 5 (a_simple_type 4 simple.Int) (codes "unparse")) (expression_and (a_call
+    10 (an_operation 8 (a_list_type 7 list.Array (a_simple_type 6 simple.Int)) (codes "low")) (expression_and (a_name 9 (codes "a")) no_expressions))
+    no_expressions)) (a_literal 12 (string (34 ∷ 58 ∷ 34 ∷ []))))) (statement_and (a_for 31 (typed 16 ((codes "x") ∷ []) (a_simple_type 15 simple.Int)
+    ∷ []) (a_call 21 (an_operation 19 (a_list_type 18 list.Array (a_simple_type 17 simple.Int)) (codes "elements")) (expression_and (a_name 20 (codes
+    "a")) no_expressions)) (a_body no_equates (statement_and (an_assign 30 ((codes "s") ∷ []) (expression_and (an_infix 29 op.Concatenate (an_infix 24
+    op.Concatenate (a_name 22 (codes "s")) (a_literal 23 (string (34 ∷ 32 ∷ 34 ∷ [])))) (a_call 28 (an_operation 26 (a_simple_type 25 simple.Int)
+    (codes "unparse")) (expression_and (a_name 27 (codes "x")) no_expressions))) no_expressions)) no_statements))) (statement_and (a_call_statement 39
+    (a_call 38 (an_operation 33 (a_named_type 32 (codes "stream") no_constants) (codes "putl")) (expression_and (a_call 36 (an_operation 35
+    (a_named_type 34 (codes "stream") no_constants) (codes "primary_output")) no_expressions) (expression_and (a_name 37 (codes "s"))
+    no_expressions)))) no_statements))))) ∷ (a_routine 104 no_equates (routine 103 (codes "start_up") (codes "start_up") kind.Procedure [] ([])
+    no_types no_exceptions ([]) (equate_and (an_equate 44 (Some (codes "ai")) (a_type (a_list_type 43 list.Array (a_simple_type 42 simple.Int))))
+    no_equates) ([]) (statement_and (an_init 50 (a_variable (codes "a") (a_named_type 45 (codes "ai") no_constants)) (a_call 49 (an_operation 47
+    (a_named_type 46 (codes "ai") no_constants) (codes "create")) (expression_and (a_literal 48 (integer (codes "9223372036854775807")))
+    no_expressions))) (statement_and (a_call_statement 56 (a_call 55 (an_operation 52 (a_named_type 51 (codes "ai") no_constants) (codes "addh"))
+    (expression_and (a_name 53 (codes "a")) (expression_and (a_literal 54 (integer (codes "1"))) no_expressions)))) (statement_and (a_call_statement
+    70 (a_call 69 (an_operation 58 (a_named_type 57 (codes "stream") no_constants) (codes "putl")) (expression_and (a_call 61 (an_operation 60
+    (a_named_type 59 (codes "stream") no_constants) (codes "primary_output")) no_expressions) (expression_and (a_call 68 (an_operation 63
+    (a_simple_type 62 simple.Int) (codes "unparse")) (expression_and (a_call 67 (an_operation 65 (a_named_type 64 (codes "ai") no_constants) (codes
+    "high")) (expression_and (a_name 66 (codes "a")) no_expressions)) no_expressions)) no_expressions)))) (statement_and (an_except 88
+    (a_call_statement 76 (a_call 75 (an_operation 72 (a_named_type 71 (codes "ai") no_constants) (codes "addh")) (expression_and (a_name 73 (codes
+    "a")) (expression_and (a_literal 74 (integer (codes "2"))) no_expressions)))) (when_and 87 ((codes "failure") ∷ []) (objects (typed 78 ((codes
+    "s") ∷ []) (a_simple_type 77 simple.String) ∷ [])) (a_body no_equates (statement_and (a_call_statement 86 (a_call 85 (an_operation 80
+    (a_named_type 79 (codes "stream") no_constants) (codes "putl")) (expression_and (a_call 83 (an_operation 82 (a_named_type 81 (codes "stream")
+    no_constants) (codes "primary_output")) no_expressions) (expression_and (a_name 84 (codes "s")) no_expressions)))) no_statements)) no_whens)
+    no_others) (statement_and (a_call_statement 102 (a_call 101 (an_operation 90 (a_named_type 89 (codes "stream") no_constants) (codes "putl"))
+    (expression_and (a_call 93 (an_operation 92 (a_named_type 91 (codes "stream") no_constants) (codes "primary_output")) no_expressions)
+    (expression_and (a_call 100 (an_operation 95 (a_simple_type 94 simple.Int) (codes "unparse")) (expression_and (a_call 99 (an_operation 97
+    (a_named_type 96 (codes "ai") no_constants) (codes "size")) (expression_and (a_name 98 (codes "a")) no_expressions)) no_expressions))
+    no_expressions)))) no_statements))))))) ∷ [])
 
 abbrev array_range_addh_declared : List Declared
 array_range_addh_declared =
@@ -161,45 +156,42 @@ array_range_addh = refl
 -- end start_up
 abbrev array_range_reml_modules : List Module
 array_range_reml_modules =
-    ((a_routine 41 no_equates (record { node = 40; name = (codes "pa"); closing = (codes "pa"); kind = kind.Procedure; parameters = []; arguments =
-    (record { node = 2; names = ((codes "a") ∷ []); type = (a_list_type 1 list.Array (a_simple_type 0 simple.Int)) } ∷ []); results = no_types;
-    signals = no_exceptions; restrictions = ([]); equates = no_equates; owns = ([]); statements = (statement_and (an_init 14 (record { name = (codes
-    "s"); type = (a_simple_type 3 simple.String) }) (an_infix 13 op.Concatenate (a_call 11 (an_operation 5 (a_simple_type 4 simple.Int) (codes
-    "unparse")) (expression_and (a_call 10 (an_operation 8 (a_list_type 7 list.Array (a_simple_type 6 simple.Int)) (codes "low")) (expression_and
-    (a_name 9 (codes "a")) no_expressions)) no_expressions)) (a_literal 12 (string (34 ∷ 58 ∷ 34 ∷ []))))) (statement_and (a_for 31 (record { node =
-    16; names = ((codes "x") ∷ []); type = (a_simple_type 15 simple.Int) } ∷ []) (a_call 21 (an_operation 19 (a_list_type 18 list.Array (a_simple_type
-    17 simple.Int)) (codes "elements")) (expression_and (a_name 20 (codes "a")) no_expressions)) (a_body no_equates (statement_and (an_assign 30
-    ((codes "s") ∷ []) (expression_and (an_infix 29 op.Concatenate (an_infix 24 op.Concatenate (a_name 22 (codes "s")) (a_literal 23 (string (34 ∷ 32
-    ∷ 34 ∷ [])))) (a_call 28 (an_operation 26 (a_simple_type 25 simple.Int) (codes "unparse")) (expression_and (a_name 27 (codes "x"))
-    no_expressions))) no_expressions)) no_statements))) (statement_and (a_call_statement 39 (a_call 38 (an_operation 33 (a_named_type 32 (codes
-    "stream") no_constants) (codes "putl")) (expression_and (a_call 36 (an_operation 35 (a_named_type 34 (codes "stream") no_constants) (codes
-    "primary_output")) no_expressions) (expression_and (a_name 37 (codes "s")) no_expressions)))) no_statements))) })) ∷ (a_routine 119 no_equates
-    (record { node = 118; name = (codes "start_up"); closing = (codes "start_up"); kind = kind.Procedure; parameters = []; arguments = ([]); results =
-    no_types; signals = no_exceptions; restrictions = ([]); equates = (equate_and (an_equate 44 (Some (codes "ai")) (a_type (a_list_type 43 list.Array
-    (a_simple_type 42 simple.Int)))) no_equates); owns = ([]); statements = (statement_and (an_init 50 (record { name = (codes "a"); type =
-    (a_named_type 45 (codes "ai") no_constants) }) (a_call 49 (an_operation 47 (a_named_type 46 (codes "ai") no_constants) (codes "create"))
-    (expression_and (a_literal 48 (integer (codes "9223372036854775807"))) no_expressions))) (statement_and (an_except 66 (an_init 56 (record { name =
-    (codes "x"); type = (a_simple_type 51 simple.Int) }) (a_call 55 (an_operation 53 (a_named_type 52 (codes "ai") no_constants) (codes "reml"))
-    (expression_and (a_name 54 (codes "a")) no_expressions))) (when_and 65 ((codes "bounds") ∷ []) (objects []) (a_body no_equates (statement_and
-    (a_call_statement 64 (a_call 63 (an_operation 58 (a_named_type 57 (codes "stream") no_constants) (codes "putl")) (expression_and (a_call 61
-    (an_operation 60 (a_named_type 59 (codes "stream") no_constants) (codes "primary_output")) no_expressions) (expression_and (a_literal 62 (string
-    (34 ∷ 98 ∷ 111 ∷ 117 ∷ 110 ∷ 100 ∷ 115 ∷ 34 ∷ []))) no_expressions)))) no_statements)) no_whens) no_others) (statement_and (a_call_statement 72
-    (a_call 71 (an_operation 68 (a_named_type 67 (codes "ai") no_constants) (codes "addh")) (expression_and (a_name 69 (codes "a")) (expression_and
-    (a_literal 70 (integer (codes "5"))) no_expressions)))) (statement_and (an_except 89 (an_assign 77 ((codes "x") ∷ []) (expression_and (a_call 76
-    (an_operation 74 (a_named_type 73 (codes "ai") no_constants) (codes "reml")) (expression_and (a_name 75 (codes "a")) no_expressions))
-    no_expressions)) (when_and 88 ((codes "failure") ∷ []) (objects (record { node = 79; names = ((codes "s") ∷ []); type = (a_simple_type 78
-    simple.String) } ∷ [])) (a_body no_equates (statement_and (a_call_statement 87 (a_call 86 (an_operation 81 (a_named_type 80 (codes "stream")
-    no_constants) (codes "putl")) (expression_and (a_call 84 (an_operation 83 (a_named_type 82 (codes "stream") no_constants) (codes
-    "primary_output")) no_expressions) (expression_and (a_name 85 (codes "s")) no_expressions)))) no_statements)) no_whens) no_others) (statement_and
-    (a_call_statement 103 (a_call 102 (an_operation 91 (a_named_type 90 (codes "stream") no_constants) (codes "putl")) (expression_and (a_call 94
-    (an_operation 93 (a_named_type 92 (codes "stream") no_constants) (codes "primary_output")) no_expressions) (expression_and (a_call 101
-    (an_operation 96 (a_simple_type 95 simple.Int) (codes "unparse")) (expression_and (a_call 100 (an_operation 98 (a_named_type 97 (codes "ai")
-    no_constants) (codes "size")) (expression_and (a_name 99 (codes "a")) no_expressions)) no_expressions)) no_expressions)))) (statement_and
-    (a_call_statement 117 (a_call 116 (an_operation 105 (a_named_type 104 (codes "stream") no_constants) (codes "putl")) (expression_and (a_call 108
-    (an_operation 107 (a_named_type 106 (codes "stream") no_constants) (codes "primary_output")) no_expressions) (expression_and (a_call 115
-    (an_operation 110 (a_simple_type 109 simple.Int) (codes "unparse")) (expression_and (a_call 114 (an_operation 112 (a_named_type 111 (codes "ai")
-    no_constants) (codes "remh")) (expression_and (a_name 113 (codes "a")) no_expressions)) no_expressions)) no_expressions)))) no_statements))))))
-    })) ∷ [])
+    ((a_routine 41 no_equates (routine 40 (codes "pa") (codes "pa") kind.Procedure [] (typed 2 ((codes "a") ∷ []) (a_list_type 1 list.Array
+    (a_simple_type 0 simple.Int)) ∷ []) no_types no_exceptions ([]) no_equates ([]) (statement_and (an_init 14 (a_variable (codes "s") (a_simple_type
+    3 simple.String)) (an_infix 13 op.Concatenate (a_call 11 (an_operation 5 (a_simple_type 4 simple.Int) (codes "unparse")) (expression_and (a_call
+    10 (an_operation 8 (a_list_type 7 list.Array (a_simple_type 6 simple.Int)) (codes "low")) (expression_and (a_name 9 (codes "a")) no_expressions))
+    no_expressions)) (a_literal 12 (string (34 ∷ 58 ∷ 34 ∷ []))))) (statement_and (a_for 31 (typed 16 ((codes "x") ∷ []) (a_simple_type 15 simple.Int)
+    ∷ []) (a_call 21 (an_operation 19 (a_list_type 18 list.Array (a_simple_type 17 simple.Int)) (codes "elements")) (expression_and (a_name 20 (codes
+    "a")) no_expressions)) (a_body no_equates (statement_and (an_assign 30 ((codes "s") ∷ []) (expression_and (an_infix 29 op.Concatenate (an_infix 24
+    op.Concatenate (a_name 22 (codes "s")) (a_literal 23 (string (34 ∷ 32 ∷ 34 ∷ [])))) (a_call 28 (an_operation 26 (a_simple_type 25 simple.Int)
+    (codes "unparse")) (expression_and (a_name 27 (codes "x")) no_expressions))) no_expressions)) no_statements))) (statement_and (a_call_statement 39
+    (a_call 38 (an_operation 33 (a_named_type 32 (codes "stream") no_constants) (codes "putl")) (expression_and (a_call 36 (an_operation 35
+    (a_named_type 34 (codes "stream") no_constants) (codes "primary_output")) no_expressions) (expression_and (a_name 37 (codes "s"))
+    no_expressions)))) no_statements))))) ∷ (a_routine 119 no_equates (routine 118 (codes "start_up") (codes "start_up") kind.Procedure [] ([])
+    no_types no_exceptions ([]) (equate_and (an_equate 44 (Some (codes "ai")) (a_type (a_list_type 43 list.Array (a_simple_type 42 simple.Int))))
+    no_equates) ([]) (statement_and (an_init 50 (a_variable (codes "a") (a_named_type 45 (codes "ai") no_constants)) (a_call 49 (an_operation 47
+    (a_named_type 46 (codes "ai") no_constants) (codes "create")) (expression_and (a_literal 48 (integer (codes "9223372036854775807")))
+    no_expressions))) (statement_and (an_except 66 (an_init 56 (a_variable (codes "x") (a_simple_type 51 simple.Int)) (a_call 55 (an_operation 53
+    (a_named_type 52 (codes "ai") no_constants) (codes "reml")) (expression_and (a_name 54 (codes "a")) no_expressions))) (when_and 65 ((codes
+    "bounds") ∷ []) (objects []) (a_body no_equates (statement_and (a_call_statement 64 (a_call 63 (an_operation 58 (a_named_type 57 (codes "stream")
+    no_constants) (codes "putl")) (expression_and (a_call 61 (an_operation 60 (a_named_type 59 (codes "stream") no_constants) (codes
+    "primary_output")) no_expressions) (expression_and (a_literal 62 (string (34 ∷ 98 ∷ 111 ∷ 117 ∷ 110 ∷ 100 ∷ 115 ∷ 34 ∷ []))) no_expressions))))
+    no_statements)) no_whens) no_others) (statement_and (a_call_statement 72 (a_call 71 (an_operation 68 (a_named_type 67 (codes "ai") no_constants)
+    (codes "addh")) (expression_and (a_name 69 (codes "a")) (expression_and (a_literal 70 (integer (codes "5"))) no_expressions)))) (statement_and
+    (an_except 89 (an_assign 77 ((codes "x") ∷ []) (expression_and (a_call 76 (an_operation 74 (a_named_type 73 (codes "ai") no_constants) (codes
+    "reml")) (expression_and (a_name 75 (codes "a")) no_expressions)) no_expressions)) (when_and 88 ((codes "failure") ∷ []) (objects (typed 79
+    ((codes "s") ∷ []) (a_simple_type 78 simple.String) ∷ [])) (a_body no_equates (statement_and (a_call_statement 87 (a_call 86 (an_operation 81
+    (a_named_type 80 (codes "stream") no_constants) (codes "putl")) (expression_and (a_call 84 (an_operation 83 (a_named_type 82 (codes "stream")
+    no_constants) (codes "primary_output")) no_expressions) (expression_and (a_name 85 (codes "s")) no_expressions)))) no_statements)) no_whens)
+    no_others) (statement_and (a_call_statement 103 (a_call 102 (an_operation 91 (a_named_type 90 (codes "stream") no_constants) (codes "putl"))
+    (expression_and (a_call 94 (an_operation 93 (a_named_type 92 (codes "stream") no_constants) (codes "primary_output")) no_expressions)
+    (expression_and (a_call 101 (an_operation 96 (a_simple_type 95 simple.Int) (codes "unparse")) (expression_and (a_call 100 (an_operation 98
+    (a_named_type 97 (codes "ai") no_constants) (codes "size")) (expression_and (a_name 99 (codes "a")) no_expressions)) no_expressions))
+    no_expressions)))) (statement_and (a_call_statement 117 (a_call 116 (an_operation 105 (a_named_type 104 (codes "stream") no_constants) (codes
+    "putl")) (expression_and (a_call 108 (an_operation 107 (a_named_type 106 (codes "stream") no_constants) (codes "primary_output")) no_expressions)
+    (expression_and (a_call 115 (an_operation 110 (a_simple_type 109 simple.Int) (codes "unparse")) (expression_and (a_call 114 (an_operation 112
+    (a_named_type 111 (codes "ai") no_constants) (codes "remh")) (expression_and (a_name 113 (codes "a")) no_expressions)) no_expressions))
+    no_expressions)))) no_statements)))))))) ∷ [])
 
 abbrev array_range_reml_declared : List Declared
 array_range_reml_declared =
@@ -223,25 +215,22 @@ array_range_reml = refl
 -- end start_up
 abbrev array_range_unhandled_modules : List Module
 array_range_unhandled_modules =
-    ((a_routine 41 no_equates (record { node = 40; name = (codes "pa"); closing = (codes "pa"); kind = kind.Procedure; parameters = []; arguments =
-    (record { node = 2; names = ((codes "a") ∷ []); type = (a_list_type 1 list.Array (a_simple_type 0 simple.Int)) } ∷ []); results = no_types;
-    signals = no_exceptions; restrictions = ([]); equates = no_equates; owns = ([]); statements = (statement_and (an_init 14 (record { name = (codes
-    "s"); type = (a_simple_type 3 simple.String) }) (an_infix 13 op.Concatenate (a_call 11 (an_operation 5 (a_simple_type 4 simple.Int) (codes
-    "unparse")) (expression_and (a_call 10 (an_operation 8 (a_list_type 7 list.Array (a_simple_type 6 simple.Int)) (codes "low")) (expression_and
-    (a_name 9 (codes "a")) no_expressions)) no_expressions)) (a_literal 12 (string (34 ∷ 58 ∷ 34 ∷ []))))) (statement_and (a_for 31 (record { node =
-    16; names = ((codes "x") ∷ []); type = (a_simple_type 15 simple.Int) } ∷ []) (a_call 21 (an_operation 19 (a_list_type 18 list.Array (a_simple_type
-    17 simple.Int)) (codes "elements")) (expression_and (a_name 20 (codes "a")) no_expressions)) (a_body no_equates (statement_and (an_assign 30
-    ((codes "s") ∷ []) (expression_and (an_infix 29 op.Concatenate (an_infix 24 op.Concatenate (a_name 22 (codes "s")) (a_literal 23 (string (34 ∷ 32
-    ∷ 34 ∷ [])))) (a_call 28 (an_operation 26 (a_simple_type 25 simple.Int) (codes "unparse")) (expression_and (a_name 27 (codes "x"))
-    no_expressions))) no_expressions)) no_statements))) (statement_and (a_call_statement 39 (a_call 38 (an_operation 33 (a_named_type 32 (codes
-    "stream") no_constants) (codes "putl")) (expression_and (a_call 36 (an_operation 35 (a_named_type 34 (codes "stream") no_constants) (codes
-    "primary_output")) no_expressions) (expression_and (a_name 37 (codes "s")) no_expressions)))) no_statements))) })) ∷ (a_routine 56 no_equates
-    (record { node = 55; name = (codes "start_up"); closing = (codes "start_up"); kind = kind.Procedure; parameters = []; arguments = ([]); results =
-    no_types; signals = no_exceptions; restrictions = ([]); equates = (equate_and (an_equate 44 (Some (codes "ai")) (a_type (a_list_type 43 list.Array
-    (a_simple_type 42 simple.Int)))) no_equates); owns = ([]); statements = (statement_and (an_init 54 (record { name = (codes "a"); type =
-    (a_named_type 45 (codes "ai") no_constants) }) (a_call 53 (an_operation 47 (a_named_type 46 (codes "ai") no_constants) (codes "create"))
-    (expression_and (a_paren 52 (an_infix 51 op.Subtract (a_prefix 49 sign.Minus (a_literal 48 (integer (codes "9223372036854775807")))) (a_literal 50
-    (integer (codes "1"))))) no_expressions))) no_statements) })) ∷ [])
+    ((a_routine 41 no_equates (routine 40 (codes "pa") (codes "pa") kind.Procedure [] (typed 2 ((codes "a") ∷ []) (a_list_type 1 list.Array
+    (a_simple_type 0 simple.Int)) ∷ []) no_types no_exceptions ([]) no_equates ([]) (statement_and (an_init 14 (a_variable (codes "s") (a_simple_type
+    3 simple.String)) (an_infix 13 op.Concatenate (a_call 11 (an_operation 5 (a_simple_type 4 simple.Int) (codes "unparse")) (expression_and (a_call
+    10 (an_operation 8 (a_list_type 7 list.Array (a_simple_type 6 simple.Int)) (codes "low")) (expression_and (a_name 9 (codes "a")) no_expressions))
+    no_expressions)) (a_literal 12 (string (34 ∷ 58 ∷ 34 ∷ []))))) (statement_and (a_for 31 (typed 16 ((codes "x") ∷ []) (a_simple_type 15 simple.Int)
+    ∷ []) (a_call 21 (an_operation 19 (a_list_type 18 list.Array (a_simple_type 17 simple.Int)) (codes "elements")) (expression_and (a_name 20 (codes
+    "a")) no_expressions)) (a_body no_equates (statement_and (an_assign 30 ((codes "s") ∷ []) (expression_and (an_infix 29 op.Concatenate (an_infix 24
+    op.Concatenate (a_name 22 (codes "s")) (a_literal 23 (string (34 ∷ 32 ∷ 34 ∷ [])))) (a_call 28 (an_operation 26 (a_simple_type 25 simple.Int)
+    (codes "unparse")) (expression_and (a_name 27 (codes "x")) no_expressions))) no_expressions)) no_statements))) (statement_and (a_call_statement 39
+    (a_call 38 (an_operation 33 (a_named_type 32 (codes "stream") no_constants) (codes "putl")) (expression_and (a_call 36 (an_operation 35
+    (a_named_type 34 (codes "stream") no_constants) (codes "primary_output")) no_expressions) (expression_and (a_name 37 (codes "s"))
+    no_expressions)))) no_statements))))) ∷ (a_routine 56 no_equates (routine 55 (codes "start_up") (codes "start_up") kind.Procedure [] ([]) no_types
+    no_exceptions ([]) (equate_and (an_equate 44 (Some (codes "ai")) (a_type (a_list_type 43 list.Array (a_simple_type 42 simple.Int)))) no_equates)
+    ([]) (statement_and (an_init 54 (a_variable (codes "a") (a_named_type 45 (codes "ai") no_constants)) (a_call 53 (an_operation 47 (a_named_type 46
+    (codes "ai") no_constants) (codes "create")) (expression_and (a_paren 52 (an_infix 51 op.Subtract (a_prefix 49 sign.Minus (a_literal 48 (integer
+    (codes "9223372036854775807")))) (a_literal 50 (integer (codes "1"))))) no_expressions))) no_statements))) ∷ [])
 
 abbrev array_range_unhandled_declared : List Declared
 array_range_unhandled_declared =
@@ -260,10 +249,9 @@ array_range_unhandled = refl
 -- end start_up
 abbrev arrays_of_arrays_modules : List Module
 arrays_of_arrays_modules =
-    ((a_routine 131 no_equates (record { node = 130; name = (codes "start_up"); closing = (codes "start_up"); kind = kind.Procedure; parameters = [];
-    arguments = ([]); results = no_types; signals = no_exceptions; restrictions = ([]); equates = (equate_and (an_equate 3 (Some (codes "m")) (a_type
-    (a_list_type 2 list.Array (a_list_type 1 list.Array (a_simple_type 0 simple.Int))))) no_equates); owns = ([]); statements = (statement_and
-    (an_init 16 (record { name = (codes "a"); type = (a_named_type 4 (codes "m") no_constants) }) (elements 15 (a_named_type 5 (codes "m")
+    ((a_routine 131 no_equates (routine 130 (codes "start_up") (codes "start_up") kind.Procedure [] ([]) no_types no_exceptions ([]) (equate_and
+    (an_equate 3 (Some (codes "m")) (a_type (a_list_type 2 list.Array (a_list_type 1 list.Array (a_simple_type 0 simple.Int))))) no_equates) ([])
+    (statement_and (an_init 16 (a_variable (codes "a") (a_named_type 4 (codes "m") no_constants)) (elements 15 (a_named_type 5 (codes "m")
     no_constants) (expression_and (elements 10 (a_list_type 7 list.Array (a_simple_type 6 simple.Int)) (expression_and (a_literal 8 (integer (codes
     "1"))) (expression_and (a_literal 9 (integer (codes "2"))) no_expressions))) (expression_and (elements 14 (a_list_type 12 list.Array
     (a_simple_type 11 simple.Int)) (expression_and (a_literal 13 (integer (codes "3"))) no_expressions)) no_expressions)))) (statement_and
@@ -274,32 +262,32 @@ arrays_of_arrays_modules =
     (an_infix 40 op.Add (an_index 34 (an_index 32 (a_name 30 (codes "a")) (constant_and (an_expression (a_literal 31 (integer (codes "2"))))
     no_constants)) (constant_and (an_expression (a_literal 33 (integer (codes "1")))) no_constants)) (an_index 39 (an_index 37 (a_name 35 (codes "a"))
     (constant_and (an_expression (a_literal 36 (integer (codes "1")))) no_constants)) (constant_and (an_expression (a_literal 38 (integer (codes
-    "2")))) no_constants))) no_expressions)) no_expressions)))) (statement_and (an_init 49 (record { name = (codes "b"); type = (a_named_type 44
-    (codes "m") no_constants) }) (a_call 48 (an_operation 46 (a_named_type 45 (codes "m") no_constants) (codes "copy1")) (expression_and (a_name 47
-    (codes "a")) no_expressions))) (statement_and (an_init 55 (record { name = (codes "c"); type = (a_named_type 50 (codes "m") no_constants) })
-    (a_call 54 (an_operation 52 (a_named_type 51 (codes "m") no_constants) (codes "copy")) (expression_and (a_name 53 (codes "a")) no_expressions)))
-    (statement_and (a_set_index 61 (an_index 58 (a_name 56 (codes "b")) (constant_and (an_expression (a_literal 57 (integer (codes "1"))))
-    no_constants)) (a_literal 59 (integer (codes "1"))) (a_literal 60 (integer (codes "7")))) (statement_and (a_call_statement 76 (a_call 75
-    (an_operation 63 (a_named_type 62 (codes "stream") no_constants) (codes "putl")) (expression_and (a_call 66 (an_operation 65 (a_named_type 64
-    (codes "stream") no_constants) (codes "primary_output")) no_expressions) (expression_and (a_call 74 (an_operation 68 (a_simple_type 67 simple.Int)
-    (codes "unparse")) (expression_and (an_index 73 (an_index 71 (a_name 69 (codes "a")) (constant_and (an_expression (a_literal 70 (integer (codes
-    "1")))) no_constants)) (constant_and (an_expression (a_literal 72 (integer (codes "1")))) no_constants)) no_expressions)) no_expressions))))
-    (statement_and (a_set_index 82 (an_index 79 (a_name 77 (codes "c")) (constant_and (an_expression (a_literal 78 (integer (codes "1"))))
-    no_constants)) (a_literal 80 (integer (codes "1"))) (a_literal 81 (integer (codes "8")))) (statement_and (a_call_statement 97 (a_call 96
-    (an_operation 84 (a_named_type 83 (codes "stream") no_constants) (codes "putl")) (expression_and (a_call 87 (an_operation 86 (a_named_type 85
-    (codes "stream") no_constants) (codes "primary_output")) no_expressions) (expression_and (a_call 95 (an_operation 89 (a_simple_type 88 simple.Int)
-    (codes "unparse")) (expression_and (an_index 94 (an_index 92 (a_name 90 (codes "a")) (constant_and (an_expression (a_literal 91 (integer (codes
-    "1")))) no_constants)) (constant_and (an_expression (a_literal 93 (integer (codes "1")))) no_constants)) no_expressions)) no_expressions))))
-    (statement_and (an_init 108 (record { name = (codes "d"); type = (a_named_type 98 (codes "m") no_constants) }) (a_call 107 (an_operation 100
-    (a_named_type 99 (codes "m") no_constants) (codes "fill")) (expression_and (a_literal 101 (integer (codes "1"))) (expression_and (a_literal 102
-    (integer (codes "2"))) (expression_and (elements 106 (a_list_type 104 list.Array (a_simple_type 103 simple.Int)) (expression_and (a_literal 105
-    (integer (codes "0"))) no_expressions)) no_expressions))))) (statement_and (a_set_index 114 (an_index 111 (a_name 109 (codes "d")) (constant_and
-    (an_expression (a_literal 110 (integer (codes "1")))) no_constants)) (a_literal 112 (integer (codes "1"))) (a_literal 113 (integer (codes "5"))))
-    (statement_and (a_call_statement 129 (a_call 128 (an_operation 116 (a_named_type 115 (codes "stream") no_constants) (codes "putl"))
-    (expression_and (a_call 119 (an_operation 118 (a_named_type 117 (codes "stream") no_constants) (codes "primary_output")) no_expressions)
-    (expression_and (a_call 127 (an_operation 121 (a_simple_type 120 simple.Int) (codes "unparse")) (expression_and (an_index 126 (an_index 124
-    (a_name 122 (codes "d")) (constant_and (an_expression (a_literal 123 (integer (codes "2")))) no_constants)) (constant_and (an_expression
-    (a_literal 125 (integer (codes "1")))) no_constants)) no_expressions)) no_expressions)))) no_statements)))))))))))) })) ∷ [])
+    "2")))) no_constants))) no_expressions)) no_expressions)))) (statement_and (an_init 49 (a_variable (codes "b") (a_named_type 44 (codes "m")
+    no_constants)) (a_call 48 (an_operation 46 (a_named_type 45 (codes "m") no_constants) (codes "copy1")) (expression_and (a_name 47 (codes "a"))
+    no_expressions))) (statement_and (an_init 55 (a_variable (codes "c") (a_named_type 50 (codes "m") no_constants)) (a_call 54 (an_operation 52
+    (a_named_type 51 (codes "m") no_constants) (codes "copy")) (expression_and (a_name 53 (codes "a")) no_expressions))) (statement_and (a_set_index
+    61 (an_index 58 (a_name 56 (codes "b")) (constant_and (an_expression (a_literal 57 (integer (codes "1")))) no_constants)) (a_literal 59 (integer
+    (codes "1"))) (a_literal 60 (integer (codes "7")))) (statement_and (a_call_statement 76 (a_call 75 (an_operation 63 (a_named_type 62 (codes
+    "stream") no_constants) (codes "putl")) (expression_and (a_call 66 (an_operation 65 (a_named_type 64 (codes "stream") no_constants) (codes
+    "primary_output")) no_expressions) (expression_and (a_call 74 (an_operation 68 (a_simple_type 67 simple.Int) (codes "unparse")) (expression_and
+    (an_index 73 (an_index 71 (a_name 69 (codes "a")) (constant_and (an_expression (a_literal 70 (integer (codes "1")))) no_constants)) (constant_and
+    (an_expression (a_literal 72 (integer (codes "1")))) no_constants)) no_expressions)) no_expressions)))) (statement_and (a_set_index 82 (an_index
+    79 (a_name 77 (codes "c")) (constant_and (an_expression (a_literal 78 (integer (codes "1")))) no_constants)) (a_literal 80 (integer (codes "1")))
+    (a_literal 81 (integer (codes "8")))) (statement_and (a_call_statement 97 (a_call 96 (an_operation 84 (a_named_type 83 (codes "stream")
+    no_constants) (codes "putl")) (expression_and (a_call 87 (an_operation 86 (a_named_type 85 (codes "stream") no_constants) (codes
+    "primary_output")) no_expressions) (expression_and (a_call 95 (an_operation 89 (a_simple_type 88 simple.Int) (codes "unparse")) (expression_and
+    (an_index 94 (an_index 92 (a_name 90 (codes "a")) (constant_and (an_expression (a_literal 91 (integer (codes "1")))) no_constants)) (constant_and
+    (an_expression (a_literal 93 (integer (codes "1")))) no_constants)) no_expressions)) no_expressions)))) (statement_and (an_init 108 (a_variable
+    (codes "d") (a_named_type 98 (codes "m") no_constants)) (a_call 107 (an_operation 100 (a_named_type 99 (codes "m") no_constants) (codes "fill"))
+    (expression_and (a_literal 101 (integer (codes "1"))) (expression_and (a_literal 102 (integer (codes "2"))) (expression_and (elements 106
+    (a_list_type 104 list.Array (a_simple_type 103 simple.Int)) (expression_and (a_literal 105 (integer (codes "0"))) no_expressions))
+    no_expressions))))) (statement_and (a_set_index 114 (an_index 111 (a_name 109 (codes "d")) (constant_and (an_expression (a_literal 110 (integer
+    (codes "1")))) no_constants)) (a_literal 112 (integer (codes "1"))) (a_literal 113 (integer (codes "5")))) (statement_and (a_call_statement 129
+    (a_call 128 (an_operation 116 (a_named_type 115 (codes "stream") no_constants) (codes "putl")) (expression_and (a_call 119 (an_operation 118
+    (a_named_type 117 (codes "stream") no_constants) (codes "primary_output")) no_expressions) (expression_and (a_call 127 (an_operation 121
+    (a_simple_type 120 simple.Int) (codes "unparse")) (expression_and (an_index 126 (an_index 124 (a_name 122 (codes "d")) (constant_and
+    (an_expression (a_literal 123 (integer (codes "2")))) no_constants)) (constant_and (an_expression (a_literal 125 (integer (codes "1"))))
+    no_constants)) no_expressions)) no_expressions)))) no_statements)))))))))))))) ∷ [])
 
 abbrev arrays_of_arrays_declared : List Declared
 arrays_of_arrays_declared =

@@ -4,14 +4,35 @@ use Rattle.std.specs.Prelude.{◌≡◌, ℕ, List, Option, codes}
 use Rattle.clu_names.specs.declared.scopes.Declared.{Declared}
 use Rattle.clu_types.specs.CluType.{no_actuals}
 use Rattle.clu_layout.specs.Objects.{module_routine}
-use Rattle.clu_syntax.specs.Syntax.{Module}
+use Rattle.clu_syntax.specs.declared.words.RoutineKind.{RoutineKind}
+use Rattle.clu_syntax.specs.Syntax.{Identifier, TypeExpression, TypeExpressions, Exceptions, Typed, Variable, Equates, Statements, Parameter, Own, Restriction, Routine, Cluster, Module}
 use Rattle.clu_meaning.specs.State.{Instance, of_routine}
 use Rattle.clu_meaning.specs.Resolving.{resolved}
 use Rattle.clu_meaning.specs.Run.{Progress, Seen, run}
 
+-- ---- words for trees
+
+abbrev pub typed : ℕ → List Identifier → TypeExpression → Typed
+typed node names type = record { node = node; names = names; type = type }
+
+abbrev pub a_variable : Identifier → TypeExpression → Variable
+a_variable name type = record { name = name; type = type }
+
+abbrev pub parameter : ℕ → List Identifier → Option TypeExpression → Parameter
+parameter node names type = record { node = node; names = names; type = type }
+
+-- the parts in the order of the grammar, with the name after `end` behind the first one
+abbrev pub routine : ℕ → Identifier → Identifier → RoutineKind → List Parameter → List Typed → TypeExpressions → Exceptions → List Restriction → Equates → List Own → Statements → Routine
+routine node name closing kind parameters arguments results signals restrictions equates owns statements = record { node = node; name = name; closing = closing; kind = kind; parameters = parameters; arguments = arguments; results = results; signals = signals; restrictions = restrictions; equates = equates; owns = owns; statements = statements }
+
+abbrev pub cluster : ℕ → Identifier → Identifier → List Parameter → List Identifier → List Restriction → Equates → List Own → List Routine → Cluster
+cluster node name closing parameters exports restrictions equates owns routines = record { node = node; name = name; closing = closing; parameters = parameters; exports = exports; restrictions = restrictions; equates = equates; owns = owns; routines = routines }
+
 -- a declaration: its name and node, the first and the last node of its scope, and its module
 abbrev pub d : List ℕ → ℕ → ℕ → ℕ → Option ℕ → Declared
 d name node from to unit = record { name = name; node = node; from = from; to = to; unit = unit }
+
+-- ---- what a run comes to
 
 abbrev pub run_of : List Declared → List Module → List ℕ → ℕ → Seen
 run_of declared modules input turns = run (resolved declared modules) (codes "start_up") input turns

@@ -11,7 +11,7 @@ use Rattle.clu_syntax.specs.Syntax.{integer, string, an_infix, a_prefix, a_liter
 use Rattle.clu_layout.specs.Computing.{computing}
 use Rattle.clu_meaning.specs.Run.{returned_normally}
 use Rattle.clu_meaning.specs.Executing.{executing}
-use Rattle.clu_meaning.proofs.Running.{d, Runs}
+use Rattle.clu_meaning.proofs.Running.{d, typed, a_variable, routine, Runs}
 
 -- % sequence-make
 -- ps = proc (a: sequence[int])
@@ -27,46 +27,42 @@ use Rattle.clu_meaning.proofs.Running.{d, Runs}
 -- end start_up
 abbrev sequence_make_modules : List Module
 sequence_make_modules =
-    ((a_routine 32 no_equates (record { node = 31; name = (codes "ps"); closing = (codes "ps"); kind = kind.Procedure; parameters = []; arguments =
-    (record { node = 2; names = ((codes "a") ∷ []); type = (a_list_type 1 list.Sequence (a_simple_type 0 simple.Int)) } ∷ []); results = no_types;
-    signals = no_exceptions; restrictions = ([]); equates = no_equates; owns = ([]); statements = (statement_and (an_init 5 (record { name = (codes
-    "s"); type = (a_simple_type 3 simple.String) }) (a_literal 4 (string (34 ∷ 34 ∷ [])))) (statement_and (a_for 22 (record { node = 7; names =
-    ((codes "x") ∷ []); type = (a_simple_type 6 simple.Int) } ∷ []) (a_call 12 (an_operation 10 (a_list_type 9 list.Sequence (a_simple_type 8
-    simple.Int)) (codes "elements")) (expression_and (a_name 11 (codes "a")) no_expressions)) (a_body no_equates (statement_and (an_assign 21 ((codes
-    "s") ∷ []) (expression_and (an_infix 20 op.Concatenate (an_infix 15 op.Concatenate (a_name 13 (codes "s")) (a_literal 14 (string (34 ∷ 32 ∷ 34 ∷
-    [])))) (a_call 19 (an_operation 17 (a_simple_type 16 simple.Int) (codes "unparse")) (expression_and (a_name 18 (codes "x")) no_expressions)))
-    no_expressions)) no_statements))) (statement_and (a_call_statement 30 (a_call 29 (an_operation 24 (a_named_type 23 (codes "stream") no_constants)
-    (codes "putl")) (expression_and (a_call 27 (an_operation 26 (a_named_type 25 (codes "stream") no_constants) (codes "primary_output"))
-    no_expressions) (expression_and (a_name 28 (codes "s")) no_expressions)))) no_statements))) })) ∷ (a_routine 54 no_equates (record { node = 53;
-    name = (codes "tf"); closing = (codes "tf"); kind = kind.Procedure; parameters = []; arguments = (record { node = 34; names = ((codes "b") ∷ []);
-    type = (a_simple_type 33 simple.Bool) } ∷ []); results = no_types; signals = no_exceptions; restrictions = ([]); equates = no_equates; owns =
-    ([]); statements = (statement_and (an_if 52 (clause_and (a_name 35 (codes "b")) (a_body no_equates (statement_and (a_call_statement 43 (a_call 42
-    (an_operation 37 (a_named_type 36 (codes "stream") no_constants) (codes "putl")) (expression_and (a_call 40 (an_operation 39 (a_named_type 38
-    (codes "stream") no_constants) (codes "primary_output")) no_expressions) (expression_and (a_literal 41 (string (34 ∷ 84 ∷ 34 ∷ [])))
-    no_expressions)))) no_statements)) no_clauses) (otherwise (a_body no_equates (statement_and (a_call_statement 51 (a_call 50 (an_operation 45
-    (a_named_type 44 (codes "stream") no_constants) (codes "putl")) (expression_and (a_call 48 (an_operation 47 (a_named_type 46 (codes "stream")
-    no_constants) (codes "primary_output")) no_expressions) (expression_and (a_literal 49 (string (34 ∷ 70 ∷ 34 ∷ []))) no_expressions))))
-    no_statements)))) no_statements) })) ∷ (a_routine 118 no_equates (record { node = 117; name = (codes "start_up"); closing = (codes "start_up");
-    kind = kind.Procedure; parameters = []; arguments = ([]); results = no_types; signals = no_exceptions; restrictions = ([]); equates = (equate_and
-    (an_equate 57 (Some (codes "si")) (a_type (a_list_type 56 list.Sequence (a_simple_type 55 simple.Int)))) no_equates); owns = ([]); statements =
-    (statement_and (a_call_statement 63 (a_call 62 (a_name 58 (codes "ps")) (expression_and (a_call 61 (an_operation 60 (a_named_type 59 (codes "si")
-    no_constants) (codes "new")) no_expressions) no_expressions))) (statement_and (a_call_statement 70 (a_call 69 (a_name 64 (codes "ps"))
-    (expression_and (a_call 68 (an_operation 66 (a_named_type 65 (codes "si") no_constants) (codes "e2s")) (expression_and (a_literal 67 (integer
-    (codes "4"))) no_expressions)) no_expressions))) (statement_and (a_call_statement 78 (a_call 77 (a_name 71 (codes "ps")) (expression_and (a_call
-    76 (an_operation 73 (a_named_type 72 (codes "si") no_constants) (codes "fill")) (expression_and (a_literal 74 (integer (codes "3")))
-    (expression_and (a_literal 75 (integer (codes "7"))) no_expressions))) no_expressions))) (statement_and (a_call_statement 86 (a_call 85 (a_name 79
-    (codes "ps")) (expression_and (a_call 84 (an_operation 81 (a_named_type 80 (codes "si") no_constants) (codes "fill")) (expression_and (a_literal
-    82 (integer (codes "0"))) (expression_and (a_literal 83 (integer (codes "7"))) no_expressions))) no_expressions))) (statement_and
-    (a_call_statement 93 (a_call 92 (a_name 87 (codes "ps")) (expression_and (elements 91 (a_named_type 88 (codes "si") no_constants) (expression_and
-    (a_literal 89 (integer (codes "1"))) (expression_and (a_literal 90 (integer (codes "2"))) no_expressions))) no_expressions))) (statement_and
-    (a_call_statement 98 (a_call 97 (a_name 94 (codes "ps")) (expression_and (elements 96 (a_named_type 95 (codes "si") no_constants) no_expressions)
-    no_expressions))) (statement_and (an_except 116 (an_init 106 (record { name = (codes "x"); type = (a_named_type 99 (codes "si") no_constants) })
-    (a_call 105 (an_operation 101 (a_named_type 100 (codes "si") no_constants) (codes "fill")) (expression_and (a_prefix 103 sign.Minus (a_literal 102
-    (integer (codes "1")))) (expression_and (a_literal 104 (integer (codes "0"))) no_expressions)))) (when_and 115 ((codes "negative_size") ∷ [])
-    (objects []) (a_body no_equates (statement_and (a_call_statement 114 (a_call 113 (an_operation 108 (a_named_type 107 (codes "stream")
-    no_constants) (codes "putl")) (expression_and (a_call 111 (an_operation 110 (a_named_type 109 (codes "stream") no_constants) (codes
-    "primary_output")) no_expressions) (expression_and (a_literal 112 (string (34 ∷ 110 ∷ 34 ∷ []))) no_expressions)))) no_statements)) no_whens)
-    no_others) no_statements))))))) })) ∷ [])
+    ((a_routine 32 no_equates (routine 31 (codes "ps") (codes "ps") kind.Procedure [] (typed 2 ((codes "a") ∷ []) (a_list_type 1 list.Sequence
+    (a_simple_type 0 simple.Int)) ∷ []) no_types no_exceptions ([]) no_equates ([]) (statement_and (an_init 5 (a_variable (codes "s") (a_simple_type 3
+    simple.String)) (a_literal 4 (string (34 ∷ 34 ∷ [])))) (statement_and (a_for 22 (typed 7 ((codes "x") ∷ []) (a_simple_type 6 simple.Int) ∷ [])
+    (a_call 12 (an_operation 10 (a_list_type 9 list.Sequence (a_simple_type 8 simple.Int)) (codes "elements")) (expression_and (a_name 11 (codes "a"))
+    no_expressions)) (a_body no_equates (statement_and (an_assign 21 ((codes "s") ∷ []) (expression_and (an_infix 20 op.Concatenate (an_infix 15
+    op.Concatenate (a_name 13 (codes "s")) (a_literal 14 (string (34 ∷ 32 ∷ 34 ∷ [])))) (a_call 19 (an_operation 17 (a_simple_type 16 simple.Int)
+    (codes "unparse")) (expression_and (a_name 18 (codes "x")) no_expressions))) no_expressions)) no_statements))) (statement_and (a_call_statement 30
+    (a_call 29 (an_operation 24 (a_named_type 23 (codes "stream") no_constants) (codes "putl")) (expression_and (a_call 27 (an_operation 26
+    (a_named_type 25 (codes "stream") no_constants) (codes "primary_output")) no_expressions) (expression_and (a_name 28 (codes "s"))
+    no_expressions)))) no_statements))))) ∷ (a_routine 54 no_equates (routine 53 (codes "tf") (codes "tf") kind.Procedure [] (typed 34 ((codes "b") ∷
+    []) (a_simple_type 33 simple.Bool) ∷ []) no_types no_exceptions ([]) no_equates ([]) (statement_and (an_if 52 (clause_and (a_name 35 (codes "b"))
+    (a_body no_equates (statement_and (a_call_statement 43 (a_call 42 (an_operation 37 (a_named_type 36 (codes "stream") no_constants) (codes "putl"))
+    (expression_and (a_call 40 (an_operation 39 (a_named_type 38 (codes "stream") no_constants) (codes "primary_output")) no_expressions)
+    (expression_and (a_literal 41 (string (34 ∷ 84 ∷ 34 ∷ []))) no_expressions)))) no_statements)) no_clauses) (otherwise (a_body no_equates
+    (statement_and (a_call_statement 51 (a_call 50 (an_operation 45 (a_named_type 44 (codes "stream") no_constants) (codes "putl")) (expression_and
+    (a_call 48 (an_operation 47 (a_named_type 46 (codes "stream") no_constants) (codes "primary_output")) no_expressions) (expression_and (a_literal
+    49 (string (34 ∷ 70 ∷ 34 ∷ []))) no_expressions)))) no_statements)))) no_statements))) ∷ (a_routine 118 no_equates (routine 117 (codes "start_up")
+    (codes "start_up") kind.Procedure [] ([]) no_types no_exceptions ([]) (equate_and (an_equate 57 (Some (codes "si")) (a_type (a_list_type 56
+    list.Sequence (a_simple_type 55 simple.Int)))) no_equates) ([]) (statement_and (a_call_statement 63 (a_call 62 (a_name 58 (codes "ps"))
+    (expression_and (a_call 61 (an_operation 60 (a_named_type 59 (codes "si") no_constants) (codes "new")) no_expressions) no_expressions)))
+    (statement_and (a_call_statement 70 (a_call 69 (a_name 64 (codes "ps")) (expression_and (a_call 68 (an_operation 66 (a_named_type 65 (codes "si")
+    no_constants) (codes "e2s")) (expression_and (a_literal 67 (integer (codes "4"))) no_expressions)) no_expressions))) (statement_and
+    (a_call_statement 78 (a_call 77 (a_name 71 (codes "ps")) (expression_and (a_call 76 (an_operation 73 (a_named_type 72 (codes "si") no_constants)
+    (codes "fill")) (expression_and (a_literal 74 (integer (codes "3"))) (expression_and (a_literal 75 (integer (codes "7"))) no_expressions)))
+    no_expressions))) (statement_and (a_call_statement 86 (a_call 85 (a_name 79 (codes "ps")) (expression_and (a_call 84 (an_operation 81
+    (a_named_type 80 (codes "si") no_constants) (codes "fill")) (expression_and (a_literal 82 (integer (codes "0"))) (expression_and (a_literal 83
+    (integer (codes "7"))) no_expressions))) no_expressions))) (statement_and (a_call_statement 93 (a_call 92 (a_name 87 (codes "ps")) (expression_and
+    (elements 91 (a_named_type 88 (codes "si") no_constants) (expression_and (a_literal 89 (integer (codes "1"))) (expression_and (a_literal 90
+    (integer (codes "2"))) no_expressions))) no_expressions))) (statement_and (a_call_statement 98 (a_call 97 (a_name 94 (codes "ps")) (expression_and
+    (elements 96 (a_named_type 95 (codes "si") no_constants) no_expressions) no_expressions))) (statement_and (an_except 116 (an_init 106 (a_variable
+    (codes "x") (a_named_type 99 (codes "si") no_constants)) (a_call 105 (an_operation 101 (a_named_type 100 (codes "si") no_constants) (codes
+    "fill")) (expression_and (a_prefix 103 sign.Minus (a_literal 102 (integer (codes "1")))) (expression_and (a_literal 104 (integer (codes "0")))
+    no_expressions)))) (when_and 115 ((codes "negative_size") ∷ []) (objects []) (a_body no_equates (statement_and (a_call_statement 114 (a_call 113
+    (an_operation 108 (a_named_type 107 (codes "stream") no_constants) (codes "putl")) (expression_and (a_call 111 (an_operation 110 (a_named_type 109
+    (codes "stream") no_constants) (codes "primary_output")) no_expressions) (expression_and (a_literal 112 (string (34 ∷ 110 ∷ 34 ∷ [])))
+    no_expressions)))) no_statements)) no_whens) no_others) no_statements))))))))) ∷ [])
 
 abbrev sequence_make_declared : List Declared
 sequence_make_declared =
@@ -96,37 +92,33 @@ sequence_make = refl
 -- end start_up
 abbrev sequence_fetch_modules : List Module
 sequence_fetch_modules =
-    ((a_routine 32 no_equates (record { node = 31; name = (codes "ps"); closing = (codes "ps"); kind = kind.Procedure; parameters = []; arguments =
-    (record { node = 2; names = ((codes "a") ∷ []); type = (a_list_type 1 list.Sequence (a_simple_type 0 simple.Int)) } ∷ []); results = no_types;
-    signals = no_exceptions; restrictions = ([]); equates = no_equates; owns = ([]); statements = (statement_and (an_init 5 (record { name = (codes
-    "s"); type = (a_simple_type 3 simple.String) }) (a_literal 4 (string (34 ∷ 34 ∷ [])))) (statement_and (a_for 22 (record { node = 7; names =
-    ((codes "x") ∷ []); type = (a_simple_type 6 simple.Int) } ∷ []) (a_call 12 (an_operation 10 (a_list_type 9 list.Sequence (a_simple_type 8
-    simple.Int)) (codes "elements")) (expression_and (a_name 11 (codes "a")) no_expressions)) (a_body no_equates (statement_and (an_assign 21 ((codes
-    "s") ∷ []) (expression_and (an_infix 20 op.Concatenate (an_infix 15 op.Concatenate (a_name 13 (codes "s")) (a_literal 14 (string (34 ∷ 32 ∷ 34 ∷
-    [])))) (a_call 19 (an_operation 17 (a_simple_type 16 simple.Int) (codes "unparse")) (expression_and (a_name 18 (codes "x")) no_expressions)))
-    no_expressions)) no_statements))) (statement_and (a_call_statement 30 (a_call 29 (an_operation 24 (a_named_type 23 (codes "stream") no_constants)
-    (codes "putl")) (expression_and (a_call 27 (an_operation 26 (a_named_type 25 (codes "stream") no_constants) (codes "primary_output"))
-    no_expressions) (expression_and (a_name 28 (codes "s")) no_expressions)))) no_statements))) })) ∷ (a_routine 54 no_equates (record { node = 53;
-    name = (codes "tf"); closing = (codes "tf"); kind = kind.Procedure; parameters = []; arguments = (record { node = 34; names = ((codes "b") ∷ []);
-    type = (a_simple_type 33 simple.Bool) } ∷ []); results = no_types; signals = no_exceptions; restrictions = ([]); equates = no_equates; owns =
-    ([]); statements = (statement_and (an_if 52 (clause_and (a_name 35 (codes "b")) (a_body no_equates (statement_and (a_call_statement 43 (a_call 42
-    (an_operation 37 (a_named_type 36 (codes "stream") no_constants) (codes "putl")) (expression_and (a_call 40 (an_operation 39 (a_named_type 38
-    (codes "stream") no_constants) (codes "primary_output")) no_expressions) (expression_and (a_literal 41 (string (34 ∷ 84 ∷ 34 ∷ [])))
-    no_expressions)))) no_statements)) no_clauses) (otherwise (a_body no_equates (statement_and (a_call_statement 51 (a_call 50 (an_operation 45
-    (a_named_type 44 (codes "stream") no_constants) (codes "putl")) (expression_and (a_call 48 (an_operation 47 (a_named_type 46 (codes "stream")
-    no_constants) (codes "primary_output")) no_expressions) (expression_and (a_literal 49 (string (34 ∷ 70 ∷ 34 ∷ []))) no_expressions))))
-    no_statements)))) no_statements) })) ∷ (a_routine 175 no_equates (record { node = 174; name = (codes "start_up"); closing = (codes "start_up");
-    kind = kind.Procedure; parameters = []; arguments = ([]); results = no_types; signals = no_exceptions; restrictions = ([]); equates = (equate_and
-    (an_equate 57 (Some (codes "si")) (a_type (a_list_type 56 list.Sequence (a_simple_type 55 simple.Int)))) no_equates); owns = ([]); statements =
-    (statement_and (an_init 63 (record { name = (codes "s"); type = (a_named_type 58 (codes "si") no_constants) }) (elements 62 (a_named_type 59
-    (codes "si") no_constants) (expression_and (a_literal 60 (integer (codes "5"))) (expression_and (a_literal 61 (integer (codes "6")))
-    no_expressions)))) (statement_and (a_call_statement 82 (a_call 81 (an_operation 65 (a_named_type 64 (codes "stream") no_constants) (codes "putl"))
-    (expression_and (a_call 68 (an_operation 67 (a_named_type 66 (codes "stream") no_constants) (codes "primary_output")) no_expressions)
-    (expression_and (a_call 80 (an_operation 70 (a_simple_type 69 simple.Int) (codes "unparse")) (expression_and (an_infix 79 op.Add (an_index 73
-    (a_name 71 (codes "s")) (constant_and (an_expression (a_literal 72 (integer (codes "1")))) no_constants)) (a_call 78 (an_operation 75
-    (a_named_type 74 (codes "si") no_constants) (codes "fetch")) (expression_and (a_name 76 (codes "s")) (expression_and (a_literal 77 (integer (codes
-    "2"))) no_expressions)))) no_expressions)) no_expressions)))) (statement_and (an_except 97 (an_init 87 (record { name = (codes "x"); type =
-    (a_simple_type 83 simple.Int) }) (an_index 86 (a_name 84 (codes "s")) (constant_and (an_expression (a_literal 85 (integer (codes "0"))))
+    ((a_routine 32 no_equates (routine 31 (codes "ps") (codes "ps") kind.Procedure [] (typed 2 ((codes "a") ∷ []) (a_list_type 1 list.Sequence
+    (a_simple_type 0 simple.Int)) ∷ []) no_types no_exceptions ([]) no_equates ([]) (statement_and (an_init 5 (a_variable (codes "s") (a_simple_type 3
+    simple.String)) (a_literal 4 (string (34 ∷ 34 ∷ [])))) (statement_and (a_for 22 (typed 7 ((codes "x") ∷ []) (a_simple_type 6 simple.Int) ∷ [])
+    (a_call 12 (an_operation 10 (a_list_type 9 list.Sequence (a_simple_type 8 simple.Int)) (codes "elements")) (expression_and (a_name 11 (codes "a"))
+    no_expressions)) (a_body no_equates (statement_and (an_assign 21 ((codes "s") ∷ []) (expression_and (an_infix 20 op.Concatenate (an_infix 15
+    op.Concatenate (a_name 13 (codes "s")) (a_literal 14 (string (34 ∷ 32 ∷ 34 ∷ [])))) (a_call 19 (an_operation 17 (a_simple_type 16 simple.Int)
+    (codes "unparse")) (expression_and (a_name 18 (codes "x")) no_expressions))) no_expressions)) no_statements))) (statement_and (a_call_statement 30
+    (a_call 29 (an_operation 24 (a_named_type 23 (codes "stream") no_constants) (codes "putl")) (expression_and (a_call 27 (an_operation 26
+    (a_named_type 25 (codes "stream") no_constants) (codes "primary_output")) no_expressions) (expression_and (a_name 28 (codes "s"))
+    no_expressions)))) no_statements))))) ∷ (a_routine 54 no_equates (routine 53 (codes "tf") (codes "tf") kind.Procedure [] (typed 34 ((codes "b") ∷
+    []) (a_simple_type 33 simple.Bool) ∷ []) no_types no_exceptions ([]) no_equates ([]) (statement_and (an_if 52 (clause_and (a_name 35 (codes "b"))
+    (a_body no_equates (statement_and (a_call_statement 43 (a_call 42 (an_operation 37 (a_named_type 36 (codes "stream") no_constants) (codes "putl"))
+    (expression_and (a_call 40 (an_operation 39 (a_named_type 38 (codes "stream") no_constants) (codes "primary_output")) no_expressions)
+    (expression_and (a_literal 41 (string (34 ∷ 84 ∷ 34 ∷ []))) no_expressions)))) no_statements)) no_clauses) (otherwise (a_body no_equates
+    (statement_and (a_call_statement 51 (a_call 50 (an_operation 45 (a_named_type 44 (codes "stream") no_constants) (codes "putl")) (expression_and
+    (a_call 48 (an_operation 47 (a_named_type 46 (codes "stream") no_constants) (codes "primary_output")) no_expressions) (expression_and (a_literal
+    49 (string (34 ∷ 70 ∷ 34 ∷ []))) no_expressions)))) no_statements)))) no_statements))) ∷ (a_routine 175 no_equates (routine 174 (codes "start_up")
+    (codes "start_up") kind.Procedure [] ([]) no_types no_exceptions ([]) (equate_and (an_equate 57 (Some (codes "si")) (a_type (a_list_type 56
+    list.Sequence (a_simple_type 55 simple.Int)))) no_equates) ([]) (statement_and (an_init 63 (a_variable (codes "s") (a_named_type 58 (codes "si")
+    no_constants)) (elements 62 (a_named_type 59 (codes "si") no_constants) (expression_and (a_literal 60 (integer (codes "5"))) (expression_and
+    (a_literal 61 (integer (codes "6"))) no_expressions)))) (statement_and (a_call_statement 82 (a_call 81 (an_operation 65 (a_named_type 64 (codes
+    "stream") no_constants) (codes "putl")) (expression_and (a_call 68 (an_operation 67 (a_named_type 66 (codes "stream") no_constants) (codes
+    "primary_output")) no_expressions) (expression_and (a_call 80 (an_operation 70 (a_simple_type 69 simple.Int) (codes "unparse")) (expression_and
+    (an_infix 79 op.Add (an_index 73 (a_name 71 (codes "s")) (constant_and (an_expression (a_literal 72 (integer (codes "1")))) no_constants)) (a_call
+    78 (an_operation 75 (a_named_type 74 (codes "si") no_constants) (codes "fetch")) (expression_and (a_name 76 (codes "s")) (expression_and
+    (a_literal 77 (integer (codes "2"))) no_expressions)))) no_expressions)) no_expressions)))) (statement_and (an_except 97 (an_init 87 (a_variable
+    (codes "x") (a_simple_type 83 simple.Int)) (an_index 86 (a_name 84 (codes "s")) (constant_and (an_expression (a_literal 85 (integer (codes "0"))))
     no_constants))) (when_and 96 ((codes "bounds") ∷ []) (objects []) (a_body no_equates (statement_and (a_call_statement 95 (a_call 94 (an_operation
     89 (a_named_type 88 (codes "stream") no_constants) (codes "putl")) (expression_and (a_call 92 (an_operation 91 (a_named_type 90 (codes "stream")
     no_constants) (codes "primary_output")) no_expressions) (expression_and (a_literal 93 (string (34 ∷ 98 ∷ 48 ∷ 34 ∷ []))) no_expressions))))
@@ -154,7 +146,7 @@ sequence_fetch_modules =
     ((codes "bounds") ∷ []) (objects []) (a_body no_equates (statement_and (a_call_statement 171 (a_call 170 (an_operation 165 (a_named_type 164
     (codes "stream") no_constants) (codes "putl")) (expression_and (a_call 168 (an_operation 167 (a_named_type 166 (codes "stream") no_constants)
     (codes "primary_output")) no_expressions) (expression_and (a_literal 169 (string (34 ∷ 98 ∷ 116 ∷ 34 ∷ []))) no_expressions)))) no_statements))
-    no_whens) no_others) no_statements)))))))) })) ∷ [])
+    no_whens) no_others) no_statements)))))))))) ∷ [])
 
 abbrev sequence_fetch_declared : List Declared
 sequence_fetch_declared =
@@ -181,34 +173,30 @@ sequence_fetch = refl
 -- end start_up
 abbrev sequence_add_rem_modules : List Module
 sequence_add_rem_modules =
-    ((a_routine 32 no_equates (record { node = 31; name = (codes "ps"); closing = (codes "ps"); kind = kind.Procedure; parameters = []; arguments =
-    (record { node = 2; names = ((codes "a") ∷ []); type = (a_list_type 1 list.Sequence (a_simple_type 0 simple.Int)) } ∷ []); results = no_types;
-    signals = no_exceptions; restrictions = ([]); equates = no_equates; owns = ([]); statements = (statement_and (an_init 5 (record { name = (codes
-    "s"); type = (a_simple_type 3 simple.String) }) (a_literal 4 (string (34 ∷ 34 ∷ [])))) (statement_and (a_for 22 (record { node = 7; names =
-    ((codes "x") ∷ []); type = (a_simple_type 6 simple.Int) } ∷ []) (a_call 12 (an_operation 10 (a_list_type 9 list.Sequence (a_simple_type 8
-    simple.Int)) (codes "elements")) (expression_and (a_name 11 (codes "a")) no_expressions)) (a_body no_equates (statement_and (an_assign 21 ((codes
-    "s") ∷ []) (expression_and (an_infix 20 op.Concatenate (an_infix 15 op.Concatenate (a_name 13 (codes "s")) (a_literal 14 (string (34 ∷ 32 ∷ 34 ∷
-    [])))) (a_call 19 (an_operation 17 (a_simple_type 16 simple.Int) (codes "unparse")) (expression_and (a_name 18 (codes "x")) no_expressions)))
-    no_expressions)) no_statements))) (statement_and (a_call_statement 30 (a_call 29 (an_operation 24 (a_named_type 23 (codes "stream") no_constants)
-    (codes "putl")) (expression_and (a_call 27 (an_operation 26 (a_named_type 25 (codes "stream") no_constants) (codes "primary_output"))
-    no_expressions) (expression_and (a_name 28 (codes "s")) no_expressions)))) no_statements))) })) ∷ (a_routine 54 no_equates (record { node = 53;
-    name = (codes "tf"); closing = (codes "tf"); kind = kind.Procedure; parameters = []; arguments = (record { node = 34; names = ((codes "b") ∷ []);
-    type = (a_simple_type 33 simple.Bool) } ∷ []); results = no_types; signals = no_exceptions; restrictions = ([]); equates = no_equates; owns =
-    ([]); statements = (statement_and (an_if 52 (clause_and (a_name 35 (codes "b")) (a_body no_equates (statement_and (a_call_statement 43 (a_call 42
-    (an_operation 37 (a_named_type 36 (codes "stream") no_constants) (codes "putl")) (expression_and (a_call 40 (an_operation 39 (a_named_type 38
-    (codes "stream") no_constants) (codes "primary_output")) no_expressions) (expression_and (a_literal 41 (string (34 ∷ 84 ∷ 34 ∷ [])))
-    no_expressions)))) no_statements)) no_clauses) (otherwise (a_body no_equates (statement_and (a_call_statement 51 (a_call 50 (an_operation 45
-    (a_named_type 44 (codes "stream") no_constants) (codes "putl")) (expression_and (a_call 48 (an_operation 47 (a_named_type 46 (codes "stream")
-    no_constants) (codes "primary_output")) no_expressions) (expression_and (a_literal 49 (string (34 ∷ 70 ∷ 34 ∷ []))) no_expressions))))
-    no_statements)))) no_statements) })) ∷ (a_routine 128 no_equates (record { node = 127; name = (codes "start_up"); closing = (codes "start_up");
-    kind = kind.Procedure; parameters = []; arguments = ([]); results = no_types; signals = no_exceptions; restrictions = ([]); equates = (equate_and
-    (an_equate 57 (Some (codes "si")) (a_type (a_list_type 56 list.Sequence (a_simple_type 55 simple.Int)))) no_equates); owns = ([]); statements =
-    (statement_and (an_init 70 (record { name = (codes "s"); type = (a_named_type 58 (codes "si") no_constants) }) (a_call 69 (an_operation 60
-    (a_named_type 59 (codes "si") no_constants) (codes "addl")) (expression_and (a_call 67 (an_operation 62 (a_named_type 61 (codes "si")
-    no_constants) (codes "addh")) (expression_and (a_call 65 (an_operation 64 (a_named_type 63 (codes "si") no_constants) (codes "new"))
-    no_expressions) (expression_and (a_literal 66 (integer (codes "1"))) no_expressions))) (expression_and (a_literal 68 (integer (codes "0")))
-    no_expressions)))) (statement_and (a_call_statement 74 (a_call 73 (a_name 71 (codes "ps")) (expression_and (a_name 72 (codes "s"))
-    no_expressions))) (statement_and (a_call_statement 81 (a_call 80 (a_name 75 (codes "ps")) (expression_and (a_call 79 (an_operation 77
+    ((a_routine 32 no_equates (routine 31 (codes "ps") (codes "ps") kind.Procedure [] (typed 2 ((codes "a") ∷ []) (a_list_type 1 list.Sequence
+    (a_simple_type 0 simple.Int)) ∷ []) no_types no_exceptions ([]) no_equates ([]) (statement_and (an_init 5 (a_variable (codes "s") (a_simple_type 3
+    simple.String)) (a_literal 4 (string (34 ∷ 34 ∷ [])))) (statement_and (a_for 22 (typed 7 ((codes "x") ∷ []) (a_simple_type 6 simple.Int) ∷ [])
+    (a_call 12 (an_operation 10 (a_list_type 9 list.Sequence (a_simple_type 8 simple.Int)) (codes "elements")) (expression_and (a_name 11 (codes "a"))
+    no_expressions)) (a_body no_equates (statement_and (an_assign 21 ((codes "s") ∷ []) (expression_and (an_infix 20 op.Concatenate (an_infix 15
+    op.Concatenate (a_name 13 (codes "s")) (a_literal 14 (string (34 ∷ 32 ∷ 34 ∷ [])))) (a_call 19 (an_operation 17 (a_simple_type 16 simple.Int)
+    (codes "unparse")) (expression_and (a_name 18 (codes "x")) no_expressions))) no_expressions)) no_statements))) (statement_and (a_call_statement 30
+    (a_call 29 (an_operation 24 (a_named_type 23 (codes "stream") no_constants) (codes "putl")) (expression_and (a_call 27 (an_operation 26
+    (a_named_type 25 (codes "stream") no_constants) (codes "primary_output")) no_expressions) (expression_and (a_name 28 (codes "s"))
+    no_expressions)))) no_statements))))) ∷ (a_routine 54 no_equates (routine 53 (codes "tf") (codes "tf") kind.Procedure [] (typed 34 ((codes "b") ∷
+    []) (a_simple_type 33 simple.Bool) ∷ []) no_types no_exceptions ([]) no_equates ([]) (statement_and (an_if 52 (clause_and (a_name 35 (codes "b"))
+    (a_body no_equates (statement_and (a_call_statement 43 (a_call 42 (an_operation 37 (a_named_type 36 (codes "stream") no_constants) (codes "putl"))
+    (expression_and (a_call 40 (an_operation 39 (a_named_type 38 (codes "stream") no_constants) (codes "primary_output")) no_expressions)
+    (expression_and (a_literal 41 (string (34 ∷ 84 ∷ 34 ∷ []))) no_expressions)))) no_statements)) no_clauses) (otherwise (a_body no_equates
+    (statement_and (a_call_statement 51 (a_call 50 (an_operation 45 (a_named_type 44 (codes "stream") no_constants) (codes "putl")) (expression_and
+    (a_call 48 (an_operation 47 (a_named_type 46 (codes "stream") no_constants) (codes "primary_output")) no_expressions) (expression_and (a_literal
+    49 (string (34 ∷ 70 ∷ 34 ∷ []))) no_expressions)))) no_statements)))) no_statements))) ∷ (a_routine 128 no_equates (routine 127 (codes "start_up")
+    (codes "start_up") kind.Procedure [] ([]) no_types no_exceptions ([]) (equate_and (an_equate 57 (Some (codes "si")) (a_type (a_list_type 56
+    list.Sequence (a_simple_type 55 simple.Int)))) no_equates) ([]) (statement_and (an_init 70 (a_variable (codes "s") (a_named_type 58 (codes "si")
+    no_constants)) (a_call 69 (an_operation 60 (a_named_type 59 (codes "si") no_constants) (codes "addl")) (expression_and (a_call 67 (an_operation 62
+    (a_named_type 61 (codes "si") no_constants) (codes "addh")) (expression_and (a_call 65 (an_operation 64 (a_named_type 63 (codes "si")
+    no_constants) (codes "new")) no_expressions) (expression_and (a_literal 66 (integer (codes "1"))) no_expressions))) (expression_and (a_literal 68
+    (integer (codes "0"))) no_expressions)))) (statement_and (a_call_statement 74 (a_call 73 (a_name 71 (codes "ps")) (expression_and (a_name 72
+    (codes "s")) no_expressions))) (statement_and (a_call_statement 81 (a_call 80 (a_name 75 (codes "ps")) (expression_and (a_call 79 (an_operation 77
     (a_named_type 76 (codes "si") no_constants) (codes "remh")) (expression_and (a_name 78 (codes "s")) no_expressions)) no_expressions)))
     (statement_and (a_call_statement 88 (a_call 87 (a_name 82 (codes "ps")) (expression_and (a_call 86 (an_operation 84 (a_named_type 83 (codes "si")
     no_constants) (codes "reml")) (expression_and (a_name 85 (codes "s")) no_expressions)) no_expressions))) (statement_and (a_call_statement 92
@@ -223,7 +211,7 @@ sequence_add_rem_modules =
     "new")) no_expressions) no_expressions)) no_expressions)) (when_and 125 ((codes "bounds") ∷ []) (objects []) (a_body no_equates (statement_and
     (a_call_statement 124 (a_call 123 (an_operation 118 (a_named_type 117 (codes "stream") no_constants) (codes "putl")) (expression_and (a_call 121
     (an_operation 120 (a_named_type 119 (codes "stream") no_constants) (codes "primary_output")) no_expressions) (expression_and (a_literal 122
-    (string (34 ∷ 98 ∷ 108 ∷ 34 ∷ []))) no_expressions)))) no_statements)) no_whens) no_others) no_statements))))))) })) ∷ [])
+    (string (34 ∷ 98 ∷ 108 ∷ 34 ∷ []))) no_expressions)))) no_statements)) no_whens) no_others) no_statements))))))))) ∷ [])
 
 abbrev sequence_add_rem_declared : List Declared
 sequence_add_rem_declared =

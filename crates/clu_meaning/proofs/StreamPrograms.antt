@@ -10,7 +10,7 @@ use Rattle.clu_syntax.specs.Syntax.{true_literal, character, string, an_infix, a
 use Rattle.clu_layout.specs.Computing.{computing}
 use Rattle.clu_meaning.specs.Run.{returned_normally, failure_with}
 use Rattle.clu_meaning.specs.Executing.{executing}
-use Rattle.clu_meaning.proofs.Running.{d, Runs}
+use Rattle.clu_meaning.proofs.Running.{d, typed, a_variable, routine, Runs}
 
 -- % stream-getc
 -- start_up = proc ()
@@ -20,9 +20,8 @@ use Rattle.clu_meaning.proofs.Running.{d, Runs}
 -- end start_up
 abbrev stream_getc_modules : List Module
 stream_getc_modules =
-    ((a_routine 53 no_equates (record { node = 52; name = (codes "start_up"); closing = (codes "start_up"); kind = kind.Procedure; parameters = [];
-    arguments = ([]); results = no_types; signals = no_exceptions; restrictions = ([]); equates = no_equates; owns = ([]); statements = (statement_and
-    (an_init 4 (record { name = (codes "s"); type = (a_named_type 0 (codes "stream") no_constants) }) (a_call 3 (an_operation 2 (a_named_type 1 (codes
+    ((a_routine 53 no_equates (routine 52 (codes "start_up") (codes "start_up") kind.Procedure [] ([]) no_types no_exceptions ([]) no_equates ([])
+    (statement_and (an_init 4 (a_variable (codes "s") (a_named_type 0 (codes "stream") no_constants)) (a_call 3 (an_operation 2 (a_named_type 1 (codes
     "stream") no_constants) (codes "primary_input")) no_expressions)) (statement_and (an_except 35 (a_while 25 (a_literal 5 true_literal) (a_body
     no_equates (statement_and (a_call_statement 24 (a_call 23 (an_operation 7 (a_named_type 6 (codes "stream") no_constants) (codes "puts"))
     (expression_and (a_call 10 (an_operation 9 (a_named_type 8 (codes "stream") no_constants) (codes "primary_output")) no_expressions)
@@ -32,12 +31,12 @@ stream_getc_modules =
     ∷ 32 ∷ 34 ∷ [])))) no_expressions)))) no_statements))) (when_and 34 ((codes "end_of_file") ∷ []) (objects []) (a_body no_equates (statement_and
     (a_call_statement 33 (a_call 32 (an_operation 27 (a_named_type 26 (codes "stream") no_constants) (codes "putl")) (expression_and (a_call 30
     (an_operation 29 (a_named_type 28 (codes "stream") no_constants) (codes "primary_output")) no_expressions) (expression_and (a_literal 31 (string
-    (34 ∷ 101 ∷ 111 ∷ 102 ∷ 34 ∷ []))) no_expressions)))) no_statements)) no_whens) no_others) (statement_and (an_except 51 (an_init 41 (record { name
-    = (codes "c"); type = (a_simple_type 36 simple.Char) }) (a_call 40 (an_operation 38 (a_named_type 37 (codes "stream") no_constants) (codes
-    "getc")) (expression_and (a_name 39 (codes "s")) no_expressions))) (when_and 50 ((codes "end_of_file") ∷ []) (objects []) (a_body no_equates
-    (statement_and (a_call_statement 49 (a_call 48 (an_operation 43 (a_named_type 42 (codes "stream") no_constants) (codes "putl")) (expression_and
-    (a_call 46 (an_operation 45 (a_named_type 44 (codes "stream") no_constants) (codes "primary_output")) no_expressions) (expression_and (a_literal
-    47 (string (34 ∷ 101 ∷ 111 ∷ 102 ∷ 50 ∷ 34 ∷ []))) no_expressions)))) no_statements)) no_whens) no_others) no_statements))) })) ∷ [])
+    (34 ∷ 101 ∷ 111 ∷ 102 ∷ 34 ∷ []))) no_expressions)))) no_statements)) no_whens) no_others) (statement_and (an_except 51 (an_init 41 (a_variable
+    (codes "c") (a_simple_type 36 simple.Char)) (a_call 40 (an_operation 38 (a_named_type 37 (codes "stream") no_constants) (codes "getc"))
+    (expression_and (a_name 39 (codes "s")) no_expressions))) (when_and 50 ((codes "end_of_file") ∷ []) (objects []) (a_body no_equates (statement_and
+    (a_call_statement 49 (a_call 48 (an_operation 43 (a_named_type 42 (codes "stream") no_constants) (codes "putl")) (expression_and (a_call 46
+    (an_operation 45 (a_named_type 44 (codes "stream") no_constants) (codes "primary_output")) no_expressions) (expression_and (a_literal 47 (string
+    (34 ∷ 101 ∷ 111 ∷ 102 ∷ 50 ∷ 34 ∷ []))) no_expressions)))) no_statements)) no_whens) no_others) no_statements))))) ∷ [])
 
 abbrev stream_getc_declared : List Declared
 stream_getc_declared =
@@ -54,16 +53,15 @@ stream_getc = refl
 -- end start_up
 abbrev stream_getl2_modules : List Module
 stream_getl2_modules =
-    ((a_routine 27 no_equates (record { node = 26; name = (codes "start_up"); closing = (codes "start_up"); kind = kind.Procedure; parameters = [];
-    arguments = ([]); results = no_types; signals = no_exceptions; restrictions = ([]); equates = no_equates; owns = ([]); statements = (statement_and
-    (an_init 4 (record { name = (codes "s"); type = (a_named_type 0 (codes "stream") no_constants) }) (a_call 3 (an_operation 2 (a_named_type 1 (codes
+    ((a_routine 27 no_equates (routine 26 (codes "start_up") (codes "start_up") kind.Procedure [] ([]) no_types no_exceptions ([]) no_equates ([])
+    (statement_and (an_init 4 (a_variable (codes "s") (a_named_type 0 (codes "stream") no_constants)) (a_call 3 (an_operation 2 (a_named_type 1 (codes
     "stream") no_constants) (codes "primary_input")) no_expressions)) (statement_and (a_while 25 (a_prefix 9 sign.Not (a_call 8 (an_operation 6
     (a_named_type 5 (codes "stream") no_constants) (codes "empty")) (expression_and (a_name 7 (codes "s")) no_expressions))) (a_body no_equates
     (statement_and (a_call_statement 24 (a_call 23 (an_operation 11 (a_named_type 10 (codes "stream") no_constants) (codes "puts")) (expression_and
     (a_call 14 (an_operation 13 (a_named_type 12 (codes "stream") no_constants) (codes "primary_output")) no_expressions) (expression_and (an_infix 22
     op.Concatenate (an_infix 20 op.Concatenate (a_literal 15 (string (34 ∷ 60 ∷ 34 ∷ []))) (a_call 19 (an_operation 17 (a_named_type 16 (codes
     "stream") no_constants) (codes "getl")) (expression_and (a_name 18 (codes "s")) no_expressions))) (a_literal 21 (string (34 ∷ 62 ∷ 34 ∷ []))))
-    no_expressions)))) no_statements))) no_statements)) })) ∷ [])
+    no_expressions)))) no_statements))) no_statements)))) ∷ [])
 
 abbrev stream_getl2_declared : List Declared
 stream_getl2_declared =
@@ -86,50 +84,48 @@ stream_getl2 = refl
 -- end start_up
 abbrev stream_wrong_way_modules : List Module
 stream_wrong_way_modules =
-    ((a_routine 134 no_equates (record { node = 133; name = (codes "start_up"); closing = (codes "start_up"); kind = kind.Procedure; parameters = [];
-    arguments = ([]); results = no_types; signals = no_exceptions; restrictions = ([]); equates = no_equates; owns = ([]); statements = (statement_and
-    (an_init 4 (record { name = (codes "i"); type = (a_named_type 0 (codes "stream") no_constants) }) (a_call 3 (an_operation 2 (a_named_type 1 (codes
-    "stream") no_constants) (codes "primary_input")) no_expressions)) (statement_and (an_init 9 (record { name = (codes "o"); type = (a_named_type 5
-    (codes "stream") no_constants) }) (a_call 8 (an_operation 7 (a_named_type 6 (codes "stream") no_constants) (codes "primary_output"))
-    no_expressions)) (statement_and (an_except 36 (an_init 15 (record { name = (codes "c"); type = (a_simple_type 10 simple.Char) }) (a_call 14
-    (an_operation 12 (a_named_type 11 (codes "stream") no_constants) (codes "getc")) (expression_and (a_name 13 (codes "o")) no_expressions)))
-    (when_and 26 ((codes "not_possible") ∷ []) (objects (record { node = 17; names = ((codes "s") ∷ []); type = (a_simple_type 16 simple.String) } ∷
-    [])) (a_body no_equates (statement_and (a_call_statement 25 (a_call 24 (an_operation 19 (a_named_type 18 (codes "stream") no_constants) (codes
-    "putl")) (expression_and (a_call 22 (an_operation 21 (a_named_type 20 (codes "stream") no_constants) (codes "primary_output")) no_expressions)
-    (expression_and (a_name 23 (codes "s")) no_expressions)))) no_statements)) (when_and 35 ((codes "end_of_file") ∷ []) (objects []) (a_body
-    no_equates (statement_and (a_call_statement 34 (a_call 33 (an_operation 28 (a_named_type 27 (codes "stream") no_constants) (codes "putl"))
-    (expression_and (a_call 31 (an_operation 30 (a_named_type 29 (codes "stream") no_constants) (codes "primary_output")) no_expressions)
-    (expression_and (a_literal 32 (string (34 ∷ 110 ∷ 111 ∷ 34 ∷ []))) no_expressions)))) no_statements)) no_whens)) no_others) (statement_and
-    (an_except 54 (an_init 42 (record { name = (codes "l"); type = (a_simple_type 37 simple.String) }) (a_call 41 (an_operation 39 (a_named_type 38
-    (codes "stream") no_constants) (codes "getl")) (expression_and (a_name 40 (codes "o")) no_expressions))) (when_and 53 ((codes "not_possible") ∷
-    []) (objects (record { node = 44; names = ((codes "s") ∷ []); type = (a_simple_type 43 simple.String) } ∷ [])) (a_body no_equates (statement_and
-    (a_call_statement 52 (a_call 51 (an_operation 46 (a_named_type 45 (codes "stream") no_constants) (codes "putl")) (expression_and (a_call 49
-    (an_operation 48 (a_named_type 47 (codes "stream") no_constants) (codes "primary_output")) no_expressions) (expression_and (a_name 50 (codes "s"))
-    no_expressions)))) no_statements)) no_whens) no_others) (statement_and (an_except 72 (an_init 60 (record { name = (codes "b"); type =
-    (a_simple_type 55 simple.Bool) }) (a_call 59 (an_operation 57 (a_named_type 56 (codes "stream") no_constants) (codes "empty")) (expression_and
-    (a_name 58 (codes "o")) no_expressions))) (when_and 71 ((codes "not_possible") ∷ []) (objects (record { node = 62; names = ((codes "s") ∷ []);
-    type = (a_simple_type 61 simple.String) } ∷ [])) (a_body no_equates (statement_and (a_call_statement 70 (a_call 69 (an_operation 64 (a_named_type
-    63 (codes "stream") no_constants) (codes "putl")) (expression_and (a_call 67 (an_operation 66 (a_named_type 65 (codes "stream") no_constants)
-    (codes "primary_output")) no_expressions) (expression_and (a_name 68 (codes "s")) no_expressions)))) no_statements)) no_whens) no_others)
-    (statement_and (an_except 90 (a_call_statement 78 (a_call 77 (an_operation 74 (a_named_type 73 (codes "stream") no_constants) (codes "putc"))
-    (expression_and (a_name 75 (codes "i")) (expression_and (a_literal 76 (character (codes "'a'"))) no_expressions)))) (when_and 89 ((codes
-    "not_possible") ∷ []) (objects (record { node = 80; names = ((codes "s") ∷ []); type = (a_simple_type 79 simple.String) } ∷ [])) (a_body
-    no_equates (statement_and (a_call_statement 88 (a_call 87 (an_operation 82 (a_named_type 81 (codes "stream") no_constants) (codes "putl"))
-    (expression_and (a_call 85 (an_operation 84 (a_named_type 83 (codes "stream") no_constants) (codes "primary_output")) no_expressions)
-    (expression_and (a_name 86 (codes "s")) no_expressions)))) no_statements)) no_whens) no_others) (statement_and (an_except 108 (a_call_statement 96
-    (a_call 95 (an_operation 92 (a_named_type 91 (codes "stream") no_constants) (codes "puts")) (expression_and (a_name 93 (codes "i"))
-    (expression_and (a_literal 94 (string (34 ∷ 97 ∷ 34 ∷ []))) no_expressions)))) (when_and 107 ((codes "not_possible") ∷ []) (objects (record { node
-    = 98; names = ((codes "s") ∷ []); type = (a_simple_type 97 simple.String) } ∷ [])) (a_body no_equates (statement_and (a_call_statement 106 (a_call
-    105 (an_operation 100 (a_named_type 99 (codes "stream") no_constants) (codes "putl")) (expression_and (a_call 103 (an_operation 102 (a_named_type
-    101 (codes "stream") no_constants) (codes "primary_output")) no_expressions) (expression_and (a_name 104 (codes "s")) no_expressions))))
-    no_statements)) no_whens) no_others) (statement_and (an_except 126 (a_call_statement 114 (a_call 113 (an_operation 110 (a_named_type 109 (codes
-    "stream") no_constants) (codes "putl")) (expression_and (a_name 111 (codes "i")) (expression_and (a_literal 112 (string (34 ∷ 97 ∷ 34 ∷ [])))
-    no_expressions)))) (when_and 125 ((codes "not_possible") ∷ []) (objects (record { node = 116; names = ((codes "s") ∷ []); type = (a_simple_type
-    115 simple.String) } ∷ [])) (a_body no_equates (statement_and (a_call_statement 124 (a_call 123 (an_operation 118 (a_named_type 117 (codes
-    "stream") no_constants) (codes "putl")) (expression_and (a_call 121 (an_operation 120 (a_named_type 119 (codes "stream") no_constants) (codes
-    "primary_output")) no_expressions) (expression_and (a_name 122 (codes "s")) no_expressions)))) no_statements)) no_whens) no_others) (statement_and
-    (a_call_statement 132 (a_call 131 (an_operation 128 (a_named_type 127 (codes "stream") no_constants) (codes "putc")) (expression_and (a_name 129
-    (codes "i")) (expression_and (a_literal 130 (character (codes "'a'"))) no_expressions)))) no_statements))))))))) })) ∷ [])
+    ((a_routine 134 no_equates (routine 133 (codes "start_up") (codes "start_up") kind.Procedure [] ([]) no_types no_exceptions ([]) no_equates ([])
+    (statement_and (an_init 4 (a_variable (codes "i") (a_named_type 0 (codes "stream") no_constants)) (a_call 3 (an_operation 2 (a_named_type 1 (codes
+    "stream") no_constants) (codes "primary_input")) no_expressions)) (statement_and (an_init 9 (a_variable (codes "o") (a_named_type 5 (codes
+    "stream") no_constants)) (a_call 8 (an_operation 7 (a_named_type 6 (codes "stream") no_constants) (codes "primary_output")) no_expressions))
+    (statement_and (an_except 36 (an_init 15 (a_variable (codes "c") (a_simple_type 10 simple.Char)) (a_call 14 (an_operation 12 (a_named_type 11
+    (codes "stream") no_constants) (codes "getc")) (expression_and (a_name 13 (codes "o")) no_expressions))) (when_and 26 ((codes "not_possible") ∷
+    []) (objects (typed 17 ((codes "s") ∷ []) (a_simple_type 16 simple.String) ∷ [])) (a_body no_equates (statement_and (a_call_statement 25 (a_call
+    24 (an_operation 19 (a_named_type 18 (codes "stream") no_constants) (codes "putl")) (expression_and (a_call 22 (an_operation 21 (a_named_type 20
+    (codes "stream") no_constants) (codes "primary_output")) no_expressions) (expression_and (a_name 23 (codes "s")) no_expressions))))
+    no_statements)) (when_and 35 ((codes "end_of_file") ∷ []) (objects []) (a_body no_equates (statement_and (a_call_statement 34 (a_call 33
+    (an_operation 28 (a_named_type 27 (codes "stream") no_constants) (codes "putl")) (expression_and (a_call 31 (an_operation 30 (a_named_type 29
+    (codes "stream") no_constants) (codes "primary_output")) no_expressions) (expression_and (a_literal 32 (string (34 ∷ 110 ∷ 111 ∷ 34 ∷ [])))
+    no_expressions)))) no_statements)) no_whens)) no_others) (statement_and (an_except 54 (an_init 42 (a_variable (codes "l") (a_simple_type 37
+    simple.String)) (a_call 41 (an_operation 39 (a_named_type 38 (codes "stream") no_constants) (codes "getl")) (expression_and (a_name 40 (codes
+    "o")) no_expressions))) (when_and 53 ((codes "not_possible") ∷ []) (objects (typed 44 ((codes "s") ∷ []) (a_simple_type 43 simple.String) ∷ []))
+    (a_body no_equates (statement_and (a_call_statement 52 (a_call 51 (an_operation 46 (a_named_type 45 (codes "stream") no_constants) (codes "putl"))
+    (expression_and (a_call 49 (an_operation 48 (a_named_type 47 (codes "stream") no_constants) (codes "primary_output")) no_expressions)
+    (expression_and (a_name 50 (codes "s")) no_expressions)))) no_statements)) no_whens) no_others) (statement_and (an_except 72 (an_init 60
+    (a_variable (codes "b") (a_simple_type 55 simple.Bool)) (a_call 59 (an_operation 57 (a_named_type 56 (codes "stream") no_constants) (codes
+    "empty")) (expression_and (a_name 58 (codes "o")) no_expressions))) (when_and 71 ((codes "not_possible") ∷ []) (objects (typed 62 ((codes "s") ∷
+    []) (a_simple_type 61 simple.String) ∷ [])) (a_body no_equates (statement_and (a_call_statement 70 (a_call 69 (an_operation 64 (a_named_type 63
+    (codes "stream") no_constants) (codes "putl")) (expression_and (a_call 67 (an_operation 66 (a_named_type 65 (codes "stream") no_constants) (codes
+    "primary_output")) no_expressions) (expression_and (a_name 68 (codes "s")) no_expressions)))) no_statements)) no_whens) no_others) (statement_and
+    (an_except 90 (a_call_statement 78 (a_call 77 (an_operation 74 (a_named_type 73 (codes "stream") no_constants) (codes "putc")) (expression_and
+    (a_name 75 (codes "i")) (expression_and (a_literal 76 (character (codes "'a'"))) no_expressions)))) (when_and 89 ((codes "not_possible") ∷ [])
+    (objects (typed 80 ((codes "s") ∷ []) (a_simple_type 79 simple.String) ∷ [])) (a_body no_equates (statement_and (a_call_statement 88 (a_call 87
+    (an_operation 82 (a_named_type 81 (codes "stream") no_constants) (codes "putl")) (expression_and (a_call 85 (an_operation 84 (a_named_type 83
+    (codes "stream") no_constants) (codes "primary_output")) no_expressions) (expression_and (a_name 86 (codes "s")) no_expressions))))
+    no_statements)) no_whens) no_others) (statement_and (an_except 108 (a_call_statement 96 (a_call 95 (an_operation 92 (a_named_type 91 (codes
+    "stream") no_constants) (codes "puts")) (expression_and (a_name 93 (codes "i")) (expression_and (a_literal 94 (string (34 ∷ 97 ∷ 34 ∷ [])))
+    no_expressions)))) (when_and 107 ((codes "not_possible") ∷ []) (objects (typed 98 ((codes "s") ∷ []) (a_simple_type 97 simple.String) ∷ []))
+    (a_body no_equates (statement_and (a_call_statement 106 (a_call 105 (an_operation 100 (a_named_type 99 (codes "stream") no_constants) (codes
+    "putl")) (expression_and (a_call 103 (an_operation 102 (a_named_type 101 (codes "stream") no_constants) (codes "primary_output")) no_expressions)
+    (expression_and (a_name 104 (codes "s")) no_expressions)))) no_statements)) no_whens) no_others) (statement_and (an_except 126 (a_call_statement
+    114 (a_call 113 (an_operation 110 (a_named_type 109 (codes "stream") no_constants) (codes "putl")) (expression_and (a_name 111 (codes "i"))
+    (expression_and (a_literal 112 (string (34 ∷ 97 ∷ 34 ∷ []))) no_expressions)))) (when_and 125 ((codes "not_possible") ∷ []) (objects (typed 116
+    ((codes "s") ∷ []) (a_simple_type 115 simple.String) ∷ [])) (a_body no_equates (statement_and (a_call_statement 124 (a_call 123 (an_operation 118
+    (a_named_type 117 (codes "stream") no_constants) (codes "putl")) (expression_and (a_call 121 (an_operation 120 (a_named_type 119 (codes "stream")
+    no_constants) (codes "primary_output")) no_expressions) (expression_and (a_name 122 (codes "s")) no_expressions)))) no_statements)) no_whens)
+    no_others) (statement_and (a_call_statement 132 (a_call 131 (an_operation 128 (a_named_type 127 (codes "stream") no_constants) (codes "putc"))
+    (expression_and (a_name 129 (codes "i")) (expression_and (a_literal 130 (character (codes "'a'"))) no_expressions)))) no_statements))))))))))) ∷
+    [])
 
 abbrev stream_wrong_way_declared : List Declared
 stream_wrong_way_declared =
@@ -147,11 +143,10 @@ stream_wrong_way = refl
 -- end start_up
 abbrev stream_left_modules : List Module
 stream_left_modules =
-    ((a_routine 9 no_equates (record { node = 8; name = (codes "start_up"); closing = (codes "start_up"); kind = kind.Procedure; parameters = [];
-    arguments = ([]); results = no_types; signals = no_exceptions; restrictions = ([]); equates = no_equates; owns = ([]); statements = (statement_and
-    (an_init 7 (record { name = (codes "c"); type = (a_simple_type 0 simple.Char) }) (a_call 6 (an_operation 2 (a_named_type 1 (codes "stream")
+    ((a_routine 9 no_equates (routine 8 (codes "start_up") (codes "start_up") kind.Procedure [] ([]) no_types no_exceptions ([]) no_equates ([])
+    (statement_and (an_init 7 (a_variable (codes "c") (a_simple_type 0 simple.Char)) (a_call 6 (an_operation 2 (a_named_type 1 (codes "stream")
     no_constants) (codes "getc")) (expression_and (a_call 5 (an_operation 4 (a_named_type 3 (codes "stream") no_constants) (codes "primary_input"))
-    no_expressions) no_expressions))) no_statements) })) ∷ [])
+    no_expressions) no_expressions))) no_statements))) ∷ [])
 
 abbrev stream_left_declared : List Declared
 stream_left_declared =
@@ -169,26 +164,25 @@ stream_left = refl
 -- end start_up
 abbrev the_wrong_way_modules : List Module
 the_wrong_way_modules =
-    ((a_routine 58 no_equates (record { node = 57; name = (codes "start_up"); closing = (codes "start_up"); kind = kind.Procedure; parameters = [];
-    arguments = ([]); results = no_types; signals = no_exceptions; restrictions = ([]); equates = no_equates; owns = ([]); statements = (statement_and
-    (an_except 19 (a_call_statement 7 (a_call 6 (an_operation 1 (a_named_type 0 (codes "stream") no_constants) (codes "puts")) (expression_and (a_call
-    4 (an_operation 3 (a_named_type 2 (codes "stream") no_constants) (codes "primary_input")) no_expressions) (expression_and (a_literal 5 (string (34
-    ∷ 120 ∷ 34 ∷ []))) no_expressions)))) (when_and 18 ((codes "not_possible") ∷ []) (objects (record { node = 9; names = ((codes "s") ∷ []); type =
-    (a_simple_type 8 simple.String) } ∷ [])) (a_body no_equates (statement_and (a_call_statement 17 (a_call 16 (an_operation 11 (a_named_type 10
-    (codes "stream") no_constants) (codes "putl")) (expression_and (a_call 14 (an_operation 13 (a_named_type 12 (codes "stream") no_constants) (codes
+    ((a_routine 58 no_equates (routine 57 (codes "start_up") (codes "start_up") kind.Procedure [] ([]) no_types no_exceptions ([]) no_equates ([])
+    (statement_and (an_except 19 (a_call_statement 7 (a_call 6 (an_operation 1 (a_named_type 0 (codes "stream") no_constants) (codes "puts"))
+    (expression_and (a_call 4 (an_operation 3 (a_named_type 2 (codes "stream") no_constants) (codes "primary_input")) no_expressions) (expression_and
+    (a_literal 5 (string (34 ∷ 120 ∷ 34 ∷ []))) no_expressions)))) (when_and 18 ((codes "not_possible") ∷ []) (objects (typed 9 ((codes "s") ∷ [])
+    (a_simple_type 8 simple.String) ∷ [])) (a_body no_equates (statement_and (a_call_statement 17 (a_call 16 (an_operation 11 (a_named_type 10 (codes
+    "stream") no_constants) (codes "putl")) (expression_and (a_call 14 (an_operation 13 (a_named_type 12 (codes "stream") no_constants) (codes
     "primary_output")) no_expressions) (expression_and (a_name 15 (codes "s")) no_expressions)))) no_statements)) no_whens) no_others) (statement_and
-    (an_except 48 (an_init 27 (record { name = (codes "c"); type = (a_simple_type 20 simple.Char) }) (a_call 26 (an_operation 22 (a_named_type 21
-    (codes "stream") no_constants) (codes "getc")) (expression_and (a_call 25 (an_operation 24 (a_named_type 23 (codes "stream") no_constants) (codes
-    "primary_output")) no_expressions) no_expressions))) (when_and 38 ((codes "not_possible") ∷ []) (objects (record { node = 29; names = ((codes "s")
-    ∷ []); type = (a_simple_type 28 simple.String) } ∷ [])) (a_body no_equates (statement_and (a_call_statement 37 (a_call 36 (an_operation 31
-    (a_named_type 30 (codes "stream") no_constants) (codes "putl")) (expression_and (a_call 34 (an_operation 33 (a_named_type 32 (codes "stream")
-    no_constants) (codes "primary_output")) no_expressions) (expression_and (a_name 35 (codes "s")) no_expressions)))) no_statements)) (when_and 47
-    ((codes "end_of_file") ∷ []) (objects []) (a_body no_equates (statement_and (a_call_statement 46 (a_call 45 (an_operation 40 (a_named_type 39
-    (codes "stream") no_constants) (codes "putl")) (expression_and (a_call 43 (an_operation 42 (a_named_type 41 (codes "stream") no_constants) (codes
+    (an_except 48 (an_init 27 (a_variable (codes "c") (a_simple_type 20 simple.Char)) (a_call 26 (an_operation 22 (a_named_type 21 (codes "stream")
+    no_constants) (codes "getc")) (expression_and (a_call 25 (an_operation 24 (a_named_type 23 (codes "stream") no_constants) (codes
+    "primary_output")) no_expressions) no_expressions))) (when_and 38 ((codes "not_possible") ∷ []) (objects (typed 29 ((codes "s") ∷ [])
+    (a_simple_type 28 simple.String) ∷ [])) (a_body no_equates (statement_and (a_call_statement 37 (a_call 36 (an_operation 31 (a_named_type 30 (codes
+    "stream") no_constants) (codes "putl")) (expression_and (a_call 34 (an_operation 33 (a_named_type 32 (codes "stream") no_constants) (codes
+    "primary_output")) no_expressions) (expression_and (a_name 35 (codes "s")) no_expressions)))) no_statements)) (when_and 47 ((codes "end_of_file")
+    ∷ []) (objects []) (a_body no_equates (statement_and (a_call_statement 46 (a_call 45 (an_operation 40 (a_named_type 39 (codes "stream")
+    no_constants) (codes "putl")) (expression_and (a_call 43 (an_operation 42 (a_named_type 41 (codes "stream") no_constants) (codes
     "primary_output")) no_expressions) (expression_and (a_literal 44 (string (34 ∷ 33 ∷ 34 ∷ []))) no_expressions)))) no_statements)) no_whens))
-    no_others) (statement_and (an_init 56 (record { name = (codes "l"); type = (a_simple_type 49 simple.String) }) (a_call 55 (an_operation 51
-    (a_named_type 50 (codes "stream") no_constants) (codes "getl")) (expression_and (a_call 54 (an_operation 53 (a_named_type 52 (codes "stream")
-    no_constants) (codes "primary_input")) no_expressions) no_expressions))) no_statements))) })) ∷ [])
+    no_others) (statement_and (an_init 56 (a_variable (codes "l") (a_simple_type 49 simple.String)) (a_call 55 (an_operation 51 (a_named_type 50
+    (codes "stream") no_constants) (codes "getl")) (expression_and (a_call 54 (an_operation 53 (a_named_type 52 (codes "stream") no_constants) (codes
+    "primary_input")) no_expressions) no_expressions))) no_statements))))) ∷ [])
 
 abbrev the_wrong_way_declared : List Declared
 the_wrong_way_declared =

@@ -11,7 +11,7 @@ use Rattle.clu_syntax.specs.Syntax.{integer, character, string, an_infix, a_pref
 use Rattle.clu_layout.specs.Computing.{computing}
 use Rattle.clu_meaning.specs.Run.{returned_normally}
 use Rattle.clu_meaning.specs.Executing.{executing}
-use Rattle.clu_meaning.proofs.Running.{d, Runs}
+use Rattle.clu_meaning.proofs.Running.{d, a_variable, routine, Runs}
 
 -- % strings
 -- start_up = proc ()
@@ -22,9 +22,8 @@ use Rattle.clu_meaning.proofs.Running.{d, Runs}
 -- end start_up
 abbrev strings_modules : List Module
 strings_modules =
-    ((a_routine 133 no_equates (record { node = 132; name = (codes "start_up"); closing = (codes "start_up"); kind = kind.Procedure; parameters = [];
-    arguments = ([]); results = no_types; signals = no_exceptions; restrictions = ([]); equates = no_equates; owns = ([]); statements = (statement_and
-    (an_init 2 (record { name = (codes "s"); type = (a_simple_type 0 simple.String) }) (a_literal 1 (string (34 ∷ 104 ∷ 101 ∷ 108 ∷ 108 ∷ 111 ∷ 34 ∷
+    ((a_routine 133 no_equates (routine 132 (codes "start_up") (codes "start_up") kind.Procedure [] ([]) no_types no_exceptions ([]) no_equates ([])
+    (statement_and (an_init 2 (a_variable (codes "s") (a_simple_type 0 simple.String)) (a_literal 1 (string (34 ∷ 104 ∷ 101 ∷ 108 ∷ 108 ∷ 111 ∷ 34 ∷
     [])))) (statement_and (a_call_statement 14 (a_call 13 (an_operation 4 (a_named_type 3 (codes "stream") no_constants) (codes "putl"))
     (expression_and (a_call 7 (an_operation 6 (a_named_type 5 (codes "stream") no_constants) (codes "primary_output")) no_expressions) (expression_and
     (a_call 12 (an_operation 9 (a_simple_type 8 simple.String) (codes "rest")) (expression_and (a_name 10 (codes "s")) (expression_and (a_literal 11
@@ -58,12 +57,12 @@ strings_modules =
     ∷ []))) (a_literal 105 (string (34 ∷ 97 ∷ 34 ∷ []))))) (a_body no_equates (statement_and (a_call_statement 115 (a_call 114 (an_operation 109
     (a_named_type 108 (codes "stream") no_constants) (codes "putl")) (expression_and (a_call 112 (an_operation 111 (a_named_type 110 (codes "stream")
     no_constants) (codes "primary_output")) no_expressions) (expression_and (a_literal 113 (string (34 ∷ 108 ∷ 101 ∷ 115 ∷ 115 ∷ 34 ∷ [])))
-    no_expressions)))) no_statements)) no_clauses) nothing_else) (statement_and (an_except 131 (an_init 121 (record { name = (codes "c"); type =
-    (a_simple_type 117 simple.Char) }) (an_index 120 (a_name 118 (codes "s")) (constant_and (an_expression (a_literal 119 (integer (codes "6"))))
-    no_constants))) (when_and 130 ((codes "bounds") ∷ []) (objects []) (a_body no_equates (statement_and (a_call_statement 129 (a_call 128
-    (an_operation 123 (a_named_type 122 (codes "stream") no_constants) (codes "putl")) (expression_and (a_call 126 (an_operation 125 (a_named_type 124
-    (codes "stream") no_constants) (codes "primary_output")) no_expressions) (expression_and (a_literal 127 (string (34 ∷ 98 ∷ 111 ∷ 117 ∷ 110 ∷ 100 ∷
-    115 ∷ 34 ∷ []))) no_expressions)))) no_statements)) no_whens) no_others) no_statements)))))))))) })) ∷ [])
+    no_expressions)))) no_statements)) no_clauses) nothing_else) (statement_and (an_except 131 (an_init 121 (a_variable (codes "c") (a_simple_type 117
+    simple.Char)) (an_index 120 (a_name 118 (codes "s")) (constant_and (an_expression (a_literal 119 (integer (codes "6")))) no_constants))) (when_and
+    130 ((codes "bounds") ∷ []) (objects []) (a_body no_equates (statement_and (a_call_statement 129 (a_call 128 (an_operation 123 (a_named_type 122
+    (codes "stream") no_constants) (codes "putl")) (expression_and (a_call 126 (an_operation 125 (a_named_type 124 (codes "stream") no_constants)
+    (codes "primary_output")) no_expressions) (expression_and (a_literal 127 (string (34 ∷ 98 ∷ 111 ∷ 117 ∷ 110 ∷ 100 ∷ 115 ∷ 34 ∷ [])))
+    no_expressions)))) no_statements)) no_whens) no_others) no_statements)))))))))))) ∷ [])
 
 abbrev strings_declared : List Declared
 strings_declared =
@@ -85,9 +84,8 @@ strings = refl
 -- end start_up
 abbrev string_substr_modules : List Module
 string_substr_modules =
-    ((a_routine 156 no_equates (record { node = 155; name = (codes "start_up"); closing = (codes "start_up"); kind = kind.Procedure; parameters = [];
-    arguments = ([]); results = no_types; signals = no_exceptions; restrictions = ([]); equates = no_equates; owns = ([]); statements = (statement_and
-    (an_init 2 (record { name = (codes "s"); type = (a_simple_type 0 simple.String) }) (a_literal 1 (string (34 ∷ 97 ∷ 98 ∷ 99 ∷ 100 ∷ 101 ∷ 102 ∷ 34
+    ((a_routine 156 no_equates (routine 155 (codes "start_up") (codes "start_up") kind.Procedure [] ([]) no_types no_exceptions ([]) no_equates ([])
+    (statement_and (an_init 2 (a_variable (codes "s") (a_simple_type 0 simple.String)) (a_literal 1 (string (34 ∷ 97 ∷ 98 ∷ 99 ∷ 100 ∷ 101 ∷ 102 ∷ 34
     ∷ [])))) (statement_and (a_call_statement 15 (a_call 14 (an_operation 4 (a_named_type 3 (codes "stream") no_constants) (codes "putl"))
     (expression_and (a_call 7 (an_operation 6 (a_named_type 5 (codes "stream") no_constants) (codes "primary_output")) no_expressions) (expression_and
     (a_call 13 (an_operation 9 (a_simple_type 8 simple.String) (codes "substr")) (expression_and (a_name 10 (codes "s")) (expression_and (a_literal 11
@@ -135,7 +133,7 @@ string_substr_modules =
     153 ((codes "bounds") ∷ []) (objects []) (a_body no_equates (statement_and (a_call_statement 152 (a_call 151 (an_operation 146 (a_named_type 145
     (codes "stream") no_constants) (codes "putl")) (expression_and (a_call 149 (an_operation 148 (a_named_type 147 (codes "stream") no_constants)
     (codes "primary_output")) no_expressions) (expression_and (a_literal 150 (string (34 ∷ 98 ∷ 98 ∷ 34 ∷ []))) no_expressions)))) no_statements))
-    no_whens)) no_others) no_statements)))))))))) })) ∷ [])
+    no_whens)) no_others) no_statements)))))))))))) ∷ [])
 
 abbrev string_substr_declared : List Declared
 string_substr_declared =
@@ -154,9 +152,8 @@ string_substr = refl
 -- end start_up
 abbrev string_ac_modules : List Module
 string_ac_modules =
-    ((a_routine 114 no_equates (record { node = 113; name = (codes "start_up"); closing = (codes "start_up"); kind = kind.Procedure; parameters = [];
-    arguments = ([]); results = no_types; signals = no_exceptions; restrictions = ([]); equates = no_equates; owns = ([]); statements = (statement_and
-    (an_init 6 (record { name = (codes "a"); type = (a_list_type 1 list.Array (a_simple_type 0 simple.Char)) }) (a_call 5 (an_operation 3
+    ((a_routine 114 no_equates (routine 113 (codes "start_up") (codes "start_up") kind.Procedure [] ([]) no_types no_exceptions ([]) no_equates ([])
+    (statement_and (an_init 6 (a_variable (codes "a") (a_list_type 1 list.Array (a_simple_type 0 simple.Char))) (a_call 5 (an_operation 3
     (a_simple_type 2 simple.String) (codes "s2ac")) (expression_and (a_literal 4 (string (34 ∷ 97 ∷ 98 ∷ 99 ∷ 34 ∷ []))) no_expressions)))
     (statement_and (a_call_statement 21 (a_call 20 (an_operation 8 (a_named_type 7 (codes "stream") no_constants) (codes "putl")) (expression_and
     (a_call 11 (an_operation 10 (a_named_type 9 (codes "stream") no_constants) (codes "primary_output")) no_expressions) (expression_and (a_call 19
@@ -186,7 +183,7 @@ string_ac_modules =
     "primary_output")) no_expressions) (expression_and (a_call 110 (an_operation 101 (a_simple_type 100 simple.Int) (codes "unparse")) (expression_and
     (a_call 109 (an_operation 104 (a_list_type 103 list.Array (a_simple_type 102 simple.Char)) (codes "size")) (expression_and (a_call 108
     (an_operation 106 (a_simple_type 105 simple.String) (codes "s2ac")) (expression_and (a_literal 107 (string (34 ∷ 34 ∷ []))) no_expressions))
-    no_expressions)) no_expressions)) no_expressions)))) no_statements)))))))))) })) ∷ [])
+    no_expressions)) no_expressions)) no_expressions)))) no_statements)))))))))))) ∷ [])
 
 abbrev string_ac_declared : List Declared
 string_ac_declared =
@@ -202,16 +199,16 @@ string_ac = refl
 -- end start_up
 abbrev string_c2s_modules : List Module
 string_c2s_modules =
-    ((a_routine 29 no_equates (record { node = 28; name = (codes "start_up"); closing = (codes "start_up"); kind = kind.Procedure; parameters = [];
-    arguments = ([]); results = no_types; signals = no_exceptions; restrictions = ([]); equates = no_equates; owns = ([]); statements = (statement_and
-    (a_call_statement 10 (a_call 9 (an_operation 1 (a_named_type 0 (codes "stream") no_constants) (codes "putl")) (expression_and (a_call 4
-    (an_operation 3 (a_named_type 2 (codes "stream") no_constants) (codes "primary_output")) no_expressions) (expression_and (a_call 8 (an_operation 6
-    (a_simple_type 5 simple.String) (codes "c2s")) (expression_and (a_literal 7 (character (codes "'q'"))) no_expressions)) no_expressions))))
-    (statement_and (a_call_statement 27 (a_call 26 (an_operation 12 (a_named_type 11 (codes "stream") no_constants) (codes "putl")) (expression_and
-    (a_call 15 (an_operation 14 (a_named_type 13 (codes "stream") no_constants) (codes "primary_output")) no_expressions) (expression_and (a_call 25
-    (an_operation 17 (a_simple_type 16 simple.Int) (codes "unparse")) (expression_and (a_call 24 (an_operation 19 (a_simple_type 18 simple.String)
-    (codes "size")) (expression_and (a_call 23 (an_operation 21 (a_simple_type 20 simple.String) (codes "c2s")) (expression_and (a_literal 22
-    (character (39 ∷ 92 ∷ 48 ∷ 48 ∷ 48 ∷ 39 ∷ []))) no_expressions)) no_expressions)) no_expressions)) no_expressions)))) no_statements)) })) ∷ [])
+    ((a_routine 29 no_equates (routine 28 (codes "start_up") (codes "start_up") kind.Procedure [] ([]) no_types no_exceptions ([]) no_equates ([])
+    (statement_and (a_call_statement 10 (a_call 9 (an_operation 1 (a_named_type 0 (codes "stream") no_constants) (codes "putl")) (expression_and
+    (a_call 4 (an_operation 3 (a_named_type 2 (codes "stream") no_constants) (codes "primary_output")) no_expressions) (expression_and (a_call 8
+    (an_operation 6 (a_simple_type 5 simple.String) (codes "c2s")) (expression_and (a_literal 7 (character (codes "'q'"))) no_expressions))
+    no_expressions)))) (statement_and (a_call_statement 27 (a_call 26 (an_operation 12 (a_named_type 11 (codes "stream") no_constants) (codes "putl"))
+    (expression_and (a_call 15 (an_operation 14 (a_named_type 13 (codes "stream") no_constants) (codes "primary_output")) no_expressions)
+    (expression_and (a_call 25 (an_operation 17 (a_simple_type 16 simple.Int) (codes "unparse")) (expression_and (a_call 24 (an_operation 19
+    (a_simple_type 18 simple.String) (codes "size")) (expression_and (a_call 23 (an_operation 21 (a_simple_type 20 simple.String) (codes "c2s"))
+    (expression_and (a_literal 22 (character (39 ∷ 92 ∷ 48 ∷ 48 ∷ 48 ∷ 39 ∷ []))) no_expressions)) no_expressions)) no_expressions))
+    no_expressions)))) no_statements)))) ∷ [])
 
 abbrev string_c2s_declared : List Declared
 string_c2s_declared =

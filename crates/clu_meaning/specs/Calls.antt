@@ -86,9 +86,9 @@ module _ (low : Level) where
   calls_set_up r =
       spends_a_turn (sees_frame (λ frame. sees_stack (λ stack.
       either_way
-        (enters r.instance (call_words r.definition.count) (with_frame (λ f. new_frame) (low (in_procedure r) r.definition.body)))
-        (λ done. with_frame (λ f. frame) (leaves stack (gives tt)))
-        (λ e. with_frame (λ f. frame) (leaves stack (set_up_ending e))))))
+      (enters r.instance (call_words r.definition.count) (with_frame (λ f. new_frame) (low (in_procedure r) r.definition.body)))
+      (λ done. with_frame (λ f. frame) (leaves stack (gives tt)))
+      (λ e. with_frame (λ f. frame) (leaves stack (set_up_ending e))))))
 
   abbrev pub cluster_set_up : Option ClusterDefinition → Running → Computation (Unit {0})
   cluster_set_up None r = gives tt
@@ -111,9 +111,9 @@ module _ (low : Level) where
   calls r os =
       need (not r.definition.is_iterator) (spends_a_turn (sees_frame (λ frame. sees_stack (λ stack.
       either_way
-        (enters r.instance (call_words r.definition.count) (with_frame (λ f. new_frame) (executes (in_procedure r) os)))
-        (λ done. with_frame (λ f. frame) (leaves stack (without_return r.definition.results)))
-        (λ e. with_frame (λ f. frame) (leaves stack (procedure_ending e)))))))
+      (enters r.instance (call_words r.definition.count) (with_frame (λ f. new_frame) (executes (in_procedure r) os)))
+      (λ done. with_frame (λ f. frame) (leaves stack (without_return r.definition.results)))
+      (λ e. with_frame (λ f. frame) (leaves stack (procedure_ending e)))))))
 
   -- ---- iterators
 
@@ -122,9 +122,9 @@ module _ (low : Level) where
   iterates r os body declared xs caller =
       need r.definition.is_iterator (spends_a_turn (sees_stack (λ stack.
       either_way
-        (enters r.instance (call_words r.definition.count) (with_frame called_from (executes (in_iterator r body declared xs caller) os)))
-        (λ done. with_frame caller_of (leaves stack (gives tt)))
-        (λ e. with_frame caller_of (leaves stack (loop_ending e))))))
+      (enters r.instance (call_words r.definition.count) (with_frame called_from (executes (in_iterator r body declared xs caller) os)))
+      (λ done. with_frame caller_of (leaves stack (gives tt)))
+      (λ e. with_frame caller_of (leaves stack (loop_ending e))))))
 
   -- the body of the loop that called the iterator is executed, with the variables of the routine in which it stands
   abbrev pub runs_body : (body : Statements) → (declared : ℕ) → (variables : List Variable) → (caller : Round) → List Object → Computation (Unit {0})
@@ -136,6 +136,6 @@ module _ (low : Level) where
       handed_out r r.definition.results os (λ handed.
       spends_a_turn (sees_frame (λ frame. sees_stack (λ stack.
       either_way
-        (goes_deeper loop_words (with_frame caller_of (runs_body body declared xs caller handed)))
-        (λ done. with_frame (back_to frame.variables) (leaves stack (gives tt)))
-        (λ e. with_frame (back_to frame.variables) (leaves stack (body_ending e)))))))
+      (goes_deeper loop_words (with_frame caller_of (runs_body body declared xs caller handed)))
+      (λ done. with_frame (back_to frame.variables) (leaves stack (gives tt)))
+      (λ e. with_frame (back_to frame.variables) (leaves stack (body_ending e)))))))

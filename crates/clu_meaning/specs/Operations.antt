@@ -70,7 +70,7 @@ routine_type false formals results signals = proc_of formals results signals
 abbrev pub heading_of : Running → CluType
 heading_of r =
     routine_type r.definition.is_iterator (outward r.given (types_of_formals r.definition.formals))
-        (outward r.given r.definition.results) (signals_of r.given r.definition.signals)
+    (outward r.given r.definition.results) (signals_of r.given r.definition.signals)
 
 abbrev pub headed : Program → Routine → Option CluType
 headed program (module_routine m given) = option_map heading_of (defined program (module_routine m given))

@@ -270,18 +270,18 @@ is_iterator kind.Iterator = true
 -- a routine, whose module has so many parameters
 abbrev pub routine_definition : Place → ℕ → syntax.Routine → RoutineDefinition
 routine_definition place parameters r = record {
-    name = r.name;
-    is_iterator = is_iterator r.kind;
-    parameters = parameters;
-    formals = formals_of place r.arguments;
-    results = heading_types place r.results;
-    signals = exceptions_of place r.signals;
-    locals = locals_of place (of_routine r);
-    owns = owns_of place (of_routine r);
-    set_up = set_up place own_of_routine r.owns;
-    body = statements place r.statements;
-    count = routine_count r
-  }
+  name = r.name;
+  is_iterator = is_iterator r.kind;
+  parameters = parameters;
+  formals = formals_of place r.arguments;
+  results = heading_types place r.results;
+  signals = exceptions_of place r.signals;
+  locals = locals_of place (of_routine r);
+  owns = owns_of place (of_routine r);
+  set_up = set_up place own_of_routine r.owns;
+  body = statements place r.statements;
+  count = routine_count r;
+}
 
 abbrev pub cluster_place : Scope → Cluster → Place
 cluster_place scope c = record { scope = scope; home = Some (cluster_of c.name (own_actuals 1 c.parameters)) }
@@ -301,15 +301,15 @@ representation_in scope (syntax.equate_and e es) = representation_or (represente
 
 abbrev pub cluster_definition : Scope → Cluster → ClusterDefinition
 cluster_definition scope c = record {
-    name = c.name;
-    parameters = parameter_number c.parameters;
-    exports = c.exports;
-    representation = representation_in scope c.equates;
-    owns = owns_of (cluster_place scope c) (of_owns is_own_of_cluster c.owns);
-    set_up = set_up (cluster_place scope c) own_of_cluster c.owns;
-    set_up_count = owns_count c.owns;
-    routines = map (routine_definition (cluster_place scope c) (parameter_number c.parameters)) c.routines
-  }
+  name = c.name;
+  parameters = parameter_number c.parameters;
+  exports = c.exports;
+  representation = representation_in scope c.equates;
+  owns = owns_of (cluster_place scope c) (of_owns is_own_of_cluster c.owns);
+  set_up = set_up (cluster_place scope c) own_of_cluster c.owns;
+  set_up_count = owns_count c.owns;
+  routines = map (routine_definition (cluster_place scope c) (parameter_number c.parameters)) c.routines;
+}
 
 abbrev pub module_of : Scope → syntax.Module → Module
 module_of scope (a_routine n es r) = routine_module (routine_definition (record { scope = scope; home = None }) (parameter_number r.parameters) r)

@@ -26,12 +26,12 @@ first_words = 64
 
 abbrev pub first_state : List ℕ → State
 first_state input = record {
-    frame = new_frame;
-    world = record { cells = []; input = input; output = []; words = 0; work = 0 };
-    owns = record { is_set_up = λ i. false; variables = λ i. no_variables };
-    stack = record { live = []; words = first_words; most = first_words };
-    trace = []
-  }
+  frame = new_frame;
+  world = record { cells = []; input = input; output = []; words = 0; work = 0 };
+  owns = record { is_set_up = λ i. false; variables = λ i. no_variables };
+  stack = record { live = []; words = first_words; most = first_words };
+  trace = [];
+}
 
 -- a program begins at a procedure without parameters, arguments and results
 abbrev pub may_start : RoutineDefinition → Bool
@@ -56,9 +56,9 @@ start_ending _ = goes_wrong
 abbrev pub starts : Level → Running → Computation Finish
 starts low r =
     need (may_start r.definition) (spends_a_turn (either_way
-      (enters r.instance (call_words r.definition.count) (executes low (in_procedure r) []))
-      (λ done. gives finished)
-      start_ending))
+    (enters r.instance (call_words r.definition.count) (executes low (in_procedure r) []))
+    (λ done. gives finished)
+    start_ending))
 
 -- the module of this name is the start
 abbrev pub begins : Program → Level → List ℕ → Computation Finish

@@ -78,18 +78,18 @@ tags_comparing op n no_fields = no_tag_arms
 tags_comparing op n (field_and s u rest) =
     -- tag s (x: u): tagcase b tag s (y: u): return (u$op(x, y)) others: return (false) end
     tag_arm_and (s ∷ []) (local n ∷ [])
-      (only (tagcase_statement b
-        (tag_arm_and (s ∷ []) (local (n + 1) ∷ []) (only (returns (apply u op (two (numbered n) (numbered (n + 1)))))) no_tag_arms)
-        (otherwise (only (returns falsehood)))))
-      (tags_comparing op (n + 2) rest)
+    (only (tagcase_statement b
+    (tag_arm_and (s ∷ []) (local (n + 1) ∷ []) (only (returns (apply u op (two (numbered n) (numbered (n + 1)))))) no_tag_arms)
+    (otherwise (only (returns falsehood)))))
+    (tags_comparing op (n + 2) rest)
 
 abbrev pub tags_copying : CluType → ℕ → Fields → TagArms
 tags_copying T n no_fields = no_tag_arms
 tags_copying T n (field_and s u rest) =
     -- tag s (x: u): return (T$make_s(u$copy(x)))
     tag_arm_and (s ∷ []) (local n ∷ [])
-      (only (returns (apply T (codes "make_" ++ s) (one (apply u (codes "copy") (one (numbered n)))))))
-      (tags_copying T (n + 2) rest)
+    (only (returns (apply T (codes "make_" ++ s) (one (apply u (codes "copy") (one (numbered n)))))))
+    (tags_copying T (n + 2) rest)
 
 abbrev pub tag_variables : ℕ → Fields → List Declaration
 tag_variables n no_fields = []
@@ -111,18 +111,18 @@ locals_from n (u ∷ us) = record { number = n; type = u } ∷ locals_from (suc 
 
 abbrev pub scheme : List ℕ → List CluType → CluType → Fields → Statements → RoutineDefinition
 scheme op arguments result fs body = record {
-    name = op;
-    is_iterator = false;
-    parameters = 0;
-    formals = formals_from 0 arguments;
-    results = plain result ∷ [];
-    signals = [];
-    locals = locals_from 0 arguments ++ tag_variables 2 fs;
-    owns = [];
-    set_up = no_statements;
-    body = body;
-    count = scheme_count fs
-  }
+  name = op;
+  is_iterator = false;
+  parameters = 0;
+  formals = formals_from 0 arguments;
+  results = plain result ∷ [];
+  signals = [];
+  locals = locals_from 0 arguments ++ tag_variables 2 fs;
+  owns = [];
+  set_up = no_statements;
+  body = body;
+  count = scheme_count fs;
+}
 
 -- a comparison of two objects of T by this operation of their components
 abbrev pub comparison : List ℕ → CluType → Fields → Statements → Option RoutineDefinition

@@ -75,8 +75,8 @@ taken_by r dropped os body = body
 abbrev pub returns : Running → List Object → Computation (Unit {0})
 returns r os =
     either r.definition.is_iterator
-      (need (has_none os) (ends (returned [])))
-      (handed_out r r.definition.results os (λ handed. ends (returned handed)))
+    (need (has_none os) (ends (returned [])))
+    (handed_out r r.definition.results os (λ handed. ends (returned handed)))
 
 abbrev pub signals : Running → List ℕ → List Object → Computation (Unit {0})
 signals r name os = needed (types_of_signal r name) (λ types. handed_out r types os (λ handed. ends (signalled name handed)))
@@ -112,8 +112,8 @@ module _ (program : Program) (low : Level) (round : Round) where
     exec (resignal_statement s names) = node (either_way (exec s) gives (handled (resignals (here round) names) exits_on))
     exec (except_statement s whens other) =
         node (either_way (exec s) gives (handled
-            (λ name os. exec_whens whens 1 name os (exec_others other name (raises_on name os)))
-            (λ name os. exec_whens whens 0 name os (exits_on name os))))
+        (λ name os. exec_whens whens 1 name os (exec_others other name (raises_on name os)))
+        (λ name os. exec_whens whens 0 name os (exits_on name os))))
 
     pub exec_all : Statements → Computation (Unit {0})
     exec_all no_statements = gives tt
@@ -138,8 +138,8 @@ module _ (program : Program) (low : Level) (round : Round) where
     exec_whens no_whens each name os rest = rest
     exec_whens (when_and names taken body whens) each name os rest =
         either (is_among names name)
-          (counts (each * names_before names name) (taken_by (here round) taken os (exec_all body)))
-          (counts (each * length names) (exec_whens whens each name os rest))
+        (counts (each * names_before names name) (taken_by (here round) taken os (exec_all body)))
+        (counts (each * length names) (exec_whens whens each name os rest))
 
     pub exec_others : Others → List ℕ → Computation (Unit {0}) → Computation (Unit {0})
     exec_others no_others name rest = rest

@@ -51,7 +51,11 @@ these (e ∷ es) = expression_and e (these es)
 
 -- t$op(es)
 abbrev apply : TypeExpression → String → List Expression → Expression
-apply t op es = a_call 0 (an_operation 0 t (codes op)) (these es)
+apply u operation es = a_call 0 (an_operation 0 u (codes operation)) (these es)
+
+-- u$op(x)
+abbrev of : TypeExpression → String → String → Expression
+of u operation x = apply u operation (name x ∷ [])
 
 abbrev t : TypeExpression
 t = a_named_type 0 (codes "t") no_constants
@@ -107,6 +111,26 @@ text name k arguments result ss = record { node = 0; name = codes name; closing 
 
 -- ---- int
 
+-- (s > 0 cand x <= b)
+abbrev upward : Expression
+upward = in_parentheses (infix_of op.Cand (infix_of op.Greater (name "s") (number "0")) (infix_of op.AtMost (name "x") (name "b")))
+
+-- (s < 0 cand x >= b)
+abbrev downward : Expression
+downward = in_parentheses (infix_of op.Cand (infix_of op.Less (name "s") (number "0")) (infix_of op.AtLeast (name "x") (name "b")))
+
+-- (s > 0 cand x <= b) cor (s < 0 cand x >= b) cor s = 0
+abbrev goes_on : Expression
+goes_on = infix_of op.Cor (infix_of op.Cor upward downward) (infix_of op.Equal (name "s") (number "0"))
+
+-- x := x + s
+abbrev one_step : Statement
+one_step = an_assign 0 (codes "x" ∷ []) (these (infix_of op.Add (name "x") (name "s") ∷ []))
+
+-- s except when overflow: end
+abbrev until_overflow : Statement → Statement
+until_overflow s = an_except 0 s (when_and 0 (codes "overflow" ∷ []) (objects []) (block []) no_whens) no_others
+
 -- from_to_by = iter (a, b, s: int) yields (int)
 --   x: int := a
 --   while (s > 0 cand x <= b) cor (s < 0 cand x >= b) cor s = 0 do
@@ -116,28 +140,17 @@ text name k arguments result ss = record { node = 0; name = codes name; closing 
 -- end from_to_by
 abbrev pub from_to_by : Routine
 from_to_by = text "from_to_by" kind.Iterator (declared ("a" ∷ "b" ∷ "s" ∷ []) int ∷ []) int
-    ( init "x" int (name "a")
-    ∷ an_except 0
-        (a_while 0
-          (infix_of op.Cor
-            (infix_of op.Cor
-              (in_parentheses (infix_of op.Cand (infix_of op.Greater (name "s") (number "0")) (infix_of op.AtMost (name "x") (name "b"))))
-              (in_parentheses (infix_of op.Cand (infix_of op.Less (name "s") (number "0")) (infix_of op.AtLeast (name "x") (name "b")))))
-            (infix_of op.Equal (name "s") (number "0")))
-          (block
-            ( yield (name "x")
-            ∷ an_assign 0 (codes "x" ∷ []) (these (infix_of op.Add (name "x") (name "s") ∷ []))
-            ∷ [])))
-        (when_and 0 (codes "overflow" ∷ []) (objects []) (block []) no_whens)
-        no_others
-    ∷ [])
+    (init "x" int (name "a") ∷
+    until_overflow (a_while 0 goes_on (block (yield (name "x") ∷ one_step ∷ []))) ∷
+    [])
 
 -- from_to = iter (a, b: int) yields (int)
 --   for x: int in int$from_to_by(a, b, 1) do yield (x) end
 -- end from_to
 abbrev pub from_to : Routine
 from_to = text "from_to" kind.Iterator (declared ("a" ∷ "b" ∷ []) int ∷ []) int
-    (for "x" int (apply int "from_to_by" (name "a" ∷ name "b" ∷ number "1" ∷ [])) (yield (name "x") ∷ []) ∷ [])
+    (for "x" int (apply int "from_to_by" (name "a" ∷ name "b" ∷ number "1" ∷ [])) (yield (name "x") ∷ []) ∷
+    [])
 
 -- ---- string
 
@@ -146,7 +159,8 @@ from_to = text "from_to" kind.Iterator (declared ("a" ∷ "b" ∷ []) int ∷ []
 -- end chars
 abbrev pub chars : Routine
 chars = text "chars" kind.Iterator (declared ("s" ∷ []) string ∷ []) (a_simple_type 0 simple.Char)
-    (for "i" int (apply int "from_to" (number "1" ∷ apply string "size" (name "s" ∷ []) ∷ [])) (yield (element "s" "i") ∷ []) ∷ [])
+    (for "i" int (apply int "from_to" (number "1" ∷ of string "size" "s" ∷ [])) (yield (element "s" "i") ∷ []) ∷
+    [])
 
 -- ---- arrays
 
@@ -155,7 +169,12 @@ chars = text "chars" kind.Iterator (declared ("s" ∷ []) string ∷ []) (a_simp
 -- end indexes
 abbrev pub array_indexes : Routine
 array_indexes = text "indexes" kind.Iterator (declared ("a" ∷ []) array_t ∷ []) int
-    (for "i" int (apply int "from_to" (apply array_t "low" (name "a" ∷ []) ∷ apply array_t "high" (name "a" ∷ []) ∷ [])) (yield (name "i") ∷ []) ∷ [])
+    (for "i" int (apply int "from_to" (of array_t "low" "a" ∷ of array_t "high" "a" ∷ [])) (yield (name "i") ∷ []) ∷
+    [])
+
+-- i < array[t]$low(a) | i > array[t]$high(a)
+abbrev outside : Expression
+outside = infix_of op.Or (infix_of op.Less (name "i") (of array_t "low" "a")) (infix_of op.Greater (name "i") (of array_t "high" "a"))
 
 -- elements = iter (a: array[t]) yields (t)
 --   for i: int in array[t]$indexes(a) do
@@ -165,11 +184,16 @@ array_indexes = text "indexes" kind.Iterator (declared ("a" ∷ []) array_t ∷ 
 -- end elements
 abbrev pub array_elements : Routine
 array_elements = text "elements" kind.Iterator (declared ("a" ∷ []) array_t ∷ []) t
-    (for "i" int (apply array_t "indexes" (name "a" ∷ []))
-      ( when_true (infix_of op.Or (infix_of op.Less (name "i") (apply array_t "low" (name "a" ∷ []))) (infix_of op.Greater (name "i") (apply array_t "high" (name "a" ∷ [])))) (return [])
-      ∷ yield (element "a" "i")
-      ∷ [])
-    ∷ [])
+    (for "i" int (of array_t "indexes" "a") (when_true outside (return []) ∷ yield (element "a" "i") ∷ []) ∷
+    [])
+
+-- u$op(a) ~= u$op(b)
+abbrev unlike : TypeExpression → String → Expression
+unlike u operation = infix_of op.NotEqual (of u operation "a") (of u operation "b")
+
+-- if ~t$op(a[i], b[i]) then return (false) end
+abbrev unless_alike : String → Statement
+unless_alike operation = when_true (not (apply t operation (element "a" "i" ∷ element "b" "i" ∷ []))) (return (falsehood ∷ []))
 
 -- similar = proc (a, b: array[t]) returns (bool)
 --   if array[t]$low(a) ~= array[t]$low(b) | array[t]$size(a) ~= array[t]$size(b)
@@ -182,15 +206,14 @@ array_elements = text "elements" kind.Iterator (declared ("a" ∷ []) array_t �
 -- and similar1 is this with t$equal
 abbrev pub array_similar : String → String → Routine
 array_similar operation compares = text operation kind.Procedure (declared ("a" ∷ "b" ∷ []) array_t ∷ []) bool
-    ( when_true
-        (infix_of op.Or
-          (infix_of op.NotEqual (apply array_t "low" (name "a" ∷ [])) (apply array_t "low" (name "b" ∷ [])))
-          (infix_of op.NotEqual (apply array_t "size" (name "a" ∷ [])) (apply array_t "size" (name "b" ∷ []))))
-        (return (falsehood ∷ []))
-    ∷ for "i" int (apply array_t "indexes" (name "a" ∷ []))
-        (when_true (not (apply t compares (element "a" "i" ∷ element "b" "i" ∷ []))) (return (falsehood ∷ [])) ∷ [])
-    ∷ return (truth ∷ [])
-    ∷ [])
+    (when_true (infix_of op.Or (unlike array_t "low") (unlike array_t "size")) (return (falsehood ∷ [])) ∷
+    for "i" int (of array_t "indexes" "a") (unless_alike compares ∷ []) ∷
+    return (truth ∷ []) ∷
+    [])
+
+-- array[t]$addh(b, t$copy(x))
+abbrev adds_a_copy : Statement
+adds_a_copy = a_call_statement 0 (apply array_t "addh" (name "b" ∷ of t "copy" "x" ∷ []))
 
 -- copy = proc (a: array[t]) returns (array[t])
 --   b: array[t] := array[t]$create(array[t]$low(a))
@@ -199,11 +222,10 @@ array_similar operation compares = text operation kind.Procedure (declared ("a" 
 -- end copy
 abbrev pub array_copy : Routine
 array_copy = text "copy" kind.Procedure (declared ("a" ∷ []) array_t ∷ []) array_t
-    ( init "b" array_t (apply array_t "create" (apply array_t "low" (name "a" ∷ []) ∷ []))
-    ∷ for "x" t (apply array_t "elements" (name "a" ∷ []))
-        (a_call_statement 0 (apply array_t "addh" (name "b" ∷ apply t "copy" (name "x" ∷ []) ∷ [])) ∷ [])
-    ∷ return (name "b" ∷ [])
-    ∷ [])
+    (init "b" array_t (apply array_t "create" (of array_t "low" "a" ∷ [])) ∷
+    for "x" t (of array_t "elements" "a") (adds_a_copy ∷ []) ∷
+    return (name "b" ∷ []) ∷
+    [])
 
 -- ---- sequences
 
@@ -212,14 +234,16 @@ array_copy = text "copy" kind.Procedure (declared ("a" ∷ []) array_t ∷ []) a
 -- end indexes
 abbrev pub sequence_indexes : Routine
 sequence_indexes = text "indexes" kind.Iterator (declared ("a" ∷ []) sequence_t ∷ []) int
-    (for "i" int (apply int "from_to" (number "1" ∷ apply sequence_t "size" (name "a" ∷ []) ∷ [])) (yield (name "i") ∷ []) ∷ [])
+    (for "i" int (apply int "from_to" (number "1" ∷ of sequence_t "size" "a" ∷ [])) (yield (name "i") ∷ []) ∷
+    [])
 
 -- elements = iter (a: sequence[t]) yields (t)
 --   for i: int in sequence[t]$indexes(a) do yield (a[i]) end
 -- end elements
 abbrev pub sequence_elements : Routine
 sequence_elements = text "elements" kind.Iterator (declared ("a" ∷ []) sequence_t ∷ []) t
-    (for "i" int (apply sequence_t "indexes" (name "a" ∷ [])) (yield (element "a" "i") ∷ []) ∷ [])
+    (for "i" int (of sequence_t "indexes" "a") (yield (element "a" "i") ∷ []) ∷
+    [])
 
 -- similar = proc (a, b: sequence[t]) returns (bool)
 --   if sequence[t]$size(a) ~= sequence[t]$size(b) then return (false) end
@@ -231,13 +255,10 @@ sequence_elements = text "elements" kind.Iterator (declared ("a" ∷ []) sequenc
 -- and equal is this with t$equal
 abbrev pub sequence_similar : String → Routine
 sequence_similar operation = text operation kind.Procedure (declared ("a" ∷ "b" ∷ []) sequence_t ∷ []) bool
-    ( when_true
-        (infix_of op.NotEqual (apply sequence_t "size" (name "a" ∷ [])) (apply sequence_t "size" (name "b" ∷ [])))
-        (return (falsehood ∷ []))
-    ∷ for "i" int (apply sequence_t "indexes" (name "a" ∷ []))
-        (when_true (not (apply t operation (element "a" "i" ∷ element "b" "i" ∷ []))) (return (falsehood ∷ [])) ∷ [])
-    ∷ return (truth ∷ [])
-    ∷ [])
+    (when_true (unlike sequence_t "size") (return (falsehood ∷ [])) ∷
+    for "i" int (of sequence_t "indexes" "a") (unless_alike operation ∷ []) ∷
+    return (truth ∷ []) ∷
+    [])
 
 -- copy = proc (a: sequence[t]) returns (sequence[t])
 --   b: array[t] := array[t]$new()
@@ -246,11 +267,10 @@ sequence_similar operation = text operation kind.Procedure (declared ("a" ∷ "b
 -- end copy
 abbrev pub sequence_copy : Routine
 sequence_copy = text "copy" kind.Procedure (declared ("a" ∷ []) sequence_t ∷ []) sequence_t
-    ( init "b" array_t (apply array_t "new" [])
-    ∷ for "x" t (apply sequence_t "elements" (name "a" ∷ []))
-        (a_call_statement 0 (apply array_t "addh" (name "b" ∷ apply t "copy" (name "x" ∷ []) ∷ [])) ∷ [])
-    ∷ return (apply sequence_t "a2s" (name "b" ∷ []) ∷ [])
-    ∷ [])
+    (init "b" array_t (apply array_t "new" []) ∷
+    for "x" t (of sequence_t "elements" "a") (adds_a_copy ∷ []) ∷
+    return (of sequence_t "a2s" "b" ∷ []) ∷
+    [])
 
 -- ---- the table
 
