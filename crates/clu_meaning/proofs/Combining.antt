@@ -7,7 +7,7 @@ use Rattle.clu_layout.specs.Primitive.{done_in}
 use Rattle.clu_layout.proofs.Laws.{done_later, EndsLater}
 use Rattle.clu_layout.proofs.Laws as layout_laws
 use Rattle.clu_meaning.specs.State.{Instance, Frame, Owns, Stack, State, deeper, entered, as_before}
-use Rattle.clu_meaning.specs.Computations.{Ending, wrong, Result, normal, ended, out_of_turns, Computation, gives, ends, continue_with, and_then, continue_either_way, either_way, spends_a_turn, need, needed, with_one, with_bool, with_routine, either, if_there, sees_frame, sees_world, sees_owns, sees_stack, with_frame, with_owns, enters, goes_deeper, leaves, counts, takes, traced, raises, outcome, does}
+use Rattle.clu_meaning.specs.Computations.{Ending, Result, normal, ended, out_of_turns, Computation, gives, ends, continue_with, and_then, continue_either_way, either_way, spends_a_turn, need, needed, with_one, with_bool, with_routine, either, if_there, sees_frame, sees_world, sees_owns, sees_stack, with_frame, with_owns, enters, goes_deeper, leaves, counts, takes, traced, raises, outcome, does}
 use Rattle.clu_meaning.specs.More.{Later, state_of, turns_of, GoesOn}
 
 -- ---- Later

@@ -1,6 +1,6 @@
 -- Programs that compute: a word counter. Each is the tree of the CLU above it.
 use Rattle.std.specs.Fmt.{digits}
-use Rattle.std.specs.Prelude.{◌≡◌, refl, List, [], ◌∷◌, codes, Some, None}
+use Rattle.std.specs.Prelude.{refl, List, [], ◌∷◌, codes, Some, None}
 use Rattle.clu_names.specs.declared.scopes.Declared.{Declared}
 use Rattle.clu_syntax.specs.declared.words.Operator.TheVariants as op
 use Rattle.clu_syntax.specs.declared.words.Sign.TheVariants as sign
@@ -8,7 +8,7 @@ use Rattle.clu_syntax.specs.declared.words.SimpleType.TheVariants as simple
 use Rattle.clu_syntax.specs.declared.words.ListType.TheVariants as list
 use Rattle.clu_syntax.specs.declared.words.FieldsType.TheVariants as fields_word
 use Rattle.clu_syntax.specs.declared.words.RoutineKind.TheVariants as kind
-use Rattle.clu_syntax.specs.Syntax.{true_literal, integer, character, string, an_infix, a_prefix, a_literal, a_name, a_get, a_call, fields, elements, an_operation, no_expressions, expression_and, no_components, component_and, a_type, no_constants, constant_and, a_simple_type, a_list_type, a_fields_type, a_routine_type, a_named_type, no_types, type_and, no_selectors, selector_and, no_exceptions, an_equate, no_equates, equate_and, objects, an_init, an_assign, a_set_field, a_call_statement, a_while, a_for, an_if, a_return, a_yield, an_except, no_statements, statement_and, a_body, no_clauses, clause_and, nothing_else, otherwise, no_whens, when_and, no_others, has_operations, Module, a_routine, a_cluster}
+use Rattle.clu_syntax.specs.Syntax.{true_literal, integer, character, string, an_infix, a_prefix, a_literal, a_name, a_get, a_call, fields, an_operation, no_expressions, expression_and, no_components, component_and, a_type, no_constants, constant_and, a_simple_type, a_list_type, a_fields_type, a_routine_type, a_named_type, no_types, type_and, no_selectors, selector_and, no_exceptions, an_equate, no_equates, equate_and, objects, an_init, an_assign, a_set_field, a_call_statement, a_while, a_for, an_if, a_return, a_yield, an_except, no_statements, statement_and, a_body, no_clauses, clause_and, nothing_else, otherwise, no_whens, when_and, no_others, has_operations, Module, a_routine, a_cluster}
 use Rattle.clu_layout.specs.Computing.{computing}
 use Rattle.clu_meaning.specs.Run.{returned_normally, failure_with}
 use Rattle.clu_meaning.specs.Executing.{executing}

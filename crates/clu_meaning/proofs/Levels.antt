@@ -1,11 +1,10 @@
 -- A run with more turns goes on from one with fewer.
 use Rattle.std.proofs.Common.{◌≡◌, ℕ, zero, suc, ◌+◌, List, [], ◌∷◌, refl, sym, subst, arith}
 use Rattle.clu_layout.specs.Objects.{Object, string_object}
-use Rattle.clu_meaning.specs.Programs.{Statements, Program}
-use Rattle.clu_meaning.specs.State.{State}
+use Rattle.clu_meaning.specs.Programs.{Program}
 use Rattle.clu_meaning.specs.Computations.{Ending, returned, signalled, raised}
 use Rattle.clu_meaning.specs.Binding.{Running}
-use Rattle.clu_meaning.specs.Calls.{Round, in_procedure, Level}
+use Rattle.clu_meaning.specs.Calls.{in_procedure, Level}
 use Rattle.clu_meaning.specs.Run.{level, first_state, fails_with, start_ending, starts, begins, result_of_run}
 use Rattle.clu_meaning.specs.More.{Later, state_of, GoesOn}
 use Rattle.clu_meaning.proofs.Combining.{Goes, later_same, goes_gives, goes_ends, goes_either_way, goes_spends, goes_need, goes_needed, goes_enters}

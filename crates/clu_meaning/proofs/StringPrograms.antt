@@ -1,6 +1,6 @@
 -- Programs that compute: operations of string. Each is the tree of the CLU above it.
 use Rattle.std.specs.Fmt.{digits}
-use Rattle.std.specs.Prelude.{◌≡◌, refl, List, [], ◌∷◌, codes, Some, None}
+use Rattle.std.specs.Prelude.{refl, List, [], ◌∷◌, codes, Some, None}
 use Rattle.clu_names.specs.declared.scopes.Declared.{Declared}
 use Rattle.clu_syntax.specs.declared.words.Operator.TheVariants as op
 use Rattle.clu_syntax.specs.declared.words.Sign.TheVariants as sign

@@ -1,6 +1,6 @@
 -- What expressions give: as many objects as an invocation returns, and one of any other expression. Parts are evaluated from
 -- left to right.
-use Rattle.std.specs.Prelude.{ℕ, zero, suc, ◌+◌, pos, Bool, true, false, List, [], ◌∷◌, ◌++◌, map, length, Option, None, Some, if◌then◌else◌, nat_eq, bytes_eq, codes}
+use Rattle.std.specs.Prelude.{ℕ, zero, suc, pos, Bool, true, false, List, [], ◌∷◌, ◌++◌, map, length, Option, None, Some, if◌then◌else◌, nat_eq, bytes_eq, codes}
 use Rattle.clu_base.specs.declared.constants.Const.{Const}
 use Rattle.clu_types.specs.CluType.{CluType, array_of, sequence_of, struct_of, record_of, cluster_of, Fields, no_fields, field_and, Actuals, no_actuals, actual_type, actual_const, actual_param}
 use Rattle.clu_types.specs.Substituted.{substituted, actuals_substituted}

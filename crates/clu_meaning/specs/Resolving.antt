@@ -1,7 +1,7 @@
 -- From the syntax of modules, and the declarations that their names denote, to programs as they run.
 use Rattle.std.specs.Prelude.{ℕ, suc, ◌+◌, ◌&&◌, ◌==◌, Bool, true, false, List, [], ◌∷◌, ◌++◌, length, map, Option, None, Some, codes, bytes_eq, if◌then◌else◌}
 use Rattle.clu_types.specs.CluType.{CluType, cluster_of, Actuals, no_actuals}
-use Rattle.clu_layout.specs.Objects.{Routine, module_routine, operation_of, force_of}
+use Rattle.clu_layout.specs.Objects.{module_routine, operation_of, force_of}
 use Rattle.clu_syntax.specs.declared.words.SimpleType.TheVariants as simple
 use Rattle.clu_syntax.specs.declared.words.RoutineKind.{RoutineKind}
 use Rattle.clu_syntax.specs.declared.words.RoutineKind.TheVariants as kind

@@ -1,7 +1,7 @@
 -- The operations that are defined by texts. Each is the tree of the CLU text above it, in which `t` is the type of the
 -- elements, and each name denotes the declaration that has it.
 use Prim.Native.String.{String}
-use Rattle.std.specs.Prelude.{ℕ, Bool, List, [], ◌∷◌, map, Option, None, Some, if◌then◌else◌, bytes_eq, codes}
+use Rattle.std.specs.Prelude.{ℕ, List, [], ◌∷◌, map, Option, None, Some, if◌then◌else◌, bytes_eq, codes}
 use Rattle.std.specs.Option.{option_map}
 use Rattle.clu_types.specs.CluType.{CluType, int_type, string_type, array_of, sequence_of, record_of, struct_of, oneof_of, variant_of, Actuals, no_actuals, actual_type}
 use Rattle.clu_syntax.specs.declared.words.Operator.{Operator}
