@@ -1,13 +1,13 @@
 //! The other modules that a module's text names: its leading equates, heading, equates and bodies. A name that the text
 //! has defined for itself is none of them (CLU Reference Manual, sections 4.2 and 7.2).
 
-ghost use Rattle.std.specs.Prelude.{◌≡◌, ◌<◌, length};
+ghost use Rattle.std.specs.Prelude.{◌≡◌, length};
 ghost use Rattle.clu_names.specs.Denotes.{bound_to, starts_to};
 
-use clu_base::{Bytes, Memory};
-use clu_names::{Declared, Names};
+use clu_base::{Bytes, Memory, Sequence};
+use clu_names::{Declared, Names, names_of};
 use clu_rules::is_stream;
-use clu_syntax::Round;
+use clu_syntax::rounds;
 use clu_tree::{NodeKind, Tree};
 use indexmap::IndexSet;
 use std::alloc::Global;
@@ -51,12 +51,11 @@ fn meet_all(
     first: u32,
     module: u32,
 ) -> Result<(), Memory>
-    requires inside { module < length tree.now }
     requires bound { names.now.bound.items ≡ bound_to tree.now names.now.declared.items (length tree.now) }
     requires starts { names.now.starts.items ≡ starts_to tree.now names.now.declared.items (length tree.now) }
 {
     let declared = names.declared.as_slice();
-    for n in first..module {
+    for n in first..module.min(tree.len()) {
         let node = tree.node(n);
         if is_use(node.kind) {
             if let (Some(name), Some(denotes)) = (
@@ -72,27 +71,39 @@ fn meet_all(
     Ok(())
 }
 
-/// The names of the modules other than its own that the text of the module at a node names, ascending. The file is one that
-/// was accepted; `rounds` and `names` are those of its tree. The only error is that memory runs out.
-pub fn named(
+/// The modules that the nodes from `first` to `module` name, ascending.
+fn named_in(
     alloc: Global,
     tree: &Tree,
-    rounds: &[Round],
     names: &Names,
+    first: u32,
     module: u32,
-) -> Result<Vec<Bytes>, Memory>
-    requires inside { module < length tree.now }
-    requires all { length rounds.now ≡ length tree.now }
+) -> Result<Sequence<Bytes>, Memory>
     requires bound { names.now.bound.items ≡ bound_to tree.now names.now.declared.items (length tree.now) }
     requires starts { names.now.starts.items ≡ starts_to tree.now names.now.declared.items (length tree.now) }
 {
     let mut found = IndexSet::new(alloc);
-    let first = rounds[module as usize].first;
     meet_all(alloc, &mut found, tree, names, first, module)?;
     found.sort()?;
     let mut sorted = Vec::new(alloc);
     for name in found.drain(..) {
         sorted.push(name)?;
     }
-    Ok(sorted)
+    Ok(Sequence::from_vec(sorted))
+}
+
+/// Of each module of a file, in the order of the text, the names of the modules other than its own that its text names,
+/// ascending. The file is one that was accepted. The only error is that memory runs out.
+pub fn named(alloc: Global, tree: &Tree) -> Result<Vec<Sequence<Bytes>>, Memory> {
+    let rounds = rounds(alloc, tree)?;
+    let names = names_of(alloc, tree, rounds.as_slice())?;
+    let mut all = Vec::new(alloc);
+    for module in tree.modules() {
+        let first = match rounds.get(*module as usize) {
+            Some(round) => round.first,
+            None => *module,
+        };
+        all.push(named_in(alloc, tree, &names, first, *module)?)?;
+    }
+    Ok(all)
 }

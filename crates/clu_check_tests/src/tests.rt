@@ -8,10 +8,8 @@ use clu_check_mod::{check, named, spec_of, specs_of};
 use clu_core::Checked;
 use clu_lexer::lex;
 use clu_library::is_whole;
-use clu_names::names_of;
 use clu_parser::parse;
 use clu_specs::spec_text;
-use clu_syntax::rounds;
 use clu_tree::Tree;
 use clu_types::{Spec, Specs};
 use std::alloc::Global;
@@ -184,16 +182,11 @@ const NAMING_COUNT: usize = 9;
 
 /// The modules that the text of the first module names.
 fn named_by(alloc: Global, checked: &Checked) -> Result<String, Fail> {
-    let tree = &checked.tree;
-    let module = first_module(tree)?;
-    if module >= tree.len() {
-        return Err("no module")?;
-    }
-    let rounds = rounds(alloc, tree)?;
-    let names = names_of(alloc, tree, rounds.as_slice())?;
     let mut text = String::new(alloc);
-    for name in named(alloc, tree, rounds.as_slice(), &names, module)? {
-        put_name(&mut text, &name)?;
+    if let Some(names) = named(alloc, &checked.tree)?.first() {
+        for name in names.as_slice() {
+            put_name(&mut text, name)?;
+        }
     }
     Ok(text)
 }

@@ -18,7 +18,7 @@ names_of [] = 0
 names_of (name ∷ ps) = names_of ps + 1
 names_of (_ ∷ ps) = names_of ps
 
-kinds_append : (v w : List Letter) → kinds_in (v ++ w) ≡ kinds_in v ++ kinds_in w
+pub kinds_append : (v w : List Letter) → kinds_in (v ++ w) ≡ kinds_in v ++ kinds_in w
 kinds_append [] w = refl
 kinds_append (own x ∷ v) w = kinds_append v w
 kinds_append (named ∷ v) w = kinds_append v w

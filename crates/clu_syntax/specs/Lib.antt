@@ -3,8 +3,10 @@ pub mod Enough
 pub mod Items
 pub mod Kinds
 pub mod Nodes
+pub mod Parts
 pub mod Roles
 pub mod Rounds
+pub mod Slots
 pub mod Splits
 pub mod Syntax
 pub mod Views

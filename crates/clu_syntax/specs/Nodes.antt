@@ -326,7 +326,7 @@ item_to nodes (suc steps) n = item_with (before n (item_to nodes steps)) nodes n
 
 -- what the node n of a tree is
 abbrev pub item_at : List Node → ℕ → Item
-item_at nodes n = item_to nodes (n + 1) n
+item_at nodes n = item_to nodes (suc n) n
 
 -- the syntax of a file, whose node is the last one of its tree
 abbrev pub file_of : List Node → List Module

@@ -202,7 +202,7 @@ fn name_of(names: &[Bytes]) -> Option<&Bytes>
     }
 }
 
-fn equated(tree: &Tree, c: u32) -> Equated
+fn right_side(tree: &Tree, c: u32) -> Equated
     requires { c < length tree.now }
     ensures { (items : ℕ → Item) (nodes : List Node) (n : ℕ) (name : Option Identifier) → equated_told items n name result ≡ equated items nodes n name (kind_at tree.now c) c }
 {
@@ -220,7 +220,7 @@ pub fn equate_in<'a>(tree: &Tree, node: &'a Node) -> Equate<'a>
 {
     Equate {
         name: name_of(node.names.as_slice()),
-        value: equated(tree, child(node, 0)),
+        value: right_side(tree, child(node, 0)),
     }
 }
 

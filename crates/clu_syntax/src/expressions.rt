@@ -13,7 +13,7 @@ use crate::kinds::is_type;
 use crate::splits::{child, leading_types, name_at, parts, run};
 use crate::words::{
     FieldsType, ListType, Literal, Operator, RoutineKind, Sign, SimpleType, fields_type,
-    infix_operator, list_type, literal, routine_kind, sign, simple_type,
+    infix_operator, list_type, literal_in, prefix_operator, routine_kind, simple_type,
 };
 use clu_base::Bytes;
 use clu_tree::{Node, NodeKind, Tree};
@@ -95,19 +95,25 @@ pub enum Constant {
     Type(u32),
 }
 
-/// What stands in the brackets of a constructor with elements.
-fn elements_in<'a>(of: u32, node: &'a Node, children: &'a [u32]) -> Expression<'a>
-    ensures { (items : ℕ → Item) (nodes : List Node) (n : ℕ) → expression_told items n result ≡ elements_of items nodes n (items of).type node.now.value_token children.now }
+/// What stands in the brackets of a constructor with elements; the value is the `:` after a low bound.
+fn elements_in<'a>(of: u32, value: Option<u32>, children: &'a [u32]) -> Expression<'a>
+    ensures { (items : ℕ → Item) (nodes : List Node) (n : ℕ) → expression_told items n result ≡ elements_of items nodes n (items of).type value children.now }
 {
-    match (node.value_token, children) {
-        (Some(_), [low, elements @ ..]) => Expression::ElementsFrom {
-            of,
-            low: *low,
-            elements,
-        },
-        _ => Expression::Elements {
+    match value {
+        None => Expression::Elements {
             of,
             elements: children,
+        },
+        Some(_) => match children {
+            [] => Expression::Elements {
+                of,
+                elements: children,
+            },
+            [low, elements @ ..] => Expression::ElementsFrom {
+                of,
+                low: *low,
+                elements,
+            },
         },
     }
 }
@@ -128,13 +134,13 @@ pub fn expression_in<'a>(tree: &'a Tree, node: &'a Node) -> Expression<'a>
             right: child(node, 1),
         },
         NodeKind::Prefix => Expression::Prefix {
-            sign: sign(value),
+            sign: prefix_operator(value),
             operand: child(node, 0),
         },
         NodeKind::Paren => Expression::Paren {
             inside: child(node, 0),
         },
-        NodeKind::Literal => Expression::Literal(literal(value)),
+        NodeKind::Literal => Expression::Literal(literal_in(value)),
         NodeKind::Name => Expression::Name(name_at(names, 0)),
         NodeKind::Index => Expression::Index {
             of: child(node, 0),
@@ -152,7 +158,7 @@ pub fn expression_in<'a>(tree: &'a Tree, node: &'a Node) -> Expression<'a>
             of: child(node, 0),
             components: run(tree, NodeKind::FieldE, &children[1..]).0,
         },
-        NodeKind::Elems => elements_in(child(node, 0), node, &children[1..]),
+        NodeKind::Elems => elements_in(child(node, 0), node.value_token, &children[1..]),
         NodeKind::OperOf => Expression::Operation {
             of: child(node, 0),
             operation: name_at(names, 0),

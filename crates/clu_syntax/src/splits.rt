@@ -3,6 +3,7 @@
 
 ghost use Rattle.std.specs.Prelude.{◌≡◌, ◌<◌, ◌≤◌, ◌-◌, All, length, take, drop, get_or, slice_get, option_map, Some};
 ghost use Rattle.clu_tree.specs.Nodes.{IsTree};
+ghost use Rattle.clu_syntax.specs.Kinds.{kind_at};
 ghost use Rattle.clu_syntax.specs.Splits.{child, last_child, name_at, last_option, leading, leading_types, leading_items, leading_before, run, after_run, parts, after_one, one_of, type_of, after_option, is_of};
 
 use crate::bodies::is_behind;
@@ -65,12 +66,16 @@ fn leading(tree: &Tree, kind: NodeKind, children: &[u32]) -> usize
     ensures count { result ≡ leading tree.now kind children.now }
     ensures within { result ≤ length children.now }
 {
-    for (at, c) in children.iter().enumerate() {
+    let mut rest = children;
+    let mut count = 0;
+    while let [c, more @ ..] = rest {
         if !is_of(kind, tree.node(*c).kind) {
-            return at;
+            return count;
         }
+        count += 1;
+        rest = more;
     }
-    children.len()
+    count
 }
 
 /// How many types a list begins with.
@@ -80,12 +85,16 @@ pub fn leading_types(tree: &Tree, children: &[u32]) -> usize
     ensures count { result ≡ leading_types tree.now children.now }
     ensures within { result ≤ length children.now }
 {
-    for (at, c) in children.iter().enumerate() {
+    let mut rest = children;
+    let mut count = 0;
+    while let [c, more @ ..] = rest {
         if !is_type(tree.node(*c).kind) {
-            return at;
+            return count;
         }
+        count += 1;
+        rest = more;
     }
-    children.len()
+    count
 }
 
 /// How many children that are no expressions a list begins with.
@@ -95,12 +104,16 @@ pub fn leading_items(tree: &Tree, children: &[u32]) -> usize
     ensures count { result ≡ leading_items tree.now children.now }
     ensures within { result ≤ length children.now }
 {
-    for (at, c) in children.iter().enumerate() {
+    let mut rest = children;
+    let mut count = 0;
+    while let [c, more @ ..] = rest {
         if is_expression(tree.node(*c).kind) {
-            return at;
+            return count;
         }
+        count += 1;
+        rest = more;
     }
-    children.len()
+    count
 }
 
 /// How many children that stand before the value of the node a list begins with.
@@ -110,12 +123,16 @@ pub fn leading_before(tree: &Tree, node: &Node, children: &[u32]) -> usize
     ensures count { result ≡ leading_before tree.now node.now children.now }
     ensures within { result ≤ length children.now }
 {
-    for (at, c) in children.iter().enumerate() {
+    let mut rest = children;
+    let mut count = 0;
+    while let [c, more @ ..] = rest {
         if is_behind(node, tree.node(*c)) {
-            return at;
+            return count;
         }
+        count += 1;
+        rest = more;
     }
-    children.len()
+    count
 }
 
 /// The children of this kind with which a list begins, and those after them.
@@ -123,6 +140,9 @@ pub fn run<'a>(tree: &Tree, kind: NodeKind, children: &'a [u32]) -> (&'a [u32], 
     requires { All (λ c. c < length tree.now) children.now }
     ensures run { result.0.now ≡ run tree.now kind children.now }
     ensures after { result.1.now ≡ after_run tree.now kind children.now }
+    ensures kinds { All (λ c. kind_at tree.now c ≡ kind) result.0.now }
+    ensures run_inside { All (λ c. c < length tree.now) result.0.now }
+    ensures after_inside { All (λ c. c < length tree.now) result.1.now }
 {
     children.split_at(leading(tree, kind, children))
 }
@@ -132,6 +152,8 @@ pub fn parts<'a>(tree: &'a Tree, kind: NodeKind, children: &'a [u32]) -> (&'a [u
     requires { All (λ c. c < length tree.now) children.now }
     ensures parts { result.0.now ≡ parts tree.now kind children.now }
     ensures after { result.1.now ≡ after_one tree.now kind children.now }
+    ensures parts_inside { All (λ c. c < length tree.now) result.0.now }
+    ensures after_inside { All (λ c. c < length tree.now) result.1.now }
 {
     match children {
         [] => (&[], children),
@@ -172,8 +194,11 @@ pub fn type_of(tree: &Tree, children: &[u32]) -> Option<u32>
 pub fn after_option(taken: Option<u32>, children: &[u32]) -> &[u32]
     ensures { result.now ≡ after_option taken children.now }
 {
-    match (taken, children) {
-        (Some(_), [_, rest @ ..]) => rest,
-        _ => children,
+    match taken {
+        None => children,
+        Some(_) => match children {
+            [] => children,
+            [_, rest @ ..] => rest,
+        },
     }
 }

@@ -1,10 +1,11 @@
 //! Statements and bodies as their parts.
 
-ghost use Rattle.std.specs.Prelude.{◌≡◌, ◌<◌, All, ℕ, length, drop};
+ghost use Rattle.std.specs.Prelude.{◌≡◌, ◌<◌, All, ℕ, length, take, drop, Some};
 ghost use Rattle.clu_syntax.specs.Enough.{HasEnough};
 ghost use Rattle.clu_syntax.specs.Items.{Item};
 ghost use Rattle.clu_syntax.specs.Nodes.{body_of, clauses_of, except_of, for_of, if_of, init_of, otherwise_of, statement_of, tagcase_of};
-ghost use Rattle.clu_syntax.specs.Splits.{after_run, leading_before, run};
+ghost use Rattle.clu_syntax.specs.Splits.{after_run, leading_before, leading_items, run};
+ghost use Rattle.clu_syntax.specs.Syntax.{clause_and};
 ghost use Rattle.clu_syntax.specs.Views.{body_told, clauses_told, otherwise_told, statement_told};
 
 use crate::splits::{child, last_child, leading_before, leading_items, name_at, one_of, run};
@@ -143,24 +144,30 @@ fn otherwise_in<'a>(tree: &Tree, value: Option<u32>, children: &'a [u32]) -> Opt
     }
 }
 
-/// The first of these clauses, and those after it; None if there are no more.
+/// The first of these clauses, and those after it; None if there are no more. Of an If no item stands before its first
+/// condition.
 pub fn clause_in<'a>(tree: &Tree, clauses: Clauses<'a>) -> Option<(Clause<'a>, Clauses<'a>)>
-    requires { All (λ c. c < length tree.now) clauses.entry.rest.now }
+    requires { All (λ c. c < length tree.now) clauses.rest.now }
     ensures { (items : ℕ → Item) → clauses_told items tree.now result ≡ clauses_of items tree.now clauses.entry.rest.now }
 {
-    match clauses.rest {
+    let (_, clauses) = clauses.rest.split_at(leading_items(tree, clauses.rest));
+    match clauses {
         [] => None,
-        [condition, rest @ ..] => {
-            let (body, rest) = rest.split_at(leading_items(tree, rest));
-            Some((
-                Clause {
-                    condition: *condition,
-                    body: body_in(tree, body),
-                },
-                Clauses { rest },
-            ))
-        }
+        [condition, rest @ ..] => Some(clause_at(tree, *condition, rest)),
     }
+}
+
+/// The clause with this condition, and the clauses after it.
+fn clause_at<'a>(tree: &Tree, condition: u32, rest: &'a [u32]) -> (Clause<'a>, Clauses<'a>)
+    requires { All (λ c. c < length tree.now) rest.now }
+    ensures { (items : ℕ → Item) → clauses_told items tree.now (Some result) ≡ clause_and (items condition).expression (body_of items tree.now (take (leading_items tree.now rest.now) rest.now)) (clauses_of items tree.now (drop (leading_items tree.now rest.now) rest.now)) }
+{
+    let (body, rest) = rest.split_at(leading_items(tree, rest));
+    let clause = Clause {
+        condition,
+        body: body_in(tree, body),
+    };
+    (clause, Clauses { rest })
 }
 
 fn if_in<'a>(tree: &Tree, node: &'a Node) -> Statement<'a>

@@ -55,6 +55,7 @@ impl Syntax {
     }
 
     /// The node n, which has as many children and names as its kind wants.
+    #[tactic(auto, using(crate::proofs::Enough::enough))]
     fn node(&self, n: u32) -> &Node
         requires { n < length self.now }
         ensures node { slice_get self.now n ≡ Some result.now }
@@ -98,7 +99,7 @@ impl Syntax {
 
     /// The first of these clauses of an If, and those after it; None if there are no more.
     pub fn clause<'a>(&self, clauses: Clauses<'a>) -> Option<(Clause<'a>, Clauses<'a>)>
-        requires { All (λ c. c < length self.now) clauses.entry.rest.now }
+        requires { All (λ c. c < length self.now) clauses.rest.now }
         ensures { (items : ℕ → Item) → clauses_told items self.now result ≡ clauses_of items self.now clauses.entry.rest.now }
     {
         clause_in(&self.tree, clauses)

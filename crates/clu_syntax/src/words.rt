@@ -167,7 +167,7 @@ pub fn infix_operator(value: &[u8]) -> Operator
 }
 
 /// The operator of a Prefix, by its value.
-pub fn sign(value: &[u8]) -> Sign
+pub fn prefix_operator(value: &[u8]) -> Sign
     ensures { result ≡ sign (symbol_in value.now) }
 {
     match symbol_in(value) {
@@ -268,7 +268,7 @@ fn word_of<'a>(value: &'a [u8]) -> Literal<'a>
 }
 
 /// The literal that is spelled so.
-pub fn literal(value: &[u8]) -> Literal<'_>
+pub fn literal_in(value: &[u8]) -> Literal<'_>
     ensures { literal_told result ≡ literal_of value.now }
 {
     match value {
