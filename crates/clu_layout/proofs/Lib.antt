@@ -8,10 +8,11 @@ mod RecordSamples
 mod OneofSamples
 mod StreamSamples
 mod InvocationSamples
+mod OpenerSamples
 mod Names
 pub mod Laws
 pub mod SameTypeLaws
 pub mod CellLaws
 pub mod CellsKept
 pub mod SignalLaws
-pub mod SignalsQuiet
+pub mod SignalsUnchanged
