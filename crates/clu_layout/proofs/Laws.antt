@@ -1,11 +1,11 @@
 -- What holds of every operation, whatever its objects: no byte of the output is taken away, no meter falls, and what is
 -- given has the types of the heading.
-use Rattle.std.proofs.Common.{◌≡◌, refl, arith}
-use Rattle.std.specs.Prelude.{ℕ, ◌+◌, ◌≤◌, Bool, true, false, List, ◌++◌, Option, Some, None}
+use Rattle.std.proofs.Common.{◌≡◌, refl, ap, arith}
+use Rattle.std.specs.Prelude.{ℕ, ◌+◌, ◌≤◌, Bool, true, false, List, [], ◌∷◌, ◌++◌, Option, Some, None}
 use Rattle.clu_types.specs.CluType.{CluType, any_type, CluTypes}
 use Rattle.clu_builtin.specs.Operation.{Operation}
 use Rattle.clu_builtin.specs.Table.{operation}
-use Rattle.clu_layout.specs.Objects.{Object, own_types}
+use Rattle.clu_layout.specs.Objects.{Object, listed, inside, own_types}
 use Rattle.clu_layout.specs.SameType.{all_fit}
 use Rattle.clu_layout.specs.Actions.{World, Outcome, returned, signalled, wrong, Action, Primitive, need, needed, no_case, takes, counts, continued, and_then, gives_all}
 use Rattle.clu_layout.specs.Primitive.{before, added, outcome_in, done_in, invoked, invocation, gives_results, may_be_arguments, words_for_all, primitive, prim, force, force_heading, force_invocation, forcing}
@@ -104,3 +104,10 @@ pub force_types : (t : CluType) (os : List Object) (w : World) → GivesTypes (f
 unfolding force done_in
 force_types t os w = outcome_types (force_heading t).results w (force_invocation t os (before w))
     (invoked_types any_type (force_heading t) (forcing t) os (before w))
+
+-- ---- sequences and structs
+
+-- what was put inside a sequence or struct is listed again
+pub listed_inside : (xs : List Object) → listed (inside xs) ≡ xs
+listed_inside [] = refl
+listed_inside (x ∷ xs) = ap (λ ys. x ∷ ys) (listed_inside xs)

@@ -14,5 +14,9 @@ pub mod Laws
 pub mod SameTypeLaws
 pub mod CellLaws
 pub mod CellsKept
-pub mod SignalLaws
+pub mod UnchangedLaws
 pub mod SignalsUnchanged
+pub mod ListedLaws
+pub mod SignalsListed
+pub mod RightLaws
+pub mod CellsRight

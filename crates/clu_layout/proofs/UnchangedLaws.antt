@@ -52,7 +52,7 @@ ChangesNothing w wrong = Unit {0}
 pub record UnchangedIfSignalled (action : Action) : Type 0 where
   pub at : (w : World) → ChangesNothing w (action w)
 
-never_signalled : (w : World) (o : Outcome) → IsNotSignalled o → ChangesNothing w o
+pub never_signalled : (w : World) (o : Outcome) → IsNotSignalled o → ChangesNothing w o
 never_signalled w (returned os v) h = tt
 never_signalled w (signalled name os v) h = absurd h
 never_signalled w wrong h = tt
