@@ -10,6 +10,7 @@ mod StreamSamples
 mod InvocationSamples
 mod OpenerSamples
 mod Names
+pub mod FieldNames
 pub mod Laws
 pub mod SameTypeLaws
 pub mod CellLaws
