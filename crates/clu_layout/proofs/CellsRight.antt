@@ -7,20 +7,20 @@ use Rattle.std.specs.Option.{option_map}
 use Rattle.clu_types.specs.CluType.{CluType, null_type, bool_type, int_type, char_type, string_type, any_type, stream_type, array_of, sequence_of, record_of, struct_of, oneof_of, variant_of, proc_of, iter_of, cluster_of, parameter, CluTypes, Fields, no_fields, field_and}
 use Rattle.clu_builtin.specs.Operation.{Operation}
 use Rattle.clu_builtin.specs.Table.{operation, parts_of}
-use Rattle.clu_layout.specs.Objects.{Object, own_type, own_types, Array, Cell}
+use Rattle.clu_layout.specs.Objects.{Object, own_type, own_types, Array}
 use Rattle.clu_layout.specs.SameType.{fits, all_fit}
-use Rattle.clu_layout.specs.Places.{with_item_after, with_item_at, items_after, items_from, without_first, without_last, count_of}
-use Rattle.clu_layout.specs.Actions.{World, Outcome, returned, signalled, wrong, Action, Primitive, gives_all, need, needed, makes_array, makes_sequence, makes_struct, makes_record}
+use Rattle.clu_layout.specs.Places.{with_item_after, items_after, without_first, without_last, count_of}
+use Rattle.clu_layout.specs.Actions.{World, Outcome, returned, signalled, wrong, Action, Primitive, gives_all, makes_array, makes_sequence, makes_struct, makes_record}
 use Rattle.clu_layout.specs.PlainOperations.{Primitives, null_primitives, routine_primitives, bool_primitives}
 use Rattle.clu_layout.specs.NumberOperations.{int_primitives, char_primitives}
 use Rattle.clu_layout.specs.StringOperations.{string_primitives}
-use Rattle.clu_layout.specs.ArrayOperations.{array_create, array_new, array_predict, array_fill, array_size, array_low, array_high, array_empty, array_set_low, array_fetch, array_store, array_bottom, array_top, more_room, grows, array_addh, array_addl, array_remh, array_reml, array_trim, array_copy1, array_equal, array_primitives}
+use Rattle.clu_layout.specs.ArrayOperations.{array_set_low, array_store, grows, array_addh, array_addl, array_remh, array_reml, array_trim, array_primitives}
 use Rattle.clu_layout.specs.SequenceOperations.{sequence_primitives}
-use Rattle.clu_layout.specs.RecordOperations.{with_component, struct_selected, record_get, record_set, record_selected, record_primitives}
+use Rattle.clu_layout.specs.RecordOperations.{with_component, struct_selected, record_set, record_selected, record_primitives}
 use Rattle.clu_layout.specs.OneofOperations.{oneof_selected, variant_selected, variant_primitives}
 use Rattle.clu_layout.specs.StreamOperations.{stream_primitives}
 use Rattle.clu_layout.specs.Primitive.{of_each, primitives, named, primitive, binds, gives_results, invoked, invocation, forcing, force_heading, force_invocation, same_for_each, array_construction, array_with_low, sequence_construction, struct_construction, record_construction, before, outcome_in, done_in, prim, force, make_array, make_array_with_low, make_sequence, make_struct, make_record}
-use Rattle.clu_layout.proofs.RightLaws.{selector_count, AllRight, RightIn, StaysRight, right_gives, right_no_case, right_signals_if, right_or_signals, right_either, right_or_fails, right_need, right_needed, right_and_then, right_counts, right_takes, right_changes, right_one, right_two, right_three, right_int, right_array, right_record, right}
+use Rattle.clu_layout.proofs.RightLaws.{selector_count, AllRight, RightIn, StaysRight, right_gives, right_signals_if, right_or_signals, right_either, right_or_fails, right_need, right_needed, right_and_then, right_counts, right_takes, right_changes, right_one, right_two, right_three, right_int, right_array, right_record, right}
 
 -- ---- the lengths of what operations make of a list
 
@@ -72,9 +72,9 @@ free_grows n room longer free h k = omega (arith, eqb-false n room free)
 grows_right : (c : ℕ) (a b : Array) → length b.items ≡ length a.items + 1 → b.room ≡ a.room → length a.items ≤ a.room → StaysRight (grows c a b)
 grows_right c a b longer same room = right_either _ _ _
     (λ full. right_counts _ _ (right_or_fails _ _ _ (λ new. right_takes _ _ (right_changes c _ _
-        (new, full_grows (length a.items) a.room (length b.items) full longer) (right_gives [])))))
+    (new, full_grows (length a.items) a.room (length b.items) full longer) (right_gives [])))))
     (λ free. right_or_fails _ _ _ (λ new. right_changes c _ _
-        (new, subst (λ n. length b.items ≤ n) (sym same) (free_grows (length a.items) a.room (length b.items) free room longer)) (right_gives [])))
+    (new, subst (λ n. length b.items ≤ n) (sym same) (free_grows (length a.items) a.room (length b.items) free room longer)) (right_gives [])))
 
 addh_right : (os : List Object) → StaysRight (array_addh os)
 addh_right os = right_two os _ (λ r x. right_array r _ (λ c a bounds room. grows_right c a (record a { items = a.items ++ x ∷ [] }) (length-append a.items (x ∷ [])) refl room))

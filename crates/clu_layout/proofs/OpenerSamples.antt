@@ -1,5 +1,5 @@
 -- Samples of what is looked up in objects, constants and routines.
-use Rattle.std.specs.Prelude.{◌≡◌, refl, pos, negsuc, true, [], ◌∷◌, Option, None, Some, codes}
+use Rattle.std.specs.Prelude.{◌≡◌, refl, pos, negsuc, true, [], ◌∷◌, None, Some, codes}
 use Rattle.clu_base.specs.declared.constants.Const.TheVariants as constant
 use Rattle.clu_types.specs.CluType.{int_type, string_type, array_of, variant_of, parameter, Fields, no_fields, field_and, Actuals, no_actuals, actual_type}
 use Rattle.clu_builtin.specs.Table.{operation}

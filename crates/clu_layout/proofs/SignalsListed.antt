@@ -5,7 +5,7 @@ use Rattle.std.proofs.lemmas.Slice.Eq.{bytes_eq-Decides}
 use Rattle.std.specs.Prelude.{ℕ, ℤ, Bool, true, false, List, [], ◌∷◌, ◌++◌, Option, Some, None, cond, bytes_eq, codes}
 use Rattle.clu_types.specs.CluType.{CluType, null_type, bool_type, int_type, char_type, string_type, any_type, stream_type, array_of, sequence_of, record_of, struct_of, oneof_of, variant_of, proc_of, iter_of, cluster_of, parameter, CluTypes, no_types, Fields, no_fields, field_and, Signals, no_signals}
 use Rattle.clu_builtin.specs.Operation.{Operation}
-use Rattle.clu_builtin.specs.Table.{SelectorTable, operation, or_else, named as headed, with_selector, of_selectors, oneof_selectors, variant_selectors, parts_of}
+use Rattle.clu_builtin.specs.Table.{SelectorTable, operation, or_else, named as headed, with_selector, of_selectors, oneof_selectors, variant_selectors}
 use Rattle.clu_layout.specs.Objects.{Object}
 use Rattle.clu_layout.specs.Actions.{World, Outcome, returned, signalled, wrong, Action, Primitive, needed}
 use Rattle.clu_layout.specs.PlainOperations.{Primitives, null_primitives, routine_primitives, bool_primitives}

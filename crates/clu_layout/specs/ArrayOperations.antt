@@ -79,7 +79,7 @@ more_room a = max 4 (2 * a.room)
 abbrev pub grows : ℕ → Array → Array → Action
 grows c a b = either (length a.items == a.room)
     (counts (length a.items)
-        (with_int_bounds b (takes (more_room a) (changes c (array_cell (record b { room = more_room a })) gives_nothing))))
+    (with_int_bounds b (takes (more_room a) (changes c (array_cell (record b { room = more_room a })) gives_nothing))))
     (with_int_bounds b (changes c (array_cell b) gives_nothing))
 
 -- addh | (T, t) | if the room is used up, the new room in words | one element more at high + 1

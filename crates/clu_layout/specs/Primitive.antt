@@ -69,7 +69,7 @@ words_for_all (type_and t ts) = words_for t + words_for_all ts
 abbrev pub binds : CluTypes → List Object → Action → Action
 binds types os rest = need (all_fit (own_types os) types) (takes (words_for_all types) rest)
 
--- An object of the first type may be an argument of an operation of T where the formal has the second. An operation of a
+-- Whether an object of this own type may be an argument of an operation of T, for a formal of this type. An operation of a
 -- routine type takes every routine, since `f = g` is an operation of the own type of f.
 abbrev pub may_be_argument : CluType → CluType → CluType → Bool
 may_be_argument T own formal = fits own formal || (is_routine_type T && is_routine_type own && is_routine_type formal)
@@ -186,12 +186,12 @@ make_record fs xs w = done_in w (record_construction fs xs)
 
 -- the heading of a built-in operation or of force; of an instance's routine its module says it
 abbrev pub heading_of : Routine → Option Operation
-heading_of (module_routine name actuals) = None
+heading_of (module_routine name given) = None
 heading_of (operation_of T op) = operation T op
 heading_of (force_of t) = Some (force_heading t)
 
 -- what a routine that has no text comes to: a primitive operation, or force
 abbrev pub without_text : Routine → Option (List Object → World → Outcome)
-without_text (module_routine name actuals) = None
+without_text (module_routine name given) = None
 without_text (operation_of T op) = option_map (λ p os w. prim T op os w) (primitive T op)
 without_text (force_of t) = Some (force t)
