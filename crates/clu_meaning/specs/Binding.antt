@@ -1,10 +1,11 @@
 -- Binding objects to variables, and to what a heading has. Each binding needs that the object's own type is included in
 -- the type that is declared, and takes the words of binding to type any.
-use Rattle.std.specs.Prelude.{ℕ, ◌&&◌, ◌==◌, List, [], ◌∷◌, Option, None, Some, if◌then◌else◌, bytes_eq, map}
+use Rattle.std.specs.Prelude.{ℕ, ◌==◌, List, [], ◌∷◌, Option, None, Some, if◌then◌else◌, bytes_eq, map}
 use Rattle.clu_types.specs.CluType.{CluType, cluster_of, CluTypes, no_types, type_and, Actuals}
 use Rattle.clu_types.specs.Substituted.{substituted}
 use Rattle.clu_layout.specs.Objects.{Object, sealed, own_types}
-use Rattle.clu_layout.specs.SameType.{same_actuals, all_fit}
+use Rattle.clu_layout.specs.Openers.{unsealed}
+use Rattle.clu_layout.specs.SameType.{all_fit}
 use Rattle.clu_layout.specs.Primitive.{words_for_all}
 use Rattle.clu_meaning.specs.Programs.{Variable, local, own_of_routine, own_of_cluster, HeadingType, plain, cvt, Declaration, Formal, Exception, RoutineDefinition, ClusterDefinition}
 use Rattle.clu_meaning.specs.State.{Instance, own_set_up, with_variable, with_own}
@@ -98,10 +99,10 @@ abbrev pub seal : CluType → Object → Object
 seal (cluster_of cluster given) o = sealed cluster given o
 seal _ o = o
 
--- what is inside an object that this cluster instance sealed
+-- what is inside an object that the cluster instance of this type sealed
 abbrev pub opened : CluType → Object → Option Object
-opened (cluster_of cluster given) (sealed c xs o) = if bytes_eq c cluster && same_actuals xs given then Some o else None
-opened _ _ = None
+opened (cluster_of cluster given) o = unsealed cluster given o
+opened _ o = None
 
 abbrev pub seals : Actuals → List HeadingType → List Object → List Object
 seals given (cvt abstract representation ∷ rest) (o ∷ os) = seal (substituted given abstract) o ∷ seals given rest os

@@ -1,7 +1,7 @@
 -- Calls of routines that have definitions, with the setting up of own variables; and yields.
 use Rattle.std.specs.Prelude.{ℕ, ◌+◌, ◌*◌, false, not, List, [], ◌∷◌, Option, None, Some, codes}
 use Rattle.clu_layout.specs.Objects.{Object}
-use Rattle.clu_layout.specs.Places.{has_none}
+use Rattle.clu_layout.specs.Places.{is_empty}
 use Rattle.clu_meaning.specs.Programs.{Variable, Statements, HeadingType, Declaration, RoutineDefinition, ClusterDefinition}
 use Rattle.clu_meaning.specs.State.{Instance, new_frame, called_from, caller_of, back_to, with_set_up}
 use Rattle.clu_meaning.specs.Computations.{Ending, broken, continued, returned, signalled, raised, through, wrong, Computation, gives, ends, goes_wrong, and_then, either_way, spends_a_turn, need, either, sees_frame, sees_owns, sees_stack, with_frame, with_owns, enters, goes_deeper, leaves, counts, raise_count, raises, fails}
@@ -38,7 +38,7 @@ raises_unhandled name os = unhandled name os (λ text. counts raise_count (ends 
 
 -- a procedure that reaches its end
 abbrev pub without_return : List HeadingType → Computation (List Object)
-without_return results = either (has_none results) (gives []) (fails (codes "no return values"))
+without_return results = either (is_empty results) (gives []) (fails (codes "no return values"))
 
 unfoldable pub procedure_ending : Ending → Computation (List Object)
 procedure_ending (returned os) = gives os

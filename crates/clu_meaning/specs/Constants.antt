@@ -9,18 +9,11 @@ use Rattle.clu_syntax.specs.declared.words.Operator.{Operator}
 use Rattle.clu_syntax.specs.declared.words.Operator.TheVariants as op
 use Rattle.clu_syntax.specs.declared.words.Sign.{Sign}
 use Rattle.clu_syntax.specs.declared.words.Sign.TheVariants as sign
-use Rattle.clu_layout.specs.Objects.{Object, null_object, bool_object, int_object, char_object, string_object, own_type}
+use Rattle.clu_layout.specs.Objects.{object_of, Object, null_object, bool_object, int_object, char_object, string_object, own_type}
 use Rattle.clu_layout.specs.Actions.{World, Outcome, returned}
 use Rattle.clu_layout.specs.Primitive.{prim}
 
--- ---- constants as objects
-
-abbrev pub object_of : Const → Object
-object_of constant.Null = null_object
-object_of (constant.Bool b) = bool_object b
-object_of (constant.Int n) = int_object n
-object_of (constant.Char c) = char_object c
-object_of (constant.Str bytes) = string_object bytes
+-- ---- constants that are objects
 
 abbrev pub constant_of : Object → Option Const
 constant_of null_object = Some constant.Null

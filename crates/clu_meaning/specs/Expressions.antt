@@ -3,11 +3,10 @@
 use Rattle.std.specs.Prelude.{ℕ, zero, suc, pos, Bool, true, false, List, [], ◌∷◌, ◌++◌, map, length, Option, None, Some, if◌then◌else◌, nat_eq, bytes_eq, codes}
 use Rattle.clu_base.specs.declared.constants.Const.{Const}
 use Rattle.clu_types.specs.CluType.{CluType, array_of, sequence_of, struct_of, record_of, cluster_of, Fields, no_fields, field_and, Actuals, no_actuals, actual_type, actual_const, actual_param}
-use Rattle.clu_types.specs.Substituted.{substituted, actuals_substituted}
-use Rattle.clu_layout.specs.Objects.{Routine, module_routine, operation_of, force_of, Object, bool_object, int_object, routine_object, sealed, own_type}
+use Rattle.clu_types.specs.Substituted.{substituted}
+use Rattle.clu_layout.specs.Objects.{Routine, operation_of, Object, bool_object, int_object, routine_object, sealed, own_type, object_of, routine_substituted}
 use Rattle.clu_layout.specs.SameType.{fits}
 use Rattle.clu_layout.specs.Primitive.{array_construction, sequence_construction, struct_construction, record_construction}
-use Rattle.clu_meaning.specs.Constants.{object_of}
 use Rattle.clu_meaning.specs.Programs.{Variable, local, own_of_routine, own_of_cluster, Expression, constant, constant_parameter, variable, routine, parenthesized, operator, negated, cand, cor, call, fields, elements, elements_from, up, down, besides, Expressions, no_expressions, expression_and, Components, no_components, component_and, ClusterDefinition, Program}
 use Rattle.clu_meaning.specs.Computations.{Computation, gives, goes_wrong, and_then, need, needed, with_one, with_bool, with_routine, either, if_there, sees_frame, sees_owns, counts, node, fails, does}
 use Rattle.clu_meaning.specs.Binding.{Running, cluster_instance, opened}
@@ -30,13 +29,6 @@ constant_after (suc n) (actual_param p rest) = constant_after n rest
 abbrev pub constant_at : Actuals → ℕ → Option Const
 constant_at given zero = None
 constant_at given (suc n) = constant_after n given
-
--- ---- routines
-
-abbrev pub routine_substituted : Actuals → Routine → Routine
-routine_substituted given (module_routine m inner) = module_routine m (actuals_substituted given inner)
-routine_substituted given (operation_of t op) = operation_of (substituted given t) op
-routine_substituted given (force_of t) = force_of (substituted given t)
 
 -- ---- constructors
 

@@ -2,7 +2,7 @@
 use Rattle.std.specs.Prelude.{ℕ, zero, suc, Bool, false, not, ◌&&◌, ◌==◌, List, [], ◌∷◌}
 use Rattle.clu_types.specs.CluType.{no_actuals}
 use Rattle.clu_layout.specs.Objects.{module_routine, Object, string_object}
-use Rattle.clu_layout.specs.Places.{has_none}
+use Rattle.clu_layout.specs.Places.{is_empty}
 use Rattle.clu_meaning.specs.Programs.{RoutineDefinition, Program}
 use Rattle.clu_meaning.specs.State.{Instance, State, no_variables, new_frame}
 use Rattle.clu_meaning.specs.Computations.{Ending, returned, signalled, raised, Result, normal, ended, out_of_turns, Computation, gives, goes_wrong, either_way, spends_a_turn, need, needed, enters}
@@ -35,7 +35,7 @@ first_state input = record {
 
 -- a program begins at a procedure without parameters, arguments and results
 abbrev pub may_start : RoutineDefinition → Bool
-may_start r = not r.is_iterator && r.parameters == 0 && has_none r.formals && has_none r.results
+may_start r = not r.is_iterator && r.parameters == 0 && is_empty r.formals && is_empty r.results
 
 -- how a program ends: it returns, or fails with a text
 pub data Finish : Type 0 where

@@ -1,9 +1,9 @@
 -- How statements are executed.
-use Rattle.std.specs.Prelude.{ℕ, suc, ◌*◌, List, [], ◌∷◌, length, Option, None, Some, if◌then◌else◌, slice_get, bytes_eq}
+use Rattle.std.specs.Prelude.{ℕ, suc, ◌*◌, List, [], ◌∷◌, length, Option, Some, if◌then◌else◌, bytes_eq}
 use Rattle.clu_types.specs.CluType.{string_type}
-use Rattle.clu_layout.specs.Objects.{Object, oneof_object, reference, string_object, Cell, variant_cell}
-use Rattle.clu_layout.specs.Actions.{World}
-use Rattle.clu_layout.specs.Places.{has_none}
+use Rattle.clu_layout.specs.Objects.{Object, string_object}
+use Rattle.clu_layout.specs.Openers.{tagged_in}
+use Rattle.clu_layout.specs.Places.{is_empty}
 use Rattle.clu_meaning.specs.Programs.{Variable, HeadingType, plain, Taken, named, dropped, Statement, declaration, initialisation, assignment, assignment_of_results, update, call_statement, while_statement, for_statement, if_statement, tagcase_statement, return_statement, yield_statement, signal_statement, exit_statement, break_statement, continue_statement, begin_statement, resignal_statement, except_statement, Statements, no_statements, statement_and, Clauses, no_clauses, clause_and, Otherwise, nothing_else, otherwise, TagArms, no_tag_arms, tag_arm_and, Whens, no_whens, when_and, Others, no_others, others, Program}
 use Rattle.clu_meaning.specs.Computations.{Ending, broken, continued, returned, signalled, raised, exited, Computation, gives, ends, goes_wrong, and_then, either_way, spends_a_turn, need, needed, with_routine, either, sees_world, counts, node}
 use Rattle.clu_meaning.specs.Binding.{Running, assigned, forgets, handed_out, signal_types}
@@ -11,18 +11,6 @@ use Rattle.clu_meaning.specs.Operations.{defined, is_among}
 use Rattle.clu_meaning.specs.Calls.{Round, here, Level, iterates, yields}
 use Rattle.clu_meaning.specs.Expressions.{value, condition, operates, eval, eval_all}
 use Rattle.clu_meaning.specs.Unhandled.{failure}
-
--- ---- tags
-
-abbrev pub in_variant : Option Cell → Option (List ℕ × Object)
-in_variant (Some (variant_cell fs tag o)) = Some (tag, o)
-in_variant _ = None
-
--- the tag and the value of a oneof or variant
-abbrev pub tagged : World → Object → Option (List ℕ × Object)
-tagged w (oneof_object fs tag o) = Some (tag, o)
-tagged w (reference t c) = in_variant (slice_get w.cells c)
-tagged w _ = None
 
 -- ---- names of arms
 
@@ -75,7 +63,7 @@ taken_by r dropped os body = body
 abbrev pub returns : Running → List Object → Computation (Unit {0})
 returns r os =
     either r.definition.is_iterator
-    (need (has_none os) (ends (returned [])))
+    (need (is_empty os) (ends (returned [])))
     (handed_out r r.definition.results os (λ handed. ends (returned handed)))
 
 abbrev pub signals : Running → List ℕ → List Object → Computation (Unit {0})
@@ -101,7 +89,7 @@ module _ (program : Program) (low : Level) (round : Round) where
         node (node (value (eval program low round e) (λ o. and_then (eval_all program low round es) (λ os. with_routine o (λ r. needed (defined program r) (λ callee. iterates low callee os body declared xs round))))))
     exec (if_statement clauses other) = node (exec_clauses clauses (exec_otherwise other (gives tt)))
     exec (tagcase_statement e arms other) =
-        node (value (eval program low round e) (λ o. sees_world (λ w. needed (tagged w o) (λ found. exec_tag_arms arms found.0 found.1 (exec_otherwise other goes_wrong)))))
+        node (value (eval program low round e) (λ o. sees_world (λ w. needed (tagged_in w.cells o) (λ found. exec_tag_arms arms found.0 found.1 (exec_otherwise other goes_wrong)))))
     exec (return_statement es) = node (and_then (eval_all program low round es) (returns (here round)))
     exec (yield_statement es) = node (and_then (eval_all program low round es) (yields low round))
     exec (signal_statement name es) = node (and_then (eval_all program low round es) (signals (here round) name))
