@@ -5,7 +5,7 @@ use Rattle.clu_layout.specs.Objects.{Object, bool_object, reference, Cell, array
 use Rattle.clu_layout.specs.Actions.{signalled, wrong}
 use Rattle.clu_layout.specs.Primitive.{prim}
 use Rattle.clu_layout.specs.Computing.{computing}
-use Rattle.clu_layout.proofs.Sampling.{one, two, three, int, below_zero, max_int, min_int, string, nothing, world, Signals, Fails, Makes, Does, Refuses, Leaves}
+use Rattle.clu_layout.proofs.Sampling.{one, two, three, int, below_zero, max_int, min_int, string, nothing, world, Signals, Fails, Makes, Does, Refuses, GoesOutOfRange}
 
 abbrev ints : CluType
 ints = array_of int_type
@@ -33,7 +33,14 @@ pair = cell (pos 1) (two (int 7) (int 8)) 2
 abbrev triple : Cell
 triple = cell (pos 1) (three (int 7) (int 8) (int 9)) 3
 
--- one element at the greatest int, and one at the least low bound, which is the least int and 1
+-- its first place is 5
+abbrev from_five : List Object → Cell
+from_five items = cell (pos 5) items 3
+
+abbrev five : Cell
+five = from_five (three (int 7) (int 8) (int 9))
+
+-- one element at the greatest int, and one at the least low bound, which is the least int plus 1
 abbrev high_end : Cell
 high_end = cell (pos 9223372036854775807) (one (int 7)) 1
 
@@ -61,6 +68,10 @@ new = refl
 predict : Makes ints "predict" (two (int 2) (below_zero 8)) ints (cell (pos 2) [] 0) 6 7
 unfolding computing
 predict = refl
+
+predict_at_the_least : Fails ints "predict" (two min_int (int 0)) "bounds out of range" 1
+unfolding computing
+predict_at_the_least = refl
 
 fill : Makes ints "fill" (three (int 0) (int 3) (int 5)) ints (cell (pos 0) (three (int 5) (int 5) (int 5)) 3) 9 13
 unfolding computing
@@ -97,6 +108,14 @@ high : Does triple ints "high" (one it) (one (int 3)) (triple ∷ []) 0 1
 unfolding computing
 high = refl
 
+low_of_five : Does five ints "low" (one it) (one (int 5)) (five ∷ []) 0 1
+unfolding computing
+low_of_five = refl
+
+high_of_five : Does five ints "high" (one it) (one (int 7)) (five ∷ []) 0 1
+unfolding computing
+high_of_five = refl
+
 high_of_none : Does none ints "high" (one it) (one (int 0)) (none ∷ []) 0 1
 unfolding computing
 high_of_none = refl
@@ -113,11 +132,11 @@ set_low : Does pair ints "set_low" (two it (int 5)) [] (cell (pos 5) (two (int 7
 unfolding computing
 set_low = refl
 
-set_low_too_low : Leaves pair ints "set_low" (two it min_int) 1
+set_low_too_low : GoesOutOfRange pair ints "set_low" (two it min_int) 1
 unfolding computing
 set_low_too_low = refl
 
-set_low_too_high : Leaves pair ints "set_low" (two it max_int) 1
+set_low_too_high : GoesOutOfRange pair ints "set_low" (two it max_int) 1
 unfolding computing
 set_low_too_high = refl
 
@@ -135,6 +154,14 @@ fetch_after : Refuses triple ints "fetch" (two it (int 4)) "bounds" 1
 unfolding computing
 fetch_after = refl
 
+fetch_from_five : Does five ints "fetch" (two it (int 5)) (one (int 7)) (five ∷ []) 0 1
+unfolding computing
+fetch_from_five = refl
+
+fetch_before_five : Refuses five ints "fetch" (two it (int 4)) "bounds" 1
+unfolding computing
+fetch_before_five = refl
+
 -- the result is bound to type any
 fetch_any : Does (any_cell (one (int 7)) 1) anys "fetch" (two (reference anys 0) (int 1)) (one (int 7)) (any_cell (one (int 7)) 1 ∷ []) 2 3
 unfolding computing
@@ -143,6 +170,10 @@ fetch_any = refl
 store : Does pair ints "store" (three it (int 1) (int 3)) [] (cell (pos 1) (two (int 3) (int 8)) 2 ∷ []) 0 1
 unfolding computing
 store = refl
+
+store_from_five : Does five ints "store" (three it (int 7) (int 3)) [] (from_five (three (int 7) (int 8) (int 3)) ∷ []) 0 1
+unfolding computing
+store_from_five = refl
 
 store_bounds : Refuses pair ints "store" (three it (int 3) (int 3)) "bounds" 1
 unfolding computing
@@ -192,7 +223,13 @@ addh_to_three : Does triple ints "addh" (two it (int 10)) [] (cell (pos 1) (int 
 unfolding computing
 addh_to_three = refl
 
-addh_out_of_range : Leaves high_end ints "addh" (two it (int 8)) 1
+addh_to_five : Does (cell (pos 1) (int 5 ∷ int 6 ∷ three (int 7) (int 8) (int 9)) 5) ints "addh" (two it (int 10)) []
+    (cell (pos 1) (int 5 ∷ int 6 ∷ int 7 ∷ three (int 8) (int 9) (int 10)) 10 ∷ []) 10 16
+unfolding computing
+addh_to_five = refl
+
+-- the element that there is counts, although the array doesn't grow
+addh_out_of_range : GoesOutOfRange high_end ints "addh" (two it (int 8)) 2
 unfolding computing
 addh_out_of_range = refl
 
@@ -208,9 +245,14 @@ addl_with_room : Does (cell (pos 1) (one (int 8)) 2) ints "addl" (two it (int 7)
 unfolding computing
 addl_with_room = refl
 
-addl_out_of_range : Leaves low_end ints "addl" (two it (int 8)) 1
+addl_out_of_range : GoesOutOfRange low_end ints "addl" (two it (int 8)) 2
 unfolding computing
 addl_out_of_range = refl
+
+-- with room left none counts
+addh_out_of_range_with_room : GoesOutOfRange (cell (pos 9223372036854775807) (one (int 7)) 2) ints "addh" (two it (int 8)) 1
+unfolding computing
+addh_out_of_range_with_room = refl
 
 -- ---- taking away: the room stays
 
@@ -230,8 +272,8 @@ reml_bounds : Refuses none ints "reml" (one it) "bounds" 1
 unfolding computing
 reml_bounds = refl
 
--- the low bound would be the greatest int and 1
-reml_out_of_range : Leaves high_end ints "reml" (one it) 1
+-- the low bound would be the greatest int plus 1
+reml_out_of_range : GoesOutOfRange high_end ints "reml" (one it) 1
 unfolding computing
 reml_out_of_range = refl
 
@@ -242,6 +284,10 @@ remh_at_the_end = refl
 trim : Does triple ints "trim" (three it (int 2) (int 1)) [] (cell (pos 2) (one (int 8)) 3 ∷ []) 0 1
 unfolding computing
 trim = refl
+
+trim_from_five : Does five ints "trim" (three it (int 6) (int 1)) [] (cell (pos 6) (one (int 8)) 3 ∷ []) 0 1
+unfolding computing
+trim_from_five = refl
 
 trim_to_what_is_left : Does triple ints "trim" (three it (int 2) (int 9)) [] (cell (pos 2) (two (int 8) (int 9)) 3 ∷ []) 0 1
 unfolding computing

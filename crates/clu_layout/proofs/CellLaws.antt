@@ -193,9 +193,9 @@ module _ (base : List Cell) where
   keeps_writes input_stream bytes = record { at = λ w l. (keeps_signals _ _).at w l }
   keeps_writes output_stream bytes = record { at = λ w l. (keeps_gives _).at _ l }
 
-  pub keeps_makes : (t : CluType) (cell : Cell) → Keeps base (makes t cell)
+  pub keeps_makes : (cell : Cell) → Keeps base (makes cell)
   unfolding makes
-  keeps_makes t cell = record { at = λ w l. longer_trans base w.cells (w.cells ++ cell ∷ []) l (longer_added w.cells cell) }
+  keeps_makes cell = record { at = λ w l. longer_trans base w.cells (w.cells ++ cell ∷ []) l (longer_added w.cells cell) }
 
   pub keeps_changes : (c : ℕ) (cell : Cell) (rest : Action) → kind_at base c ≡ Some (cell_type cell) → Keeps base rest → Keeps base (changes c cell rest)
   unfolding changes

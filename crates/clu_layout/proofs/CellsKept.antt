@@ -12,9 +12,9 @@ use Rattle.clu_layout.specs.SequenceOperations.{sequence_primitives}
 use Rattle.clu_layout.specs.RecordOperations.{struct_selected, record_selected, record_primitives}
 use Rattle.clu_layout.specs.OneofOperations.{oneof_selected, variant_selected, variant_primitives}
 use Rattle.clu_layout.specs.StreamOperations.{stream_primitives}
-use Rattle.clu_layout.specs.Primitive.{of_each, same_for_each, primitives, named, primitive, binds, gives_results, invoked, invocation, forcing, force_heading, force_invocation, array_construction, record_construction, before, outcome_in, done_in, prim, force}
-use Rattle.clu_layout.specs.Actions.{World, Outcome, returned, signalled, wrong, Action, Primitive, gives_all, need, needed, continued, and_then, makes_array, makes_record}
-use Rattle.clu_layout.proofs.CellLaws.{longer_refl, KeptIn, Keeps, keeps, keeps_gives, keeps_no_case, keeps_takes, keeps_counts, keeps_needed}
+use Rattle.clu_layout.specs.Primitive.{of_each, same_for_each, primitives, named, primitive, binds, gives_results, invoked, invocation, forcing, force_heading, force_invocation, array_construction, array_with_low, sequence_construction, struct_construction, record_construction, before, outcome_in, done_in, prim, force, make_array, make_array_with_low, make_sequence, make_struct, make_record}
+use Rattle.clu_layout.specs.Actions.{World, Outcome, returned, signalled, wrong, Action, Primitive, gives_all, need, needed, continued, and_then, makes_array, makes_sequence, makes_struct, makes_record}
+use Rattle.clu_layout.proofs.CellLaws.{longer_refl, KeptIn, Keeps, keeps, keeps_gives, keeps_no_case, keeps_takes, keeps_counts, keeps_needed, keeps_int}
 
 -- ---- the operations, in the order of their tables
 
@@ -144,26 +144,53 @@ added_keeps w (signalled name os made) h = h
 added_keeps w wrong h = tt
 
 done_keeps : (w : World) (action : Action) → Keeps w.cells action → KeptIn w.cells (done_in w action)
+unfolding done_in
 done_keeps w action h = added_keeps w (action (before w)) (h.at (before w) (longer_refl w.cells))
 
 pub prim_keeps : (T : CluType) (op : List ℕ) (os : List Object) (w : World) → KeptIn w.cells (prim T op os w)
+unfolding prim
 prim_keeps T op os w = done_keeps w (invocation T op os) (keeps_invocation w.cells T op os)
 
 forcing_keeps : (t : CluType) (base : List Cell) (os : List Object) → Keeps base (forcing t os)
 forcing_keeps t base os = search keeps
 
 pub force_keeps : (t : CluType) (os : List Object) (w : World) → KeptIn w.cells (force t os w)
+unfolding force
 force_keeps t os w = done_keeps w (force_invocation t os)
     (keeps_invoked w.cells any_type (force_heading t) (forcing t) os (forcing_keeps t w.cells os))
 
 making_keeps : (base : List Cell) (t : CluType) (low : ℤ) (xs : List Object) → Keeps base (makes_array t low xs)
 making_keeps base t low xs = search keeps
 
-pub array_keeps : (t : CluType) (low : ℤ) (xs : List Object) (w : World) → KeptIn w.cells (done_in w (array_construction t low xs))
-array_keeps t low xs w = done_keeps w (array_construction t low xs) (keeps_bound w.cells (same_for_each t xs) xs _ (making_keeps w.cells t low xs))
+array_construction_keeps : (base : List Cell) (t : CluType) (low : ℤ) (xs : List Object) → Keeps base (array_construction t low xs)
+array_construction_keeps base t low xs = keeps_bound base (same_for_each t xs) xs _ (making_keeps base t low xs)
+
+pub make_array_keeps : (t : CluType) (low : ℤ) (xs : List Object) (w : World) → KeptIn w.cells (make_array t low xs w)
+unfolding make_array
+make_array_keeps t low xs w = done_keeps w (array_construction t low xs) (array_construction_keeps w.cells t low xs)
+
+pub make_array_with_low_keeps : (t : CluType) (low : Object) (xs : List Object) (w : World) → KeptIn w.cells (make_array_with_low t low xs w)
+unfolding make_array_with_low
+make_array_with_low_keeps t low xs w = done_keeps w (array_with_low t low xs)
+    (keeps_int w.cells low (λ n. array_construction t n xs) (λ n. array_construction_keeps w.cells t n xs))
+
+sequence_making_keeps : (base : List Cell) (t : CluType) (xs : List Object) → Keeps base (makes_sequence t xs)
+sequence_making_keeps base t xs = search keeps
+
+pub make_sequence_keeps : (t : CluType) (xs : List Object) (w : World) → KeptIn w.cells (make_sequence t xs w)
+unfolding make_sequence
+make_sequence_keeps t xs w = done_keeps w (sequence_construction t xs) (keeps_bound w.cells (same_for_each t xs) xs _ (sequence_making_keeps w.cells t xs))
+
+struct_making_keeps : (base : List Cell) (fs : Fields) (xs : List Object) → Keeps base (makes_struct fs xs)
+struct_making_keeps base fs xs = search keeps
+
+pub make_struct_keeps : (fs : Fields) (xs : List Object) (w : World) → KeptIn w.cells (make_struct fs xs w)
+unfolding make_struct
+make_struct_keeps fs xs w = done_keeps w (struct_construction fs xs) (keeps_bound w.cells (parts_of fs) xs _ (struct_making_keeps w.cells fs xs))
 
 record_making_keeps : (base : List Cell) (fs : Fields) (xs : List Object) → Keeps base (makes_record fs xs)
 record_making_keeps base fs xs = search keeps
 
-pub record_construction_keeps : (fs : Fields) (xs : List Object) (w : World) → KeptIn w.cells (done_in w (record_construction fs xs))
-record_construction_keeps fs xs w = done_keeps w (record_construction fs xs) (keeps_bound w.cells (parts_of fs) xs _ (record_making_keeps w.cells fs xs))
+pub make_record_keeps : (fs : Fields) (xs : List Object) (w : World) → KeptIn w.cells (make_record fs xs w)
+unfolding make_record
+make_record_keeps fs xs w = done_keeps w (record_construction fs xs) (keeps_bound w.cells (parts_of fs) xs _ (record_making_keeps w.cells fs xs))

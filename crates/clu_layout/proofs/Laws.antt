@@ -1,14 +1,14 @@
 -- What holds of every operation, whatever its objects: no byte of the output is taken away, no meter falls, and what is
 -- given has the types of the heading.
-use Rattle.std.proofs.Common.{◌≡◌, refl, arith}
-use Rattle.std.specs.Prelude.{ℕ, ◌+◌, ◌≤◌, Bool, true, false, List, ◌++◌, Option, Some, None}
+use Rattle.std.proofs.Common.{◌≡◌, refl, ap, arith}
+use Rattle.std.specs.Prelude.{ℕ, ◌+◌, ◌≤◌, Bool, true, false, List, [], ◌∷◌, ◌++◌, Option, Some, None}
 use Rattle.clu_types.specs.CluType.{CluType, any_type, CluTypes}
 use Rattle.clu_builtin.specs.Operation.{Operation}
 use Rattle.clu_builtin.specs.Table.{operation}
-use Rattle.clu_layout.specs.Objects.{Object, own_types}
+use Rattle.clu_layout.specs.Objects.{Object, listed, inside, own_types}
 use Rattle.clu_layout.specs.SameType.{all_fit}
 use Rattle.clu_layout.specs.Actions.{World, Outcome, returned, signalled, wrong, Action, Primitive, need, needed, no_case, takes, counts, continued, and_then, gives_all}
-use Rattle.clu_layout.specs.Primitive.{before, added, outcome_in, done_in, invoked, invocation, gives_results, all_suit, words_for_all, primitive, prim, force, force_heading, force_invocation, forcing}
+use Rattle.clu_layout.specs.Primitive.{before, added, outcome_in, done_in, invoked, invocation, gives_results, may_be_arguments, words_for_all, primitive, prim, force, force_heading, force_invocation, forcing}
 
 -- ---- output and meters
 
@@ -34,12 +34,15 @@ outcome_later w wrong = tt
 
 -- of every action that is done in a world, constructors too
 pub done_later : (w : World) (action : Action) → EndsLater w (done_in w action)
+unfolding done_in
 done_later w action = outcome_later w (action (before w))
 
 pub prim_later : (T : CluType) (op : List ℕ) (os : List Object) (w : World) → EndsLater w (prim T op os w)
+unfolding prim
 prim_later T op os w = done_later w (invocation T op os)
 
 pub force_later : (t : CluType) (os : List Object) (w : World) → EndsLater w (force t os w)
+unfolding force
 force_later t os w = done_later w (force_invocation t os)
 
 -- ---- results
@@ -69,7 +72,7 @@ needed_types types false rest h w = tt
 
 invoked_types : (T : CluType) (heading : Operation) (p : Primitive) (os : List Object) (w : World) → GivesTypes heading.results (invoked T heading p os w)
 unfolding need takes counts and_then
-invoked_types T heading p os w = needed_types heading.results (all_suit T (own_types os) heading.args)
+invoked_types T heading p os w = needed_types heading.results (may_be_arguments T (own_types os) heading.args)
     (takes (words_for_all heading.args) (counts 1 (and_then (p os) (gives_results heading.results))))
     (λ v. continued_types heading.results (p os (record v { words = v.words + words_for_all heading.args; work = (v.work + words_for_all heading.args) + 1 }))) w
 
@@ -94,8 +97,17 @@ headed_types T op os w heading h e = rw e
 -- each result is of the type that the heading says
 pub prim_types : (T : CluType) (op : List ℕ) (os : List Object) (w : World) (heading : Operation) → operation T op ≡ Some heading →
     GivesTypes heading.results (prim T op os w)
+unfolding prim done_in
 prim_types T op os w heading e = headed_types T op os w heading (operation T op) e
 
 pub force_types : (t : CluType) (os : List Object) (w : World) → GivesTypes (force_heading t).results (force t os w)
+unfolding force done_in
 force_types t os w = outcome_types (force_heading t).results w (force_invocation t os (before w))
     (invoked_types any_type (force_heading t) (forcing t) os (before w))
+
+-- ---- sequences and structs
+
+-- what was put inside a sequence or struct is listed again
+pub listed_inside : (xs : List Object) → listed (inside xs) ≡ xs
+listed_inside [] = refl
+listed_inside (x ∷ xs) = ap (λ ys. x ∷ ys) (listed_inside xs)

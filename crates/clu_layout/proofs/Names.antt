@@ -1,8 +1,9 @@
 -- The primitive operations and those that are defined by texts or schemes are together those of the table of headings:
--- for each type, the names with a heading and no primitive operation, and those with an operation and no heading.
-use Rattle.std.specs.Prelude.{◌≡◌, refl, ℕ, Bool, false, ◌||◌, List, [], ◌∷◌, ◌++◌, if◌then◌else◌, bytes_eq, codes}
-use Rattle.clu_types.specs.CluType.{CluType, null_type, bool_type, int_type, char_type, string_type, any_type, stream_type, array_of, sequence_of, record_of, struct_of, oneof_of, variant_of, proc_of, iter_of, cluster_of, CluTypes, Fields, no_fields, field_and, Signals, Actuals}
-use Rattle.clu_builtin.specs.Table.{Table, SelectorTable, plain_operations, bool_operations, int_operations, char_operations, string_operations, stream_operations, array_operations, sequence_operations, struct_operations, record_operations, struct_selectors, record_selectors, oneof_selectors, variant_selectors, with_selector, parts_of}
+-- for each type, the names with a heading and no primitive operation, and those with an operation and no heading. Of
+-- structs, records, oneofs and variants FieldNames says it.
+use Rattle.std.specs.Prelude.{◌≡◌, refl, ℕ, Bool, false, ◌||◌, List, [], ◌∷◌, if◌then◌else◌, bytes_eq, codes}
+use Rattle.clu_types.specs.CluType.{CluType, null_type, bool_type, int_type, char_type, string_type, any_type, stream_type, array_of, sequence_of, proc_of, iter_of, cluster_of, CluTypes, Signals, Actuals}
+use Rattle.clu_builtin.specs.Table.{Table, plain_operations, bool_operations, int_operations, char_operations, string_operations, stream_operations, array_operations, sequence_operations}
 use Rattle.clu_layout.specs.PlainOperations.{Primitives}
 use Rattle.clu_layout.specs.Primitive.{primitives}
 
@@ -67,27 +68,3 @@ of_any = refl
 
 of_clusters : (name : List ℕ) (given : Actuals) → primitives (cluster_of name given) ≡ []
 of_clusters name given = refl
-
--- of the others with the selectors or tags s and t
-module _ (a b : CluType) where
-  abbrev fields : Fields
-  fields = field_and (codes "s") a (field_and (codes "t") b no_fields)
-
-  abbrev with_both : SelectorTable → Table → Table
-  with_both table rest = with_selector (codes "s") (table a) ++ with_selector (codes "t") (table b) ++ rest
-
-  of_structs : Covers (struct_of fields) (with_both (struct_selectors (struct_of fields)) (struct_operations (struct_of fields) (parts_of fields)))
-      (codes "equal" ∷ codes "similar" ∷ codes "copy" ∷ [])
-  of_structs = (refl, refl)
-
-  of_records : Covers (record_of fields) (with_both (record_selectors (record_of fields)) (record_operations (record_of fields) (parts_of fields)))
-      (codes "similar" ∷ codes "similar1" ∷ codes "copy" ∷ [])
-  of_records = (refl, refl)
-
-  of_oneofs : Covers (oneof_of fields) (with_both (oneof_selectors (oneof_of fields)) (struct_operations (oneof_of fields) (parts_of fields)))
-      (codes "equal" ∷ codes "similar" ∷ codes "copy" ∷ [])
-  of_oneofs = (refl, refl)
-
-  of_variants : Covers (variant_of fields) (with_both (variant_selectors (variant_of fields)) (record_operations (variant_of fields) (parts_of fields)))
-      (codes "similar" ∷ codes "similar1" ∷ codes "copy" ∷ [])
-  of_variants = (refl, refl)

@@ -185,6 +185,15 @@ parse_blank : Signals int_type "parse" (one (string "1 ")) "bad_format" 3
 unfolding computing
 parse_blank = refl
 
+-- the chars before 0 and after 9
+parse_slash : Signals int_type "parse" (one (string "1/")) "bad_format" 3
+unfolding computing
+parse_slash = refl
+
+parse_colon : Signals int_type "parse" (one (string "1:")) "bad_format" 3
+unfolding computing
+parse_colon = refl
+
 parse_two_signs : Signals int_type "parse" (one (string "+-1")) "bad_format" 4
 unfolding computing
 parse_two_signs = refl
@@ -248,17 +257,49 @@ char_lt : Gives char_type "lt" (two (char_object 97) (char_object 98)) yes_objec
 unfolding computing
 char_lt = refl
 
+char_lt_same : Gives char_type "lt" (two (char_object 98) (char_object 98)) no_object 0 1
+unfolding computing
+char_lt_same = refl
+
+char_lt_greater : Gives char_type "lt" (two (char_object 98) (char_object 97)) no_object 0 1
+unfolding computing
+char_lt_greater = refl
+
 char_le : Gives char_type "le" (two (char_object 98) (char_object 97)) no_object 0 1
 unfolding computing
 char_le = refl
+
+char_le_same : Gives char_type "le" (two (char_object 98) (char_object 98)) yes_object 0 1
+unfolding computing
+char_le_same = refl
+
+char_le_less : Gives char_type "le" (two (char_object 97) (char_object 98)) yes_object 0 1
+unfolding computing
+char_le_less = refl
 
 char_ge : Gives char_type "ge" (two (char_object 98) (char_object 98)) yes_object 0 1
 unfolding computing
 char_ge = refl
 
+char_ge_greater : Gives char_type "ge" (two (char_object 98) (char_object 97)) yes_object 0 1
+unfolding computing
+char_ge_greater = refl
+
+char_ge_less : Gives char_type "ge" (two (char_object 97) (char_object 98)) no_object 0 1
+unfolding computing
+char_ge_less = refl
+
 char_gt : Gives char_type "gt" (two (char_object 200) (char_object 98)) yes_object 0 1
 unfolding computing
 char_gt = refl
+
+char_gt_same : Gives char_type "gt" (two (char_object 98) (char_object 98)) no_object 0 1
+unfolding computing
+char_gt_same = refl
+
+char_gt_less : Gives char_type "gt" (two (char_object 97) (char_object 98)) no_object 0 1
+unfolding computing
+char_gt_less = refl
 
 char_equal : Gives char_type "equal" (two (char_object 98) (char_object 97)) no_object 0 1
 unfolding computing

@@ -43,6 +43,12 @@ q = routine_object (module_routine (codes "q") no_actuals) loud_type
 abbrev int_add : Object
 int_add = routine_object (operation_of int_type (codes "add")) quiet_type
 
+abbrev int_sub : Object
+int_sub = routine_object (operation_of int_type (codes "sub")) quiet_type
+
+abbrev force_bool : Object
+force_bool = routine_object (force_of bool_type) quiet_type
+
 abbrev force_int : Object
 force_int = routine_object (force_of int_type) quiet_type
 
@@ -63,6 +69,10 @@ same_operation : Gives quiet_type "similar" (two int_add int_add) (bool_object t
 unfolding computing
 same_operation = refl
 
+other_operation : Gives quiet_type "equal" (two int_add int_sub) (bool_object false) 0 1
+unfolding computing
+other_operation = refl
+
 operation_and_force : Gives quiet_type "equal" (two int_add force_int) (bool_object false) 0 1
 unfolding computing
 operation_and_force = refl
@@ -70,6 +80,10 @@ operation_and_force = refl
 same_force : Gives quiet_type "equal" (two force_int force_int) (bool_object true) 0 1
 unfolding computing
 same_force = refl
+
+other_force : Gives quiet_type "equal" (two force_int force_bool) (bool_object false) 0 1
+unfolding computing
+other_force = refl
 
 routine_copy : Gives loud_type "copy" (one q) q 0 1
 unfolding computing
@@ -94,9 +108,25 @@ bool_and_not : Gives bool_type "and" (two (bool_object true) (bool_object false)
 unfolding computing
 bool_and_not = refl
 
+not_and : Gives bool_type "and" (two (bool_object false) (bool_object true)) (bool_object false) 0 1
+unfolding computing
+not_and = refl
+
+neither_and : Gives bool_type "and" (two (bool_object false) (bool_object false)) (bool_object false) 0 1
+unfolding computing
+neither_and = refl
+
 bool_or : Gives bool_type "or" (two (bool_object false) (bool_object true)) (bool_object true) 0 1
 unfolding computing
 bool_or = refl
+
+first_or : Gives bool_type "or" (two (bool_object true) (bool_object false)) (bool_object true) 0 1
+unfolding computing
+first_or = refl
+
+both_or : Gives bool_type "or" (two (bool_object true) (bool_object true)) (bool_object true) 0 1
+unfolding computing
+both_or = refl
 
 bool_or_not : Gives bool_type "or" (two (bool_object false) (bool_object false)) (bool_object false) 0 1
 unfolding computing
@@ -105,6 +135,14 @@ bool_or_not = refl
 bool_not : Gives bool_type "not" (one (bool_object true)) (bool_object false) 0 1
 unfolding computing
 bool_not = refl
+
+bool_not_false : Gives bool_type "not" (one (bool_object false)) (bool_object true) 0 1
+unfolding computing
+bool_not_false = refl
+
+bool_equal_true : Gives bool_type "equal" (two (bool_object true) (bool_object true)) (bool_object true) 0 1
+unfolding computing
+bool_equal_true = refl
 
 bool_equal : Gives bool_type "equal" (two (bool_object false) (bool_object false)) (bool_object true) 0 1
 unfolding computing

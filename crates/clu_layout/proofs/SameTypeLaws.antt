@@ -4,11 +4,12 @@ use Rattle.std.proofs.lemmas.Bool.{false≢true, and_parts, and_from, or_cases, 
 use Rattle.std.proofs.lemmas.Bool.Decides.{Decides-int_eq}
 use Rattle.std.proofs.lemmas.Slice.Eq.{bytes_eq-Decides}
 use Rattle.std.specs.Prelude.{ℕ, Bool, true, false, ◌&&◌, ◌||◌, ◌==◌, List, bytes_eq}
+use Rattle.std.specs.Bool.{beq}
 use Rattle.clu_base.specs.declared.constants.Const.{Const}
 use Rattle.clu_base.specs.declared.constants.Const.TheVariants as constant
 use Rattle.clu_types.specs.CluType.{CluType, null_type, bool_type, int_type, char_type, string_type, any_type, stream_type, array_of, sequence_of, record_of, struct_of, oneof_of, variant_of, proc_of, iter_of, cluster_of, parameter, CluTypes, no_types, type_and, Fields, no_fields, field_and, Signals, no_signals, signal_and, Actuals, no_actuals, actual_type, actual_const, actual_param}
 use Rattle.clu_types.specs.Included.{Included, IsNarrower, HasSignal, AreAmong}
-use Rattle.clu_layout.specs.SameType.{same_bool, same_const, same_type, same_types, same_fields, same_signals, same_actuals, has_signal, are_among, has_more_signals, is_any, fits}
+use Rattle.clu_layout.specs.SameType.{same_const, same_type, same_types, same_fields, same_signals, same_actuals, has_signal, are_among, has_more_signals, is_any, fits}
 
 -- the first and the second of two tests that hold, and both
 left : (x y : Bool) → (x && y) ≡ true → x ≡ true
@@ -26,7 +27,7 @@ no h = absurd (false≢true h)
 
 -- ---- what is the same by the test is the same
 
-bools_are : (a b : Bool) → same_bool a b ≡ true → a ≡ b
+bools_are : (a b : Bool) → beq a b ≡ true → a ≡ b
 bools_are true true h = refl
 bools_are false false h = refl
 bools_are true false h = no h

@@ -67,7 +67,7 @@ abbrev pub Refuses : Cell → CluType → String → List Object → String → 
 Refuses cell T op os name work =
     prim T (codes op) os (world (cell ∷ []) [] [] 0 0) ≡ signalled (codes name) [] (world (cell ∷ []) [] [] 0 work)
 
--- the bounds would leave the ints: nothing changes
-abbrev pub Leaves : Cell → CluType → String → List Object → ℕ → Type 0
-Leaves cell T op os work = prim T (codes op) os (world (cell ∷ []) [] [] 0 0)
+-- the bounds would leave the ints: a failure, and nothing changes
+abbrev pub GoesOutOfRange : Cell → CluType → String → List Object → ℕ → Type 0
+GoesOutOfRange cell T op os work = prim T (codes op) os (world (cell ∷ []) [] [] 0 0)
     ≡ signalled (codes "failure") (string "bounds out of range" ∷ []) (world (cell ∷ []) [] [] 0 work)

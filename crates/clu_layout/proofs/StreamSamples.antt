@@ -15,8 +15,8 @@ abbrev output : Object
 output = stream_object output_stream
 
 -- the operation for these objects and this input gives objects; then this input is left, and the output has these bytes
-abbrev Takes : String → List Object → List ℕ → List Object → List ℕ → List ℕ → ℕ → ℕ → Type 0
-Takes op os before results after written words work =
+abbrev Does : String → List Object → List ℕ → List Object → List ℕ → List ℕ → ℕ → ℕ → Type 0
+Does op os before results after written words work =
     prim stream_type (codes op) os (world [] before (33 ∷ []) 5 50) ≡ returned results (world [] after written words work)
 
 -- it signals, and input and output are as before
@@ -24,19 +24,19 @@ abbrev Refuses : String → List Object → List ℕ → String → List Object 
 Refuses op os before name objects work = prim stream_type (codes op) os (world [] before (33 ∷ []) 5 50)
     ≡ signalled (codes name) objects (world [] before (33 ∷ []) 5 work)
 
-primary_input : Takes "primary_input" [] [] (one input) [] (33 ∷ []) 5 51
+primary_input : Does "primary_input" [] [] (one input) [] (33 ∷ []) 5 51
 unfolding computing
 primary_input = refl
 
-primary_output : Takes "primary_output" [] [] (one output) [] (33 ∷ []) 5 51
+primary_output : Does "primary_output" [] [] (one output) [] (33 ∷ []) 5 51
 unfolding computing
 primary_output = refl
 
-getc : Takes "getc" (one input) (codes "ab") (one (char_object 97)) (codes "b") (33 ∷ []) 5 51
+getc : Does "getc" (one input) (codes "ab") (one (char_object 97)) (codes "b") (33 ∷ []) 5 51
 unfolding computing
 getc = refl
 
-getc_of_a_line's_end : Takes "getc" (one input) (10 ∷ 98 ∷ []) (one (char_object 10)) (codes "b") (33 ∷ []) 5 51
+getc_of_a_line's_end : Does "getc" (one input) (10 ∷ 98 ∷ []) (one (char_object 10)) (codes "b") (33 ∷ []) 5 51
 unfolding computing
 getc_of_a_line's_end = refl
 
@@ -49,15 +49,15 @@ unfolding computing
 getc_not_possible = refl
 
 -- getl counts the bytes of the string twice, and its words
-getl : Takes "getl" (one input) (97 ∷ 98 ∷ 10 ∷ 99 ∷ 10 ∷ []) (one (string "ab")) (99 ∷ 10 ∷ []) (33 ∷ []) 7 57
+getl : Does "getl" (one input) (97 ∷ 98 ∷ 10 ∷ 99 ∷ 10 ∷ []) (one (string "ab")) (99 ∷ 10 ∷ []) (33 ∷ []) 7 57
 unfolding computing
 getl = refl
 
-getl_of_an_empty_line : Takes "getl" (one input) (10 ∷ 99 ∷ []) (one (string "")) (codes "c") (33 ∷ []) 6 52
+getl_of_an_empty_line : Does "getl" (one input) (10 ∷ 99 ∷ []) (one (string "")) (codes "c") (33 ∷ []) 6 52
 unfolding computing
 getl_of_an_empty_line = refl
 
-getl_to_the_end : Takes "getl" (one input) (codes "ab") (one (string "ab")) [] (33 ∷ []) 7 57
+getl_to_the_end : Does "getl" (one input) (codes "ab") (one (string "ab")) [] (33 ∷ []) 7 57
 unfolding computing
 getl_to_the_end = refl
 
@@ -69,11 +69,11 @@ getl_not_possible : Refuses "getl" (one output) [] "not_possible" (one (string "
 unfolding computing
 getl_not_possible = refl
 
-empty : Takes "empty" (one input) [] (one (bool_object true)) [] (33 ∷ []) 5 51
+empty : Does "empty" (one input) [] (one (bool_object true)) [] (33 ∷ []) 5 51
 unfolding computing
 empty = refl
 
-not_empty : Takes "empty" (one input) (10 ∷ []) (one (bool_object false)) (10 ∷ []) (33 ∷ []) 5 51
+not_empty : Does "empty" (one input) (10 ∷ []) (one (bool_object false)) (10 ∷ []) (33 ∷ []) 5 51
 unfolding computing
 not_empty = refl
 
@@ -81,7 +81,7 @@ empty_not_possible : Refuses "empty" (one output) (codes "ab") "not_possible" (o
 unfolding computing
 empty_not_possible = refl
 
-putc : Takes "putc" (two output (char_object 97)) [] [] [] (33 ∷ 97 ∷ []) 5 51
+putc : Does "putc" (two output (char_object 97)) [] [] [] (33 ∷ 97 ∷ []) 5 51
 unfolding computing
 putc = refl
 
@@ -90,7 +90,7 @@ unfolding computing
 putc_not_possible = refl
 
 -- puts and putl count the bytes of the string besides
-puts : Takes "puts" (two output (string "ab")) [] [] [] (33 ∷ 97 ∷ 98 ∷ []) 5 53
+puts : Does "puts" (two output (string "ab")) [] [] [] (33 ∷ 97 ∷ 98 ∷ []) 5 53
 unfolding computing
 puts = refl
 
@@ -98,7 +98,7 @@ puts_not_possible : Refuses "puts" (two input (string "ab")) [] "not_possible" (
 unfolding computing
 puts_not_possible = refl
 
-putl : Takes "putl" (two output (string "ab")) [] [] [] (33 ∷ 97 ∷ 98 ∷ 10 ∷ []) 5 53
+putl : Does "putl" (two output (string "ab")) [] [] [] (33 ∷ 97 ∷ 98 ∷ 10 ∷ []) 5 53
 unfolding computing
 putl = refl
 
@@ -106,10 +106,14 @@ putl_not_possible : Refuses "putl" (two input (string "ab")) [] "not_possible" (
 unfolding computing
 putl_not_possible = refl
 
-equal_same : Takes "equal" (two output output) [] (one (bool_object true)) [] (33 ∷ []) 5 51
+equal_same : Does "equal" (two output output) [] (one (bool_object true)) [] (33 ∷ []) 5 51
 unfolding computing
 equal_same = refl
 
-equal_other : Takes "equal" (two output input) [] (one (bool_object false)) [] (33 ∷ []) 5 51
+equal_inputs : Does "equal" (two input input) [] (one (bool_object true)) [] (33 ∷ []) 5 51
+unfolding computing
+equal_inputs = refl
+
+equal_other : Does "equal" (two output input) [] (one (bool_object false)) [] (33 ∷ []) 5 51
 unfolding computing
 equal_other = refl

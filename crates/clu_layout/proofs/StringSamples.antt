@@ -31,13 +31,25 @@ lt_bytes : Gives string_type "lt" (two (string "abd") (string "abc")) (bool_obje
 unfolding computing
 lt_bytes = refl
 
+lt_same : Gives string_type "lt" (two (string "a") (string "a")) (bool_object false) 0 3
+unfolding computing
+lt_same = refl
+
 le_same : Gives string_type "le" (two (string "a") (string "a")) (bool_object true) 0 3
 unfolding computing
 le_same = refl
 
+le_less : Gives string_type "le" (two (string "abc") (string "b")) (bool_object true) 0 5
+unfolding computing
+le_less = refl
+
 le_greater : Gives string_type "le" (two (string "b") (string "abc")) (bool_object false) 0 5
 unfolding computing
 le_greater = refl
+
+ge_same : Gives string_type "ge" (two (string "a") (string "a")) (bool_object true) 0 3
+unfolding computing
+ge_same = refl
 
 ge : Gives string_type "ge" (two (string "b") (string "abc")) (bool_object true) 0 5
 unfolding computing
@@ -50,6 +62,10 @@ ge_prefix = refl
 gt : Gives string_type "gt" (two (string "b") (string "abc")) (bool_object true) 0 5
 unfolding computing
 gt = refl
+
+gt_less : Gives string_type "gt" (two (string "abc") (string "b")) (bool_object false) 0 5
+unfolding computing
+gt_less = refl
 
 gt_same : Gives string_type "gt" (two (string "a") (string "a")) (bool_object false) 0 3
 unfolding computing

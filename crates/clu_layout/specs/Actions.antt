@@ -1,13 +1,13 @@
 -- What an operation does, and the small functions from which each is put together: what it gives and signals, its costs,
 -- what opens its arguments, and what makes and changes objects.
 use Rattle.std.specs.Prelude.{ℕ, ◌+◌, ℤ, pos, ◌-ℤ◌, Bool, true, false, not, ◌&&◌, List, [], ◌∷◌, ◌++◌, length, Option, None, Some, slice_get, slice_set, codes}
-use Rattle.clu_types.specs.CluType.{CluType, array_of, record_of, variant_of, Fields}
+use Rattle.clu_types.specs.CluType.{CluType, Fields}
 use Rattle.clu_builtin.specs.declared.names.Signal.{Signal}
 use Rattle.clu_builtin.specs.declared.names.Signal.TheVariants as signal
 use Rattle.clu_builtin.specs.Names.{signal_name}
 use Rattle.clu_layout.specs.declared.store.Shape.TheVariants as shape
 use Rattle.clu_layout.specs.Cost.{cost}
-use Rattle.clu_layout.specs.Objects.{Stream, Routine, Object, bool_object, int_object, char_object, string_object, stream_object, sequence_object, struct_object, oneof_object, routine_object, reference, listed, inside, Array, Cell, array_cell, record_cell, variant_cell}
+use Rattle.clu_layout.specs.Objects.{Stream, Routine, Object, bool_object, int_object, char_object, string_object, stream_object, sequence_object, struct_object, oneof_object, routine_object, reference, listed, inside, Array, Cell, array_cell, record_cell, variant_cell, cell_type}
 use Rattle.clu_layout.specs.Places.{is_int, high_of}
 
 -- what operations see and change: the mutable objects by number of their cell, the bytes of the input that are left, the
@@ -25,6 +25,7 @@ pub data Outcome : Type 0 where
   signalled : List ℕ → List Object → World → Outcome
   wrong : Outcome
 
+-- what is done in a world, with what comes of it
 abbrev pub Action : Type 0
 Action = World → Outcome
 
@@ -200,7 +201,7 @@ with_record o rest = with_cell o (λ c w. as_record (slice_get w.cells c) (rest 
 unfoldable pub with_variant : Object → (ℕ → Fields → List ℕ → Object → Action) → Action
 with_variant o rest = with_cell o (λ c w. as_variant (slice_get w.cells c) (rest c) w)
 
--- the bytes of characters
+-- the char in an object
 abbrev pub char_of : Object → Option ℕ
 char_of (char_object c) = Some c
 char_of _ = None
@@ -209,6 +210,7 @@ abbrev pub after_char : Option ℕ → Option (List ℕ) → Option (List ℕ)
 after_char (Some c) (Some cs) = Some (c ∷ cs)
 after_char _ _ = None
 
+-- the chars in objects, in order, if each of them is one
 abbrev pub bytes_of : List Object → Option (List ℕ)
 bytes_of [] = Some []
 bytes_of (o ∷ os) = after_char (char_of o) (bytes_of os)
@@ -216,9 +218,10 @@ bytes_of (o ∷ os) = after_char (char_of o) (bytes_of os)
 -- ---- mutable objects are made and changed
 
 -- a new cell is the last one
-unfoldable pub makes : CluType → Cell → Action
-makes t cell w = returned (reference t (length w.cells) ∷ []) (record w { cells = w.cells ++ cell ∷ [] })
+unfoldable pub makes : Cell → Action
+makes cell w = returned (reference (cell_type cell) (length w.cells) ∷ []) (record w { cells = w.cells ++ cell ∷ [] })
 
+-- the cell of this number holds another mutable object
 unfoldable pub changes : ℕ → Cell → Action → Action
 changes c cell rest w = rest (record w { cells = slice_set w.cells c cell })
 
@@ -237,11 +240,11 @@ changes_array c a rest = with_int_bounds a (changes c (array_cell a) rest)
 abbrev pub fresh_array : CluType → ℤ → List Object → Array
 fresh_array t low xs = record { element = t; low = low; items = xs; room = length xs }
 
-abbrev pub makes_cells : Array → Action
-makes_cells a = takes (cost shape.Array + cost (shape.Cells a.room)) (makes (array_of a.element) (array_cell a))
+abbrev pub makes_array_object : Array → Action
+makes_array_object a = takes (cost shape.Array + cost (shape.Cells a.room)) (makes (array_cell a))
 
 abbrev pub makes_array : CluType → ℤ → List Object → Action
-makes_array t low xs = with_int_bounds (fresh_array t low xs) (makes_cells (fresh_array t low xs))
+makes_array t low xs = with_int_bounds (fresh_array t low xs) (makes_array_object (fresh_array t low xs))
 
 abbrev pub makes_sequence : CluType → List Object → Action
 makes_sequence t xs = takes (cost (shape.Sequence (length xs))) (gives (sequence_object t (inside xs)))
@@ -250,7 +253,7 @@ abbrev pub makes_struct : Fields → List Object → Action
 makes_struct fs xs = takes (cost (shape.Struct (length xs))) (gives (struct_object fs (inside xs)))
 
 abbrev pub makes_record : Fields → List Object → Action
-makes_record fs xs = takes (cost (shape.Record (length xs))) (makes (record_of fs) (record_cell fs xs))
+makes_record fs xs = takes (cost (shape.Record (length xs))) (makes (record_cell fs xs))
 
 -- ---- objects as operations make them: each element, component and byte is a unit of work
 
@@ -258,7 +261,7 @@ abbrev pub new_string : List ℕ → Action
 new_string bytes = counts (length bytes) (takes (cost (shape.Str (length bytes))) (gives (string_object bytes)))
 
 abbrev pub new_array : CluType → ℤ → List Object → Action
-new_array t low xs = with_int_bounds (fresh_array t low xs) (counts (length xs) (makes_cells (fresh_array t low xs)))
+new_array t low xs = with_int_bounds (fresh_array t low xs) (counts (length xs) (makes_array_object (fresh_array t low xs)))
 
 abbrev pub new_sequence : CluType → List Object → Action
 new_sequence t xs = counts (length xs) (makes_sequence t xs)
@@ -274,4 +277,4 @@ abbrev pub new_oneof : Fields → List ℕ → Object → Action
 new_oneof fs tag x = takes (cost shape.Oneof) (gives (oneof_object fs tag x))
 
 abbrev pub new_variant : Fields → List ℕ → Object → Action
-new_variant fs tag x = takes (cost shape.Variant) (makes (variant_of fs) (variant_cell fs tag x))
+new_variant fs tag x = takes (cost shape.Variant) (makes (variant_cell fs tag x))

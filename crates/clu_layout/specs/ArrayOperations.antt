@@ -5,7 +5,7 @@ use Rattle.std.specs.Int.{is_negative}
 use Rattle.clu_types.specs.CluType.{CluType}
 use Rattle.clu_builtin.specs.declared.names.Signal.TheVariants as signal
 use Rattle.clu_layout.specs.Objects.{Object, Array, array_cell}
-use Rattle.clu_layout.specs.Places.{high_of, count_of, item_at, with_item_at, items_from, first_item, last_item, without_first, without_last, has_none}
+use Rattle.clu_layout.specs.Places.{high_of, count_of, item_at, with_item_at, items_from, first_item, last_item, without_first, without_last, is_empty}
 use Rattle.clu_layout.specs.Actions.{Action, Primitive, gives, gives_nothing, gives_bool, gives_int, gives_size, signals_if, or_signals, either, counts, takes, with_none, with_one, with_two, with_three, with_int, with_array, with_int_bounds, changes, changes_array, new_array}
 use Rattle.clu_layout.specs.PlainOperations.{Primitives, same_cell}
 
@@ -27,7 +27,8 @@ array_new t os = with_none os (new_array t (pos 1) [])
 abbrev pub array_predict : CluType → Primitive
 array_predict t os = with_two os (λ b n. with_int b (λ low. new_array t low []))
 
--- fill | (int, int, t): T | negative_size | 6 + n words | low bound, number of elements, and the element that all are
+-- fill | (int, int, t): T | negative_size | 6 + n words | low bound, number of elements, and the element that
+-- all of them are
 abbrev pub array_fill : CluType → Primitive
 array_fill t os = with_three os (λ b c x. with_int b (λ low. with_int c (λ n.
     signals_if signal.NegativeSize (is_negative n) (new_array t low (replicate (count_of n) x)))))
@@ -46,7 +47,7 @@ array_high os = one_array os (λ c a. gives_int (high_of a.low a.items))
 
 -- empty | (T): bool
 abbrev pub array_empty : Primitive
-array_empty os = one_array os (λ c a. gives_bool (has_none a.items))
+array_empty os = one_array os (λ c a. gives_bool (is_empty a.items))
 
 -- set_low | (T, int) | moves the bounds, not the elements
 abbrev pub array_set_low : Primitive
@@ -73,12 +74,13 @@ array_top os = one_array os (λ c a. or_signals signal.Bounds (last_item a.items
 abbrev pub more_room : Array → ℕ
 more_room a = max 4 (2 * a.room)
 
--- the array becomes one with one element more. If the room is used up, the new room is the cost, and the elements
--- that there were count besides
+-- the array in cell c, which is a, becomes b, which has one element more. If the room is used up, the elements that there
+-- are count besides, and the new room is the cost
 abbrev pub grows : ℕ → Array → Array → Action
-grows c a b = with_int_bounds b (either (length a.items == a.room)
-    (counts (length a.items) (takes (more_room a) (changes c (array_cell (record b { room = more_room a })) gives_nothing)))
-    (changes c (array_cell b) gives_nothing))
+grows c a b = either (length a.items == a.room)
+    (counts (length a.items)
+    (with_int_bounds b (takes (more_room a) (changes c (array_cell (record b { room = more_room a })) gives_nothing))))
+    (with_int_bounds b (changes c (array_cell b) gives_nothing))
 
 -- addh | (T, t) | if the room is used up, the new room in words | one element more at high + 1
 abbrev pub array_addh : Primitive
@@ -109,7 +111,10 @@ array_trim os = with_three os (λ r b d. with_array r (λ c a. with_int b (λ i.
 abbrev pub array_copy1 : Primitive
 array_copy1 os = one_array os (λ c a. new_array a.element a.low a.items)
 
--- equal | (T, T): bool | the same array: same_cell
+-- equal | (T, T): bool | the same array
+abbrev pub array_equal : Primitive
+array_equal = same_cell
+
 abbrev pub array_primitives : CluType → Primitives
 array_primitives t =
     (codes "create", array_create t) ∷
@@ -131,5 +136,5 @@ array_primitives t =
     (codes "reml", array_reml) ∷
     (codes "trim", array_trim) ∷
     (codes "copy1", array_copy1) ∷
-    (codes "equal", same_cell) ∷
+    (codes "equal", array_equal) ∷
     []

@@ -7,8 +7,9 @@ use Rattle.clu_layout.specs.declared.store.Shape.TheVariants as shape
 abbrev pub words_of_bytes : ℕ → ℕ
 words_of_bytes n = (n + 7) / 8
 
--- a string: its size and its bytes; a sequence: its size and its elements; a record or struct: one word and its
--- components; an array: six words, beside the room for its elements
+-- A string takes a word for its size and those of its bytes; a sequence a word for its size and one for each element; a
+-- record or struct one and one for each component; a oneof two, and a variant three; an array six beside the room for its
+-- elements, which takes a word for each. An object that is bound to type any takes two for it.
 abbrev pub cost : Shape → ℕ
 cost (shape.Str bytes) = 1 + words_of_bytes bytes
 cost (shape.Sequence elements) = 1 + elements
@@ -20,7 +21,7 @@ cost shape.Array = 6
 cost (shape.Cells elements) = elements
 cost shape.Boxed = 2
 
--- the number is at most 2 ^ 40
+-- the number of bytes or elements is at most 2 ^ 40
 abbrev pub IsSmall : Shape → Type 0
 IsSmall (shape.Str n) = n ≤ 2 ^ 40
 IsSmall (shape.Sequence n) = n ≤ 2 ^ 40

@@ -13,4 +13,5 @@ pub mod RecordOperations
 pub mod OneofOperations
 pub mod StreamOperations
 pub mod Primitive
+pub mod Openers
 pub mod Computing

@@ -1,21 +1,15 @@
 -- The operations of int and char. from_to and from_to_by of int are defined by texts.
-use Rattle.std.specs.Prelude.{ℕ, ◌+◌, ◌-◌, ◌*◌, ℤ, pos, ◌+ℤ◌, ◌-ℤ◌, ◌*ℤ◌, neg_ℤ, nat_abs, Bool, not, ◌&&◌, ◌==◌, nat_le, List, [], ◌∷◌, length, Option, None, Some, if◌then◌else◌, codes}
+use Rattle.std.specs.Prelude.{ℕ, ◌+◌, ◌-◌, ◌*◌, ℤ, pos, ◌+ℤ◌, ◌-ℤ◌, ◌*ℤ◌, neg_ℤ, nat_abs, Bool, ◌&&◌, ◌==◌, nat_le, List, [], ◌∷◌, length, Option, None, Some, if◌then◌else◌, codes}
 use Rattle.std.specs.Option.{option_map}
 use Rattle.std.specs.Int.{is_negative, int_div_euclid, int_rem_euclid, int_pow}
 use Rattle.std.specs.Fmt.{signed_decimal}
 use Rattle.std.specs.declared.cmp.Ordering.{Ordering}
-use Rattle.std.specs.Ordering.{is_lt, is_eq, is_gt, nat_cmp, int_cmp}
+use Rattle.std.specs.Ordering.{is_lt, is_le, is_eq, is_ge, is_gt, nat_cmp, int_cmp}
 use Rattle.clu_builtin.specs.declared.names.Signal.TheVariants as signal
 use Rattle.clu_layout.specs.Objects.{Object, char_object, string_object}
 use Rattle.clu_layout.specs.Places.{is_zero, char_of_int}
 use Rattle.clu_layout.specs.Actions.{Action, Primitive, gives, gives_bool, gives_int, gives_int_or_overflow, signals_if, or_signals, counts, takes, with_one, with_two, with_int, with_char, with_string}
-use Rattle.clu_layout.specs.PlainOperations.{Primitives, alike}
-
-abbrev pub is_at_most : Ordering → Bool
-is_at_most order = not (is_gt order)
-
-abbrev pub is_at_least : Ordering → Bool
-is_at_least order = not (is_lt order)
+use Rattle.clu_layout.specs.PlainOperations.{Primitives, equal_similar_copy}
 
 -- ---- int
 
@@ -58,11 +52,12 @@ int_power os = two_ints os (λ x y. counts 64
 abbrev pub int_compared : (Ordering → Bool) → Primitive
 int_compared holds os = two_ints os (λ x y. gives_bool (holds (int_cmp x y)))
 
--- the number that one or more digits denote
+-- the number whose digits are those of n and then these
 abbrev pub digits_after : ℕ → List ℕ → Option ℕ
 digits_after n [] = Some n
 digits_after n (c ∷ cs) = if nat_le 48 c && nat_le c 57 then digits_after (n * 10 + (c - 48)) cs else None
 
+-- the number that one or more digits denote
 abbrev pub number_of : List ℕ → Option ℤ
 number_of [] = None
 number_of (c ∷ cs) = option_map pos (digits_after 0 (c ∷ cs))
@@ -92,12 +87,12 @@ int_primitives =
     (codes "mod", int_mod) ∷
     (codes "power", int_power) ∷
     (codes "lt", int_compared is_lt) ∷
-    (codes "le", int_compared is_at_most) ∷
-    (codes "ge", int_compared is_at_least) ∷
+    (codes "le", int_compared is_le) ∷
+    (codes "ge", int_compared is_ge) ∷
     (codes "gt", int_compared is_gt) ∷
     (codes "parse", int_parse) ∷
     (codes "unparse", int_unparse) ∷
-    alike (int_compared is_eq)
+    equal_similar_copy (int_compared is_eq)
 
 -- ---- char
 
@@ -118,7 +113,7 @@ char_primitives =
     (codes "i2c", char_i2c) ∷
     (codes "c2i", char_c2i) ∷
     (codes "lt", char_compared is_lt) ∷
-    (codes "le", char_compared is_at_most) ∷
-    (codes "ge", char_compared is_at_least) ∷
+    (codes "le", char_compared is_le) ∷
+    (codes "ge", char_compared is_ge) ∷
     (codes "gt", char_compared is_gt) ∷
-    alike (char_compared is_eq)
+    equal_similar_copy (char_compared is_eq)

@@ -1,6 +1,9 @@
 -- Objects, each of which knows its own type, and the cells of mutable objects.
 use Rattle.std.specs.Prelude.{ℕ, ℤ, Bool, List, [], ◌∷◌}
+use Rattle.clu_base.specs.declared.constants.Const.{Const}
+use Rattle.clu_base.specs.declared.constants.Const.TheVariants as constant
 use Rattle.clu_types.specs.CluType.{CluType, null_type, bool_type, int_type, char_type, string_type, stream_type, array_of, sequence_of, record_of, struct_of, oneof_of, variant_of, cluster_of, CluTypes, no_types, type_and, Fields, Actuals}
+use Rattle.clu_types.specs.Substituted.{substituted, actuals_substituted}
 
 -- the two streams
 pub data Stream : Type 0 where
@@ -12,6 +15,12 @@ pub data Routine : Type 0 where
   module_routine : List ℕ → Actuals → Routine
   operation_of : CluType → List ℕ → Routine
   force_of : CluType → Routine
+
+-- the routine with actuals put in for the parameters of the module that names it
+abbrev pub routine_substituted : Actuals → Routine → Routine
+routine_substituted given (module_routine name actuals) = module_routine name (actuals_substituted given actuals)
+routine_substituted given (operation_of t op) = operation_of (substituted given t) op
+routine_substituted given (force_of t) = force_of (substituted given t)
 
 mutual
   -- A sequence has the type of its elements, a struct and a oneof have their selectors and tags with types, and a
@@ -44,6 +53,14 @@ listed (object_and o os) = o ∷ listed os
 abbrev pub inside : List Object → Objects
 inside [] = no_objects
 inside (o ∷ os) = object_and o (inside os)
+
+-- the object that a constant denotes
+abbrev pub object_of : Const → Object
+object_of constant.Null = null_object
+object_of (constant.Bool b) = bool_object b
+object_of (constant.Int n) = int_object n
+object_of (constant.Char c) = char_object c
+object_of (constant.Str bytes) = string_object bytes
 
 -- an array's state: the type of its elements, its low bound, its elements, and for how many elements it has room
 pub record Array : Type 0 where

@@ -64,9 +64,12 @@ variant_selected fs s =
     (codes "change_" ++ s, variant_change s) ∷
     []
 
--- equal | (T, T): bool | the same variant: same_cell
+-- equal | (T, T): bool | the same variant
+abbrev pub variant_equal : Primitive
+variant_equal = same_cell
+
 abbrev pub variant_primitives : Primitives
 variant_primitives =
-    (codes "equal", same_cell) ∷
+    (codes "equal", variant_equal) ∷
     (codes "copy1", variant_copy1) ∷
     []

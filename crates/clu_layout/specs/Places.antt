@@ -11,7 +11,7 @@ abbrev pub is_zero : ℤ → Bool
 is_zero (pos n) = n == 0
 is_zero (negsuc n) = false
 
--- a size or count; of a negative one there is none
+-- how many items an int asks for: none if it is negative
 abbrev pub count_of : ℤ → ℕ
 count_of (pos n) = n
 count_of (negsuc n) = 0
@@ -26,15 +26,17 @@ char_of_int (negsuc n) = None
 abbrev pub high_of : {A : Type 0} → ℤ → List A → ℤ
 high_of low xs = (low +ℤ pos (length xs)) -ℤ pos 1
 
--- how many places lie before this one
+-- the item that has so many others before it
 abbrev pub item_after : {A : Type 0} → List A → ℤ → Option A
 item_after xs (pos n) = slice_get xs n
 item_after xs (negsuc n) = None
 
+-- the items without the first so many, if there are as many
 abbrev pub items_after : {A : Type 0} → List A → ℤ → Option (List A)
 items_after xs (pos n) = if nat_le n (length xs) then Some (drop n xs) else None
 items_after xs (negsuc n) = None
 
+-- the items with another one in the place of the one that has so many before it
 abbrev pub with_item_after : {A : Type 0} → List A → ℤ → A → Option (List A)
 with_item_after xs (pos n) x = if nat_lt n (length xs) then Some (slice_set xs n x) else None
 with_item_after xs (negsuc n) x = None
@@ -69,9 +71,9 @@ abbrev pub without_last : {A : Type 0} → List A → Option (List A)
 without_last [] = None
 without_last (x ∷ xs) = Some (take (length xs) (x ∷ xs))
 
-abbrev pub has_none : {A : Type 0} → List A → Bool
-has_none [] = true
-has_none (x ∷ xs) = false
+abbrev pub is_empty : {A : Type 0} → List A → Bool
+is_empty [] = true
+is_empty (x ∷ xs) = false
 
 -- the least place, counted from `place`, at which the first list stands in the second, or 0
 abbrev pub found_from : ℕ → List ℕ → List ℕ → ℕ

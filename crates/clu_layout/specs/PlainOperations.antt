@@ -1,7 +1,8 @@
 -- The operations of null, of proctypes and itertypes, and of bool.
 use Rattle.std.specs.Prelude.{ℕ, Bool, true, not, ◌&&◌, ◌||◌, ◌==◌, List, [], ◌∷◌, codes}
+use Rattle.std.specs.Bool.{beq}
 use Rattle.clu_layout.specs.Objects.{Object}
-use Rattle.clu_layout.specs.SameType.{same_bool, same_routine}
+use Rattle.clu_layout.specs.SameType.{same_routine}
 use Rattle.clu_layout.specs.Actions.{Action, Primitive, gives, gives_bool, with_one, with_two, with_bool, with_routine, with_cell}
 
 -- the primitive operations of a type, by name
@@ -9,14 +10,14 @@ abbrev pub Primitives : Type 0
 Primitives = List (List ℕ × Primitive)
 
 -- copy | (T): T | the object itself
-abbrev pub itself : Primitive
-itself os = with_one os gives
+abbrev pub copy_of_immutable : Primitive
+copy_of_immutable os = with_one os gives
 
 -- similar is equal, and copy gives the object itself
-abbrev pub alike : Primitive → Primitives
-alike equal = (codes "equal", equal) ∷ (codes "similar", equal) ∷ (codes "copy", itself) ∷ []
+abbrev pub equal_similar_copy : Primitive → Primitives
+equal_similar_copy equal = (codes "equal", equal) ∷ (codes "similar", equal) ∷ (codes "copy", copy_of_immutable) ∷ []
 
--- equal of arrays, records and variants: the same one
+-- equal of arrays, records and variants: whether both are the same object
 abbrev pub same_cell : Primitive
 same_cell os = with_two os (λ a b. with_cell a (λ c. with_cell b (λ d. gives_bool (c == d))))
 
@@ -26,15 +27,15 @@ same_cell os = with_two os (λ a b. with_cell a (λ c. with_cell b (λ d. gives_
 abbrev pub null_equal : Primitive
 null_equal os = with_two os (λ a b. gives_bool true)
 
--- equal | (T, T): bool | whether they are the same instance or operation
+-- equal | (T, T): bool | whether they are the same instance, operation of a type or force of a type
 abbrev pub routine_equal : Primitive
 routine_equal os = with_two os (λ a b. with_routine a (λ f. with_routine b (λ g. gives_bool (same_routine f g))))
 
 abbrev pub null_primitives : Primitives
-null_primitives = alike null_equal
+null_primitives = equal_similar_copy null_equal
 
 abbrev pub routine_primitives : Primitives
-routine_primitives = alike routine_equal
+routine_primitives = equal_similar_copy routine_equal
 
 -- ---- bool
 
@@ -55,11 +56,11 @@ bool_not os = with_one os (λ a. with_bool a (λ p. gives_bool (not p)))
 
 -- equal | (T, T): bool
 abbrev pub bool_equal : Primitive
-bool_equal os = two_bools os (λ p q. gives_bool (same_bool p q))
+bool_equal os = two_bools os (λ p q. gives_bool (beq p q))
 
 abbrev pub bool_primitives : Primitives
 bool_primitives =
     (codes "and", bool_and) ∷
     (codes "or", bool_or) ∷
     (codes "not", bool_not) ∷
-    alike bool_equal
+    equal_similar_copy bool_equal

@@ -1,17 +1,15 @@
--- The primitive operation of a type with a name, and what its invocation comes to; force; and constructors.
---
--- Not here, since texts say what they mean: from_to and from_to_by of int; chars of string; similar, similar1, copy,
--- elements and indexes of arrays; equal, similar, copy, elements and indexes of sequences; equal, similar and copy of
--- structs and oneofs; similar, similar1 and copy of records and variants.
+-- The primitive operation of a type with a name, and what its invocation comes to; force; and constructors. Operations
+-- that are defined by texts or schemes are not here; the head of each type's file names them.
 use Rattle.std.specs.Prelude.{ℕ, ◌+◌, ℤ, Bool, true, false, ◌&&◌, ◌||◌, List, [], ◌∷◌, ◌++◌, Option, None, Some, if◌then◌else◌, bytes_eq, codes}
+use Rattle.std.specs.Option.{option_map}
 use Rattle.clu_types.specs.CluType.{CluType, null_type, bool_type, int_type, char_type, string_type, any_type, stream_type, array_of, sequence_of, record_of, struct_of, oneof_of, variant_of, proc_of, iter_of, cluster_of, parameter, CluTypes, no_types, type_and, Fields, no_fields, field_and, no_signals, signal_and}
 use Rattle.clu_builtin.specs.Operation.{Operation, one}
 use Rattle.clu_builtin.specs.Table.{operation, parts_of}
 use Rattle.clu_layout.specs.declared.store.Shape.TheVariants as shape
 use Rattle.clu_layout.specs.Cost.{cost}
-use Rattle.clu_layout.specs.Objects.{Object, own_type, own_types}
+use Rattle.clu_layout.specs.Objects.{Routine, module_routine, operation_of, force_of, Object, own_type, own_types}
 use Rattle.clu_layout.specs.SameType.{same_type, is_any, is_routine_type, fits, all_fit}
-use Rattle.clu_layout.specs.Actions.{World, Outcome, returned, signalled, wrong, Action, Primitive, either, gives, gives_all, signals_with, need, needed, and_then, counts, takes, with_one, makes_array, makes_sequence, makes_struct, makes_record}
+use Rattle.clu_layout.specs.Actions.{World, Outcome, returned, signalled, wrong, Action, Primitive, either, gives, gives_all, signals_with, need, needed, and_then, counts, takes, with_one, with_int, makes_array, makes_sequence, makes_struct, makes_record, new_struct, new_record}
 use Rattle.clu_layout.specs.PlainOperations.{Primitives, null_primitives, routine_primitives, bool_primitives}
 use Rattle.clu_layout.specs.NumberOperations.{int_primitives, char_primitives}
 use Rattle.clu_layout.specs.StringOperations.{string_primitives}
@@ -28,6 +26,7 @@ abbrev pub of_each : (List ℕ → Primitives) → Fields → Primitives → Pri
 of_each selected no_fields own = own
 of_each selected (field_and s t rest) own = selected s ++ of_each selected rest own
 
+-- the primitive operations of a type; those of selectors and tags stand first
 abbrev pub primitives : CluType → Primitives
 primitives null_type = null_primitives
 primitives bool_type = bool_primitives
@@ -47,10 +46,12 @@ primitives (iter_of _ _ _) = routine_primitives
 primitives (cluster_of _ _) = []
 primitives (parameter _) = []
 
+-- the first operation of this name in a table
 abbrev pub named : Primitives → List ℕ → Option Primitive
 named [] op = None
 named ((name, p) ∷ rest) op = if bytes_eq name op then Some p else named rest op
 
+-- the primitive operation of this name that a type has
 abbrev pub primitive : CluType → List ℕ → Option Primitive
 primitive T op = named (primitives T) op
 
@@ -68,19 +69,21 @@ words_for_all (type_and t ts) = words_for t + words_for_all ts
 abbrev pub binds : CluTypes → List Object → Action → Action
 binds types os rest = need (all_fit (own_types os) types) (takes (words_for_all types) rest)
 
--- the same for arguments of an operation of T. One of a routine type takes every routine, since `f = g` is an operation
--- of the own type of f
-abbrev pub suits : CluType → CluType → CluType → Bool
-suits T own formal = fits own formal || (is_routine_type T && is_routine_type own && is_routine_type formal)
+-- Whether an object of this own type may be an argument of an operation of T, for a formal of this type. An operation of a
+-- routine type takes every routine, since `f = g` is an operation of the own type of f.
+abbrev pub may_be_argument : CluType → CluType → CluType → Bool
+may_be_argument T own formal = fits own formal || (is_routine_type T && is_routine_type own && is_routine_type formal)
 
-abbrev pub all_suit : CluType → CluTypes → CluTypes → Bool
-all_suit T no_types no_types = true
-all_suit T (type_and t ts) (type_and u us) = suits T t u && all_suit T ts us
-all_suit T _ _ = false
+abbrev pub may_be_arguments : CluType → CluTypes → CluTypes → Bool
+may_be_arguments T no_types no_types = true
+may_be_arguments T (type_and t ts) (type_and u us) = may_be_argument T t u && may_be_arguments T ts us
+may_be_arguments T _ _ = false
 
+-- arguments of an operation of T are bound to its formals
 abbrev pub binds_arguments : CluType → CluTypes → List Object → Action → Action
-binds_arguments T formals os rest = need (all_suit T (own_types os) formals) (takes (words_for_all formals) rest)
+binds_arguments T formals os rest = need (may_be_arguments T (own_types os) formals) (takes (words_for_all formals) rest)
 
+-- what an operation gives is bound to the types of its heading's results
 abbrev pub gives_results : CluTypes → List Object → Action
 gives_results types os = binds types os (gives_all os)
 
@@ -91,6 +94,7 @@ abbrev pub invoked : CluType → Operation → Primitive → List Object → Act
 invoked T heading p os =
     binds_arguments T heading.args os (counts 1 (and_then (p os) (gives_results heading.results)))
 
+-- the primitive operation of T of this name is invoked
 abbrev pub invocation : CluType → List ℕ → List Object → Action
 invocation T op os = needed (operation T op) (λ heading. needed (primitive T op) (λ p. invoked T heading p os))
 
@@ -118,6 +122,10 @@ same_for_each t (o ∷ os) = type_and t (same_for_each t os)
 abbrev pub array_construction : CluType → ℤ → List Object → Action
 array_construction t low xs = binds (same_for_each t xs) xs (makes_array t low xs)
 
+-- the low bound is an object that must be an int
+abbrev pub array_with_low : CluType → Object → List Object → Action
+array_with_low t low xs = with_int low (λ n. array_construction t n xs)
+
 abbrev pub sequence_construction : CluType → List Object → Action
 sequence_construction t xs = binds (same_for_each t xs) xs (makes_sequence t xs)
 
@@ -127,6 +135,13 @@ struct_construction fs xs = binds (parts_of fs) xs (makes_struct fs xs)
 
 abbrev pub record_construction : Fields → List Object → Action
 record_construction fs xs = binds (parts_of fs) xs (makes_record fs xs)
+
+-- what `copy` of a struct or record makes of the copies of its components, which count as in any operation
+abbrev pub struct_copy : Fields → List Object → Action
+struct_copy fs xs = binds (parts_of fs) xs (new_struct fs xs)
+
+abbrev pub record_copy : Fields → List Object → Action
+record_copy fs xs = binds (parts_of fs) xs (new_record fs xs)
 
 -- ---- an action in a world
 
@@ -142,12 +157,41 @@ outcome_in w (returned os made) = returned os (added w made)
 outcome_in w (signalled name os made) = signalled name os (added w made)
 outcome_in w wrong = wrong
 
-abbrev pub done_in : World → Action → Outcome
+unfoldable pub done_in : World → Action → Outcome
 done_in w action = outcome_in w (action (before w))
 
 -- what a primitive operation, force and constructors come to
-abbrev pub prim : CluType → List ℕ → List Object → World → Outcome
+unfoldable pub prim : CluType → List ℕ → List Object → World → Outcome
 prim T op os w = done_in w (invocation T op os)
 
-abbrev pub force : CluType → List Object → World → Outcome
+unfoldable pub force : CluType → List Object → World → Outcome
 force t os w = done_in w (force_invocation t os)
+
+unfoldable pub make_array : CluType → ℤ → List Object → World → Outcome
+make_array t low xs w = done_in w (array_construction t low xs)
+
+unfoldable pub make_array_with_low : CluType → Object → List Object → World → Outcome
+make_array_with_low t low xs w = done_in w (array_with_low t low xs)
+
+unfoldable pub make_sequence : CluType → List Object → World → Outcome
+make_sequence t xs w = done_in w (sequence_construction t xs)
+
+unfoldable pub make_struct : Fields → List Object → World → Outcome
+make_struct fs xs w = done_in w (struct_construction fs xs)
+
+unfoldable pub make_record : Fields → List Object → World → Outcome
+make_record fs xs w = done_in w (record_construction fs xs)
+
+-- ---- routines that have no text
+
+-- the heading of a built-in operation or of force; of an instance's routine its module says it
+abbrev pub heading_of : Routine → Option Operation
+heading_of (module_routine name given) = None
+heading_of (operation_of T op) = operation T op
+heading_of (force_of t) = Some (force_heading t)
+
+-- what a routine that has no text comes to: a primitive operation, or force
+abbrev pub without_text : Routine → Option (List Object → World → Outcome)
+without_text (module_routine name given) = None
+without_text (operation_of T op) = option_map (λ p os w. prim T op os w) (primitive T op)
+without_text (force_of t) = Some (force t)

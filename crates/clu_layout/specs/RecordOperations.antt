@@ -55,9 +55,12 @@ record_selected s =
     (codes "set_" ++ s, record_set s) ∷
     []
 
--- equal | (T, T): bool | the same record: same_cell
+-- equal | (T, T): bool | the same record
+abbrev pub record_equal : Primitive
+record_equal = same_cell
+
 abbrev pub record_primitives : Primitives
 record_primitives =
-    (codes "equal", same_cell) ∷
+    (codes "equal", record_equal) ∷
     (codes "copy1", record_copy1) ∷
     []

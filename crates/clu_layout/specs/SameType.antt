@@ -1,19 +1,15 @@
 -- Tests on types: whether two are the same, and whether an object of one may stand where the other is wanted.
 use Rattle.std.specs.Prelude.{ℕ, Bool, true, false, ◌&&◌, ◌||◌, ◌==◌, List, bytes_eq}
+use Rattle.std.specs.Bool.{beq}
 use Rattle.std.specs.Ordering.{int_eq}
 use Rattle.clu_base.specs.declared.constants.Const.{Const}
 use Rattle.clu_base.specs.declared.constants.Const.TheVariants as constant
 use Rattle.clu_types.specs.CluType.{CluType, null_type, bool_type, int_type, char_type, string_type, any_type, stream_type, array_of, sequence_of, record_of, struct_of, oneof_of, variant_of, proc_of, iter_of, cluster_of, parameter, CluTypes, no_types, type_and, Fields, no_fields, field_and, Signals, no_signals, signal_and, Actuals, no_actuals, actual_type, actual_const, actual_param}
 use Rattle.clu_layout.specs.Objects.{Routine, module_routine, operation_of, force_of}
 
-abbrev pub same_bool : Bool → Bool → Bool
-same_bool true true = true
-same_bool false false = true
-same_bool _ _ = false
-
 abbrev pub same_const : Const → Const → Bool
 same_const constant.Null constant.Null = true
-same_const (constant.Bool a) (constant.Bool b) = same_bool a b
+same_const (constant.Bool a) (constant.Bool b) = beq a b
 same_const (constant.Int a) (constant.Int b) = int_eq a b
 same_const (constant.Char a) (constant.Char b) = a == b
 same_const (constant.Str a) (constant.Str b) = bytes_eq a b
@@ -96,7 +92,7 @@ is_routine_type _ = false
 abbrev pub fits : CluType → CluType → Bool
 fits own wanted = same_type own wanted || is_any wanted || has_more_signals own wanted
 
--- as many types as are wanted, each of which fits
+-- as many types as are wanted, each of which is included in the one at its place
 abbrev pub all_fit : CluTypes → CluTypes → Bool
 all_fit no_types no_types = true
 all_fit (type_and t ts) (type_and u us) = fits t u && all_fit ts us

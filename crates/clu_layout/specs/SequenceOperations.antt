@@ -5,7 +5,7 @@ use Rattle.std.specs.Int.{is_negative}
 use Rattle.clu_types.specs.CluType.{CluType}
 use Rattle.clu_builtin.specs.declared.names.Signal.TheVariants as signal
 use Rattle.clu_layout.specs.Objects.{Object}
-use Rattle.clu_layout.specs.Places.{count_of, item_at, with_item_at, items_from, first_item, last_item, without_first, without_last, has_none}
+use Rattle.clu_layout.specs.Places.{count_of, item_at, with_item_at, items_from, first_item, last_item, without_first, without_last, is_empty}
 use Rattle.clu_layout.specs.Actions.{Action, Primitive, gives, gives_bool, gives_size, signals_if, or_signals, with_none, with_one, with_two, with_three, with_int, with_sequence, with_array, new_sequence, new_array}
 use Rattle.clu_layout.specs.PlainOperations.{Primitives}
 
@@ -31,7 +31,7 @@ sequence_size os = one_sequence os gives_size
 
 -- empty | (T): bool
 abbrev pub sequence_empty : Primitive
-sequence_empty os = one_sequence os (λ xs. gives_bool (has_none xs))
+sequence_empty os = one_sequence os (λ xs. gives_bool (is_empty xs))
 
 -- fetch | (T, int): t | bounds | 1 to size
 abbrev pub sequence_fetch : Primitive

@@ -1,9 +1,9 @@
--- The operations of stream.
+-- The operations of stream. w(n) is n / 8 rounded up, the words that hold the n bytes of the string.
 use Rattle.std.specs.Prelude.{ℕ, Bool, true, false, ◌==◌, List, [], ◌∷◌, ◌++◌, length, Option, None, Some, if◌then◌else◌, codes}
 use Rattle.clu_builtin.specs.declared.names.Signal.TheVariants as signal
 use Rattle.clu_builtin.specs.Names.{signal_name}
 use Rattle.clu_layout.specs.Objects.{Stream, input_stream, output_stream, Object, char_object, string_object, stream_object}
-use Rattle.clu_layout.specs.Places.{has_none}
+use Rattle.clu_layout.specs.Places.{is_empty}
 use Rattle.clu_layout.specs.Actions.{Action, Primitive, gives, gives_nothing, gives_bool, signals_with, or_signals, counts, with_none, with_one, with_two, with_char, with_string, with_stream, new_string}
 use Rattle.clu_layout.specs.PlainOperations.{Primitives}
 
@@ -15,9 +15,11 @@ unfoldable pub reads : Stream → (List ℕ → Action) → Action
 reads input_stream rest w = rest w.input w
 reads output_stream rest w = not_possible (codes "cannot read") w
 
+-- these bytes of the input are left
 unfoldable pub leaves : List ℕ → Action → Action
 leaves bytes rest w = rest (record w { input = bytes })
 
+-- the bytes are added to the output
 unfoldable pub writes : Stream → List ℕ → Action
 writes input_stream bytes w = not_possible (codes "cannot write") w
 writes output_stream bytes w = gives_nothing (record w { output = w.output ++ bytes })
@@ -64,7 +66,7 @@ stream_getl os = reading os (λ left. or_signals signal.EndOfFile (next_line lef
 
 -- empty | (T): bool | not_possible(string) | whether nothing is left
 abbrev pub stream_empty : Primitive
-stream_empty os = reading os (λ left. gives_bool (has_none left))
+stream_empty os = reading os (λ left. gives_bool (is_empty left))
 
 -- putc | (T, char) | not_possible(string)
 abbrev pub stream_putc : Primitive

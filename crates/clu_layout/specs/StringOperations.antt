@@ -1,16 +1,16 @@
--- The operations of string. Places count from 1, and n is the size of the result. chars is defined by a text.
+-- The operations of string. Places count from 1. n is the size of the result, and w(n) is n / 8 rounded up, the words that
+-- hold n bytes. chars is defined by a text.
 use Rattle.std.specs.Prelude.{ℕ, ◌+◌, ◌*◌, pos, Bool, List, [], ◌∷◌, ◌++◌, map, length, take, codes}
 use Rattle.std.specs.Int.{is_negative}
 use Rattle.std.specs.declared.cmp.Ordering.{Ordering}
-use Rattle.std.specs.Ordering.{is_lt, is_eq, is_gt, nat_cmp}
+use Rattle.std.specs.Ordering.{is_lt, is_le, is_eq, is_ge, is_gt, nat_cmp}
 use Rattle.std.specs.Cmp.Lexicographic.{slice_cmp}
 use Rattle.clu_types.specs.CluType.{char_type}
 use Rattle.clu_builtin.specs.declared.names.Signal.TheVariants as signal
 use Rattle.clu_layout.specs.Objects.{Object, char_object}
-use Rattle.clu_layout.specs.Places.{count_of, item_at, items_from, found_from, has_none}
+use Rattle.clu_layout.specs.Places.{count_of, item_at, items_from, found_from, is_empty}
 use Rattle.clu_layout.specs.Actions.{Action, Primitive, gives, gives_bool, gives_int, gives_size, signals_if, or_signals, needed, counts, with_one, with_two, with_three, with_int, with_char, with_string, with_array, bytes_of, new_string, new_array}
-use Rattle.clu_layout.specs.PlainOperations.{Primitives, alike}
-use Rattle.clu_layout.specs.NumberOperations.{is_at_most, is_at_least}
+use Rattle.clu_layout.specs.PlainOperations.{Primitives, equal_similar_copy}
 
 abbrev pub one_string : List Object → (List ℕ → Action) → Action
 one_string os rest = with_one os (λ a. with_string a rest)
@@ -24,7 +24,7 @@ string_size os = one_string os gives_size
 
 -- empty | (T): bool
 abbrev pub string_empty : Primitive
-string_empty os = one_string os (λ s. gives_bool (has_none s))
+string_empty os = one_string os (λ s. gives_bool (is_empty s))
 
 -- lt, le, ge, gt, equal | (T, T): bool | by bytes, a proper prefix is less; they count the bytes of both besides
 abbrev pub string_compared : (Ordering → Bool) → Primitive
@@ -82,8 +82,8 @@ string_primitives =
     (codes "size", string_size) ∷
     (codes "empty", string_empty) ∷
     (codes "lt", string_compared is_lt) ∷
-    (codes "le", string_compared is_at_most) ∷
-    (codes "ge", string_compared is_at_least) ∷
+    (codes "le", string_compared is_le) ∷
+    (codes "ge", string_compared is_ge) ∷
     (codes "gt", string_compared is_gt) ∷
     (codes "c2s", string_c2s) ∷
     (codes "concat", string_concat) ∷
@@ -95,4 +95,4 @@ string_primitives =
     (codes "indexc", string_indexc) ∷
     (codes "s2ac", string_s2ac) ∷
     (codes "ac2s", string_ac2s) ∷
-    alike (string_compared is_eq)
+    equal_similar_copy (string_compared is_eq)

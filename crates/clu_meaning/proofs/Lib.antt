@@ -1,0 +1,36 @@
+pub mod Combining
+pub mod Going
+pub mod Evaluating
+pub mod Executed
+pub mod Levels
+mod TextCounts
+mod Running
+mod BasicPrograms
+mod ExpressionPrograms
+mod VariablePrograms
+mod HandlerPrograms
+mod ResignalPrograms
+mod LoopPrograms
+mod IteratorPrograms
+mod BoolPrograms
+mod IntPrograms
+mod CharPrograms
+mod StringPrograms
+mod ArrayPrograms
+mod SharingPrograms
+mod RangePrograms
+mod SequencePrograms
+mod SubsequencePrograms
+mod RecordPrograms
+mod OneofPrograms
+mod StreamPrograms
+mod RoutinePrograms
+mod AnyPrograms
+mod OwnPrograms
+mod ClusterPrograms
+mod ParameterPrograms
+mod CopyPrograms
+mod FailurePrograms
+mod RulePrograms
+mod InstancePrograms
+mod CounterPrograms
