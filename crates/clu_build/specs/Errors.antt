@@ -9,8 +9,8 @@ use Rattle.clu_lower_expr.specs.declared.errors.LowerError.{LowerError}
 use Rattle.clu_lower_expr.specs.declared.errors.LowerError.TheVariants as lower
 use Rattle.rv_select.specs.declared.error.SelectError.{SelectError}
 use Rattle.rv_select.specs.declared.error.SelectError.TheVariants as select
-use Rattle.clu_driver.specs.declared.build_error.BuildError.{BuildError}
-use Rattle.clu_driver.specs.declared.build_error.BuildError.TheVariants as build
+use Rattle.clu_build.specs.declared.errors.BuildError.{BuildError}
+use Rattle.clu_build.specs.declared.errors.BuildError.TheVariants as build
 
 abbrev pub of_enter : EnterError → BuildError
 of_enter enter.Full = build.LibraryFull
@@ -29,9 +29,13 @@ abbrev pub of_select : SelectError → BuildError
 of_select select.Memory = build.Memory
 of_select select.NotYet = build.NotYet
 
--- a body that is missing, stale or a misfit is none of the file's: its own modules were entered just before
 abbrev pub of_link : LinkError → BuildError
+of_link (link.NoModule name) = build.NoModule name
+of_link (link.BadStart name) = build.BadStart name
 of_link link.TooManyInstances = build.TooManyInstances
+of_link (link.NoBody name) = build.NoBody name
+of_link (link.Stale name by changed checked) = build.Stale (record { name = name; by = by; changed = changed; checked = checked })
+of_link (link.Misfit name) = build.Misfit name
 of_link link.ProgramTooLarge = build.ProgramTooLarge
 of_link link.Memory = build.Memory
-of_link _ = build.NotYet
+of_link link.NotYet = build.NotYet

@@ -1,11 +1,6 @@
-//! Why an accepted file is not built.
+//! Why something is not entered into a library.
 
-ghost use Rattle.std.specs.Prelude.{List};
-ghost use Rattle.clu_types.specs.declared.spec.Spec.{Spec};
-ghost use Rattle.clu_driver.specs.Sources.{NotBuilt};
-
-use crate::outcome::Outcome;
-use clu_base::Memory;
+use clu_base::{Bytes, Memory};
 use clu_frames::FrameError;
 use clu_library::EnterError;
 use clu_link::LinkError;
@@ -13,38 +8,57 @@ use clu_lower_ctl::LowerError;
 use rv_select::SelectError;
 use std::alloc::{AllocError, AllocFailed};
 
-/// Why an accepted file with a start is not built.
-#[derive(Clone, Copy)]
+/// A module of which another specification is kept than a file gives.
+#[derive(Drop)]
+pub struct Difference {
+    pub name: Bytes,
+    /// The text of the kept specification.
+    pub kept: Bytes,
+    /// The text of the other one.
+    pub given: Bytes,
+}
+
+/// A module whose body was checked at the revision `checked`, before the specification of `by`, which it rests on, was
+/// replaced at the revision `changed`.
+#[derive(Drop)]
+pub struct StaleBody {
+    pub name: Bytes,
+    pub by: Bytes,
+    pub changed: u32,
+    pub checked: u32,
+}
+
+/// Why a file or a program is not entered. A name is that of a module.
+#[derive(Drop)]
 pub enum BuildError {
-    /// It has more modules than a library.
+    /// Another specification is kept of the module.
+    SpecDiffers(Difference),
+    /// More modules or programs than a library keeps, or more revisions than it counts.
     LibraryFull,
-    /// Its program has more instances than an image.
+    /// The kept specification of this module needs one that would be replaced.
+    SpecNeeded(Bytes),
+    /// No specification is kept of the module with which a program is to start.
+    NoModule(Bytes),
+    /// The module with which a program is to start is no procedure without parameters, arguments and results.
+    BadStart(Bytes),
+    /// A program of more than 4,096 instances.
     TooManyInstances,
-    /// Its program is larger than an image.
+    /// No body is kept of this module, the first of those that are reached.
+    NoBody(Bytes),
+    /// The body of this module is stale.
+    Stale(StaleBody),
+    /// The object of this module does not fit what is kept.
+    Misfit(Bytes),
+    /// A program that weighs more than 262,144.
     ProgramTooLarge,
     /// Memory was refused.
     Memory,
-    /// It is not compiled yet.
+    /// What no contract rules out.
     NotYet,
 }
 
-impl BuildError {
-    /// What the refusal comes to.
-    pub fn outcome<'a>(self) -> Outcome<'a>
-        ensures { (specs : List Spec) → NotBuilt result specs }
-    {
-        match self {
-            BuildError::LibraryFull => Outcome::LibraryFull,
-            BuildError::TooManyInstances => Outcome::TooManyInstances,
-            BuildError::ProgramTooLarge => Outcome::ProgramTooLarge,
-            BuildError::Memory => Outcome::Memory,
-            BuildError::NotYet => Outcome::NotYet,
-        }
-    }
-}
-
 impl From<Memory> for BuildError {
-    ghost use Rattle.clu_driver.specs.declared.build_error.BuildError.{BuildError};
+    ghost use Rattle.clu_build.specs.declared.errors.BuildError.{BuildError};
     ghost use Rattle.std.specs.Prelude.{◌≡◌};
 
     ghost from_gives = { λ _ e. e ≡ BuildError.Memory };
@@ -55,7 +69,7 @@ impl From<Memory> for BuildError {
 }
 
 impl From<AllocError> for BuildError {
-    ghost use Rattle.clu_driver.specs.declared.build_error.BuildError.{BuildError};
+    ghost use Rattle.clu_build.specs.declared.errors.BuildError.{BuildError};
     ghost use Rattle.std.specs.Prelude.{◌≡◌};
 
     ghost from_gives = { λ _ e. e ≡ BuildError.Memory };
@@ -66,7 +80,7 @@ impl From<AllocError> for BuildError {
 }
 
 impl<T: Drop> From<AllocFailed<T>> for BuildError {
-    ghost use Rattle.clu_driver.specs.declared.build_error.BuildError.{BuildError};
+    ghost use Rattle.clu_build.specs.declared.errors.BuildError.{BuildError};
     ghost use Rattle.std.specs.Prelude.{◌≡◌};
 
     ghost from_gives = { λ _ e. e ≡ BuildError.Memory };
@@ -76,8 +90,9 @@ impl<T: Drop> From<AllocFailed<T>> for BuildError {
     }
 }
 
+// That a specification differs is asked before it is entered.
 impl From<EnterError> for BuildError {
-    ghost use Rattle.clu_driver.specs.Built.{of_enter};
+    ghost use Rattle.clu_build.specs.Errors.{of_enter};
     ghost use Rattle.std.specs.Prelude.{◌≡◌};
 
     ghost from_gives = { λ given e. e ≡ of_enter given };
@@ -92,7 +107,7 @@ impl From<EnterError> for BuildError {
 }
 
 impl From<LowerError> for BuildError {
-    ghost use Rattle.clu_driver.specs.Built.{of_lower};
+    ghost use Rattle.clu_build.specs.Errors.{of_lower};
     ghost use Rattle.std.specs.Prelude.{◌≡◌};
 
     ghost from_gives = { λ given e. e ≡ of_lower given };
@@ -106,7 +121,7 @@ impl From<LowerError> for BuildError {
 }
 
 impl From<FrameError> for BuildError {
-    ghost use Rattle.clu_driver.specs.Built.{of_frame};
+    ghost use Rattle.clu_build.specs.Errors.{of_frame};
     ghost use Rattle.std.specs.Prelude.{◌≡◌};
 
     ghost from_gives = { λ given e. e ≡ of_frame given };
@@ -120,7 +135,7 @@ impl From<FrameError> for BuildError {
 }
 
 impl From<SelectError> for BuildError {
-    ghost use Rattle.clu_driver.specs.Built.{of_select};
+    ghost use Rattle.clu_build.specs.Errors.{of_select};
     ghost use Rattle.std.specs.Prelude.{◌≡◌};
 
     ghost from_gives = { λ given e. e ≡ of_select given };
@@ -134,29 +149,32 @@ impl From<SelectError> for BuildError {
 }
 
 impl From<LinkError> for BuildError {
-    ghost use Rattle.clu_driver.specs.Built.{of_link};
+    ghost use Rattle.clu_build.specs.Errors.{of_link};
     ghost use Rattle.std.specs.Prelude.{◌≡◌};
 
     ghost from_gives = { λ given e. e ≡ of_link given };
 
-    // That a body is missing, stale or a misfit is no outcome of the file: its own modules were entered just before, and it
-    // was asked for its start.
     fn from(error: LinkError) -> BuildError {
         match error {
+            LinkError::NoModule(name) => BuildError::NoModule(name),
+            LinkError::BadStart(name) => BuildError::BadStart(name),
             LinkError::TooManyInstances => BuildError::TooManyInstances,
+            LinkError::NoBody(name) => BuildError::NoBody(name),
+            LinkError::Stale {
+                name,
+                by,
+                changed,
+                checked,
+            } => BuildError::Stale(StaleBody {
+                name,
+                by,
+                changed,
+                checked,
+            }),
+            LinkError::Misfit(name) => BuildError::Misfit(name),
             LinkError::ProgramTooLarge => BuildError::ProgramTooLarge,
             LinkError::Memory => BuildError::Memory,
-            LinkError::NoModule(_)
-            | LinkError::BadStart(_)
-            | LinkError::NoBody(_)
-            | LinkError::Stale {
-                name: _,
-                by: _,
-                changed: _,
-                checked: _,
-            }
-            | LinkError::Misfit(_)
-            | LinkError::NotYet => BuildError::NotYet,
+            LinkError::NotYet => BuildError::NotYet,
         }
     }
 }
