@@ -1,5 +1,7 @@
-use super::*;
-use clu_base::Place;
+//! Sources with the tokens that are read of them, and sources at one of whose places no token begins.
+
+use clu_base::{Kind, Place};
+use clu_lexer::{LexError, Symbol, lex, symbol_of};
 use std::test::Fail;
 
 /// Each source with the kinds of its tokens, their first bytes and where they end.

@@ -1,6 +1,7 @@
-use crate::disk::Disk;
-use crate::streams::{InputStream, OutputStream};
+//! The streams of a process over buffers, and files of a real disk.
+
 use clu_base::{Sink, Source, Store, StoreError, write_all};
+use clu_host::{Disk, InputStream, OutputStream};
 use std::fs;
 use std::test::Fail;
 

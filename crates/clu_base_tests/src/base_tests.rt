@@ -1,4 +1,6 @@
-use crate::{
+//! Fields of formats, lists, and the streams and stores that are kept in memory.
+
+use clu_base::{
     Bytes, Const, Failed, FormatError, MemSink, MemSource, MemStore, Memory, Rule, Sequence, Sink,
     Source, Store, StoreError, u16_add, u16_at, u32_add, u32_at, u64_add, u64_at, write_all,
 };

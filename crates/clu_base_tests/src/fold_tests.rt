@@ -1,8 +1,8 @@
 //! The table of what operators give, and where a text is too long.
 
-use crate::rows::ROWS;
-use crate::{fold, fold_prefix, infix_operator, is_long, prefix_operator, text_length};
+use crate::fold_rows::ROWS;
 use clu_base::{Bytes, Const};
+use clu_fold::{fold, fold_prefix, infix_operator, is_long, prefix_operator, text_length};
 use std::alloc::Global;
 use std::test::Fail;
 

@@ -1,4 +1,6 @@
-use super::*;
+//! Spellings of literals with the bytes that they denote.
+
+use clu_literal::{char_byte, string_bytes};
 use std::test::Fail;
 
 /// Spellings of string literals, with the bytes that they denote.

@@ -3,8 +3,8 @@
 
 ghost use Rattle.std.specs.Prelude.{◌≤◌};
 
-use crate::{load, store};
 use clu_base::FormatError;
+use clu_image::{load, store};
 use std::alloc::Global;
 use std::process::Abort;
 use std::test::Fail;

@@ -1,8 +1,10 @@
+//! Sources of each production, sources that are refused, and what the nodes of a tree count.
+
 ghost use Rattle.std.specs.Prelude.{◌≤◌, length};
 
-use super::*;
 use clu_base::Place;
 use clu_lexer::lex;
+use clu_parser::{ParseError, parse};
 use clu_tree::Tree;
 use std::alloc::Global;
 use std::test::Fail;
@@ -117,6 +119,45 @@ fn refuses_what_is_too_deep(rt: HostRuntime) -> Result<(), Fail> {
                 _ => None,
             };
             assert_eq!(rt; found, deep, "{times} of {middle:?}");
+        }
+    }
+    Ok(())
+}
+
+/// Each literal with what `p = proc () s := LITERAL end p` counts: the file and its module 1 each, the routine with its
+/// second name 2, the assignment 1, and the literal 1 with one more for each whole 64 bytes that it denotes.
+const COUNTS: [(&[u8], u32); 5] = [
+    (b"\"\"", 6),
+    (
+        b"\"0123456789012345678901234567890123456789012345678901234567890123\"",
+        7,
+    ),
+    (
+        b"\"\\t12345678901234567890123456789012345678901234567890123456789012\"",
+        6,
+    ),
+    (
+        b"\"\\\"\\101\\\\3456789012345678901234567890123456789012345678901234567890123\"",
+        7,
+    ),
+    (b"'a'", 6),
+];
+
+#[test]
+fn counts_whole_64_bytes_of_a_string(rt: HostRuntime) -> Result<(), Fail> {
+    for (literal, count) in COUNTS {
+        let mut source = b"p = proc () s := ".to_vec(rt.alloc())?;
+        source.extend_from_slice(literal)?;
+        source.extend_from_slice(b" end p")?;
+        if source.len() <= 1_048_576 {
+            let tree = read(rt.alloc(), source.as_slice())?;
+            let root = tree.len().saturating_sub(1);
+            let found = if root < tree.len() {
+                tree.nodes(root)
+            } else {
+                0
+            };
+            assert_eq!(rt; found, count, "{literal:?}");
         }
     }
     Ok(())

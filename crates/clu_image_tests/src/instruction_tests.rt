@@ -3,9 +3,7 @@
 
 ghost use Rattle.std.specs.Prelude.{◌≡◌, ◌<◌};
 
-use crate::op::Op;
-use crate::reg::Reg;
-use crate::{Image, Instr, decode, encode};
+use rv_isa::{Image, Instr, Op, Reg, decode, encode};
 use std::process::Abort;
 use std::test::Fail;
 
@@ -16,12 +14,22 @@ fn row(rt: &impl Abort, word: u32, instr: Instr) {
     assert_eq!(rt; encode(instr), word);
 }
 
+/// The register of the number.
+fn register(number: u8) -> Reg
+    requires { number < 32 }
+{
+    match Reg::new(number) {
+        Some(register) => register,
+        None => unreachable!(),
+    }
+}
+
 fn upper(op: Op, rd: u8, imm: i32) -> Instr
     requires { rd < 32 }
 {
     Instr::Upper {
         op,
-        rd: Reg::of(rd),
+        rd: register(rd),
         imm,
     }
 }
@@ -30,7 +38,7 @@ fn jal(rd: u8, imm: i32) -> Instr
     requires { rd < 32 }
 {
     Instr::Jal {
-        rd: Reg::of(rd),
+        rd: register(rd),
         imm,
     }
 }
@@ -40,8 +48,8 @@ fn jalr(rd: u8, rs1: u8, imm: i32) -> Instr
     requires rs1 { rs1 < 32 }
 {
     Instr::Jalr {
-        rd: Reg::of(rd),
-        rs1: Reg::of(rs1),
+        rd: register(rd),
+        rs1: register(rs1),
         imm,
     }
 }
@@ -51,8 +59,8 @@ fn fence(rd: u8, rs1: u8, imm: i32) -> Instr
     requires rs1 { rs1 < 32 }
 {
     Instr::Fence {
-        rd: Reg::of(rd),
-        rs1: Reg::of(rs1),
+        rd: register(rd),
+        rs1: register(rs1),
         imm,
     }
 }
@@ -63,8 +71,8 @@ fn branch(op: Op, rs1: u8, rs2: u8, imm: i32) -> Instr
 {
     Instr::Branch {
         op,
-        rs1: Reg::of(rs1),
-        rs2: Reg::of(rs2),
+        rs1: register(rs1),
+        rs2: register(rs2),
         imm,
     }
 }
@@ -75,8 +83,8 @@ fn load(op: Op, rd: u8, rs1: u8, imm: i32) -> Instr
 {
     Instr::Load {
         op,
-        rd: Reg::of(rd),
-        rs1: Reg::of(rs1),
+        rd: register(rd),
+        rs1: register(rs1),
         imm,
     }
 }
@@ -87,8 +95,8 @@ fn save(op: Op, rs1: u8, rs2: u8, imm: i32) -> Instr
 {
     Instr::Save {
         op,
-        rs1: Reg::of(rs1),
-        rs2: Reg::of(rs2),
+        rs1: register(rs1),
+        rs2: register(rs2),
         imm,
     }
 }
@@ -99,8 +107,8 @@ fn imm(op: Op, rd: u8, rs1: u8, imm: i32) -> Instr
 {
     Instr::Imm {
         op,
-        rd: Reg::of(rd),
-        rs1: Reg::of(rs1),
+        rd: register(rd),
+        rs1: register(rs1),
         imm,
     }
 }
@@ -112,9 +120,9 @@ fn three(op: Op, rd: u8, rs1: u8, rs2: u8) -> Instr
 {
     Instr::Three {
         op,
-        rd: Reg::of(rd),
-        rs1: Reg::of(rs1),
-        rs2: Reg::of(rs2),
+        rd: register(rd),
+        rs1: register(rs1),
+        rs2: register(rs2),
     }
 }
 

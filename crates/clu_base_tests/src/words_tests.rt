@@ -1,4 +1,6 @@
-use crate::{Command, WordsError, read_command};
+//! Words that are a command, words that are none, and what a command is told.
+
+use clu_words::{Command, WordsError, read_command};
 use std::alloc::Global;
 use std::test::Fail;
 

@@ -1,7 +1,7 @@
 //! The line of each mnemonic, by the words that an assembler of another project (llvm-mc) writes; texts that
 //! are refused, each with its place; a text cut after each byte and with each byte changed.
 
-use crate::{asm_line, asm_text, read_asm};
+use clu_asm::{asm_line, asm_text, read_asm};
 use clu_base::FormatError;
 use std::alloc::Global;
 use std::process::Abort;
