@@ -91,7 +91,7 @@ unfolding named name_of op_name
 op_again op.Lui = refl
 op_again _ = refl
 
-named_again : (m : Mnemonic) → named (name_of m) ≡ Some m
+pub named_again : (m : Mnemonic) → named (name_of m) ≡ Some m
 unfolding named name_of op_name
 named_again (mnemonic.Table o) = op_again o
 named_again mnemonic.Jal = refl
@@ -110,12 +110,12 @@ guessed_with m text =
 
 -- ---- forms
 
-upper_form : (o : Op) (rd : ℕ) (imm : ℤ) → IsValid (Upper o rd imm) → op_form o ≡ form.Upper
+pub upper_form : (o : Op) (rd : ℕ) (imm : ℤ) → IsValid (Upper o rd imm) → op_form o ≡ form.Upper
 upper_form op.Lui rd imm h = refl
 upper_form op.Auipc rd imm h = refl
 upper_form _ rd imm h = absurd (cc (h.0))
 
-branch_form : (o : Op) (rs1 rs2 : ℕ) (imm : ℤ) → IsValid (Branch o rs1 rs2 imm) → op_form o ≡ form.Branch
+pub branch_form : (o : Op) (rs1 rs2 : ℕ) (imm : ℤ) → IsValid (Branch o rs1 rs2 imm) → op_form o ≡ form.Branch
 branch_form op.Beq rs1 rs2 imm h = refl
 branch_form op.Bne rs1 rs2 imm h = refl
 branch_form op.Blt rs1 rs2 imm h = refl
@@ -124,7 +124,7 @@ branch_form op.Bltu rs1 rs2 imm h = refl
 branch_form op.Bgeu rs1 rs2 imm h = refl
 branch_form _ rs1 rs2 imm h = absurd (cc (h.0))
 
-load_form : (o : Op) (rd rs1 : ℕ) (imm : ℤ) → IsValid (Load o rd rs1 imm) → op_form o ≡ form.Load
+pub load_form : (o : Op) (rd rs1 : ℕ) (imm : ℤ) → IsValid (Load o rd rs1 imm) → op_form o ≡ form.Load
 load_form op.Lb rd rs1 imm h = refl
 load_form op.Lh rd rs1 imm h = refl
 load_form op.Lw rd rs1 imm h = refl
@@ -134,14 +134,14 @@ load_form op.Lhu rd rs1 imm h = refl
 load_form op.Lwu rd rs1 imm h = refl
 load_form _ rd rs1 imm h = absurd (cc (h.0))
 
-save_form : (o : Op) (rs1 rs2 : ℕ) (imm : ℤ) → IsValid (Save o rs1 rs2 imm) → op_form o ≡ form.Save
+pub save_form : (o : Op) (rs1 rs2 : ℕ) (imm : ℤ) → IsValid (Save o rs1 rs2 imm) → op_form o ≡ form.Save
 save_form op.Sb rs1 rs2 imm h = refl
 save_form op.Sh rs1 rs2 imm h = refl
 save_form op.Sw rs1 rs2 imm h = refl
 save_form op.Sd rs1 rs2 imm h = refl
 save_form _ rs1 rs2 imm h = absurd (cc (h.0))
 
-three_form : (o : Op) (rd rs1 rs2 : ℕ) → IsValid (Three o rd rs1 rs2) → op_form o ≡ form.Three
+pub three_form : (o : Op) (rd rs1 rs2 : ℕ) → IsValid (Three o rd rs1 rs2) → op_form o ≡ form.Three
 three_form op.Add rd rs1 rs2 h = refl
 three_form op.Sub rd rs1 rs2 h = refl
 three_form op.Sll rd rs1 rs2 h = refl

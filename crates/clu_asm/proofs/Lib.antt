@@ -6,3 +6,12 @@ pub mod HexTexts
 pub mod CandidateLemmas
 pub mod LineLemmas
 pub mod Unique
+pub mod FrontLemmas
+pub mod WordLemmas
+pub mod DigitLemmas
+pub mod OperandLemmas
+pub mod CutLemmas
+pub mod EntryLemmas
+pub mod ImageLemmas
+pub mod StopLemmas
+pub mod FaultLemmas

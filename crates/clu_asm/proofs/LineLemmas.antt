@@ -22,7 +22,7 @@ use Rattle.clu_asm.proofs.PlaceLemmas.{place_after, before_is, after_is, free_ni
 use Rattle.clu_asm.proofs.GuessLemmas.{free_decimal, free_signed, free_register, code_cases, within_small, amount_small, fits_small}
 use Rattle.clu_asm.proofs.HexTexts.{sized_again, bytes_from, word_bytes}
 
-line_is : (text rest : List ℕ) → line text ++ rest ≡ text ++ 10 ∷ rest
+pub line_is : (text rest : List ℕ) → line text ++ rest ≡ text ++ 10 ∷ rest
 line_is text rest = append_assoc text (10 ∷ []) rest
 
 -- the first lines of equal texts are equal, and so is what follows them

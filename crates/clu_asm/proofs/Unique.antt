@@ -76,7 +76,7 @@ codes_same (v ∷ c) (w ∷ d) r s h g stop end e =
 
 -- ---- rows
 
-bytes_take : (xs : List ℕ) → 8 ≤ length xs → AreBytes xs → AreBytes (take 8 xs)
+pub bytes_take : (xs : List ℕ) → 8 ≤ length xs → AreBytes xs → AreBytes (take 8 xs)
 bytes_take xs long h = All-take (λ n. n < 2 ^ 8) 8 xs h
 
 bytes_drop : (xs : List ℕ) → AreBytes xs → AreBytes (drop 8 xs)
@@ -121,7 +121,7 @@ rows_same (suc n) (suc k) word xs ys r s f a b h g stop end e =
 
 -- ---- where the parts of a text end
 
-data_first : (n : ℕ) (area : List ℕ) → (some_row_lines n data_word area ≡ []) ⊎ ((rest : List ℕ) × (some_row_lines n data_word area ≡ 100 ∷ rest))
+pub data_first : (n : ℕ) (area : List ℕ) → (some_row_lines n data_word area ≡ []) ⊎ ((rest : List ℕ) × (some_row_lines n data_word area ≡ 100 ∷ rest))
 data_first zero area = inl (none_of data_word area)
 data_first (suc n) area = inr (_, first_of n data_word area)
 
@@ -135,11 +135,11 @@ fixed_ends area row x eight are e = elim (data_first (length area / 8) area) [
 data_ends : NoRow data_word []
 data_ends row x eight are e = absurd (cc (e))
 
-fixed_unread : (digits : List ℕ) → guessed (codes "fixed " ++ digits) ≡ None
+pub fixed_unread : (digits : List ℕ) → guessed (codes "fixed " ++ digits) ≡ None
 unfolding guessed named place name_of op_name
 fixed_unread digits = refl
 
-data_unread : (digits : List ℕ) → guessed (codes "data " ++ digits) ≡ None
+pub data_unread : (digits : List ℕ) → guessed (codes "data " ++ digits) ≡ None
 unfolding guessed named place name_of op_name
 data_unread digits = refl
 
@@ -155,7 +155,7 @@ no_code text b rest unread first other w lt e = elim (code_cases w lt) [
       absurd (other (sym letter))
 ]
 
-rows_no_code : (word : List ℕ) (b : ℕ) (more : List ℕ) → word ≡ b ∷ more → b ≢ 119 → place 10 word ≡ length word → ((digits : List ℕ) → guessed (word ++ digits) ≡ None)
+pub rows_no_code : (word : List ℕ) (b : ℕ) (more : List ℕ) → word ≡ b ∷ more → b ≢ 119 → place 10 word ≡ length word → ((digits : List ℕ) → guessed (word ++ digits) ≡ None)
     → (row y : List ℕ) → AreBytes row → NoCode (row_line word row ++ y)
 rows_no_code word b more begins other f unread row y are w x lt e =
     let same = cancel (word ++ encode_lower row) (code_text w) y x (row_free word row f are) (code_free w lt) e in
@@ -179,10 +179,10 @@ codes_end (suc n) k fixed area e f are of =
     rw (first_of n fixed_word fixed, append_assoc)
     (rows_no_code fixed_word 102 (codes "ixed ") refl (λ h. absurd (omega (arith, h))) fixed_free fixed_unread (take 8 fixed) (some_row_lines n fixed_word (drop 8 fixed) ++ some_row_lines k data_word area) (bytes_take fixed long are))
 
-eights : (xs : List ℕ) → length xs % 8 ≡ 0 → length xs ≡ 8 * (length xs / 8)
+pub eights : (xs : List ℕ) → length xs % 8 ≡ 0 → length xs ≡ 8 * (length xs / 8)
 eights xs e = omega (arith, e)
 
-regroup_text : (a b c d : List ℕ) → a ++ b ++ c ++ d ≡ a ++ (b ++ (c ++ d))
+pub regroup_text : (a b c d : List ℕ) → a ++ b ++ c ++ d ≡ a ++ (b ++ (c ++ d))
 regroup_text a b c d = simp append_assoc
 
 -- what the lines of a text come to

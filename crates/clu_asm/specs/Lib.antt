@@ -3,3 +3,5 @@ pub mod AssemblyText
 pub mod Places
 pub mod Candidates
 pub mod Lines
+pub mod Faults
+pub mod CutLines

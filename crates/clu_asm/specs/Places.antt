@@ -1,6 +1,6 @@
 -- Where a byte first stands in a text, and the parts of the text before and after it.
 
-use Rattle.std.specs.Prelude.{◌≡◌, ℕ, suc, ◌+◌, ◌==◌, if◌then◌else◌, List, [], ◌∷◌, take, drop, length}
+use Rattle.std.specs.Prelude.{◌≡◌, ℕ, suc, ◌+◌, ◌==◌, if◌then◌else◌, List, [], ◌∷◌, ◌++◌, take, drop, length}
 
 -- how many bytes stand before the first such byte
 unfoldable pub place : ℕ → List ℕ → ℕ
@@ -16,3 +16,7 @@ after mark text = drop (place mark text + 1) text
 -- no such byte stands in the text
 abbrev pub IsFree : ℕ → List ℕ → Type 0
 IsFree mark text = place mark text ≡ length text
+
+-- the text begins so
+abbrev pub IsFront : List ℕ → List ℕ → Type 0
+IsFront front text = (rest : List ℕ) × (text ≡ front ++ rest)

@@ -1,6 +1,6 @@
 //! Where a byte first stands in a text, and the parts of the text before and after it.
 
-ghost use Rattle.std.specs.Prelude.{◌≡◌, ◌≢◌, ◌≤◌, ◌++◌, ℕ, List, length, IfSome, IfNone, MatchOption};
+ghost use Rattle.std.specs.Prelude.{◌≡◌, ◌≢◌, ◌≤◌, ◌++◌, ◌↔◌, ℕ, List, length, IfSome, IfNone, IsTrue, MatchOption};
 ghost use Rattle.clu_asm.specs.Places as places;
 ghost use Rattle.clu_asm.specs.AssemblyText.{line as line_of};
 
@@ -51,4 +51,11 @@ pub(crate) fn after<'a>(text: &'a [u8], word: &[u8]) -> Option<&'a [u8]>
     ensures { MatchOption result ((rest : List ℕ) → text.now ≢ word.now ++ rest) (λ rest. text.now ≡ word.now ++ rest.now) }
 {
     text.strip_prefix(word)
+}
+
+/// Whether the text begins so.
+pub(crate) fn is_front(cut: &[u8], text: &[u8]) -> bool
+    ensures { IsTrue result ↔ places.IsFront cut.now text.now }
+{
+    text.starts_with(cut)
 }

@@ -1,15 +1,17 @@
 //! From assembly text to images.
 
-ghost use Rattle.std.specs.Prelude.{◌≡◌, ◌++◌, ◌+◌, ◌⊎◌, pos, codes, decimal, ◌%◌, ◌≤◌, ◌<◌, [], length, flat_map, vec_len, ℕ, Some, IfSome, IfOk, MatchResult};
+ghost use Rattle.std.specs.Prelude.{◌≡◌, ◌++◌, ◌+◌, ◌-◌, ◌⊎◌, ◌↔◌, pos, codes, decimal, ◌%◌, ◌≤◌, ◌<◌, [], length, flat_map, vec_len, ℕ, Some, IfSome, IfOk, IfErr, IsTrue, MatchResult};
 ghost use Rattle.rv_isa.specs.Image.{AreBytes, AreWords, Contents, max_words, max_bytes, contents, IsImage};
 ghost use Rattle.clu_asm.specs.AssemblyText as asm;
+ghost use Rattle.clu_asm.specs.CutLines.{CodeBegins, DigitsBegin, EntryBegins, LineBegins};
+ghost use Rattle.clu_asm.specs.Faults.{IsFault, IsFaultAt};
 ghost use Rattle.clu_asm.specs.Lines.{NoCode, NoRow};
 ghost use Rattle.clu_asm.specs.Places.{IsFree};
 
 use crate::candidates::code_word;
 use crate::cut_lines::begins_code;
 use crate::operands::number;
-use crate::places::{after, first_line};
+use crate::places::{after, first_line, is_front};
 use crate::rows::{begins_row, row};
 use clu_base::{FormatError, Memory};
 use rv_isa::Image;
@@ -21,6 +23,7 @@ use std::alloc::Global;
 pub fn read_asm(alloc: Global, b: &[u8]) -> Result<Image, FormatError>
     ensures text { IfOk result (λ i. b.now ≡ asm.asm_text i) }
     ensures every_text { (i : Contents) → IsImage i → b.now ≡ asm.asm_text i → MatchResult result (λ j. j ≡ i) (λ e. e ≡ FormatError.Memory) }
+    ensures place { IfErr result (λ e. IsFault e b.now) }
 {
     match first_line(b) {
         Some((text, rest)) => match entry(text) {
@@ -60,20 +63,31 @@ fn entry_number(n: i32) -> Option<u32>
 }
 
 /// Where bytes without a byte 10 are refused.
-fn cut_entry(b: &[u8]) -> u64 {
-    if b"entry ".starts_with(b) || entry(b).is_some() {
-        b.len() as u64
+fn cut_entry(b: &[u8]) -> u64
+    requires { IsFree 10 b.now }
+    ensures { IsFaultAt result b.now }
+{
+    if begins_entry(b) { b.len() as u64 } else { 0 }
+}
+
+/// Whether the first line can begin so.
+fn begins_entry(cut: &[u8]) -> bool
+    ensures { IsTrue result ↔ EntryBegins cut.now }
+{
+    if is_front(cut, b"entry ") {
+        true
     } else {
-        0
+        entry(cut).is_some()
     }
 }
 
 /// The image whose entry was read, from the lines after it; `end` is the length of the whole text.
 fn read_parts(alloc: Global, entry: u32, b: &[u8], end: usize) -> Result<Image, FormatError>
     requires entry { entry < max_words }
-    requires end { length b.now ≤ end }
+    requires end { end ≡ length (asm.entry_line entry ++ b.now) }
     ensures text { IfOk result (λ i. asm.entry_line entry ++ b.now ≡ asm.asm_text i) }
     ensures every_text { (i : Contents) → IsImage i → asm.entry_line entry ++ b.now ≡ asm.asm_text i → MatchResult result (λ j. j ≡ i) (λ e. e ≡ FormatError.Memory) }
+    ensures place { IfErr result (λ e. IsFault e (asm.entry_line entry ++ b.now)) }
 {
     let mut code = Vec::new(alloc);
     let mut fixed = Vec::new(alloc);
@@ -178,32 +192,81 @@ impl Next {
     /// What can come after so many code words and these bytes; `room` as for these.
     fn new(words: usize, fixed: &[u8], area: &[u8], room: usize) -> Next
         requires { length fixed.now + length area.now ≤ room }
-        ensures fixed { AreBytes fixed.now }
-        ensures area { AreBytes area.now }
+        ensures fixed_bytes { AreBytes fixed.now }
+        ensures area_bytes { AreBytes area.now }
+        ensures code { IsTrue result.code ↔ ((words < max_words) × (length fixed.now + length area.now ≡ 0)) }
+        ensures fixed { IsTrue result.fixed ↔ ((length fixed.now + length area.now + 8 ≤ room) × (length area.now ≡ 0)) }
+        ensures area { IsTrue result.area ↔ (length fixed.now + length area.now + 8 ≤ room) }
     {
-        let left = room - fixed.len() - area.len();
+        let rows = fixed.len() + area.len();
+        let is_room = room - rows >= 8;
         Next {
-            code: words < Image::MAX_WORDS && fixed.is_empty() && area.is_empty(),
-            fixed: left >= 8 && area.is_empty(),
-            area: left >= 8,
+            code: is_code_next(words, rows),
+            fixed: is_fixed_next(is_room, area.len()),
+            area: is_room,
         }
     }
 
     /// Where a text of this length is refused that goes on with `rest`.
     fn fault(self, rest: &[u8], end: usize) -> u64
         requires { length rest.now ≤ end }
+        ensures { (IsFree 10 rest.now × LineBegins self.code self.fixed self.area rest.now × (result ≡ end))
+            ⊎ ((IsFree 10 rest.now → LineBegins self.code self.fixed self.area rest.now → ⊥) × (result ≡ end - length rest.now)) }
     {
-        if first_line(rest).is_none() && self.can_begin(rest) {
-            end as u64
-        } else {
-            (end - rest.len()) as u64
+        match first_line(rest) {
+            None => {
+                if self.can_begin(rest) {
+                    end as u64
+                } else {
+                    (end - rest.len()) as u64
+                }
+            }
+            Some(_) => (end - rest.len()) as u64,
         }
     }
 
     /// Whether a line that can come next can begin so.
-    fn can_begin(self, cut: &[u8]) -> bool {
-        self.code && begins_code(cut)
-            || self.fixed && begins_row(b"fixed ", 16, cut)
-            || self.area && begins_row(b"data ", 16, cut)
+    fn can_begin(self, cut: &[u8]) -> bool
+        ensures { IsTrue result ↔ LineBegins self.code self.fixed self.area cut.now }
+    {
+        if can_code_begin(self.code, cut) {
+            true
+        } else if can_row_begin(self.fixed, b"fixed ", cut) {
+            true
+        } else {
+            can_row_begin(self.area, b"data ", cut)
+        }
+    }
+}
+
+/// Whether a code word can come after so many, and so many bytes.
+fn is_code_next(words: usize, rows: usize) -> bool
+    ensures { IsTrue result ↔ ((words < max_words) × (rows ≡ 0)) }
+{
+    words < Image::MAX_WORDS && rows == 0
+}
+
+/// Whether a line of the fixed part can come, if there is room for a row, after so much data.
+fn is_fixed_next(is_room: bool, area: usize) -> bool
+    ensures { IsTrue result ↔ (IsTrue is_room × (area ≡ 0)) }
+{
+    is_room && area == 0
+}
+
+/// Whether a code word can come and can begin so.
+fn can_code_begin(can_come: bool, cut: &[u8]) -> bool
+    ensures { IsTrue result ↔ (IsTrue can_come × CodeBegins cut.now) }
+{
+    if can_come { begins_code(cut) } else { false }
+}
+
+/// Whether a line with this word and eight bytes can come and can begin so.
+fn can_row_begin(can_come: bool, word: &[u8], cut: &[u8]) -> bool
+    ensures { IsTrue result ↔ (IsTrue can_come × DigitsBegin word.now 16 cut.now) }
+{
+    if can_come {
+        begins_row(word, 16, cut)
+    } else {
+        false
     }
 }

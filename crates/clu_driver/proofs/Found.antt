@@ -1,5 +1,5 @@
 -- What holds of the content that was read holds of the file.
-use Rattle.std.proofs.Common.{◌≡◌, ◌≤◌, ◌<◌, ◌+◌, ◌∙◌, ap, sym, inr, subst, arith, length, take, List, All, ℕ, IfErr, IfOk, Option, Some, None, Result, Ok, Err, min}
+use Rattle.std.proofs.Common.{◌≡◌, ◌≢◌, ◌≤◌, ◌<◌, ◌+◌, ◌∙◌, ap, sym, inr, subst, arith, length, take, List, All, ℕ, IfErr, IfOk, Option, Some, None, Result, Ok, Err, min}
 use Rattle.std.proofs.lemmas.List.{length-take, take_all}
 use Rattle.clu_base.specs.Outside.{Files}
 use Rattle.clu_rules.specs.Rules.{IsClosedAt}
@@ -14,9 +14,10 @@ use Rattle.clu_parser.specs.declared.errors.ParseError.TheVariants as parse
 use Rattle.clu_tree.specs.Nodes.{modules}
 use Rattle.clu_tree.specs.declared.node.Node.{Node}
 use Rattle.clu_words.specs.Command.{Limits}
-use Rattle.rv_isa.specs.Image.{Contents}
+use Rattle.rv_isa.specs.Image.{Contents, IsImage}
 use Rattle.clu_asm.specs.AssemblyText.{asm_text}
-use Rattle.clu_driver.specs.Commands.{AsmShows, AssembledShows, GoShows, IsNoText, PutShows}
+use Rattle.clu_asm.specs.Faults.{IsFault}
+use Rattle.clu_driver.specs.Commands.{AsmShows, AssembledShows, GoShows, IsBadText, PutShows}
 use Rattle.clu_driver.specs.Puts.{NotPut}
 use Rattle.clu_driver.specs.Found.{IsFound}
 use Rattle.clu_driver.specs.Sources.{IsAccepted, IsParsed, IsRefusedBy, IsSource, NotCompiled, NotMade, NotParsed, NotSource}
@@ -62,9 +63,11 @@ pub found_with : (P : List ℕ → Type 0) (files : Option Files) (name bytes : 
 found_with P None name bytes found p = tt
 found_with P (Some all) name bytes found p = (found.0, found.1, subst P (sym found.2) p)
 
--- bytes that were refused are no text, nor is the file's content
-pub no_text_found : (files : Option Files) (name bytes : List ℕ) → IsFound files name (λ b. b ≡ bytes) → IsNoText bytes → IsFound files name IsNoText
-no_text_found files name bytes found none = found_with IsNoText files name bytes found none
+-- bytes that were refused are no text, nor is the file's content, and the fault is where it was reported
+pub bad_text_found : (files : Option Files) (name bytes : List ℕ) (at : ℕ) (e : FormatError) → IsFound files name (λ b. b ≡ bytes) → e ≡ Bad at → IsFault e bytes
+    → ((image : Contents) → IsImage image → bytes ≢ asm_text image) → IsFound files name (IsBadText at)
+bad_text_found files name bytes at e found is fault none =
+    let P : FormatError → Type 0 = λ f. IsFault f bytes in found_with (IsBadText at) files name bytes found (subst P is fault, none)
 
 -- a file that was parsed to this tree, which the check accepted, is accepted
 pub found_accepted : (files : Option Files) (name bytes : List ℕ) (tokens : List Token) (nodes : List Node) → IsFound files name (λ b. b ≡ bytes) → IsSource bytes tokens nodes → All (IsClosedAt nodes) (modules nodes) → IsFound files name IsAccepted

@@ -3,6 +3,7 @@ use Rattle.std.specs.Prelude.{◌≡◌, ◌≢◌, ◌≤◌, ◌⊎◌, ℕ, L
 use Rattle.clu_base.specs.Outside.{Files, GrewWithin, Rose, appended}
 use Rattle.clu_base.specs.declared.tokens.Token.{Token}
 use Rattle.clu_asm.specs.AssemblyText.{asm_text}
+use Rattle.clu_asm.specs.Faults.{IsFaultAt}
 use Rattle.clu_image.specs.Faults.{fault_of}
 use Rattle.clu_image.specs.ImageFile.{IsFileOf, image_bytes}
 use Rattle.clu_printer.specs.Printed.{printed}
@@ -85,13 +86,13 @@ ListShows how name files store_faults written faults files' store_faults' writte
     (files' ≡ files)
     × ((NotLoaded how name files store_faults store_faults' × (written' ≡ written)) ⊎ ListingShows how name files written faults written' faults')
 
--- the bytes are the assembly text of no image
-abbrev pub IsNoText : List ℕ → Type 0
-IsNoText bytes = (image : Contents) → IsImage image → bytes ≢ asm_text image
+-- the bytes are the assembly text of no image, with the fault at this place
+abbrev pub IsBadText : ℕ → List ℕ → Type 0
+IsBadText at bytes = IsFaultAt at bytes × ((image : Contents) → IsImage image → bytes ≢ asm_text image)
 
 -- why no image was read: the file was not read, or its bytes are no assembly text
 abbrev pub NotAssembled : Outcome → List ℕ → Option Files → ℕ → ℕ → Type 0
-NotAssembled (outcome.AsmBad at) name files faults faults' = IsFound files name IsNoText
+NotAssembled (outcome.AsmBad at) name files faults faults' = IsFound files name (IsBadText at)
 NotAssembled how name files faults faults' = NotRead how name files faults faults'
 
 -- an image was put, or why it was not
