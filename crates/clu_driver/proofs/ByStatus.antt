@@ -13,11 +13,11 @@ use Rattle.clu_driver.specs.Commands.{CluShows, CommandShows, GenShows, IsRefusa
 use Rattle.clu_driver.specs.Puts.{NotPut}
 use Rattle.clu_driver.specs.Shows.{Reported, RunShows, TextShows}
 use Rattle.clu_driver.specs.Libraries.{CompileShows, CompiledShows, EnteredShows, LibraryShows, LinkShows, LinkedShows, NotGathered, NotLibrary, SpecifiedShows, SpecifyShows}
-use Rattle.clu_driver.specs.Outcome.{IsTold, line_of, status_of, text_of}
+use Rattle.clu_outcome.specs.Outcome.{IsTold, line_of, status_of, text_of}
 use Rattle.clu_driver.specs.Sources.{NotCompiled}
 use Rattle.clu_driver.specs.World.{Streams, World}
-use Rattle.clu_driver.specs.declared.outcome.Outcome.{Outcome}
-use Rattle.clu_driver.specs.declared.outcome.Outcome.TheVariants as outcome
+use Rattle.clu_outcome.specs.declared.outcome.Outcome.{Outcome}
+use Rattle.clu_outcome.specs.declared.outcome.Outcome.TheVariants as outcome
 
 -- Usage is the one outcome of its status
 usage_of : (how : Outcome) → status_of how ≡ 2 → how ≡ outcome.Usage

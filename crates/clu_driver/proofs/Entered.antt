@@ -11,8 +11,8 @@ use Rattle.clu_driver.specs.Libraries.{CompileShows, CompiledShows, IsUnreadable
 use Rattle.clu_driver.specs.Refusals.{IsNamed, IsRefusalBy}
 use Rattle.clu_driver.specs.Shows.{Reported}
 use Rattle.clu_driver.specs.Sources.{IsParsed, IsSource, NotGot, NotParsed, NotSource}
-use Rattle.clu_driver.specs.declared.outcome.Outcome.{Outcome}
-use Rattle.clu_driver.specs.declared.outcome.Outcome.TheVariants as outcome
+use Rattle.clu_outcome.specs.declared.outcome.Outcome.{Outcome}
+use Rattle.clu_outcome.specs.declared.outcome.Outcome.TheVariants as outcome
 use Rattle.clu_driver.proofs.Found.{found_with, not_parsed}
 
 -- a source whose content was not got is not parsed

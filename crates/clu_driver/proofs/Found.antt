@@ -22,8 +22,8 @@ use Rattle.clu_driver.specs.Puts.{NotPut}
 use Rattle.clu_driver.specs.Found.{IsFound}
 use Rattle.clu_driver.specs.Sources.{IsAccepted, IsParsed, IsRefusedBy, IsSource, NotCompiled, NotMade, NotParsed, NotSource}
 use Rattle.clu_driver.specs.World.{Streams, World, world_of}
-use Rattle.clu_driver.specs.declared.outcome.Outcome.{Outcome}
-use Rattle.clu_driver.specs.declared.outcome.Outcome.TheVariants as outcome
+use Rattle.clu_outcome.specs.declared.outcome.Outcome.{Outcome}
+use Rattle.clu_outcome.specs.declared.outcome.Outcome.TheVariants as outcome
 use Rattle.clu_driver.specs.declared.sources.Parsed.{Parsed}
 
 pub fault_found : (files : Option Files) (name bytes : List ℕ) (at : ℕ) → IsFound files name (λ b. b ≡ bytes) → fault_of bytes ≡ Some at → IsFound files name (λ b. fault_of b ≡ Some at)

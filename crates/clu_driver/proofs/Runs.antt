@@ -13,8 +13,8 @@ use Rattle.rv_machine.specs.declared.ending.Ending.TheVariants as ending
 use Rattle.clu_driver.specs.Shows.{EndsAs, HasFaultOf, HasText, OutcomeOf, Ran, RunShows, sizes_of}
 use Rattle.clu_driver.proofs.FailureText.{ended_with_text}
 use Rattle.clu_driver.specs.World.{Streams}
-use Rattle.clu_driver.specs.declared.outcome.Outcome.{Outcome}
-use Rattle.clu_driver.specs.declared.outcome.Outcome.TheVariants as outcome
+use Rattle.clu_outcome.specs.declared.outcome.Outcome.{Outcome}
+use Rattle.clu_outcome.specs.declared.outcome.Outcome.TheVariants as outcome
 
 -- where the machine stands as the definition has it, the outcome holds of the definition
 ended_as : (how is : Outcome) (added : List ℕ) (meant : Configuration) → how ≡ is → EndsAs is added meant → EndsAs how added meant

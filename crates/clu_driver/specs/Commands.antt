@@ -18,8 +18,8 @@ use Rattle.clu_driver.specs.Puts.{IsPut, NotPut}
 use Rattle.clu_driver.specs.Shows.{RunShows, TextShows}
 use Rattle.clu_driver.specs.Sources.{IsAccepted, IsSource, NotCompiled, NotParsed}
 use Rattle.clu_driver.specs.World.{IsUnrun, IsUntouched, World, world_of}
-use Rattle.clu_driver.specs.declared.outcome.Outcome.{Outcome}
-use Rattle.clu_driver.specs.declared.outcome.Outcome.TheVariants as outcome
+use Rattle.clu_outcome.specs.declared.outcome.Outcome.{Outcome}
+use Rattle.clu_outcome.specs.declared.outcome.Outcome.TheVariants as outcome
 
 -- why an image file was not loaded: it was not read, or its bytes are no image
 abbrev pub NotLoaded : Outcome → List ℕ → Option Files → ℕ → ℕ → Type 0

@@ -1,8 +1,8 @@
 -- What a store shows of a file that a command reads.
 use Rattle.std.specs.Prelude.{◌≡◌, ℕ, List, Option, Some, None, IfSome}
 use Rattle.clu_base.specs.Outside.{Files, Rose}
-use Rattle.clu_driver.specs.declared.outcome.Outcome.{Outcome}
-use Rattle.clu_driver.specs.declared.outcome.Outcome.TheVariants as outcome
+use Rattle.clu_outcome.specs.declared.outcome.Outcome.{Outcome}
+use Rattle.clu_outcome.specs.declared.outcome.Outcome.TheVariants as outcome
 
 -- where files are told, the file of this name has content of which this holds
 abbrev pub IsFound : Option Files → List ℕ → (List ℕ → Type 0) → Type 0

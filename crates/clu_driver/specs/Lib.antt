@@ -2,7 +2,6 @@ pub mod Commands
 pub mod Found
 pub mod Generated
 pub mod Libraries
-pub mod Outcome
 pub mod Puts
 pub mod Refusals
 pub mod Shows

@@ -16,8 +16,8 @@ use Rattle.clu_driver.specs.Refusals.{IsOfEntry}
 use Rattle.clu_driver.specs.Shows.{RunShows, TextShows}
 use Rattle.clu_driver.specs.Sources.{IsParsed, NotAccepted, NotHeaded, NotParsed}
 use Rattle.clu_driver.specs.World.{IsUnrun, Streams, World}
-use Rattle.clu_driver.specs.declared.outcome.Outcome.{Outcome}
-use Rattle.clu_driver.specs.declared.outcome.Outcome.TheVariants as outcome
+use Rattle.clu_outcome.specs.declared.outcome.Outcome.{Outcome}
+use Rattle.clu_outcome.specs.declared.outcome.Outcome.TheVariants as outcome
 
 -- why bytes give no library
 abbrev pub IsUnreadable : Outcome → Type 0

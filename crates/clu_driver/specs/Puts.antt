@@ -1,8 +1,8 @@
 -- What stands under a name after a put.
 use Rattle.std.specs.Prelude.{◌≡◌, ℕ, List, Option, option_map}
 use Rattle.clu_base.specs.Outside.{Files, IsTorn, Rose, with_file}
-use Rattle.clu_driver.specs.declared.outcome.Outcome.{Outcome}
-use Rattle.clu_driver.specs.declared.outcome.Outcome.TheVariants as outcome
+use Rattle.clu_outcome.specs.declared.outcome.Outcome.{Outcome}
+use Rattle.clu_outcome.specs.declared.outcome.Outcome.TheVariants as outcome
 
 -- a file was put
 abbrev pub IsPut : List ℕ → List ℕ → Option Files → Option Files → Type 0

@@ -12,10 +12,10 @@ use Rattle.rv_machine.specs.Snapshot.{IsPrefix}
 use Rattle.rv_machine.specs.State.{State}
 use Rattle.rv_machine.specs.declared.ending.Ending.{Ending}
 use Rattle.rv_machine.specs.declared.ending.Ending.TheVariants as ending
-use Rattle.clu_driver.specs.Outcome.{IsTold}
+use Rattle.clu_outcome.specs.Outcome.{IsTold}
 use Rattle.clu_driver.specs.World.{Streams}
-use Rattle.clu_driver.specs.declared.outcome.Outcome.{Outcome}
-use Rattle.clu_driver.specs.declared.outcome.Outcome.TheVariants as outcome
+use Rattle.clu_outcome.specs.declared.outcome.Outcome.{Outcome}
+use Rattle.clu_outcome.specs.declared.outcome.Outcome.TheVariants as outcome
 
 -- the sizes of the regions by the limits
 abbrev pub sizes_of : Limits → Sizes

@@ -20,8 +20,8 @@ use Rattle.clu_tree.specs.Nodes.{modules}
 use Rattle.clu_tree.specs.declared.node.Node.{Node}
 use Rattle.clu_types.specs.declared.spec.Spec.{Spec}
 use Rattle.clu_driver.specs.Found.{IsFound, NotRead}
-use Rattle.clu_driver.specs.declared.outcome.Outcome.{Outcome}
-use Rattle.clu_driver.specs.declared.outcome.Outcome.TheVariants as outcome
+use Rattle.clu_outcome.specs.declared.outcome.Outcome.{Outcome}
+use Rattle.clu_outcome.specs.declared.outcome.Outcome.TheVariants as outcome
 
 -- the bytes are no more than a source may have and a file of the grammar: these are its tokens, and these nodes its tree
 pub record IsSource (bytes : List ℕ) (tokens : List Token) (nodes : List Node) : Type 0 where

@@ -8,9 +8,9 @@ ghost use Rattle.clu_driver.specs.Shows.{Reported};
 
 use crate::compiling::put_image;
 use crate::file::content;
-use crate::outcome::{Outcome, report};
 use clu_asm::read_asm;
 use clu_base::{FormatError, Sink, Store};
+use clu_outcome::{Outcome, report};
 use rv_isa::Image;
 use std::alloc::Global;
 

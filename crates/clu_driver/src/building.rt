@@ -6,13 +6,13 @@ ghost use Rattle.std.specs.Str.{bytes_eq};
 ghost use Rattle.clu_tree.specs.Nodes.{modules};
 ghost use Rattle.clu_driver.specs.Sources.{NotBuilt, start_in};
 
-use crate::outcome::Outcome;
 use crate::refusals::refusal_of_file;
 use clu_base::Bytes;
 use clu_build::{BuildError, Text, enter_file, own_specs};
 use clu_core::Checked;
 use clu_library::Library;
 use clu_link::{is_start, link};
+use clu_outcome::Outcome;
 use clu_types::Spec;
 use rv_isa::Image;
 use std::alloc::Global;

@@ -7,9 +7,9 @@ ghost use Rattle.clu_rules.specs.Rules.{IsClosedAt};
 ghost use Rattle.clu_tree.specs.Nodes.{modules};
 ghost use Rattle.clu_driver.specs.Sources.{IsRefusalOf, NotAccepted, NotHeaded};
 
-use crate::outcome::Outcome;
 use clu_check_mod::{CheckError, check, specs_of};
 use clu_core::Checked;
+use clu_outcome::Outcome;
 use clu_tree::Tree;
 use clu_types::{Spec, Specs};
 use std::alloc::Global;

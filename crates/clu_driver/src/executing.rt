@@ -9,10 +9,10 @@ ghost use Rattle.clu_driver.specs.Shows.{Reported};
 ghost use Rattle.clu_driver.specs.World.{streams_of, world_of};
 
 use crate::file::content;
-use crate::outcome::{Outcome, report};
 use crate::running::run;
 use clu_base::{FormatError, Sink, Source, Store};
 use clu_image::load;
+use clu_outcome::{Outcome, report};
 use clu_words::RunLimits;
 use rv_isa::Image;
 use std::alloc::Global;

@@ -4,8 +4,8 @@ ghost use Rattle.std.specs.Prelude.{◌≡◌, ◌≤◌, IfErr, IfOk, OnOk, tak
 ghost use Rattle.clu_driver.specs.Puts.{IsPut, NotPut};
 ghost use Rattle.clu_driver.specs.Found.{IsFound, NotHad, NotRead};
 
-use crate::outcome::Outcome;
 use clu_base::{Store, StoreError};
+use clu_outcome::Outcome;
 use std::alloc::Global;
 
 /// The content of a file. The outcomes are `NoFile`, `FileFault` and `Memory`.

@@ -7,10 +7,10 @@ ghost use Rattle.clu_driver.specs.Sources.{IsSource, NotSource};
 
 use crate::file::content_if_any;
 use crate::libraries::library_of;
-use crate::outcome::Outcome;
 use crate::sources::{Parsed, source, source_content};
 use clu_base::Store;
 use clu_library::Library;
+use clu_outcome::Outcome;
 use std::alloc::Global;
 
 /// A library and a source that is a file of the grammar.

@@ -6,8 +6,8 @@ ghost use Rattle.clu_driver.specs.Generated.{call_text, end_text, generated_text
 ghost use Rattle.clu_driver.specs.Commands.{GenShows};
 ghost use Rattle.clu_driver.specs.Shows.{Reported};
 
-use crate::outcome::{Outcome, report};
 use clu_base::{Failed, Sink, write_all};
+use clu_outcome::{Outcome, report};
 use itoa::Buffer;
 
 /// Writes the source with this many procedures and reports how that ended.

@@ -7,10 +7,10 @@ ghost use Rattle.clu_driver.specs.Shows.{Reported};
 ghost use Rattle.clu_driver.specs.World.{streams_of, world_of};
 
 use crate::libraries::library_in;
-use crate::outcome::{Outcome, report};
 use crate::running;
 use clu_base::{Bytes, Sink, Source, Store};
 use clu_library::Library;
+use clu_outcome::{Outcome, report};
 use clu_words::RunLimits;
 use std::alloc::Global;
 

@@ -14,7 +14,6 @@ mod launching;
 mod libraries;
 mod linking;
 mod listing;
-mod outcome;
 mod printing;
 mod referring;
 mod refusals;
@@ -24,5 +23,5 @@ mod sources;
 mod specifying;
 mod top;
 
-pub use crate::outcome::{Outcome, USAGE, report};
 pub use crate::top::clu;
+pub use clu_outcome::{Outcome, USAGE, report};

@@ -5,9 +5,9 @@ ghost use Rattle.clu_driver.specs.Libraries.{BytesShow, IsUnreadable, LibrarySho
 ghost use Rattle.clu_driver.specs.Shows.{Reported};
 
 use crate::file::{content_if_any, put};
-use crate::outcome::{Outcome, report};
 use clu_base::{FormatError, Sink, Store};
 use clu_library::Library;
+use clu_outcome::{Outcome, report};
 use std::alloc::Global;
 
 /// The library in a file. The outcomes are `FileFault`, `LibraryBad` and `Memory`.

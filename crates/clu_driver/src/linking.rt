@@ -8,11 +8,11 @@ ghost use Rattle.clu_driver.specs.Refusals.{IsNamed};
 ghost use Rattle.clu_driver.specs.Shows.{Reported};
 
 use crate::libraries::{library_in, put_library};
-use crate::outcome::report;
 use crate::refusals::refusal_of;
 use clu_base::{Bytes, Memory, Sink, Store};
 use clu_build::{BuildError, enter_program};
 use clu_library::Library;
+use clu_outcome::report;
 use std::alloc::Global;
 
 /// Links the program that starts with the module `start`, in lower case, and enters it into the library as `program`.

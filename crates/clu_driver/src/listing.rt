@@ -6,10 +6,10 @@ ghost use Rattle.clu_driver.specs.Found.{IsFound};
 ghost use Rattle.clu_driver.specs.Shows.{Reported};
 
 use crate::executing::loaded;
-use crate::outcome::{Outcome, report};
 use crate::printing::write_text;
 use clu_asm::asm_text;
 use clu_base::{Bytes, Sink, Store};
+use clu_outcome::{Outcome, report};
 use std::alloc::Global;
 
 /// Lists the image file `image`.

@@ -6,9 +6,9 @@ ghost use Rattle.clu_driver.specs.Shows.{Reported, TextShows};
 ghost use Rattle.clu_driver.specs.Found.{IsFound};
 ghost use Rattle.clu_driver.specs.Sources.{NotParsed};
 
-use crate::outcome::{Outcome, report};
 use crate::sources::parse_file;
 use clu_base::{Bytes, Failed, Sink, Store, write_all};
+use clu_outcome::{Outcome, report};
 use clu_printer::printed;
 use std::alloc::Global;
 

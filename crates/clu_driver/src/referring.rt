@@ -5,10 +5,10 @@ ghost use Rattle.clu_driver.specs.Libraries.{NotLibrary, XrefShows};
 ghost use Rattle.clu_driver.specs.Shows.{Reported};
 
 use crate::libraries::library_in;
-use crate::outcome::{Outcome, report};
 use crate::printing::write_text;
 use clu_base::{Sink, Store};
 use clu_build::cross_reference;
+use clu_outcome::{Outcome, report};
 use std::alloc::Global;
 
 /// Writes the cross-reference of the library `library`.

@@ -5,8 +5,8 @@ ghost use Rattle.clu_types.specs.declared.spec.Spec.{Spec};
 ghost use Rattle.clu_driver.specs.Refusals.{IsOfEntry, IsRefusalBy};
 ghost use Rattle.clu_driver.specs.Sources.{NotBuilt};
 
-use crate::outcome::Outcome;
 use clu_build::BuildError;
+use clu_outcome::Outcome;
 
 /// What it comes to for a command on a library.
 pub fn refusal_of<'a>(error: &'a BuildError) -> Outcome<'a>

@@ -6,8 +6,8 @@ ghost use Rattle.clu_words.specs.Command.{seen_limits};
 ghost use Rattle.clu_driver.specs.Shows.{HasText, OutcomeOf, Reported, RunShows};
 ghost use Rattle.clu_driver.specs.World.{streams_of};
 
-use crate::outcome::{Outcome, report};
 use clu_base::{Memory, Sink, Source};
+use clu_outcome::{Outcome, report};
 use clu_words::RunLimits;
 use rv_isa::Image;
 use rv_machine::{Ending, Limits, Machine};

@@ -7,13 +7,13 @@ ghost use Rattle.clu_driver.specs.Shows.{Reported};
 use crate::checking::checked;
 use crate::gathering::{Gathered, gather};
 use crate::libraries::put_library;
-use crate::outcome::report;
 use crate::refusals::refusal_of;
 use crate::sources::Parsed;
 use clu_base::{Sink, Store};
 use clu_build::{Text, enter_file};
 use clu_core::Checked;
 use clu_library::Library;
+use clu_outcome::report;
 use std::alloc::Global;
 
 /// Compiles the source `file` into the library `library`.

@@ -5,9 +5,9 @@ ghost use Rattle.clu_driver.specs.Found.{IsFound};
 ghost use Rattle.clu_driver.specs.Sources.{IsSource, NotGot, NotParsed, NotSource};
 
 use crate::file::first_content;
-use crate::outcome::Outcome;
 use clu_base::{Place, Refused, Rule, Store, Token};
 use clu_lexer::{LexError, lex};
+use clu_outcome::Outcome;
 use clu_parser::{ParseError, parse};
 use clu_tree::Tree;
 use std::alloc::Global;

@@ -7,11 +7,11 @@ ghost use Rattle.clu_driver.specs.Shows.{Reported};
 use crate::checking::headings;
 use crate::gathering::{Gathered, gather};
 use crate::libraries::put_library;
-use crate::outcome::report;
 use crate::refusals::refusal_of;
 use clu_base::{Sink, Store};
 use clu_build::{BuildError, enter_specs, replace_specs};
 use clu_library::Library;
+use clu_outcome::report;
 use clu_types::Spec;
 use std::alloc::Global;
 

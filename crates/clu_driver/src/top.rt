@@ -14,12 +14,12 @@ use crate::generating::generate;
 use crate::launching::run;
 use crate::linking::link;
 use crate::listing::list;
-use crate::outcome::{Outcome, report};
 use crate::printing::print;
 use crate::referring::refer;
 use crate::separate::compile;
 use crate::specifying::{Kept, specify};
 use clu_base::{Sink, Source, Store};
+use clu_outcome::{Outcome, report};
 use clu_words::{Command, WordsError, read_command};
 use std::alloc::Global;
 

@@ -2,7 +2,7 @@ use Rattle.std.proofs.Common.{◌≡◌, refl, rules, subst, sym, inl, inr}
 use Rattle.clu_parser.specs.declared.errors.ParseError.TheVariants as parse
 use Rattle.clu_driver.proofs.Found.{read_fault}
 use Rattle.clu_driver.specs.Sources.{NotSource}
-use Rattle.clu_driver.specs.declared.outcome.Outcome.{Outcome}
+use Rattle.clu_outcome.specs.declared.outcome.Outcome.{Outcome}
 use Rattle.clu_driver.proofs.sources.source.Goals as goal
 
 pub returns-in-Err-TooDeep-clause-refused : goal.returns-in-Err-TooDeep-clause-refused

@@ -9,10 +9,10 @@ use Rattle.clu_base.specs.declared.rules.Rule.{Rule}
 use Rattle.clu_base.specs.declared.tokens.Place.{Place}
 use Rattle.clu_build.specs.declared.errors.Difference.{Difference}
 use Rattle.clu_build.specs.declared.errors.StaleBody.{StaleBody}
-use Rattle.clu_driver.specs.declared.outcome.Mark.{Mark}
-use Rattle.clu_driver.specs.declared.outcome.Mark.TheVariants as mark
-use Rattle.clu_driver.specs.declared.outcome.Outcome.{Outcome}
-use Rattle.clu_driver.specs.declared.outcome.Outcome.TheVariants as outcome
+use Rattle.clu_outcome.specs.declared.lines.Mark.{Mark}
+use Rattle.clu_outcome.specs.declared.lines.Mark.TheVariants as mark
+use Rattle.clu_outcome.specs.declared.outcome.Outcome.{Outcome}
+use Rattle.clu_outcome.specs.declared.outcome.Outcome.TheVariants as outcome
 
 abbrev pub status_of : Outcome → ℕ
 status_of outcome.Done = 0
