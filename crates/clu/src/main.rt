@@ -3,8 +3,9 @@
 #![tactic(auto)]
 
 use clu_base::{Memory, Sink};
-use clu_driver::{Outcome, clu, report};
+use clu_driver::clu;
 use clu_host::{Disk, InputStream, OutputStream};
+use clu_outcome::{Outcome, report};
 use std::alloc::Global;
 use std::env;
 use std::io::ErrorKind;

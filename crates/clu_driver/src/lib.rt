@@ -24,4 +24,3 @@ mod specifying;
 mod top;
 
 pub use crate::top::clu;
-pub use clu_outcome::{Outcome, USAGE, report};
