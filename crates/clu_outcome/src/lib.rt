@@ -5,4 +5,4 @@ mod lines;
 mod outcome;
 
 pub use crate::lines::report;
-pub use crate::outcome::{Outcome, USAGE};
+pub use crate::outcome::Outcome;

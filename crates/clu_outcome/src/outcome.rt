@@ -168,4 +168,4 @@ impl Outcome<'_> {
 }
 
 /// The line of status 2.
-pub const USAGE: &str = "usage: clu go|spec|replace|compile|link|run|exec|gen|list|asm|print|xref";
+const USAGE: &str = "usage: clu go|spec|replace|compile|link|run|exec|gen|list|asm|print|xref";
