@@ -1,4 +1,6 @@
--- What the errors of the crates below come to, what entries do to a library, and the text of a cross-reference.
+-- What the errors of the crates below come to, what entries do to a library and why they are refused, and the text of a
+-- cross-reference.
 pub mod Errors
 pub mod Programs
 pub mod References
+pub mod Refusals

@@ -1,5 +1,8 @@
 //! What is kept of a module beside its specification: the text, the names of other modules in it, and the object.
 
+ghost use Rattle.std.specs.Prelude.{IfErr};
+ghost use Rattle.clu_build.specs.Refusals.{IsInner};
+
 use crate::errors::BuildError;
 use clu_base::{Bytes, Sequence, Token};
 use clu_core::Checked;
@@ -26,7 +29,9 @@ pub fn body_of(
     name: &Bytes,
     names: &[Bytes],
     source: &[u8],
-) -> Result<Body, BuildError> {
+) -> Result<Body, BuildError>
+    ensures refused { IfErr result IsInner }
+{
     Ok(Body {
         text: Bytes::from_slice(alloc, source)?,
         names: Some(copy_texts(alloc, names)?),
@@ -36,7 +41,9 @@ pub fn body_of(
 }
 
 /// The bytes of the source from a module's first token to its last.
-pub fn source_of<'a>(text: Text<'a>, c: &Checked, module: u32) -> Result<&'a [u8], BuildError> {
+pub fn source_of<'a>(text: Text<'a>, c: &Checked, module: u32) -> Result<&'a [u8], BuildError>
+    ensures refused { IfErr result IsInner }
+{
     if module >= c.tree.len() {
         return Err(BuildError::NotYet);
     }
@@ -49,7 +56,9 @@ pub fn source_of<'a>(text: Text<'a>, c: &Checked, module: u32) -> Result<&'a [u8
     }
 }
 
-fn between(bytes: &[u8], start: usize, end: usize) -> Result<&[u8], BuildError> {
+fn between(bytes: &[u8], start: usize, end: usize) -> Result<&[u8], BuildError>
+    ensures refused { IfErr result IsInner }
+{
     if start > end || end > bytes.len() {
         return Err(BuildError::NotYet);
     }
@@ -57,7 +66,9 @@ fn between(bytes: &[u8], start: usize, end: usize) -> Result<&[u8], BuildError> 
 }
 
 /// The code of a module. No contract shows yet that it is of the format of objects: it is tested.
-fn object_of(alloc: Global, c: &Checked, module: u32, name: &Bytes) -> Result<Object, BuildError> {
+fn object_of(alloc: Global, c: &Checked, module: u32, name: &Bytes) -> Result<Object, BuildError>
+    ensures refused { IfErr result IsInner }
+{
     let object = Object {
         module: name.copy(alloc)?,
         routines: Sequence::from_vec(routines_of(alloc, c, module)?),
@@ -69,7 +80,10 @@ fn object_of(alloc: Global, c: &Checked, module: u32, name: &Bytes) -> Result<Ob
     }
 }
 
-fn routines_of(alloc: Global, c: &Checked, module: u32) -> Result<Vec<ObjRoutine>, BuildError> {
+#[tactic(auto, using(crate::proofs::Refusals::bodies))]
+fn routines_of(alloc: Global, c: &Checked, module: u32) -> Result<Vec<ObjRoutine>, BuildError>
+    ensures refused { IfErr result IsInner }
+{
     let mut routines = Vec::new(alloc);
     for routine in lower(alloc, c, module)? {
         let mut regions = Regions::new(alloc);

@@ -3,7 +3,8 @@
 ghost use Rattle.std.specs.Prelude.{◌≡◌, IfErr, IfOk, OnErr, OnOk};
 ghost use Rattle.clu_library.specs.Contents.{spec_of};
 ghost use Rattle.clu_link.specs.Starts.{MayStart};
-ghost use Rattle.clu_build.specs.Programs.{IsCalled, IsLinked, IsStartRefusal};
+ghost use Rattle.clu_build.specs.Programs.{IsCalled, IsLinked};
+ghost use Rattle.clu_build.specs.Refusals.{IsOfProgram};
 
 use crate::errors::BuildError;
 use clu_base::{Bytes, Sequence};
@@ -13,7 +14,7 @@ use std::alloc::Global;
 
 /// Links the program that starts with the module `start` and enters it under a name of 1 to 200 bytes; a kept one of the
 /// name is replaced. Refused as by the linker, and then by `LibraryFull`.
-#[tactic(auto, using(crate::proofs::Starts::refusals))]
+#[tactic(auto, using(crate::proofs::Refusals::programs))]
 pub fn enter_program(
     alloc: Global,
     library: &mut Library,
@@ -22,13 +23,13 @@ pub fn enter_program(
 ) -> Result<(), BuildError>
     ensures entered { OnOk result (IsLinked library.old library.new name.now start.now) }
     ensures unchanged { OnErr result (library.new ≡ library.old) }
-    ensures refused { IfErr result (λ e. IsStartRefusal e start.now (spec_of library.old start.now)) }
+    ensures refused { IfErr result (λ e. IsOfProgram e start.now (spec_of library.old start.now)) }
 {
     let program = program_of(alloc, library, name, start)?;
     Ok(library.enter_program(Box::into_inner(program))?)
 }
 
-#[tactic(auto, using(crate::proofs::Starts::refusals))]
+#[tactic(auto, using(crate::proofs::Refusals::programs))]
 fn program_of(
     alloc: Global,
     library: &Library,
@@ -37,7 +38,7 @@ fn program_of(
 ) -> Result<Box<Program>, BuildError>
     ensures started { OnOk result (MayStart (spec_of library.now start.now)) }
     ensures called { IfOk result (λ p. IsCalled name.now start.now p.value) }
-    ensures refused { IfErr result (λ e. IsStartRefusal e start.now (spec_of library.now start.now)) }
+    ensures refused { IfErr result (λ e. IsOfProgram e start.now (spec_of library.now start.now)) }
 {
     let name = name.copy(alloc)?;
     let first = start.copy(alloc)?;

@@ -1,8 +1,9 @@
 //! Specifications of a file as entries of a library. What is entered is read from its own text, so that a library holds
 //! only what its file can hold.
 
-ghost use Rattle.std.specs.Prelude.{IfOk};
+ghost use Rattle.std.specs.Prelude.{◌≡◌, IfErr, IfOk};
 ghost use Rattle.clu_specs.specs.Specifications.{SpecHolds};
+ghost use Rattle.clu_build.specs.Refusals.{IsInner, IsOfEntries, IsOfKept, IsOfReplacement, IsOfRoom};
 
 use crate::errors::{BuildError, Difference};
 use clu_base::{Bytes, FormatError};
@@ -17,7 +18,10 @@ const MODULE_LIMIT: u32 = 4096;
 
 /// Enters specifications. First it is asked of each, in the order in which they are given, whether another one is kept of
 /// its module (`SpecDiffers`) and whether there is room (`LibraryFull`).
-pub fn enter_specs(alloc: Global, library: &mut Library, specs: &[Spec]) -> Result<(), BuildError> {
+#[tactic(auto, using(crate::proofs::Refusals::entries))]
+pub fn enter_specs(alloc: Global, library: &mut Library, specs: &[Spec]) -> Result<(), BuildError>
+    ensures refused { IfErr result (λ e. IsOfEntries e library.old) }
+{
     let mut given = texts_of(alloc, specs)?;
     ask_each(alloc, library, &given)?;
     enter_ascending(alloc, library, &mut given)
@@ -26,18 +30,19 @@ pub fn enter_specs(alloc: Global, library: &mut Library, specs: &[Spec]) -> Resu
 /// Enters specifications in place of the kept ones, in the order in which they are given. `LibraryFull` if there is no
 /// room for one of them, and then `SpecNeeded` with the least module, but for those of the specifications, of which the
 /// kept specification would not be sound.
-pub fn replace_specs(
-    alloc: Global,
-    library: &mut Library,
-    specs: &[Spec],
-) -> Result<(), BuildError> {
+#[tactic(auto, using(crate::proofs::Refusals::entries))]
+pub fn replace_specs(alloc: Global, library: &mut Library, specs: &[Spec]) -> Result<(), BuildError>
+    ensures refused { IfErr result IsOfReplacement }
+{
     let given = texts_of(alloc, specs)?;
     replace_each(alloc, library, &given)?;
     ask_needed(alloc, library, &given)
 }
 
 /// The texts of specifications, by the names of their modules.
-fn texts_of(alloc: Global, specs: &[Spec]) -> Result<Box<IndexMap<Bytes, Bytes>>, BuildError> {
+fn texts_of(alloc: Global, specs: &[Spec]) -> Result<Box<IndexMap<Bytes, Bytes>>, BuildError>
+    ensures refused { IfErr result IsInner }
+{
     let mut texts = Box::new(alloc, IndexMap::new(alloc))?;
     put_texts(alloc, specs, &mut texts)?;
     Ok(texts)
@@ -47,14 +52,18 @@ fn put_texts(
     alloc: Global,
     specs: &[Spec],
     texts: &mut IndexMap<Bytes, Bytes>,
-) -> Result<(), BuildError> {
+) -> Result<(), BuildError>
+    ensures refused { IfErr result IsInner }
+{
     for spec in specs {
         texts.insert(spec.name.copy(alloc)?, text_of(alloc, spec)?)?;
     }
     Ok(())
 }
 
-fn text_of(alloc: Global, spec: &Spec) -> Result<Bytes, BuildError> {
+fn text_of(alloc: Global, spec: &Spec) -> Result<Bytes, BuildError>
+    ensures refused { IfErr result IsInner }
+{
     if !is_whole(spec) {
         return Err(BuildError::NotYet);
     }
@@ -63,7 +72,8 @@ fn text_of(alloc: Global, spec: &Spec) -> Result<Bytes, BuildError> {
 
 /// The specification of a text.
 fn spec_of(alloc: Global, text: &Bytes) -> Result<Spec, BuildError>
-    ensures { IfOk result SpecHolds }
+    ensures holds { IfOk result SpecHolds }
+    ensures refused { IfErr result IsInner }
 {
     match read_spec(alloc, text.as_slice()) {
         Ok(spec) => Ok(spec),
@@ -73,15 +83,18 @@ fn spec_of(alloc: Global, text: &Bytes) -> Result<Spec, BuildError>
 }
 
 /// Whether each may be entered after those before it.
+#[tactic(auto, using(crate::proofs::Refusals::entries))]
 fn ask_each(
     alloc: Global,
     library: &Library,
     given: &IndexMap<Bytes, Bytes>,
-) -> Result<(), BuildError> {
+) -> Result<(), BuildError>
+    ensures refused { IfErr result (λ e. IsOfEntries e library.now) }
+{
     let mut new = 0u32;
     for (name, text) in given {
         match library.spec(name) {
-            Some(kept) => ask_same(alloc, kept, text)?,
+            Some(kept) => ask_same(alloc, name, kept, text)?,
             None => {
                 new = new.saturating_add(1);
                 ask_room(library, new)?;
@@ -91,23 +104,26 @@ fn ask_each(
     Ok(())
 }
 
-/// Whether the kept specification has this text.
-fn ask_same(alloc: Global, kept: &Spec, given: &Bytes) -> Result<(), BuildError>
+/// Whether the specification that is kept of the module has this text.
+fn ask_same(alloc: Global, name: &Bytes, kept: &Spec, given: &Bytes) -> Result<(), BuildError>
     requires { SpecHolds kept.now }
+    ensures refused { IfErr result (λ e. IsOfKept e name.now kept.now) }
 {
     let text = spec_text(alloc, kept)?;
     if text == *given {
         return Ok(());
     }
     Err(BuildError::SpecDiffers(Difference {
-        name: kept.name.copy(alloc)?,
+        name: name.copy(alloc)?,
         kept: text,
         given: given.copy(alloc)?,
     }))
 }
 
 /// Whether a library has room for so many modules more.
-fn ask_room(library: &Library, new: u32) -> Result<(), BuildError> {
+fn ask_room(library: &Library, new: u32) -> Result<(), BuildError>
+    ensures refused { IfErr result IsOfRoom }
+{
     if new <= MODULE_LIMIT && library.specs().at(MODULE_LIMIT - new).is_none() {
         Ok(())
     } else {
@@ -116,11 +132,14 @@ fn ask_room(library: &Library, new: u32) -> Result<(), BuildError> {
 }
 
 /// Enters those of which none is kept; in ascending order none that is there is moved.
+#[tactic(auto, using(crate::proofs::Refusals::entries))]
 fn enter_ascending(
     alloc: Global,
     library: &mut Library,
     given: &mut IndexMap<Bytes, Bytes>,
-) -> Result<(), BuildError> {
+) -> Result<(), BuildError>
+    ensures refused { IfErr result IsOfRoom }
+{
     given.sort_keys()?;
     enter_each(alloc, library, given)
 }
@@ -129,7 +148,9 @@ fn enter_each(
     alloc: Global,
     library: &mut Library,
     given: &IndexMap<Bytes, Bytes>,
-) -> Result<(), BuildError> {
+) -> Result<(), BuildError>
+    ensures refused { IfErr result IsOfRoom }
+{
     for (name, text) in given {
         if library.spec(name).is_none() {
             enter(alloc, library, text)?;
@@ -138,7 +159,10 @@ fn enter_each(
     Ok(())
 }
 
-fn enter(alloc: Global, library: &mut Library, text: &Bytes) -> Result<(), BuildError> {
+#[tactic(auto, using(crate::proofs::Refusals::entries))]
+fn enter(alloc: Global, library: &mut Library, text: &Bytes) -> Result<(), BuildError>
+    ensures refused { IfErr result IsOfRoom }
+{
     let spec = spec_of(alloc, text)?;
     Ok(library.enter_spec(alloc, spec)?)
 }
@@ -147,25 +171,33 @@ fn replace_each(
     alloc: Global,
     library: &mut Library,
     given: &IndexMap<Bytes, Bytes>,
-) -> Result<(), BuildError> {
+) -> Result<(), BuildError>
+    ensures refused { IfErr result IsOfRoom }
+{
     for text in given.values() {
         replace(alloc, library, text)?;
     }
     Ok(())
 }
 
-fn replace(alloc: Global, library: &mut Library, text: &Bytes) -> Result<(), BuildError> {
+#[tactic(auto, using(crate::proofs::Refusals::entries))]
+fn replace(alloc: Global, library: &mut Library, text: &Bytes) -> Result<(), BuildError>
+    ensures refused { IfErr result IsOfRoom }
+{
     let spec = spec_of(alloc, text)?;
     library.replace_spec(alloc, spec)?;
     Ok(())
 }
 
 /// Whether the specifications of all other modules are sound.
+#[tactic(auto, using(crate::proofs::Refusals::entries))]
 fn ask_needed(
     alloc: Global,
     library: &Library,
     given: &IndexMap<Bytes, Bytes>,
-) -> Result<(), BuildError> {
+) -> Result<(), BuildError>
+    ensures refused { IfErr result IsOfReplacement }
+{
     let names = names_of(alloc, given)?;
     match library.unmet(alloc, names.as_slice())? {
         Some(name) => Err(BuildError::SpecNeeded(name)),
@@ -173,7 +205,9 @@ fn ask_needed(
     }
 }
 
-fn names_of(alloc: Global, given: &IndexMap<Bytes, Bytes>) -> Result<Vec<Bytes>, BuildError> {
+fn names_of(alloc: Global, given: &IndexMap<Bytes, Bytes>) -> Result<Vec<Bytes>, BuildError>
+    ensures refused { IfErr result IsInner }
+{
     let mut names = Vec::new(alloc);
     for name in given.keys() {
         names.push(name.copy(alloc)?)?;

@@ -20,6 +20,7 @@ use Rattle.clu_driver.specs.Sources.{IsAccepted, IsSource, NotCompiled, NotParse
 use Rattle.clu_driver.specs.World.{IsUnrun, IsUntouched, World, world_of}
 use Rattle.clu_outcome.specs.declared.outcome.Outcome.{Outcome}
 use Rattle.clu_outcome.specs.declared.outcome.Outcome.TheVariants as outcome
+use Rattle.clu_driver.specs.declared.specifying.Kept.TheVariants as kept
 
 -- why an image file was not loaded: it was not read, or its bytes are no image
 abbrev pub NotLoaded : Outcome → List ℕ → Option Files → ℕ → ℕ → Type 0
@@ -126,9 +127,9 @@ CommandShows (Some (command.list image)) how before after =
 CommandShows (Some (command.asm file image)) how before after =
     IsUnrun before.streams after.streams × AsmShows how file image before.files before.store_faults after.files after.store_faults
 CommandShows (Some (command.spec library file)) how before after =
-    IsUnrun before.streams after.streams × SpecifyShows how library file before.files before.store_faults after.files after.store_faults
+    IsUnrun before.streams after.streams × SpecifyShows kept.Stays how library file before.files before.store_faults after.files after.store_faults
 CommandShows (Some (command.replace library file)) how before after =
-    IsUnrun before.streams after.streams × SpecifyShows how library file before.files before.store_faults after.files after.store_faults
+    IsUnrun before.streams after.streams × SpecifyShows kept.Goes how library file before.files before.store_faults after.files after.store_faults
 CommandShows (Some (command.compile library file peep)) how before after =
     IsUnrun before.streams after.streams × CompileShows how library file before.files before.store_faults after.files after.store_faults
 CommandShows (Some (command.link library program start)) how before after =

@@ -12,12 +12,13 @@ use Rattle.clu_words.specs.Command.{Limits}
 use Rattle.rv_isa.specs.Image.{Contents}
 use Rattle.clu_driver.specs.Found.{IsFound, NotHad}
 use Rattle.clu_driver.specs.Puts.{IsPut, NotPut}
-use Rattle.clu_driver.specs.Refusals.{IsOfEntry}
+use Rattle.clu_driver.specs.Refusals.{NotEntered, NotLinked, NotSpecified}
 use Rattle.clu_driver.specs.Shows.{RunShows, TextShows}
 use Rattle.clu_driver.specs.Sources.{IsParsed, NotAccepted, NotHeaded, NotParsed}
 use Rattle.clu_driver.specs.World.{IsUnrun, Streams, World}
 use Rattle.clu_outcome.specs.declared.outcome.Outcome.{Outcome}
 use Rattle.clu_outcome.specs.declared.outcome.Outcome.TheVariants as outcome
+use Rattle.clu_driver.specs.declared.specifying.Kept.{Kept}
 
 -- why bytes give no library
 abbrev pub IsUnreadable : Outcome → Type 0
@@ -49,20 +50,24 @@ LibraryShows how name kept files files' faults faults' =
 abbrev pub KeptShows : Outcome → List ℕ → Option Files → Option Files → ℕ → ℕ → Type 0
 KeptShows how name files files' faults faults' = (kept : library.Contents) × LibraryShows how name kept files files' faults faults'
 
--- an entry was refused and no file changed, or the library was put
+-- the modules of a source were refused and no file changed, or the library was put
 abbrev pub EnteredShows : Outcome → List ℕ → Option Files → ℕ → Option Files → ℕ → Type 0
-EnteredShows how name files faults files' faults' = (IsOfEntry how × (files' ≡ files)) ⊎ KeptShows how name files files' faults faults'
+EnteredShows how name files faults files' faults' = (NotEntered how × (files' ≡ files)) ⊎ KeptShows how name files files' faults faults'
+
+-- its specifications were, or the library was put
+abbrev pub SpecsShow : Kept → Outcome → List ℕ → Option Files → ℕ → Option Files → ℕ → Type 0
+SpecsShow kept how name files faults files' faults' = (NotSpecified kept how × (files' ≡ files)) ⊎ KeptShows how name files files' faults faults'
 
 -- headings were refused and no file changed, or specifications were entered
-abbrev pub SpecifiedShows : Outcome → List ℕ → List ℕ → Option Files → ℕ → Option Files → ℕ → Type 0
-SpecifiedShows how name file files faults files' faults' = (NotHeaded how file × (files' ≡ files)) ⊎ EnteredShows how name files faults files' faults'
+abbrev pub SpecifiedShows : Kept → Outcome → List ℕ → List ℕ → Option Files → ℕ → Option Files → ℕ → Type 0
+SpecifiedShows kept how name file files faults files' faults' = (NotHeaded how file × (files' ≡ files)) ⊎ SpecsShow kept how name files faults files' faults'
 
 -- spec and replace: library or source was refused and no file changed, or the source is a file of the grammar and was specified
-unfoldable pub SpecifyShows : Outcome → List ℕ → List ℕ → Option Files → ℕ → Option Files → ℕ → Type 0
-SpecifyShows how library file files faults files' faults' =
+unfoldable pub SpecifyShows : Kept → Outcome → List ℕ → List ℕ → Option Files → ℕ → Option Files → ℕ → Type 0
+SpecifyShows kept how library file files faults files' faults' =
     (NotGathered how library file files faults faults' × (files' ≡ files))
     ⊎ ((nodes : List Node) × IsFound files file (λ bytes. IsParsed bytes nodes)
-    × ((between : ℕ) × (faults ≤ between) × SpecifiedShows how library file files between files' faults'))
+    × ((between : ℕ) × (faults ≤ between) × SpecifiedShows kept how library file files between files' faults'))
 
 -- a tree was refused and no file changed, or it was accepted and its modules were entered
 abbrev pub CompiledShows : Outcome → List ℕ → List ℕ → List Node → Option Files → ℕ → Option Files → ℕ → Type 0
@@ -76,12 +81,6 @@ CompileShows how library file files faults files' faults' =
     (NotGathered how library file files faults faults' × (files' ≡ files))
     ⊎ ((nodes : List Node) × IsFound files file (λ bytes. IsParsed bytes nodes)
     × ((between : ℕ) × (faults ≤ between) × CompiledShows how library file nodes files between files' faults'))
-
--- why a program is not linked, by its start: a refusal of the start names it
-abbrev pub NotLinked : Outcome → List ℕ → Type 0
-NotLinked (outcome.NoModule n) start = n.now ≡ start
-NotLinked (outcome.BadStart n) start = n.now ≡ start
-NotLinked how start = IsOfEntry how
 
 -- a program was refused and no file changed, or a library was put that has a program more, of this name and start
 abbrev pub LinkedShows : Outcome → List ℕ → List ℕ → List ℕ → Option Files → ℕ → Option Files → ℕ → Type 0

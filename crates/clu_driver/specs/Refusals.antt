@@ -1,9 +1,13 @@
 -- What refusals of entries of a library come to.
 use Rattle.std.specs.Prelude.{◌≡◌, ℕ, List}
+use Rattle.clu_build.specs.Refusals.{IsOfEntries, IsOfProgram, IsOfReplacement}
+use Rattle.clu_library.specs.Contents.{Contents, spec_of}
 use Rattle.clu_build.specs.declared.errors.BuildError.{BuildError}
 use Rattle.clu_build.specs.declared.errors.BuildError.TheVariants as build
 use Rattle.clu_outcome.specs.declared.outcome.Outcome.{Outcome}
 use Rattle.clu_outcome.specs.declared.outcome.Outcome.TheVariants as outcome
+use Rattle.clu_driver.specs.declared.specifying.Kept.{Kept}
+use Rattle.clu_driver.specs.declared.specifying.Kept.TheVariants as kept
 
 -- each cause comes to its own outcome, with its module
 abbrev pub IsRefusalBy : BuildError → Outcome → Type 0
@@ -27,24 +31,19 @@ IsRefusalBy build.ProgramTooLarge how = how ≡ outcome.ProgramTooLarge
 IsRefusalBy build.Memory how = how ≡ outcome.Memory
 IsRefusalBy build.NotYet how = how ≡ outcome.NotYet
 
--- what a refusal of an entry may come to
-abbrev pub IsOfEntry : Outcome → Type 0
-IsOfEntry (outcome.SpecDiffers d) = Unit {0}
-IsOfEntry outcome.LibraryFull = Unit {0}
-IsOfEntry (outcome.SpecNeeded n) = Unit {0}
-IsOfEntry (outcome.NoModule n) = Unit {0}
-IsOfEntry (outcome.BadStart n) = Unit {0}
-IsOfEntry outcome.TooManyInstances = Unit {0}
-IsOfEntry (outcome.NoBody n) = Unit {0}
-IsOfEntry (outcome.Stale d) = Unit {0}
-IsOfEntry (outcome.Misfit n) = Unit {0}
-IsOfEntry outcome.ProgramTooLarge = Unit {0}
-IsOfEntry outcome.Memory = Unit {0}
-IsOfEntry outcome.NotYet = Unit {0}
-IsOfEntry _ = ⊥
+-- the modules of a source were not entered into some library
+abbrev pub NotEntered : Outcome → Type 0
+NotEntered how = (library : Contents) × (e : BuildError) × IsOfEntries e library × IsRefusalBy e how
 
--- a refusal of a start names it
-abbrev pub IsNamed : BuildError → List ℕ → Type 0
-IsNamed (build.NoModule name) start = name ≡ start
-IsNamed (build.BadStart name) start = name ≡ start
-IsNamed _ start = Unit {0}
+-- what becomes of a kept specification decides for which reasons those of a source are refused
+abbrev pub IsOfSpecifying : Kept → BuildError → Contents → Type 0
+IsOfSpecifying kept.Stays e library = IsOfEntries e library
+IsOfSpecifying kept.Goes e library = IsOfReplacement e
+
+-- the specifications of a source were not entered into some library
+abbrev pub NotSpecified : Kept → Outcome → Type 0
+NotSpecified kept how = (library : Contents) × (e : BuildError) × IsOfSpecifying kept e library × IsRefusalBy e how
+
+-- no program with this start was entered into some library
+abbrev pub NotLinked : Outcome → List ℕ → Type 0
+NotLinked how start = (library : Contents) × (e : BuildError) × IsOfProgram e start (spec_of library start) × IsRefusalBy e how

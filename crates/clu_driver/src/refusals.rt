@@ -2,7 +2,7 @@
 
 ghost use Rattle.std.specs.Prelude.{List};
 ghost use Rattle.clu_types.specs.declared.spec.Spec.{Spec};
-ghost use Rattle.clu_driver.specs.Refusals.{IsOfEntry, IsRefusalBy};
+ghost use Rattle.clu_driver.specs.Refusals.{IsRefusalBy};
 ghost use Rattle.clu_driver.specs.Sources.{NotBuilt};
 
 use clu_build::BuildError;
@@ -11,7 +11,6 @@ use clu_outcome::Outcome;
 /// What it comes to for a command on a library.
 pub fn refusal_of<'a>(error: &'a BuildError) -> Outcome<'a>
     ensures by { IsRefusalBy error.now result }
-    ensures entry { IsOfEntry result }
 {
     match error {
         BuildError::SpecDiffers(difference) => Outcome::SpecDiffers(difference),

@@ -1,7 +1,8 @@
 //! The commands `spec` and `replace`: enter the specifications of a source's modules into a library.
 
-ghost use Rattle.std.specs.Prelude.{◌≡◌};
-ghost use Rattle.clu_driver.specs.Libraries.{EnteredShows, SpecifiedShows, SpecifyShows};
+ghost use Rattle.std.specs.Prelude.{◌≡◌, IfErr};
+ghost use Rattle.clu_driver.specs.Libraries.{SpecifiedShows, SpecifyShows, SpecsShow};
+ghost use Rattle.clu_driver.specs.Refusals.{IsOfSpecifying};
 ghost use Rattle.clu_driver.specs.Shows.{Reported};
 
 use crate::checking::headings;
@@ -33,7 +34,7 @@ pub fn specify<E: Sink, F: Store>(
     errors: &mut E,
     files: &mut F,
 ) -> u8
-    ensures told { Reported (λ how. SpecifyShows how library.now file.now (F.files files.old) (F.faults files.old) (F.files files.new) (F.faults files.new))
+    ensures told { Reported (λ how. SpecifyShows kept how library.now file.now (F.files files.old) (F.faults files.old) (F.files files.new) (F.faults files.new))
         result (E.written errors.old) (E.written errors.new) (E.faults errors.old) (E.faults errors.new) }
 {
     match gather(alloc, library, file, files) {
@@ -52,7 +53,7 @@ fn specify_source<E: Sink, F: Store>(
     errors: &mut E,
     files: &mut F,
 ) -> u8
-    ensures told { Reported (λ how. SpecifiedShows how library.now file.now (F.files files.old) (F.faults files.old) (F.files files.new) (F.faults files.new))
+    ensures told { Reported (λ how. SpecifiedShows kept how library.now file.now (F.files files.old) (F.faults files.old) (F.files files.new) (F.faults files.new))
         result (E.written errors.old) (E.written errors.new) (E.faults errors.old) (E.faults errors.new) }
 {
     let Gathered {
@@ -75,7 +76,7 @@ fn enter_and_put<E: Sink, F: Store>(
     errors: &mut E,
     files: &mut F,
 ) -> u8
-    ensures told { Reported (λ how. EnteredShows how name.now (F.files files.old) (F.faults files.old) (F.files files.new) (F.faults files.new))
+    ensures told { Reported (λ how. SpecsShow kept how name.now (F.files files.old) (F.faults files.old) (F.files files.new) (F.faults files.new))
         result (E.written errors.old) (E.written errors.new) (E.faults errors.old) (E.faults errors.new) }
 {
     match enter(alloc, kept, library, specs) {
@@ -84,12 +85,9 @@ fn enter_and_put<E: Sink, F: Store>(
     }
 }
 
-fn enter(
-    alloc: Global,
-    kept: Kept,
-    library: &mut Library,
-    specs: &[Spec],
-) -> Result<(), BuildError> {
+fn enter(alloc: Global, kept: Kept, library: &mut Library, specs: &[Spec]) -> Result<(), BuildError>
+    ensures refused { IfErr result (λ e. IsOfSpecifying kept e library.old) }
+{
     match kept {
         Kept::Stays => enter_specs(alloc, library, specs),
         Kept::Goes => replace_specs(alloc, library, specs),

@@ -1,0 +1,89 @@
+-- What a refusal of one kind is besides, and what errors of the crates below come to.
+use Rattle.std.proofs.Common.{◌≡◌, ℕ, List, Option, Some}
+use Rattle.clu_frames.specs.declared.errors.FrameError.{FrameError}
+use Rattle.clu_frames.specs.declared.errors.FrameError.TheVariants as frame
+use Rattle.clu_library.specs.Contents.{Contents, spec_of}
+use Rattle.clu_library.specs.declared.errors.EnterError.{EnterError}
+use Rattle.clu_library.specs.declared.errors.EnterError.TheVariants as enter
+use Rattle.clu_link.specs.Starts as starts
+use Rattle.clu_link.specs.declared.errors.LinkError.{LinkError}
+use Rattle.clu_link.specs.declared.errors.LinkError.TheVariants as link
+use Rattle.clu_lower_expr.specs.declared.errors.LowerError.{LowerError}
+use Rattle.clu_lower_expr.specs.declared.errors.LowerError.TheVariants as lower
+use Rattle.rv_select.specs.declared.error.SelectError.{SelectError}
+use Rattle.rv_select.specs.declared.error.SelectError.TheVariants as select
+use Rattle.clu_types.specs.declared.spec.Spec.{Spec}
+use Rattle.clu_build.specs.Errors.{of_enter, of_frame, of_link, of_lower, of_select}
+use Rattle.clu_build.specs.Refusals.{IsInner, IsOfEntries, IsOfKept, IsOfProgram, IsOfReplacement, IsOfRoom}
+use Rattle.clu_build.specs.declared.errors.BuildError.{BuildError}
+use Rattle.clu_build.specs.declared.errors.BuildError.TheVariants as error
+
+pub lower_is_inner : (e : LowerError) → IsInner (of_lower e)
+lower_is_inner lower.Memory = tt
+lower_is_inner lower.NotYet = tt
+
+pub frame_is_inner : (e : FrameError) → IsInner (of_frame e)
+frame_is_inner frame.Memory = tt
+frame_is_inner frame.NotYet = tt
+
+pub select_is_inner : (e : SelectError) → IsInner (of_select e)
+select_is_inner select.Memory = tt
+select_is_inner select.NotYet = tt
+
+pub enter_is_of_room : (e : EnterError) → IsOfRoom (of_enter e)
+enter_is_of_room enter.Full = tt
+enter_is_of_room enter.Memory = tt
+enter_is_of_room enter.Differs = tt
+
+pub inner_is_of_room : (e : BuildError) → IsInner e → IsOfRoom e
+inner_is_of_room error.Memory is = tt
+inner_is_of_room error.NotYet is = tt
+inner_is_of_room _ is = elim is [ ]
+
+pub room_is_of_entries : (e : BuildError) (library : Contents) → IsOfRoom e → IsOfEntries e library
+room_is_of_entries error.LibraryFull library is = tt
+room_is_of_entries error.Memory library is = tt
+room_is_of_entries error.NotYet library is = tt
+room_is_of_entries _ library is = elim is [ ]
+
+pub inner_is_of_entries : (e : BuildError) (library : Contents) → IsInner e → IsOfEntries e library
+inner_is_of_entries e library is = room_is_of_entries e library (inner_is_of_room e is)
+
+-- what is said of the specification that was found is said of the library
+pub kept_is_of_entries : (e : BuildError) (library : Contents) (name : List ℕ) (kept : Spec) → spec_of library name ≡ Some kept → IsOfKept e name kept → IsOfEntries e library
+kept_is_of_entries (error.SpecDiffers d) library name kept found is = (name, kept, found, is)
+kept_is_of_entries error.Memory library name kept found is = tt
+kept_is_of_entries _ library name kept found is = elim is [ ]
+
+pub room_is_of_replacement : (e : BuildError) → IsOfRoom e → IsOfReplacement e
+room_is_of_replacement error.LibraryFull is = tt
+room_is_of_replacement error.Memory is = tt
+room_is_of_replacement error.NotYet is = tt
+room_is_of_replacement _ is = elim is [ ]
+
+pub inner_is_of_replacement : (e : BuildError) → IsInner e → IsOfReplacement e
+inner_is_of_replacement e is = room_is_of_replacement e (inner_is_of_room e is)
+
+-- an entry is refused for no reason of the start
+pub of_entering : (e : EnterError) (start : List ℕ) (kept : Option Spec) → IsOfProgram (of_enter e) start kept
+of_entering enter.Full start kept = tt
+of_entering enter.Memory start kept = tt
+of_entering enter.Differs start kept = tt
+
+-- what the linker's refusals say of it
+pub of_linking : (e : LinkError) (start : List ℕ) (kept : Option Spec) → starts.IsStartRefusal e start kept → IsOfProgram (of_link e) start kept
+of_linking (link.NoModule name) start kept is = is
+of_linking (link.BadStart name) start kept is = is
+of_linking link.TooManyInstances start kept is = tt
+of_linking (link.NoBody name) start kept is = tt
+of_linking (link.Stale name by changed checked) start kept is = tt
+of_linking (link.Misfit name) start kept is = tt
+of_linking link.ProgramTooLarge start kept is = tt
+of_linking link.Memory start kept is = tt
+of_linking link.NotYet start kept is = tt
+
+pub ruleset programs = (of_entering, of_linking)
+
+pub ruleset bodies = (lower_is_inner, frame_is_inner, select_is_inner)
+
+pub ruleset entries = (kept_is_of_entries, enter_is_of_room, inner_is_of_room, room_is_of_entries, inner_is_of_entries, room_is_of_replacement, inner_is_of_replacement)
