@@ -12,7 +12,12 @@ use Rattle.clu_words.specs.Command as command
 use Rattle.clu_driver.specs.Commands.{CluShows, CommandShows, GenShows, IsRefusal, PutShows}
 use Rattle.clu_driver.specs.Puts.{NotPut}
 use Rattle.clu_driver.specs.Shows.{Reported, RunShows, TextShows}
-use Rattle.clu_driver.specs.Libraries.{CompileShows, CompiledShows, EnteredShows, LibraryShows, LinkShows, LinkedShows, NotGathered, NotLibrary, SpecifiedShows, SpecifyShows}
+use Rattle.clu_driver.specs.Libraries.{CompileShows, CompiledShows, EnteredShows, LibraryShows, LinkShows, LinkedShows, NotGathered, NotLibrary, SpecifiedShows, SpecifyShows, SpecsShow}
+use Rattle.clu_driver.specs.Refusals.{IsRefusalBy}
+use Rattle.clu_driver.specs.declared.specifying.Kept.{Kept}
+use Rattle.clu_driver.specs.declared.specifying.Kept.TheVariants as kept
+use Rattle.clu_build.specs.declared.errors.BuildError.{BuildError}
+use Rattle.clu_build.specs.declared.errors.BuildError.TheVariants as build
 use Rattle.clu_outcome.specs.Outcome.{IsTold, line_of, status_of, text_of}
 use Rattle.clu_driver.specs.Sources.{NotCompiled}
 use Rattle.clu_driver.specs.World.{Streams, World}
@@ -44,17 +49,36 @@ not_put : (name : List ℕ) (kept : library.Contents) (files files' : Option Fil
 not_put name kept files files' faults faults' (inl memory) = let no : outcome.Usage ≡ outcome.Memory = memory.0 in cc
 not_put name kept files files' faults faults' (inr torn) = torn
 
+-- no refusal of an entry comes to it
+not_refused : (e : BuildError) → IsRefusalBy e outcome.Usage → ⊥
+not_refused (build.SpecDiffers d) by = by
+not_refused (build.SpecNeeded name) by = by
+not_refused (build.NoModule name) by = by
+not_refused (build.BadStart name) by = by
+not_refused (build.NoBody name) by = by
+not_refused (build.Stale body) by = by
+not_refused (build.Misfit name) by = by
+not_refused build.LibraryFull by = let no : outcome.Usage ≡ outcome.LibraryFull = by in cc
+not_refused build.TooManyInstances by = let no : outcome.Usage ≡ outcome.TooManyInstances = by in cc
+not_refused build.ProgramTooLarge by = let no : outcome.Usage ≡ outcome.ProgramTooLarge = by in cc
+not_refused build.Memory by = let no : outcome.Usage ≡ outcome.Memory = by in cc
+not_refused build.NotYet by = let no : outcome.Usage ≡ outcome.NotYet = by in cc
+
 not_linked : (name program start : List ℕ) (files files' : Option Files) (faults faults' : ℕ) → LinkedShows outcome.Usage name program start files faults files' faults' → ⊥
-not_linked name program start files files' faults faults' (inl refused) = refused.0
+not_linked name program start files files' faults faults' (inl refused) = not_refused refused.0.1 refused.0.3
 not_linked name program start files files' faults faults' (inr linked) = not_put name linked.1 files files' faults faults' linked.3
 
 not_entered : (name : List ℕ) (files files' : Option Files) (faults faults' : ℕ) → EnteredShows outcome.Usage name files faults files' faults' → ⊥
-not_entered name files files' faults faults' (inl refused) = refused.0
+not_entered name files files' faults faults' (inl refused) = not_refused refused.0.1 refused.0.3
 not_entered name files files' faults faults' (inr kept) = not_put name kept.0 files files' faults faults' kept.1
 
-not_specified : (name file : List ℕ) (files files' : Option Files) (faults faults' : ℕ) → SpecifiedShows outcome.Usage name file files faults files' faults' → ⊥
-not_specified name file files files' faults faults' (inl refused) = refused.0
-not_specified name file files files' faults faults' (inr entered) = not_entered name files files' faults faults' entered
+specs_not_entered : (kept : Kept) (name : List ℕ) (files files' : Option Files) (faults faults' : ℕ) → SpecsShow kept outcome.Usage name files faults files' faults' → ⊥
+specs_not_entered kept name files files' faults faults' (inl refused) = not_refused refused.0.1 refused.0.3
+specs_not_entered kept name files files' faults faults' (inr put) = not_put name put.0 files files' faults faults' put.1
+
+not_specified : (kept : Kept) (name file : List ℕ) (files files' : Option Files) (faults faults' : ℕ) → SpecifiedShows kept outcome.Usage name file files faults files' faults' → ⊥
+not_specified kept name file files files' faults faults' (inl refused) = refused.0
+not_specified kept name file files files' faults faults' (inr entered) = specs_not_entered kept name files files' faults faults' entered
 
 not_accepted : (name file : List ℕ) (nodes : List Node) (files files' : Option Files) (faults faults' : ℕ) → CompiledShows outcome.Usage name file nodes files faults files' faults' → ⊥
 not_accepted name file nodes files files' faults faults' (inl refused) = refused.0
@@ -71,11 +95,11 @@ usage_shown (Some (command.exec image limits)) before after (inr ran) = elim ran
 usage_shown (Some (command.gen procedures)) before after shown = elim shown.2 [ ]
 usage_shown (Some (command.spec a b)) before after shown = elim shown.1 [
   | inl refused ↦ elim (not_gathered a b before.files before.store_faults after.store_faults refused.0) [ ]
-  | inr entered ↦ elim (not_specified a b before.files after.files entered.2.0 after.store_faults entered.2.2) [ ]
+  | inr entered ↦ elim (not_specified kept.Stays a b before.files after.files entered.2.0 after.store_faults entered.2.2) [ ]
 ]
 usage_shown (Some (command.replace a b)) before after shown = elim shown.1 [
   | inl refused ↦ elim (not_gathered a b before.files before.store_faults after.store_faults refused.0) [ ]
-  | inr entered ↦ elim (not_specified a b before.files after.files entered.2.0 after.store_faults entered.2.2) [ ]
+  | inr entered ↦ elim (not_specified kept.Goes a b before.files after.files entered.2.0 after.store_faults entered.2.2) [ ]
 ]
 usage_shown (Some (command.compile a b p)) before after shown = elim shown.1 [
   | inl refused ↦ elim (not_gathered a b before.files before.store_faults after.store_faults refused.0) [ ]

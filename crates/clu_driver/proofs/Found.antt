@@ -16,7 +16,7 @@ use Rattle.clu_tree.specs.declared.node.Node.{Node}
 use Rattle.clu_words.specs.Command.{Limits}
 use Rattle.rv_isa.specs.Image.{Contents, IsImage}
 use Rattle.clu_asm.specs.AssemblyText.{asm_text}
-use Rattle.clu_asm.specs.Faults.{IsFault}
+use Rattle.clu_asm.specs.Faults.{IsFault, IsFaultAt}
 use Rattle.clu_driver.specs.Commands.{AsmShows, AssembledShows, GoShows, IsBadText, PutShows}
 use Rattle.clu_driver.specs.Puts.{NotPut}
 use Rattle.clu_driver.specs.Found.{IsFound}
@@ -64,10 +64,12 @@ found_with P None name bytes found p = tt
 found_with P (Some all) name bytes found p = (found.0, found.1, subst P (sym found.2) p)
 
 -- bytes that were refused are no text, nor is the file's content, and the fault is where it was reported
-pub bad_text_found : (files : Option Files) (name bytes : List ℕ) (at : ℕ) (e : FormatError) → IsFound files name (λ b. b ≡ bytes) → e ≡ Bad at → IsFault e bytes
+pub bad_text_found : (files : Option Files) (name bytes read : List ℕ) (at : ℕ) (e : FormatError) → IsFound files name (λ b. b ≡ bytes) → read ≡ bytes → e ≡ Bad at → IsFault e read
     → ((image : Contents) → IsImage image → bytes ≢ asm_text image) → IsFound files name (IsBadText at)
-bad_text_found files name bytes at e found is fault none =
-    let P : FormatError → Type 0 = λ f. IsFault f bytes in found_with (IsBadText at) files name bytes found (subst P is fault, none)
+bad_text_found files name bytes read at e found same is fault none =
+    let P : FormatError → Type 0 = λ f. IsFault f read in
+    let Q : List ℕ → Type 0 = λ b. IsFaultAt at b in
+    found_with (IsBadText at) files name bytes found (subst Q same (subst P is fault), none)
 
 -- a file that was parsed to this tree, which the check accepted, is accepted
 pub found_accepted : (files : Option Files) (name bytes : List ℕ) (tokens : List Token) (nodes : List Node) → IsFound files name (λ b. b ≡ bytes) → IsSource bytes tokens nodes → All (IsClosedAt nodes) (modules nodes) → IsFound files name IsAccepted

@@ -1,6 +1,5 @@
-use Rattle.std.proofs.Common.{◌≡◌, ◌∙◌, List, ℕ, subst, sym}
+use Rattle.std.proofs.Common.{◌≡◌, ◌∙◌, sym}
 use Rattle.clu_asm.specs.AssemblyText.{asm_text}
-use Rattle.clu_asm.specs.Faults.{IsFault}
 use Rattle.clu_driver.proofs.Found.{bad_text_found, found_text}
 use Rattle.clu_driver.proofs.assembling.assembled.Goals as goal
 
@@ -9,7 +8,5 @@ returns-in-Ok-clause-text g c = found_text _ c.args.name.now c.in_ok-bytes.bytes
 
 pub returns-in-Err-Bad-clause-refused : goal.returns-in-Err-Bad-clause-refused
 returns-in-Err-Bad-clause-refused g c =
-    let P : List ℕ → Type 0 = λ b. IsFault c.in-Err-Bad.error b in
-    bad_text_found _ c.args.name.now c.in_ok-bytes.bytes.items _ c.in-Err-Bad.error c.in_ok-bytes.ensures.found c.in-Err-Bad.field-0-is
-    (subst P c.deref.ensures.value c.in-Err-Bad.ensures.place)
+    bad_text_found _ c.args.name.now c.in_ok-bytes.bytes.items _ _ _ c.in_ok-bytes.ensures.found c.deref.ensures.value c.in-Err-Bad.field-0-is c.in-Err-Bad.ensures.place
     (λ i is e. let m = c.in-Err-Bad.ensures.every_text i is (c.deref.ensures.value ∙ e) in absurd (cc (m, c.in-Err-Bad.field-0-is)))
