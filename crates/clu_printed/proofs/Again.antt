@@ -48,7 +48,7 @@ derives t _ at b to z (terminal x items _ _ _ _ is d) = symbol x items at to is 
 derives t _ at b to z (act a items _ _ c _ _ is d) = action a items at to (derives t items at c to z d)
 derives t _ at b to z (chosen n items alternative _ _ _ _ one d) = choice n items alternative at to one (derives t (alternative ++ items) at b to z d)
 
-built_file : (t : Text) (z : Built) → IsBuilt t z → IsFile t.symbols
+pub built_file : (t : Text) (z : Built) → IsBuilt t z → IsFile t.symbols
 built_file t z d = derives t whole 0 nothing_built (length t.symbols) z d
 
 -- a file does not begin with a ;
@@ -89,19 +89,19 @@ spelling_is bytes ts k = at (slice_get ts k) ∙ ap (λ (o : Option (List ℕ)).
     at None = refl
     at (Some t) = refl
 
-likes : (symbols : List Symbol) (ms ns : List Node) → AllZip (IsMoved symbols) ms ns → AreLike ms ns
+pub likes : (symbols : List Symbol) (ms ns : List Node) → AllZip (IsMoved symbols) ms ns → AreLike ms ns
 likes symbols [] [] z = tt
 likes symbols [] (n ∷ ns) z = absurd z
 likes symbols (m ∷ ms) [] z = absurd z
 likes symbols (m ∷ ms) (n ∷ ns) z = (record { kind_is = z.0.kind_is; children_are = z.0.children_are; names_are = z.0.names_are; value_is = z.0.value_is }, likes symbols ms ns z.1)
 
-abbrev symbols_in : List ℕ → List Token → List Symbol
+abbrev pub symbols_in : List ℕ → List Token → List Symbol
 symbols_in bytes tokens = map (symbol_in bytes) tokens
 
-abbrev pieces_in : List ℕ → List Token → List Node → List Piece
+abbrev pub pieces_in : List ℕ → List Token → List Node → List Piece
 pieces_in bytes tokens nodes = pieces bytes (symbols_in bytes tokens) (lines_of (symbols_in bytes tokens) nodes) 0 tokens
 
-printed_is : (bytes : List ℕ) (tokens : List Token) (nodes : List Node) → printed bytes tokens nodes ≡ whole_text (pieces_in bytes tokens nodes)
+pub printed_is : (bytes : List ℕ) (tokens : List Token) (nodes : List Node) → printed bytes tokens nodes ≡ whole_text (pieces_in bytes tokens nodes)
 printed_is bytes tokens nodes = ap (λ (m : Made). m.text ++ 10 ∷ []) (printed_pieces bytes (symbols_in bytes tokens) (lines_of (symbols_in bytes tokens) nodes) 0 tokens nothing_made)
 
 module _ (bytes : List ℕ) (tokens : List Token) (nodes : List Node) (small : length bytes ≤ 1048576) (are : Tokens bytes tokens) (tree : IsTreeOf bytes tokens nodes) where
@@ -114,10 +114,10 @@ module _ (bytes : List ℕ) (tokens : List Token) (nodes : List Node) (small : l
   abbrev ps : List Piece
   ps = pieces_in bytes tokens nodes
 
-  abbrev text : List ℕ
+  abbrev pub text : List ℕ
   text = whole_text (pieces_in bytes tokens nodes)
 
-  abbrev again : List Token
+  abbrev pub again : List Token
   again = laid (whole_text (pieces_in bytes tokens nodes)) (pieces_in bytes tokens nodes) nothing_made
 
   as_many : length symbols ≡ length tokens
@@ -152,7 +152,7 @@ module _ (bytes : List ℕ) (tokens : List Token) (nodes : List Node) (small : l
       (λ k t x at is. printed_spelled t.kind (bytes_of bytes t) ∙ same_Some _ _ (sym (slice_get-map (λ (u : Token). spelled u.kind (bytes_of bytes u)) tokens k ∙ ap (option_map (λ (u : Token). spelled u.kind (bytes_of bytes u))) at) ∙ is))
       (length-map tokens (λ (u : Token). spelled u.kind (bytes_of bytes u))) refl
 
-  without : symbols_in text again ≡ kept symbols symbols
+  pub without : symbols_in text again ≡ kept symbols symbols
   without = laid_symbols text ps nothing_made good is_text ∙ symbols_kept
 
   spelled_so : (k : ℕ) → IsKept symbols k → spelling_at (text_of text again) (place_of symbols k) ≡ spelling_at (text_of bytes tokens) k
@@ -162,12 +162,12 @@ module _ (bytes : List ℕ) (tokens : List Token) (nodes : List Node) (small : l
       ∙ ap (λ (o : Option (List ℕ)). unwrap_or o []) (got_kept symbols (spellings bytes tokens) k h.0 h.1 h.2)
       ∙ sym (spelling_is bytes tokens k)
 
-  record Found : Type 0 where
-    made : Built
-    builds : IsBuilt (text_of text again) made
-    moved : AllZip (IsMoved symbols) nodes made.nodes
+  pub record Found : Type 0 where
+    pub made : Built
+    pub builds : IsBuilt (text_of text again) made
+    pub moved : AllZip (IsMoved symbols) nodes made.nodes
 
-  found : Found
+  pub found : Found
   found =
       let r = rebuilt (text_of bytes tokens) (text_of text again) without spelled_so (fitting symbols (file_fits symbols file)) false whole 0 nothing_built (length symbols) tree.0 tree.1 nothing_built (nothing_moved (text_of bytes tokens) (text_of text again) without spelled_so (fitting symbols (file_fits symbols file))) refl (λ h. absurd (cc)) (omega arith) in
       let end : place_of symbols (length symbols) ≡ length (symbols_in text again) = place_end symbols ∙ ap length (sym without) in
@@ -177,7 +177,7 @@ module _ (bytes : List ℕ) (tokens : List Token) (nodes : List Node) (small : l
         moved = subst (λ (xs : List Node). AllZip (IsMoved symbols) xs r.made.nodes) tree.2 r.moved.nodes;
       }
 
-  lexed : Tokens text again
+  pub lexed : Tokens text again
   lexed =
       let fit : Fitting (symbols_in text again) = fitting (symbols_in text again) (file_fits (symbols_in text again) (built_file (text_of text again) found.made found.builds)) in
       tokens_laid ps (parts ps good (subst Fitting (laid_symbols text ps nothing_made good is_text) fit))

@@ -1,3 +1,4 @@
+pub mod Accepted
 pub mod Again
 pub mod Fitting
 pub mod Joined
@@ -8,6 +9,7 @@ pub mod Lined
 pub mod Lowered
 pub mod Marked
 pub mod Neighbours
+pub mod OneReading
 pub mod Pieces
 pub mod Printing
 pub mod Quiet

@@ -42,7 +42,7 @@ same_token t u kind start end place =
     ∙ ap (λ (x : ℕ). token_with u.kind u.start x t.place) end
     ∙ ap (λ (x : Place). token_with u.kind u.start u.end x) place
 
-token_one : (bytes : List ℕ) (from : ℕ) (t u : Token) → IsToken bytes from t → IsToken bytes from u → t ≡ u
+pub token_one : (bytes : List ℕ) (from : ℕ) (t u : Token) → IsToken bytes from t → IsToken bytes from u → t ≡ u
 token_one bytes from t u first second =
     let start : t.start ≡ u.start = sym first.gap ∙ second.gap in
     let second' : IsLongest kind_of (drop t.start bytes) u.kind (u.end - u.start) = subst (λ (i : ℕ). IsLongest kind_of (drop i bytes) u.kind (u.end - u.start)) (sym start) second.longest in
@@ -51,7 +51,7 @@ token_one bytes from t u first second =
     same_token t u both.1 start end (first.place ∙ ap (place_at bytes) start ∙ sym second.place)
 
 -- no token begins where nothing but a gap is left
-none_left : (bytes : List ℕ) (from : ℕ) (t : Token) → IsGap bytes from (length bytes) → IsToken bytes from t → ⊥
+pub none_left : (bytes : List ℕ) (from : ℕ) (t : Token) → IsGap bytes from (length bytes) → IsToken bytes from t → ⊥
 none_left bytes from t gap token = omega (arith, gap, token.gap, token.forward, token_within bytes from t token)
 
 cut_one : (bytes : List ℕ) (from : ℕ) (ts us : List Token) (to to' : ℕ) → Cut bytes from ts to → Cut bytes from us to' → IsGap bytes to (length bytes) → IsGap bytes to' (length bytes) → ts ≡ us
