@@ -20,7 +20,7 @@ use Rattle.clu_parser.specs.Levels.{level_behind, level_from, level_at, IsLow}
 use Rattle.clu_parser.specs.Parsing.{symbols_of, text_of, IsTreeOf, IsFault as IsParseFault}
 use Rattle.clu_printer.specs.Printed.{printed, symbol_in}
 use Rattle.clu_printed.specs.Again.{IsLike, AreLike}
-use Rattle.clu_printed.specs.Kept.{is_optional, kept}
+use Rattle.clu_printed.proofs.Kept.{is_optional, kept}
 use Rattle.clu_printed.specs.Refused.{IsNeverRefused}
 use Rattle.clu_printed.proofs.Again.{symbols_in, pieces_in, text, again, without, Found, found, lexed, likes, printed_is, built_file}
 use Rattle.clu_printed.proofs.OneReading.{token_one, none_left, tokens_one, tree_one}
@@ -78,14 +78,15 @@ shallow_like ms ns z h =
     let same : length ns ≡ length ms = zip_length IsLike ms ns z in
     (h.0, record { size = h.1.size ∙ sym same; each = λ n less. depth_like ms ns n (slice_index h.0 n) z (h.1.each n (subst (λ (k : ℕ). n < k) same less)) }, subst (AreShallow h.0) (sym same) h.2)
 
-tree_like : (ms ns : List Node) → AreLike ms ns → IsTree ms → (i j : ℕ) (m n : Node) (c : ℕ) → slice_get ns i ≡ Some m → slice_get ns j ≡ Some n → Contains m.children c → Contains n.children c → i ≡ j
-tree_like ms ns z tree i j m n c is is' has has' =
+-- no node has two parents
+abbrev Apart : List Node → Type 0
+Apart nodes = (i j : ℕ) (m n : Node) (c : ℕ) → slice_get nodes i ≡ Some m → slice_get nodes j ≡ Some n → Contains m.children c → Contains n.children c → i ≡ j
+
+apart_like : (ms ns : List Node) → AreLike ms ns → IsTree ms → Apart ns
+apart_like ms ns z tree i j m n c is is' has has' =
     let a = zip_back ms ns i m z is in
     let b = zip_back ms ns j n z is' in
     tree.apart i j a.0 b.0 c a.1 b.1 (subst (λ (cs : List ℕ). Contains cs c) a.2.children_are has) (subst (λ (cs : List ℕ). Contains cs c) b.2.children_are has')
-
-abbrev Apart : List Node → Type 0
-Apart nodes = (i j : ℕ) (m n : Node) (c : ℕ) → slice_get nodes i ≡ Some m → slice_get nodes j ≡ Some n → Contains m.children c → Contains n.children c → i ≡ j
 
 depth_one : (nodes : List Node) → Apart nodes → (n k d e : ℕ) → IsDepth nodes n d → IsDepth nodes k e → n ≡ k → d ≡ e
 depth_one nodes apart _ _ _ _ (top n root) (top k root') same = refl
@@ -153,5 +154,5 @@ module _ (bytes : List ℕ) (tokens : List Token) (nodes : List Node) (small : l
         lexed = lexed_all here ts lex;
         parsed = λ us e are' fault.
           (let same : us ≡ ts = tokens_one here us ts are' lex in
-          parsed_all here ts f.made.nodes is_tree (tree_like nodes f.made.nodes alike apart) low_again depths.0 depths.1 depths.2 e (subst (λ (vs : List Token). IsParseFault here vs e) same fault));
+          parsed_all here ts f.made.nodes is_tree (apart_like nodes f.made.nodes alike apart) low_again depths.0 depths.1 depths.2 e (subst (λ (vs : List Token). IsParseFault here vs e) same fault));
       })

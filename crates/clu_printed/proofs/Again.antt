@@ -28,10 +28,9 @@ use Rattle.clu_printer.specs.Blanks.{blank_between}
 use Rattle.clu_printer.specs.Lines.{Lines, lines_of}
 use Rattle.clu_printer.specs.Printed.{Made, nothing_made, bytes_of, symbol_in, indent_at, prefix_at, known, symbol_at, printed}
 use Rattle.clu_printed.specs.Again.{IsLike, AreLike, IsReadAgain}
-use Rattle.clu_printed.specs.Kept.{is_optional, kept, place_of, IsKept}
 use Rattle.clu_printed.proofs.Fitting.{Fitting, fitting}
 use Rattle.clu_printed.proofs.Joined.{joint}
-use Rattle.clu_printed.proofs.Kept.{got_kept, place_end}
+use Rattle.clu_printed.proofs.Kept.{is_optional, kept, place_of, IsKept, got_kept, place_end}
 use Rattle.clu_printed.proofs.Laid.{IsWhole, Parts, Are, whole_text, tokens_laid}
 use Rattle.clu_printed.proofs.Lined.{lined}
 use Rattle.clu_printed.proofs.Lowered.{printed_spelled}

@@ -1,11 +1,12 @@
 -- Symbols that fit one behind the other; which bracket closes before a `$` is the same without the optional `;`.
 use Rattle.std.proofs.Common.{◌≡◌, ℕ, zero, suc, ◌+◌, Bool, true, false, not, List, [], ◌∷◌, drop, Option, Some, slice_get, refl, sym, ap, ◌∙◌, subst, inl, inr, arith, cond}
+use Rattle.std.proofs.lemmas.Bool.{not-true}
 use Rattle.clu_lexer.specs.declared.symbols.Symbol.{Symbol}
 use Rattle.clu_lexer.specs.declared.symbols.Symbol.TheVariants as s
 use Rattle.clu_lexer.specs.contracts.symbols.Symbol.{the_type}
 use Rattle.clu_grammar.proofs.Flags.{and_left, and_right, true_or_false}
 use Rattle.clu_parser.specs.Spellings.{closes, is_dollar}
-use Rattle.clu_printed.specs.Kept.{is_optional, kept}
+use Rattle.clu_printed.proofs.Kept.{is_optional, kept}
 use Rattle.clu_printed.proofs.Neighbours.{fits, AreFit}
 use Rattle.clu_printed.proofs.Stripped.{semicolon_is}
 use denote.Enum.Bare.{sameb}
@@ -37,18 +38,14 @@ dollar_kept (x ∷ y ∷ ys) h = elim (true_or_false (is_optional x)) [
   | inl gone ↦ (
     let e : x ≡ s.Semicolon = semicolon_is x gone in
     let f : fits s.Semicolon y ≡ true = subst (λ (z : Symbol). fits z y ≡ true) e h.0 in
-    let left : is_optional y ≡ false = not_true (is_optional y) (and_left _ _ f) in
-    let none : sameb the_type y s.Dollar ≡ false = not_true (sameb the_type y s.Dollar) (and_right _ _ f) in
+    let left : is_optional y ≡ false = not-true (is_optional y) (and_left _ _ f) in
+    let none : sameb the_type y s.Dollar ≡ false = not-true (sameb the_type y s.Dollar) (and_right _ _ f) in
     let lhs : is_dollar (kept (x ∷ y ∷ ys) (x ∷ y ∷ ys)) ≡ false = rw (gone, left) none in
     let rhs : is_dollar (x ∷ y ∷ ys) ≡ false = rw e refl in
     lhs ∙ sym rhs
   )
   | inr stays ↦ rw stays refl
 ]
-  where
-    not_true : (b : Bool) → not b ≡ true → b ≡ false
-    not_true true h = absurd (cc)
-    not_true false h = refl
 
 tail_fitting : (x : Symbol) (xs : List Symbol) → Fitting (x ∷ xs) → Fitting xs
 tail_fitting x [] h = tt

@@ -1,6 +1,6 @@
 -- Two printed tokens with no blank between them are read as these two.
 use Rattle.std.proofs.Common.{◌≡◌, ℕ, ◌+◌, ◌<◌, ◌≤◌, Bool, true, false, not, ◌&&◌, ◌||◌, ◌==◌, List, [], ◌∷◌, Option, Some, None, refl, sym, ap, ◌∙◌, subst, inl, inr, ◌⊎◌, arith, rules, if◌then◌else◌, eqb-true, leb-true, ne_eqb}
-use Rattle.std.proofs.lemmas.Bool.{lt-leb}
+use Rattle.std.proofs.lemmas.Bool.{lt-leb, not-false}
 use Rattle.std.proofs.lemmas.Option.{same_Some}
 use Rattle.clu_base.specs.declared.tokens.Kind.{Kind}
 use Rattle.clu_base.specs.declared.tokens.Kind.TheVariants as kind
@@ -128,14 +128,7 @@ or_false : (a b : Bool) → (a || b) ≡ false → (a ≡ false) × (b ≡ false
 or_false true b h = absurd (cc)
 or_false false b h = (refl, h)
 
-not_false : (a : Bool) → not a ≡ false → a ≡ true
-not_false true h = refl
-not_false false h = absurd (cc)
-
 module _ (k l : Kind) (text : List ℕ) (b : ℕ) (more : List ℕ) (is_k : kind_of text ≡ Some k) (is_l : kind_of (b ∷ more) ≡ Some l) (fit : fits (symbol_of k text) (symbol_of l (b ∷ more)) ≡ true) where
-  x : Symbol
-  x = symbol_of k text
-
   -- the first of the two is a mark of one byte
   behind_single : (z : Symbol) → symbol_of k text ≡ z → is_single z ≡ true → next (begin (byte_of z)) b ≡ state.Stop → next (run state.Start text) b ≡ state.Stop
   behind_single z is single stops = subst (λ (xs : List ℕ). next (run state.Start xs) b ≡ state.Stop) (sym (single_text k text z single is)) stops
@@ -169,7 +162,7 @@ module _ (k l : Kind) (text : List ℕ) (b : ℕ) (more : List ℕ) (is_k : kind
   without_blank : blank_between (symbol_of k text) (symbol_of l (b ∷ more)) ≡ false → next (run state.Start text) b ≡ state.Stop
   without_blank none =
       let parts = or_false _ _ none in
-      elim (or_cases (clings (symbol_of l (b ∷ more)) || holds (symbol_of k text)) (is_argument_list (symbol_of k text) (symbol_of l (b ∷ more))) (not_false _ parts.1)) [
+      elim (or_cases (clings (symbol_of l (b ∷ more)) || holds (symbol_of k text)) (is_argument_list (symbol_of k text) (symbol_of l (b ∷ more))) (not-false _ parts.1)) [
         | inl either ↦ elim (or_cases (clings (symbol_of l (b ∷ more))) (holds (symbol_of k text)) either) [
           | inl clinging ↦ before_leaning (clings_lean (symbol_of l (b ∷ more)) clinging) parts.0
           | inr holding ↦ behind_holder holding

@@ -21,7 +21,7 @@ use Rattle.clu_grammar.specs.Choice.{has}
 use Rattle.clu_grammar.specs.Grammar.{signs}
 use Rattle.clu_grammar.proofs.Flags.{true_or_false, true_is_false, and_left, and_right, or_cases}
 use Rattle.clu_printer.specs.Blanks.{clings, holds, takes_arguments, would_be_real, is_argument_list, blank_between}
-use Rattle.clu_printed.proofs.Neighbours.{fits}
+use Rattle.clu_printed.proofs.Neighbours.{all_at}
 use Rattle.clu_printed.proofs.Lowered.{cases_lower, run_stopped, HasClass, class_behind}
 use denote.Enum.Bare.{sameb, same_true, true_same}
 
@@ -186,11 +186,6 @@ leaning_stops s.Colon h = refl
 leaning_stops s.Point h = refl
 leaning_stops s.Dollar h = refl
 leaning_stops _ h = absurd (cc)
-
-all_at : {X : Type 0} (p : X → Bool) (xs : List X) (k : ℕ) (x : X) → list_all p xs ≡ true → slice_get xs k ≡ Some x → p x ≡ true
-all_at p [] k x h at = absurd (cc)
-all_at {X = X} p (y ∷ xs) zero x h at = let same : y ≡ x = cc in subst (λ (z : X). p z ≡ true) same (and_left (p y) (list_all p xs) h)
-all_at p (y ∷ xs) (suc k) x h at = all_at p xs k x (and_right (p y) (list_all p xs) h) at
 
 pub leaning : (x : Symbol) (st : State) (c : Kind) → leans x ≡ true → accepts st ≡ Some c → (c ≡ kind.Int → sameb the_type x s.Point ≡ false) → next st (byte_of x) ≡ state.Stop
 leaning x st c h is other = stop_is (next st (byte_of x)) (pick st is)

@@ -8,8 +8,7 @@ use Rattle.clu_tree.specs.declared.node.Node.{Node}
 use Rattle.clu_tree.specs.declared.node.NodeKind.{NodeKind}
 use Rattle.clu_grammar.proofs.Flags.{true_or_false}
 use Rattle.clu_printer.specs.Lines.{begins_line, word_begins_line, inner_indent, is_type_set, is_prefix, next, word_at, with_word, with_words, with_child, last_of, before_child, with_children, child_indent, with_indents, Lines, Marked, with_prefix, lines_with, with_node, with_nodes, no_lines, lines_of}
-use Rattle.clu_printed.specs.Kept.{is_optional, kept, place_of}
-use Rattle.clu_printed.proofs.Kept.{got_kept, set_kept, place_kept, place_gone, place_past, place_up, place_small, place_behind, replicate_kept}
+use Rattle.clu_printed.proofs.Kept.{is_optional, kept, place_of, got_kept, set_kept, place_kept, place_gone, place_past, place_up, place_small, place_behind, replicate_kept}
 use Rattle.clu_printed.proofs.Rebuilt.{IsMoved, zip_got, zip_past, zip_length}
 use Rattle.clu_printed.proofs.Stripped.{semicolon_is}
 

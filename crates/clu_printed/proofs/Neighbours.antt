@@ -54,7 +54,7 @@ all_fit : (n : Nonterminal) → list_all (fits_at n) symbols ≡ true
 all_fit r.File = refl
 all_fit _ = refl
 
-all_at : {X : Type 0} (p : X → Bool) (xs : List X) (k : ℕ) (x : X) → list_all p xs ≡ true → slice_get xs k ≡ Some x → p x ≡ true
+pub all_at : {X : Type 0} (p : X → Bool) (xs : List X) (k : ℕ) (x : X) → list_all p xs ≡ true → slice_get xs k ≡ Some x → p x ≡ true
 all_at p [] k x h at = absurd (cc)
 all_at {X = X} p (y ∷ xs) zero x h at = let same : y ≡ x = cc in subst (λ (z : X). p z ≡ true) same (and_left (p y) (list_all p xs) h)
 all_at p (y ∷ xs) (suc k) x h at = all_at p xs k x (and_right (p y) (list_all p xs) h) at

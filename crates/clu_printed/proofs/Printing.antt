@@ -11,7 +11,7 @@ use Rattle.clu_grammar.specs.Grammar.{signs}
 use Rattle.clu_parser.specs.Spellings.{spelled}
 use Rattle.clu_printer.specs.Lines.{Lines}
 use Rattle.clu_printer.specs.Printed.{Made, bytes_of, symbol_in, token_text, indent_at, prefix_at, known, symbol_at, with_token, with_next, printed_behind}
-use Rattle.clu_printed.specs.Kept.{is_optional, kept}
+use Rattle.clu_printed.proofs.Kept.{is_optional, kept}
 use Rattle.clu_printed.proofs.Laid.{IsWhole, Parts, Are, HasFirst, first_of, bytes_laid, next_laid}
 use Rattle.clu_printed.proofs.Lowered.{printed_kind, printed_symbol, printed_spelled, printed_again}
 use Rattle.clu_printed.proofs.Pieces.{Piece, gap_before, added, shown, more_text, laid}

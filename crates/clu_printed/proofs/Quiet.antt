@@ -16,7 +16,7 @@ use Rattle.clu_grammar.specs.Rows.{Production, take, peek, otherwise}
 use Rattle.clu_grammar.proofs.Flags.{and_left, and_right, and_both, implied}
 use Rattle.clu_grammar.proofs.Tests.{implies}
 use Rattle.clu_printed.proofs.Neighbours.{all_has}
-use Rattle.clu_printed.specs.Kept.{is_optional}
+use Rattle.clu_printed.proofs.Kept.{is_optional}
 
 abbrev pub asks : Action → Bool
 asks action.Open = true

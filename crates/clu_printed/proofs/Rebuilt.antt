@@ -3,6 +3,7 @@
 use Rattle.std.proofs.Common.{◌≡◌, ℕ, zero, suc, ◌+◌, ◌-◌, ◌<◌, ◌≤◌, Bool, true, false, not, cond, List, [], ◌∷◌, ◌++◌, length, map, take, drop, Option, Some, None, slice_get, refl, sym, ap, ◌∙◌, subst, inl, inr, arith}
 use Rattle.std.specs.List.{AllZip}
 use Rattle.std.proofs.lemmas.List.Elements.{AllZip-push}
+use Rattle.std.proofs.lemmas.Bool.{not-true}
 use Rattle.std.proofs.lemmas.Option.{slice_get_within, same_Some}
 use Rattle.clu_lexer.specs.declared.symbols.Symbol.{Symbol}
 use Rattle.clu_tree.specs.declared.node.Node.{Node}
@@ -16,9 +17,8 @@ use Rattle.clu_grammar.proofs.Flags.{and_left, and_right, implied, true_or_false
 use Rattle.clu_parser.specs.declared.begun.Begun.{Begun}
 use Rattle.clu_parser.specs.Spellings.{is_idn, closes}
 use Rattle.clu_parser.specs.Trees.{Text, Built, spelling_at, value_of, end_at, end_in, last_of, node_of, closed_in, closed, opened, wrapped_on, wrapped_in, wrapped, noted, noted_in, given_in, then_wrapped, acted, Builds, finished, terminal, act, chosen, nothing_built}
-use Rattle.clu_printed.specs.Kept.{is_optional, kept, place_of, IsKept}
 use Rattle.clu_printed.proofs.Fitting.{Fitting, drop_fitting, closes_kept}
-use Rattle.clu_printed.proofs.Kept.{got_kept, place_kept, place_gone, place_up, place_small, drop_kept}
+use Rattle.clu_printed.proofs.Kept.{is_optional, kept, place_of, IsKept, got_kept, place_kept, place_gone, place_up, place_small, drop_kept}
 use Rattle.clu_printed.proofs.Quiet.{asks, quiet, row_quiet}
 use Rattle.clu_printed.proofs.Stripped.{stripped, stripped_gone, stripped_left, stripped-append, one_stripped}
 
@@ -290,7 +290,7 @@ module _ (s t : Text) (without : t.symbols ≡ kept s.symbols s.symbols) (spelle
   rebuilt known _ at b to z (terminal x items _ _ _ _ is d) c moved still left within =
       let inside : at < length s.symbols = slice_get_within s.symbols at x is in
       let e : at + 1 - 1 ≡ at = omega arith in
-      let h = rebuilt (not (is_optional x)) items (at + 1) b to z d c moved still (λ stays. subst (IsKept s.symbols) (sym e) (x, is, not_true (is_optional x) stays)) (omega arith) in
+      let h = rebuilt (not (is_optional x)) items (at + 1) b to z d c moved still (λ stays. subst (IsKept s.symbols) (sym e) (x, is, not-true (is_optional x) stays)) (omega arith) in
       elim (true_or_false (is_optional x)) [
         | inl gone ↦ (
           let p = place_gone s.symbols at x is gone in
@@ -302,10 +302,6 @@ module _ (s t : Text) (without : t.symbols ≡ kept s.symbols s.symbols) (spelle
           record { made = h.made; builds = subst (λ (xs : List Item). Builds t xs (place_of s.symbols at) c (place_of s.symbols to) h.made) (sym (stripped_left x items stays)) (terminal x (stripped items) (place_of s.symbols at) c (place_of s.symbols to) h.made found (subst (λ (k : ℕ). Builds t (stripped items) k c (place_of s.symbols to) h.made) p h.builds)); moved = h.moved }
         )
       ]
-    where
-      not_true : (a : Bool) → not a ≡ true → a ≡ false
-      not_true true h = absurd (cc)
-      not_true false h = refl
   rebuilt known _ at b to z (act a items _ _ d _ _ is e) c moved still left within =
       let r = act_moved a at b c d moved (λ asked. left (implied _ _ (and_left _ _ still) asked)) within is in
       let h = rebuilt known items at d to z e r.made r.moved (and_right _ _ still) left within in

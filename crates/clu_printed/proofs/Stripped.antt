@@ -13,7 +13,7 @@ use Rattle.clu_grammar.specs.Grammar.{productions}
 use Rattle.clu_grammar.specs.Language.{IsAlternative, IsOneOf}
 use Rattle.clu_grammar.specs.Rows.{Production, take, peek, otherwise}
 use Rattle.clu_grammar.proofs.Flags.{and_left, and_right, true_or_false, denied}
-use Rattle.clu_printed.specs.Kept.{is_optional}
+use Rattle.clu_printed.proofs.Kept.{is_optional}
 use denote.Enum.Bare.{sameb, same_true}
 
 abbrev pub stripped : List Item → List Item
