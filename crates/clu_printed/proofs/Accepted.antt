@@ -1,28 +1,25 @@
 -- The printed text of a source that is accepted is accepted: no token is bad, no level is too high, no node too deep.
-use Rattle.std.proofs.Common.{◌≡◌, ℕ, zero, suc, ◌+◌, ◌-◌, ◌<◌, ◌≤◌, Bool, true, false, List, [], ◌∷◌, length, take, drop, map, Option, Some, None, slice_get, slice_index, Contains, refl, sym, ap, ◌∙◌, subst, inl, inr, ◌⊎◌, arith}
-use Rattle.std.specs.List.{AllZip}
+use Rattle.std.proofs.Common.{◌≡◌, ℕ, zero, suc, ◌+◌, ◌-◌, ◌<◌, ◌≤◌, List, [], ◌∷◌, length, take, drop, Some, None, slice_get, slice_index, Contains, refl, sym, ap, ◌∙◌, subst, inl, inr, arith}
 use Rattle.std.proofs.lemmas.List.{length-map}
 use Rattle.clu_base.specs.declared.tokens.Place.{Place}
 use Rattle.clu_base.specs.declared.tokens.Token.{Token}
 use Rattle.clu_lexer.specs.declared.symbols.Symbol.{Symbol}
-use Rattle.clu_lexer.specs.declared.symbols.Symbol.TheVariants as s
 use Rattle.clu_lexer.specs.declared.tokens.LexError.{LexError}
 use Rattle.clu_lexer.specs.declared.tokens.LexError.TheVariants as lexer
-use Rattle.clu_lexer.specs.Tokens.{kind_of, IsGap, IsToken, Cut, IsBad, Tokens, IsFault as IsLexFault}
+use Rattle.clu_lexer.specs.Tokens.{kind_of, IsGap, Cut, IsBad, Tokens, IsFault as IsLexFault}
 use Rattle.clu_tree.specs.declared.node.Node.{Node}
-use Rattle.clu_tree.specs.Nodes.{IsTree, IsRoot}
-use Rattle.clu_grammar.specs.Language.{IsFile}
+use Rattle.clu_tree.specs.Nodes.{IsTree}
 use Rattle.clu_grammar.proofs.Flags.{true_or_false}
 use Rattle.clu_parser.specs.declared.errors.ParseError.{ParseError}
 use Rattle.clu_parser.specs.declared.errors.ParseError.TheVariants as parser
 use Rattle.clu_parser.specs.Depths.{IsDepth, top, below, AreDepths, AreShallow, IsFirstDeep, IsFirstTooDeep}
-use Rattle.clu_parser.specs.Levels.{level_behind, level_from, level_at, IsLow}
+use Rattle.clu_parser.specs.Levels.{level_behind, level_from, IsLow}
 use Rattle.clu_parser.specs.Parsing.{symbols_of, text_of, IsTreeOf, IsFault as IsParseFault}
 use Rattle.clu_printer.specs.Printed.{printed, symbol_in}
 use Rattle.clu_printed.specs.Again.{IsLike, AreLike}
 use Rattle.clu_printed.proofs.Kept.{is_optional, kept}
 use Rattle.clu_printed.specs.Refused.{IsNeverRefused}
-use Rattle.clu_printed.proofs.Again.{symbols_in, pieces_in, text, again, without, Found, found, lexed, likes, printed_is, built_file}
+use Rattle.clu_printed.proofs.Again.{symbols_in, text, again, without, found, lexed, likes, printed_is, built_file}
 use Rattle.clu_printed.proofs.OneReading.{token_one, none_left, tokens_one, tree_one}
 use Rattle.clu_printed.proofs.Rebuilt.{zip_got, zip_length}
 use Rattle.clu_printed.proofs.Stripped.{semicolon_is}
@@ -47,15 +44,15 @@ low_kept : (level : ℕ) (xs : List Symbol) → LowFrom level xs → LowFrom lev
 low_kept level [] h = h
 low_kept level (x ∷ xs) h = elim (true_or_false (is_optional x)) [
   | inl gone ↦ (
-    let e : kept (x ∷ xs) (x ∷ xs) ≡ kept xs xs = rw gone refl in
-    let same : level_behind level x ≡ level = subst (λ (y : Symbol). level_behind level y ≡ level) (sym (semicolon_is x gone)) refl in
-    subst (LowFrom level) (sym e) (low_kept level xs (subst (λ (n : ℕ). LowFrom n xs) same h.1))
-  )
+      let e : kept (x ∷ xs) (x ∷ xs) ≡ kept xs xs = rw gone refl in
+      let same : level_behind level x ≡ level = subst (λ (y : Symbol). level_behind level y ≡ level) (sym (semicolon_is x gone)) refl in
+      subst (LowFrom level) (sym e) (low_kept level xs (subst (λ (n : ℕ). LowFrom n xs) same h.1))
+      )
   | inr left ↦ (
-    let e : kept (x ∷ xs) (x ∷ xs) ≡ x ∷ kept xs xs = rw left refl in
-    let it : LowFrom level (x ∷ kept xs xs) = (h.0, low_kept (level_behind level x) xs h.1) in
-    subst (LowFrom level) (sym e) it
-  )
+      let e : kept (x ∷ xs) (x ∷ xs) ≡ x ∷ kept xs xs = rw left refl in
+      let it : LowFrom level (x ∷ kept xs xs) = (h.0, low_kept (level_behind level x) xs h.1) in
+      subst (LowFrom level) (sym e) it
+      )
 ]
 
 -- depths are those of a tree with the same children
@@ -153,6 +150,6 @@ module _ (bytes : List ℕ) (tokens : List Token) (nodes : List Node) (small : l
       subst IsNeverRefused (sym (printed_is bytes tokens nodes)) (record {
         lexed = lexed_all here ts lex;
         parsed = λ us e are' fault.
-          (let same : us ≡ ts = tokens_one here us ts are' lex in
-          parsed_all here ts f.made.nodes is_tree (apart_like nodes f.made.nodes alike apart) low_again depths.0 depths.1 depths.2 e (subst (λ (vs : List Token). IsParseFault here vs e) same fault));
+            (let same : us ≡ ts = tokens_one here us ts are' lex in
+            parsed_all here ts f.made.nodes is_tree (apart_like nodes f.made.nodes alike apart) low_again depths.0 depths.1 depths.2 e (subst (λ (vs : List Token). IsParseFault here vs e) same fault));
       })

@@ -1,13 +1,11 @@
 -- The printed text of a source is read again.
-use Rattle.std.proofs.Common.{◌≡◌, ℕ, zero, suc, ◌+◌, ◌-◌, ◌<◌, ◌≤◌, ◌^◌, Bool, true, false, not, ◌&&◌, List, [], ◌∷◌, ◌++◌, length, map, Option, Some, None, slice_get, unwrap_or, option_map, refl, sym, ap, ◌∙◌, subst, inl, inr, arith}
+use Rattle.std.proofs.Common.{◌≡◌, ℕ, ◌+◌, ◌<◌, ◌≤◌, ◌^◌, Bool, true, false, not, ◌&&◌, List, [], ◌∷◌, ◌++◌, length, map, Option, Some, None, slice_get, unwrap_or, option_map, refl, sym, ap, ◌∙◌, subst, inl, inr, arith}
 use Rattle.std.specs.List.{AllZip}
 use Rattle.std.proofs.lemmas.List.{length-map}
 use Rattle.std.proofs.lemmas.Option.{slice_get-map, same_Some}
-use Rattle.clu_base.specs.declared.tokens.Kind.{Kind}
 use Rattle.clu_base.specs.declared.tokens.Token.{Token}
 use Rattle.clu_lexer.specs.declared.scanner.State.TheVariants as state
 use Rattle.clu_lexer.specs.declared.symbols.Symbol.{Symbol}
-use Rattle.clu_lexer.specs.declared.symbols.Symbol.TheVariants as s
 use Rattle.clu_lexer.specs.Scanner.{next, run}
 use Rattle.clu_lexer.specs.Tokens.{kind_of, Tokens}
 use Rattle.clu_lexer.specs.Words.{symbol_of}
@@ -26,18 +24,18 @@ use Rattle.clu_parser.proofs.Formed.{tree_shaped}
 use Rattle.clu_parser.proofs.Sizes.{tokens_small}
 use Rattle.clu_printer.specs.Blanks.{blank_between}
 use Rattle.clu_printer.specs.Lines.{Lines, lines_of}
-use Rattle.clu_printer.specs.Printed.{Made, nothing_made, bytes_of, symbol_in, indent_at, prefix_at, known, symbol_at, printed}
-use Rattle.clu_printed.specs.Again.{IsLike, AreLike, IsReadAgain}
+use Rattle.clu_printer.specs.Printed.{Made, nothing_made, bytes_of, symbol_in, prefix_at, known, symbol_at, printed}
+use Rattle.clu_printed.specs.Again.{AreLike, IsReadAgain}
 use Rattle.clu_printed.proofs.Fitting.{Fitting, fitting}
 use Rattle.clu_printed.proofs.Joined.{joint}
 use Rattle.clu_printed.proofs.Kept.{is_optional, kept, place_of, IsKept, got_kept, place_end}
-use Rattle.clu_printed.proofs.Laid.{IsWhole, Parts, Are, whole_text, tokens_laid}
+use Rattle.clu_printed.proofs.Laid.{Are, whole_text, tokens_laid}
 use Rattle.clu_printed.proofs.Lined.{lined}
 use Rattle.clu_printed.proofs.Lowered.{printed_spelled}
-use Rattle.clu_printed.proofs.Marked.{lines_length, lines_signs, are_prefixed, IsSign}
+use Rattle.clu_printed.proofs.Marked.{lines_length, lines_signs, are_prefixed}
 use Rattle.clu_printed.proofs.Neighbours.{fits, file_fits}
-use Rattle.clu_printed.proofs.Pieces.{Piece, shown, more_text, shown_text, laid}
-use Rattle.clu_printed.proofs.Printing.{piece_of, pieces, printed_pieces, map_pieces, IsGood, AreGood, cut_kinds, good_pieces, laid_symbols, laid_spelled, relaid}
+use Rattle.clu_printed.proofs.Pieces.{Piece, more_text, shown_text, laid}
+use Rattle.clu_printed.proofs.Printing.{pieces, printed_pieces, map_pieces, IsGood, AreGood, cut_kinds, good_pieces, laid_symbols, laid_spelled, relaid}
 use Rattle.clu_printed.proofs.Rebuilt.{IsMoved, rebuilt, nothing_moved}
 use Rattle.clu_printed.proofs.Stripped.{semicolon_is}
 
@@ -69,7 +67,7 @@ two_parts p q good good' fit none b bs is =
     let kind : kind_of (b ∷ bs) ≡ Some q.kind = ap kind_of (sym is) ∙ good'.kind_is in
     let fit' : fits (symbol_of p.kind p.text) (symbol_of q.kind (b ∷ bs)) ≡ true = subst (λ (z : Symbol). fits z (symbol_of q.kind (b ∷ bs)) ≡ true) (sym x) (subst (λ (z : Symbol). fits p.symbol z ≡ true) (sym y) fit) in
     let none' : (not p.is_prefix && blank_between (symbol_of p.kind p.text) (symbol_of q.kind (b ∷ bs))) ≡ false =
-      subst (λ (z : Symbol). (not p.is_prefix && blank_between z (symbol_of q.kind (b ∷ bs))) ≡ false) (sym x) (subst (λ (z : Symbol). (not p.is_prefix && blank_between p.symbol z) ≡ false) (sym y) none) in
+    subst (λ (z : Symbol). (not p.is_prefix && blank_between z (symbol_of q.kind (b ∷ bs))) ≡ false) (sym x) (subst (λ (z : Symbol). (not p.is_prefix && blank_between p.symbol z) ≡ false) (sym y) none) in
     joint p.kind q.kind p.text b bs good.kind_is kind fit' p.is_prefix (λ h. subst (λ (z : Symbol). has signs z ≡ true) (sym x) (good.sign h)) none'
 
 parts : (ps : List Piece) → AreGood ps → Fitting (map (λ (p : Piece). p.symbol) ps) → Are ps
@@ -192,7 +190,7 @@ module _ (bytes : List ℕ) (tokens : List Token) (nodes : List Node) (small : l
       let begins : (lines_of (symbols_in text again) found.made.nodes).begins ≡ map (λ (p : Piece). p.begins) ps = ap (λ (l : Lines). l.begins) to ∙ both.begins ∙ sym begins_kept in
       let prefix : (lines_of (symbols_in text again) found.made.nodes).prefix ≡ map (λ (p : Piece). p.is_prefix) ps = ap (λ (l : Lines). l.prefix) to ∙ both.prefix ∙ sym prefix_kept in
       let pieces_same : pieces_in text again found.made.nodes ≡ ps =
-        relaid text (symbols_in text again) (lines_of (symbols_in text again) found.made.nodes) ps nothing_made 0 good is_text (laid_symbols text ps nothing_made good is_text) begins prefix in
+      relaid text (symbols_in text again) (lines_of (symbols_in text again) found.made.nodes) ps nothing_made 0 good is_text (laid_symbols text ps nothing_made good is_text) begins prefix in
       printed_is text again found.made.nodes ∙ ap whole_text pieces_same
 
   pub read_again : IsReadAgain (printed bytes tokens nodes) nodes

@@ -1,5 +1,5 @@
 -- Symbols that fit one behind the other; which bracket closes before a `$` is the same without the optional `;`.
-use Rattle.std.proofs.Common.{◌≡◌, ℕ, zero, suc, ◌+◌, Bool, true, false, not, List, [], ◌∷◌, drop, Option, Some, slice_get, refl, sym, ap, ◌∙◌, subst, inl, inr, arith, cond}
+use Rattle.std.proofs.Common.{◌≡◌, ℕ, zero, suc, ◌+◌, true, false, List, [], ◌∷◌, drop, refl, sym, ◌∙◌, subst, inl, inr, arith}
 use Rattle.std.proofs.lemmas.Bool.{not-true}
 use Rattle.clu_lexer.specs.declared.symbols.Symbol.{Symbol}
 use Rattle.clu_lexer.specs.declared.symbols.Symbol.TheVariants as s
@@ -36,14 +36,14 @@ dollar_kept (x ∷ []) h = elim (true_or_false (is_optional x)) [
 ]
 dollar_kept (x ∷ y ∷ ys) h = elim (true_or_false (is_optional x)) [
   | inl gone ↦ (
-    let e : x ≡ s.Semicolon = semicolon_is x gone in
-    let f : fits s.Semicolon y ≡ true = subst (λ (z : Symbol). fits z y ≡ true) e h.0 in
-    let left : is_optional y ≡ false = not-true (is_optional y) (and_left _ _ f) in
-    let none : sameb the_type y s.Dollar ≡ false = not-true (sameb the_type y s.Dollar) (and_right _ _ f) in
-    let lhs : is_dollar (kept (x ∷ y ∷ ys) (x ∷ y ∷ ys)) ≡ false = rw (gone, left) none in
-    let rhs : is_dollar (x ∷ y ∷ ys) ≡ false = rw e refl in
-    lhs ∙ sym rhs
-  )
+      let e : x ≡ s.Semicolon = semicolon_is x gone in
+      let f : fits s.Semicolon y ≡ true = subst (λ (z : Symbol). fits z y ≡ true) e h.0 in
+      let left : is_optional y ≡ false = not-true (is_optional y) (and_left _ _ f) in
+      let none : sameb the_type y s.Dollar ≡ false = not-true (sameb the_type y s.Dollar) (and_right _ _ f) in
+      let lhs : is_dollar (kept (x ∷ y ∷ ys) (x ∷ y ∷ ys)) ≡ false = rw (gone, left) none in
+      let rhs : is_dollar (x ∷ y ∷ ys) ≡ false = rw e refl in
+      lhs ∙ sym rhs
+      )
   | inr stays ↦ rw stays refl
 ]
 
@@ -55,17 +55,17 @@ pub closes_kept : (depth : ℕ) (xs : List Symbol) → Fitting xs → closes dep
 closes_kept depth [] h = refl
 closes_kept zero (x ∷ xs) h = elim (true_or_false (is_optional x)) [
   | inl gone ↦ (
-    let e : x ≡ s.Semicolon = semicolon_is x gone in
-    let rhs : closes zero (x ∷ xs) ≡ closes zero xs = rw e refl in
-    rw gone (closes_kept zero xs (tail_fitting x xs h) ∙ sym rhs)
-  )
+      let e : x ≡ s.Semicolon = semicolon_is x gone in
+      let rhs : closes zero (x ∷ xs) ≡ closes zero xs = rw e refl in
+      rw gone (closes_kept zero xs (tail_fitting x xs h) ∙ sym rhs)
+      )
   | inr stays ↦ rw (stays, closes_kept 1 xs (tail_fitting x xs h), dollar_kept xs (tail_fitting x xs h), closes_kept zero xs (tail_fitting x xs h)) refl
 ]
 closes_kept (suc depth) (x ∷ xs) h = elim (true_or_false (is_optional x)) [
   | inl gone ↦ (
-    let e : x ≡ s.Semicolon = semicolon_is x gone in
-    let rhs : closes (suc depth) (x ∷ xs) ≡ closes (suc depth) xs = rw e refl in
-    rw gone (closes_kept (suc depth) xs (tail_fitting x xs h) ∙ sym rhs)
-  )
+      let e : x ≡ s.Semicolon = semicolon_is x gone in
+      let rhs : closes (suc depth) (x ∷ xs) ≡ closes (suc depth) xs = rw e refl in
+      rw gone (closes_kept (suc depth) xs (tail_fitting x xs h) ∙ sym rhs)
+      )
   | inr stays ↦ rw (stays, closes_kept (depth + 2) xs (tail_fitting x xs h), closes_kept depth xs (tail_fitting x xs h), closes_kept (suc depth) xs (tail_fitting x xs h)) refl
 ]

@@ -1,5 +1,5 @@
 -- Two printed tokens with no blank between them are read as these two.
-use Rattle.std.proofs.Common.{◌≡◌, ℕ, ◌+◌, ◌<◌, ◌≤◌, Bool, true, false, not, ◌&&◌, ◌||◌, ◌==◌, List, [], ◌∷◌, Option, Some, None, refl, sym, ap, ◌∙◌, subst, inl, inr, ◌⊎◌, arith, rules, if◌then◌else◌, eqb-true, leb-true, ne_eqb}
+use Rattle.std.proofs.Common.{◌≡◌, ℕ, ◌≤◌, Bool, true, false, not, ◌&&◌, ◌||◌, ◌==◌, List, [], ◌∷◌, Some, refl, sym, ap, ◌∙◌, subst, inl, inr, ◌⊎◌, arith, rules, eqb-true, leb-true, ne_eqb}
 use Rattle.std.proofs.lemmas.Bool.{lt-leb, not-false}
 use Rattle.std.proofs.lemmas.Option.{same_Some}
 use Rattle.clu_base.specs.declared.tokens.Kind.{Kind}
@@ -16,11 +16,11 @@ use Rattle.clu_lexer.specs.Words.{symbol_of}
 use Rattle.clu_grammar.specs.Choice.{has}
 use Rattle.clu_grammar.specs.Grammar.{signs}
 use Rattle.clu_grammar.proofs.Flags.{true_or_false, true_is_false, and_left, and_right, or_cases}
-use Rattle.clu_printer.specs.Blanks.{clings, holds, takes_arguments, would_be_real, is_argument_list, blank_between}
+use Rattle.clu_printer.specs.Blanks.{clings, holds, would_be_real, is_argument_list, blank_between}
 use Rattle.clu_printed.proofs.Neighbours.{fits}
-use Rattle.clu_printed.proofs.Lowered.{run_stopped, HasClass, class_behind}
-use Rattle.clu_printed.proofs.Joints.{byte_of, is_single, single_text, leans, leaning, leaning_stops, is_numeric, numeric_run, numeric_class}
-use denote.Enum.Bare.{sameb, same_true, true_same}
+use Rattle.clu_printed.proofs.Lowered.{run_stopped, class_behind}
+use Rattle.clu_printed.proofs.Joints.{byte_of, is_single, single_text, leans, leaning, leaning_stops, numeric_run, numeric_class}
+use denote.Enum.Bare.{sameb, same_true}
 
 digit_begins : (b : ℕ) → is_digit b ≡ true → begin b ≡ state.Whole
 digit_begins b h =
@@ -32,13 +32,13 @@ point_stops : (l : Kind) (b : ℕ) (more : List ℕ) → kind_of (b ∷ more) �
 unfolding class_of
 point_stops l b more h name = elim (true_or_false (is_digit b)) [
   | inl is_so ↦ (
-    let c = class_behind (b ∷ more) l h in
-    let e : begin b ≡ state.Whole = digit_begins b is_so in
-    let is : accepts (run state.Whole more) ≡ Some c.class = subst (λ (st : State). accepts (run st more) ≡ Some c.class) e c.class_is in
-    let is_not : sameb the_type (symbol_of (kind_in c.class (b ∷ more)) (b ∷ more)) s.Idn ≡ false = numeric_class (run state.Whole more) c.class (b ∷ more) (numeric_run state.Whole more refl) is in
-    let is_not' : sameb the_type (symbol_of l (b ∷ more)) s.Idn ≡ false = subst (λ (k : Kind). sameb the_type (symbol_of k (b ∷ more)) s.Idn ≡ false) (sym c.kind_is) is_not in
-    absurd (true_is_false (sameb the_type (symbol_of l (b ∷ more)) s.Idn) name is_not')
-  )
+      let c = class_behind (b ∷ more) l h in
+      let e : begin b ≡ state.Whole = digit_begins b is_so in
+      let is : accepts (run state.Whole more) ≡ Some c.class = subst (λ (st : State). accepts (run st more) ≡ Some c.class) e c.class_is in
+      let is_not : sameb the_type (symbol_of (kind_in c.class (b ∷ more)) (b ∷ more)) s.Idn ≡ false = numeric_class (run state.Whole more) c.class (b ∷ more) (numeric_run state.Whole more refl) is in
+      let is_not' : sameb the_type (symbol_of l (b ∷ more)) s.Idn ≡ false = subst (λ (k : Kind). sameb the_type (symbol_of k (b ∷ more)) s.Idn ≡ false) (sym c.kind_is) is_not in
+      absurd (true_is_false (sameb the_type (symbol_of l (b ∷ more)) s.Idn) name is_not')
+      )
   | inr is_not ↦ rw is_not refl
 ]
 
@@ -51,16 +51,16 @@ equal_behind : (bs : List ℕ) (c : Kind) → accepts (run state.BeforeEqual bs)
 equal_behind [] c h = inl refl
 equal_behind (b ∷ bs) c h = elim (true_or_false (b == 61)) [
   | inl is_so ↦ (
-    let h' : accepts (run state.Mark bs) ≡ Some c = rw is_so at h in
-    let e : b ≡ 61 = eqb-true b 61 is_so in
-    let f : bs ≡ [] = mark_alone bs c h' in
-    inr (rw (e, f) refl)
-  )
+      let h' : accepts (run state.Mark bs) ≡ Some c = rw is_so at h in
+      let e : b ≡ 61 = eqb-true b 61 is_so in
+      let f : bs ≡ [] = mark_alone bs c h' in
+      inr (rw (e, f) refl)
+      )
   | inr is_not ↦ (
-    let h' : accepts (run state.Stop bs) ≡ Some c = rw is_not at h in
-    let h'' : accepts state.Stop ≡ Some c = subst (λ (st : State). accepts st ≡ Some c) (run_stopped bs) h' in
-    absurd (cc)
-  )
+      let h' : accepts (run state.Stop bs) ≡ Some c = rw is_not at h in
+      let h'' : accepts state.Stop ≡ Some c = subst (λ (st : State). accepts st ≡ Some c) (run_stopped bs) h' in
+      absurd (cc)
+      )
 ]
 
 -- what fits behind ~ as a sign doesn't begin with < = or >
@@ -168,9 +168,9 @@ module _ (k l : Kind) (text : List ℕ) (b : ℕ) (more : List ℕ) (is_k : kind
           | inr holding ↦ behind_holder holding
         ]
         | inr arguments ↦ (
-          let paren : symbol_of l (b ∷ more) ≡ s.LeftParen = same_true the_type (search rules) (symbol_of l (b ∷ more)) s.LeftParen (and_left _ _ arguments) in
-          before_leaning (subst (λ (z : Symbol). leans z ≡ true) (sym paren) refl) parts.0
-        )
+            let paren : symbol_of l (b ∷ more) ≡ s.LeftParen = same_true the_type (search rules) (symbol_of l (b ∷ more)) s.LeftParen (and_left _ _ arguments) in
+            before_leaning (subst (λ (z : Symbol). leans z ≡ true) (sym paren) refl) parts.0
+            )
       ]
 
   pub joint : (is_prefix : Bool) → (is_prefix ≡ true → has signs (symbol_of k text) ≡ true) → (not is_prefix && blank_between (symbol_of k text) (symbol_of l (b ∷ more))) ≡ false → next (run state.Start text) b ≡ state.Stop

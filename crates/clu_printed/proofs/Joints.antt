@@ -1,6 +1,6 @@
 -- Two printed tokens with no blank between them are read as these two: the automaton stops at the first byte of the
 -- second one.
-use Rattle.std.proofs.Common.{◌≡◌, ℕ, zero, suc, ◌+◌, ◌<◌, ◌≤◌, Bool, true, false, not, ◌&&◌, ◌||◌, ◌==◌, List, [], ◌∷◌, map, Option, Some, None, slice_get, refl, sym, ap, ◌∙◌, subst, inl, inr, ◌⊎◌, arith, rules, if◌then◌else◌, nat_lt, nat_le, unwrap_or, eqb-true, leb-true, ltb-true}
+use Rattle.std.proofs.Common.{◌≡◌, ℕ, Bool, true, false, ◌&&◌, ◌||◌, ◌==◌, List, [], ◌∷◌, Option, Some, None, slice_get, refl, sym, ap, ◌∙◌, subst, inl, inr, arith, if◌then◌else◌, nat_lt, nat_le, unwrap_or, eqb-true, leb-true, ltb-true}
 use Rattle.std.specs.List.{list_all}
 use Rattle.std.proofs.lemmas.Option.{same_Some}
 use Rattle.std.specs.Char.{to_ascii_lowercase}
@@ -12,18 +12,15 @@ use Rattle.clu_lexer.specs.declared.symbols.Symbol.{Symbol}
 use Rattle.clu_lexer.specs.declared.symbols.Symbol.TheVariants as s
 use Rattle.clu_lexer.specs.contracts.symbols.Symbol.{the_type}
 use Rattle.clu_lexer.specs.Classes.{is_digit, is_exponent_mark, is_sign}
-use Rattle.clu_lexer.specs.Scanner.{begin, next, accepts, run, only_if, class_of}
-use Rattle.clu_lexer.specs.Separators.{is_separator}
+use Rattle.clu_lexer.specs.Scanner.{next, accepts, run, only_if}
 use Rattle.clu_lexer.specs.Symbols.{spells, symbol_named}
-use Rattle.clu_lexer.specs.Tokens.{kind_in, kind_of}
+use Rattle.clu_lexer.specs.Tokens.{kind_in}
 use Rattle.clu_lexer.specs.Words.{words, marks, symbol_of}
-use Rattle.clu_grammar.specs.Choice.{has}
-use Rattle.clu_grammar.specs.Grammar.{signs}
 use Rattle.clu_grammar.proofs.Flags.{true_or_false, true_is_false, and_left, and_right, or_cases}
-use Rattle.clu_printer.specs.Blanks.{clings, holds, takes_arguments, would_be_real, is_argument_list, blank_between}
+use Rattle.clu_printer.specs.Blanks.{clings}
 use Rattle.clu_printed.proofs.Neighbours.{all_at}
-use Rattle.clu_printed.proofs.Lowered.{cases_lower, run_stopped, HasClass, class_behind}
-use denote.Enum.Bare.{sameb, same_true, true_same}
+use Rattle.clu_printed.proofs.Lowered.{cases_lower}
+use denote.Enum.Bare.{sameb, true_same}
 
 -- the byte of a mark of one byte
 abbrev pub byte_of : Symbol → ℕ
@@ -106,12 +103,12 @@ named_byte : (b : ℕ) (x : Symbol) (table : List (List ℕ × Symbol)) (text : 
 named_byte b x [] text test one h = absurd (cc)
 named_byte b x (entry ∷ table) text test one h = elim (true_or_false (spells entry.0 text)) [
   | inl is_so ↦ (
-    let h' : Some entry.1 ≡ Some x = rw is_so at h in
-    let e : entry.1 ≡ x = same_Some _ _ h' in
-    let t : sameb the_type entry.1 x ≡ true = true_same the_type entry.1 x e in
-    let first : (if sameb the_type entry.1 x then is_byte b entry.0 else true) ≡ true = and_left _ _ one in
-    byte_spelled b entry.0 text test (rw t at first) is_so
-  )
+      let h' : Some entry.1 ≡ Some x = rw is_so at h in
+      let e : entry.1 ≡ x = same_Some _ _ h' in
+      let t : sameb the_type entry.1 x ≡ true = true_same the_type entry.1 x e in
+      let first : (if sameb the_type entry.1 x then is_byte b entry.0 else true) ≡ true = and_left _ _ one in
+      byte_spelled b entry.0 text test (rw t at first) is_so
+      )
   | inr is_not ↦ (let h' : symbol_named table text ≡ Some x = rw is_not at h in named_byte b x table text test (and_right _ _ one) h')
 ]
 

@@ -1,20 +1,18 @@
 -- The tokens of a printed text are its pieces.
-use Rattle.std.proofs.Common.{◌≡◌, ℕ, zero, suc, ◌+◌, ◌-◌, ◌<◌, ◌≤◌, Bool, true, false, not, ◌&&◌, ◌||◌, ◌==◌, if◌then◌else◌, List, [], ◌∷◌, ◌++◌, length, map, take, drop, Option, Some, None, refl, sym, ap, ◌∙◌, subst, inl, inr, ◌⊎◌, arith, append_assoc, append-nil, length-append, eqb-true, leb-true, nat_le}
-use Rattle.std.specs.List.{list_all}
+use Rattle.std.proofs.Common.{◌≡◌, ℕ, zero, suc, ◌+◌, ◌-◌, ◌<◌, ◌≤◌, true, false, not, ◌&&◌, ◌==◌, List, [], ◌∷◌, ◌++◌, length, take, drop, Some, None, refl, sym, ap, ◌∙◌, subst, inl, inr, ◌⊎◌, arith, append_assoc, length-append, eqb-true, leb-true, nat_le}
 use Rattle.std.proofs.lemmas.Bool.{cases_order}
 use Rattle.clu_base.specs.declared.tokens.Kind.{Kind}
-use Rattle.clu_base.specs.declared.tokens.Token.{Token}
 use Rattle.clu_lexer.specs.declared.scanner.State.{State}
 use Rattle.clu_lexer.specs.declared.scanner.State.TheVariants as state
 use Rattle.clu_lexer.specs.Places.{place_at}
 use Rattle.clu_lexer.specs.Scanner.{begin, next, accepts, run, class_of, IsLongest}
 use Rattle.clu_lexer.specs.Separators.{gap_len, is_separator}
-use Rattle.clu_lexer.specs.Tokens.{kind_in, kind_of, IsGap, IsToken, Cut, Tokens}
-use Rattle.clu_grammar.proofs.Flags.{and_left, and_right, or_cases, true_or_false, true_is_false}
-use Rattle.clu_printer.specs.Printed.{Made, nothing_made, bytes_of}
+use Rattle.clu_lexer.specs.Tokens.{kind_of, IsToken, Cut, Tokens}
+use Rattle.clu_grammar.proofs.Flags.{and_left, and_right, or_cases, true_or_false}
+use Rattle.clu_printer.specs.Printed.{Made, nothing_made}
 use Rattle.clu_printer.specs.Blanks.{blank_between}
 use Rattle.clu_printed.proofs.Joints.{blank_stops}
-use Rattle.clu_printed.proofs.Lowered.{run_stopped, HasClass, class_behind}
+use Rattle.clu_printed.proofs.Lowered.{run_stopped, class_behind}
 use Rattle.clu_printed.proofs.Pieces.{Piece, gap_before, added, added_text, shown, more_text, shown_text, laid, is_white, is_blank, space_blank, joined_gap}
 
 pub drop_length : {X : Type 0} (xs ys : List X) → drop (length xs) (xs ++ ys) ≡ ys
@@ -158,9 +156,9 @@ first_behind gap text first rest more tail none is = ap (λ (g : List ℕ). (g +
 stops_behind : (p : Piece) (ps : List Piece) (m : Made) (tail : List ℕ) → Are (p ∷ ps) → Stops (run state.Start p.text) (more_text ps (added p m) ++ 10 ∷ tail)
 unfolding class_of
 stops_behind p [] m tail h = (
-  let c = class_behind p.text p.kind h.0.kind_is in
-  record { first = 10; rest = tail; is = refl; stops = (blank_stops (run state.Start p.text) c.class c.class_is).1 }
-)
+    let c = class_behind p.text p.kind h.0.kind_is in
+    record { first = 10; rest = tail; is = refl; stops = (blank_stops (run state.Start p.text) c.class c.class_is).1 }
+    )
 stops_behind p (q ∷ ps) m tail h = (let c = class_behind p.text p.kind h.0.kind_is in by_gap (gap_before q (added p m)) refl c.class c.class_is)
   where
     by_gap : (xs : List ℕ) → gap_before q (added p m) ≡ xs → (c : Kind) → accepts (run state.Start p.text) ≡ Some c → Stops (run state.Start p.text) (more_text (q ∷ ps) (added p m) ++ 10 ∷ tail)
@@ -201,7 +199,7 @@ token_laid text p m st whole is stops =
 rest_laid : (text : List ℕ) (p : Piece) (ps : List Piece) (m : Made) → text ≡ m.text ++ (more_text (p ∷ ps) m ++ 10 ∷ []) → text ≡ m.text ++ (gap_before p m ++ (p.text ++ (more_text ps (added p m) ++ 10 ∷ [])))
 rest_laid text p ps m is =
     is ∙ ap (λ (xs : List ℕ). m.text ++ xs) (append_assoc (gap_before p m) (p.text ++ more_text ps (added p m)) (10 ∷ [])
-      ∙ ap (λ (xs : List ℕ). gap_before p m ++ xs) (append_assoc p.text (more_text ps (added p m)) (10 ∷ [])))
+    ∙ ap (λ (xs : List ℕ). gap_before p m ++ xs) (append_assoc p.text (more_text ps (added p m)) (10 ∷ [])))
 
 pub next_laid : (text : List ℕ) (p : Piece) (ps : List Piece) (m : Made) → text ≡ m.text ++ (more_text (p ∷ ps) m ++ 10 ∷ []) → text ≡ (added p m).text ++ (more_text ps (added p m) ++ 10 ∷ [])
 next_laid text p ps m is =
@@ -224,7 +222,7 @@ tokens_laid ps h =
     let all = (shown ps nothing_made).text in
     let is : whole_text ps ≡ more_text ps nothing_made ++ 10 ∷ [] = ap (λ (xs : List ℕ). xs ++ 10 ∷ []) (shown_text ps nothing_made) in
     let gap : length all + gap_len false (drop (length all) (all ++ 10 ∷ [])) ≡ length (all ++ 10 ∷ []) =
-      ap (λ (xs : List ℕ). length all + gap_len false xs) (drop_length all (10 ∷ [])) ∙ sym (length-append all (10 ∷ [])) in
+    ap (λ (xs : List ℕ). length all + gap_len false xs) (drop_length all (10 ∷ [])) ∙ sym (length-append all (10 ∷ [])) in
     (length all, cut_laid (whole_text ps) ps nothing_made h is, gap)
 
 -- the bytes of each of them are those of its piece

@@ -1,13 +1,12 @@
 -- The lines of the second tree are those of the first, without what stands at an optional `;`.
-use Rattle.std.proofs.Common.{◌≡◌, ℕ, zero, suc, ◌+◌, ◌-◌, ◌<◌, ◌≤◌, Bool, true, false, not, ◌&&◌, if◌then◌else◌, min, ◌^◌, List, [], ◌∷◌, length, set, replicate, get_or, Option, Some, None, slice_get, refl, sym, ap, ◌∙◌, subst, inl, inr, arith}
+use Rattle.std.proofs.Common.{◌≡◌, ℕ, zero, suc, ◌+◌, ◌-◌, ◌<◌, ◌≤◌, Bool, true, false, not, ◌&&◌, if◌then◌else◌, ◌^◌, List, [], ◌∷◌, length, set, replicate, get_or, Option, Some, None, slice_get, refl, sym, ap, ◌∙◌, subst, inl, inr, arith}
 use Rattle.std.specs.List.{AllZip}
 use Rattle.std.proofs.lemmas.Bool.{cases_lt}
 use Rattle.clu_lexer.specs.declared.symbols.Symbol.{Symbol}
-use Rattle.clu_lexer.specs.declared.symbols.Symbol.TheVariants as s
 use Rattle.clu_tree.specs.declared.node.Node.{Node}
 use Rattle.clu_tree.specs.declared.node.NodeKind.{NodeKind}
 use Rattle.clu_grammar.proofs.Flags.{true_or_false}
-use Rattle.clu_printer.specs.Lines.{begins_line, word_begins_line, inner_indent, is_type_set, is_prefix, next, word_at, with_word, with_words, with_child, last_of, before_child, with_children, child_indent, with_indents, Lines, Marked, with_prefix, lines_with, with_node, with_nodes, no_lines, lines_of}
+use Rattle.clu_printer.specs.Lines.{begins_line, word_begins_line, inner_indent, is_type_set, is_prefix, next, word_at, with_word, with_words, with_child, last_of, before_child, with_children, child_indent, with_indents, Lines, Marked, with_prefix, with_node, with_nodes, no_lines, lines_of}
 use Rattle.clu_printed.proofs.Kept.{is_optional, kept, place_of, got_kept, set_kept, place_kept, place_gone, place_past, place_up, place_small, place_behind, replicate_kept}
 use Rattle.clu_printed.proofs.Rebuilt.{IsMoved, zip_got, zip_past, zip_length}
 use Rattle.clu_printed.proofs.Stripped.{semicolon_is}
@@ -50,24 +49,24 @@ module _ (symbols : List Symbol) where
       by_symbol (Some x) is h = elim (true_or_false (is_optional x)) [
         | inl gone ↦ rest h (place_gone symbols at x is gone) (ap word_at is ∙ gone_word x gone)
         | inr left ↦ (
-          let p : place_of symbols (at + 1) ≡ place_of symbols at + 1 = place_kept symbols at x is left in
-          let below : place_of symbols (at + 1) ≤ place_of symbols to = place_up symbols (at + 1) to (omega (arith, e)) in
-          let n : place_of symbols to - place_of symbols at ≡ suc (place_of symbols to - (place_of symbols at + 1)) = omega (arith, p, below) in
-          h ∙ ap (λ (k : ℕ). with_words (kept symbols symbols) indent (place_of symbols to - k) k (kept symbols (with_word symbols indent begins at))) p
-          ∙ ap (λ (bs : List (Option ℕ)). with_words (kept symbols symbols) indent (place_of symbols to - (place_of symbols at + 1)) (place_of symbols at + 1) bs) (word_kept indent at begins x is left)
-          ∙ ap (λ (c : ℕ). with_words (kept symbols symbols) indent c (place_of symbols at) (kept symbols begins)) (sym n)
-        )
+            let p : place_of symbols (at + 1) ≡ place_of symbols at + 1 = place_kept symbols at x is left in
+            let below : place_of symbols (at + 1) ≤ place_of symbols to = place_up symbols (at + 1) to (omega (arith, e)) in
+            let n : place_of symbols to - place_of symbols at ≡ suc (place_of symbols to - (place_of symbols at + 1)) = omega (arith, p, below) in
+            h ∙ ap (λ (k : ℕ). with_words (kept symbols symbols) indent (place_of symbols to - k) k (kept symbols (with_word symbols indent begins at))) p
+            ∙ ap (λ (bs : List (Option ℕ)). with_words (kept symbols symbols) indent (place_of symbols to - (place_of symbols at + 1)) (place_of symbols at + 1) bs) (word_kept indent at begins x is left)
+            ∙ ap (λ (c : ℕ). with_words (kept symbols symbols) indent c (place_of symbols at) (kept symbols begins)) (sym n)
+            )
       ]
 
   words_span : (indent from to : ℕ) (begins : List (Option ℕ)) → kept symbols (with_words symbols indent (to - from) from begins) ≡ with_words (kept symbols symbols) indent (place_of symbols to - place_of symbols from) (place_of symbols from) (kept symbols begins)
   unfolding with_words
   words_span indent from to begins = elim (cases_lt to from) [
     | inl less ↦ (
-      let none : to - from ≡ 0 = omega arith in
-      let none' : place_of symbols to - place_of symbols from ≡ 0 = omega (arith, place_up symbols to from (omega arith)) in
-      ap (λ (count : ℕ). kept symbols (with_words symbols indent count from begins)) none
-      ∙ ap (λ (count : ℕ). with_words (kept symbols symbols) indent count (place_of symbols from) (kept symbols begins)) (sym none')
-    )
+        let none : to - from ≡ 0 = omega arith in
+        let none' : place_of symbols to - place_of symbols from ≡ 0 = omega (arith, place_up symbols to from (omega arith)) in
+        ap (λ (count : ℕ). kept symbols (with_words symbols indent count from begins)) none
+        ∙ ap (λ (count : ℕ). with_words (kept symbols symbols) indent count (place_of symbols from) (kept symbols begins)) (sym none')
+        )
     | inr more ↦ words_kept indent (to - from) from to begins (omega arith)
   ]
 
@@ -131,9 +130,9 @@ module _ (symbols : List Symbol) (nodes again : List Node) (moved : AllZip (IsMo
           let words = with_words symbols indent (k.first - from) from begins in
           let made = with_child m.kind indent k words in
           let here : kept symbols made ≡ with_child n.kind indent z.0 (with_words (kept symbols symbols) indent (z.0.first - place_of symbols from) (place_of symbols from) (kept symbols begins)) =
-            child_kept symbols m.kind indent k z.0 words z.2
-            ∙ ap (λ (bs : List (Option ℕ)). with_child m.kind indent z.0 bs) (words_span symbols indent from k.first begins ∙ ap (λ (f : ℕ). with_words (kept symbols symbols) indent (f - place_of symbols from) (place_of symbols from) (kept symbols begins)) (sym z.2.first_is))
-            ∙ ap (λ (kind : NodeKind). with_child kind indent z.0 (with_words (kept symbols symbols) indent (z.0.first - place_of symbols from) (place_of symbols from) (kept symbols begins))) (sym h.kind_is) in
+          child_kept symbols m.kind indent k z.0 words z.2
+          ∙ ap (λ (bs : List (Option ℕ)). with_child m.kind indent z.0 bs) (words_span symbols indent from k.first begins ∙ ap (λ (f : ℕ). with_words (kept symbols symbols) indent (f - place_of symbols from) (place_of symbols from) (kept symbols begins)) (sym z.2.first_is))
+          ∙ ap (λ (kind : NodeKind). with_child kind indent z.0 (with_words (kept symbols symbols) indent (z.0.first - place_of symbols from) (place_of symbols from) (kept symbols begins))) (sym h.kind_is) in
           let left : with_children nodes symbols m indent (last_of (slice_get nodes c) from) cs (before_child symbols m.kind indent from (slice_get nodes c) begins) ≡ with_children nodes symbols m indent (next k.last) cs made = rw is refl in
           let right : with_children again (kept symbols symbols) n indent (last_of (slice_get again c) (place_of symbols from)) cs (before_child (kept symbols symbols) n.kind indent (place_of symbols from) (slice_get again c) (kept symbols begins)) ≡ with_children again (kept symbols symbols) n indent (next z.0.last) cs (with_child n.kind indent z.0 (with_words (kept symbols symbols) indent (z.0.first - place_of symbols from) (place_of symbols from) (kept symbols begins))) = rw z.1 refl in
           let end : place_of symbols (next k.last) ≡ next z.0.last = ap (place_of symbols) b.one ∙ sym b.other in
@@ -167,17 +166,17 @@ module _ (symbols : List Symbol) (nodes again : List Node) (moved : AllZip (IsMo
           let indent = get_or a.indents n 0 in
           rw z.1 (record {
             begins =
-              ap (λ (i : ℕ). with_children again (kept symbols symbols) z.0 i z.0.first z.0.children b.lines.begins) (ap (λ (xs : List ℕ). get_or xs n 0) known.indents)
-              ∙ ap (λ (bs : List (Option ℕ)). with_children again (kept symbols symbols) z.0 indent z.0.first z.0.children bs) known.begins
-              ∙ ap (λ (f : ℕ). with_children again (kept symbols symbols) z.0 indent f z.0.children (kept symbols a.lines.begins)) z.2.first_is
-              ∙ ap (λ (cs : List ℕ). with_children again (kept symbols symbols) z.0 indent (place_of symbols m.first) cs (kept symbols a.lines.begins)) z.2.children_are
-              ∙ sym (children_kept m z.0 indent m.first m.children a.lines.begins z.2);
+                ap (λ (i : ℕ). with_children again (kept symbols symbols) z.0 i z.0.first z.0.children b.lines.begins) (ap (λ (xs : List ℕ). get_or xs n 0) known.indents)
+                ∙ ap (λ (bs : List (Option ℕ)). with_children again (kept symbols symbols) z.0 indent z.0.first z.0.children bs) known.begins
+                ∙ ap (λ (f : ℕ). with_children again (kept symbols symbols) z.0 indent f z.0.children (kept symbols a.lines.begins)) z.2.first_is
+                ∙ ap (λ (cs : List ℕ). with_children again (kept symbols symbols) z.0 indent (place_of symbols m.first) cs (kept symbols a.lines.begins)) z.2.children_are
+                ∙ sym (children_kept m z.0 indent m.first m.children a.lines.begins z.2);
             prefix = ap (with_prefix z.0) known.prefix ∙ sym (prefix_kept symbols m z.0 a.lines.prefix z.2);
             indents =
-              ap (λ (i : ℕ). with_indents again z.0.kind i z.0.children b.indents) (ap (λ (xs : List ℕ). get_or xs n 0) known.indents)
-              ∙ ap (λ (xs : List ℕ). with_indents again z.0.kind indent z.0.children xs) known.indents
-              ∙ ap (λ (cs : List ℕ). with_indents again z.0.kind indent cs a.indents) z.2.children_are
-              ∙ indents_same m z.0 indent m.children a.indents z.2;
+                ap (λ (i : ℕ). with_indents again z.0.kind i z.0.children b.indents) (ap (λ (xs : List ℕ). get_or xs n 0) known.indents)
+                ∙ ap (λ (xs : List ℕ). with_indents again z.0.kind indent z.0.children xs) known.indents
+                ∙ ap (λ (cs : List ℕ). with_indents again z.0.kind indent cs a.indents) z.2.children_are
+                ∙ indents_same m z.0 indent m.children a.indents z.2;
           })
 
   nodes_marked : (n : ℕ) (a b : Marked) → AreMarked a b → AreMarked (with_nodes nodes symbols n a) (with_nodes again (kept symbols symbols) n b)
@@ -200,5 +199,5 @@ module _ (symbols : List Symbol) (nodes again : List Node) (moved : AllZip (IsMo
   lined =
       let all = nodes_marked (length nodes) (no_lines symbols nodes) (no_lines (kept symbols symbols) again) start in
       let same : lines_of (kept symbols symbols) again ≡ (with_nodes again (kept symbols symbols) (length nodes) (no_lines (kept symbols symbols) again)).lines =
-        ap (λ (n : ℕ). (with_nodes again (kept symbols symbols) n (no_lines (kept symbols symbols) again)).lines) (zip_length (IsMoved symbols) nodes again moved) in
+      ap (λ (n : ℕ). (with_nodes again (kept symbols symbols) n (no_lines (kept symbols symbols) again)).lines) (zip_length (IsMoved symbols) nodes again moved) in
       record { begins = ap (λ (l : Lines). l.begins) same ∙ all.begins; prefix = ap (λ (l : Lines). l.prefix) same ∙ all.prefix }

@@ -1,5 +1,5 @@
 -- Words and identifiers in lower case are the same words and identifiers.
-use Rattle.std.proofs.Common.{◌≡◌, ℕ, ◌+◌, ◌<◌, ◌≤◌, Bool, true, false, ◌&&◌, ◌||◌, ◌==◌, cond, List, [], ◌∷◌, map, Option, Some, None, is_some, refl, sym, ap, ◌∙◌, subst, inl, inr, ◌⊎◌, arith, le-ltb, lt-ltb, ltb-true, ltb-false, le-leb, nat_lt, nat_le, if◌then◌else◌, unwrap_or}
+use Rattle.std.proofs.Common.{◌≡◌, ℕ, ◌+◌, ◌<◌, ◌≤◌, Bool, true, false, ◌&&◌, ◌||◌, ◌==◌, List, [], ◌∷◌, map, Option, Some, None, is_some, refl, sym, ap, ◌∙◌, inl, inr, ◌⊎◌, arith, le-ltb, lt-ltb, le-leb, if◌then◌else◌, unwrap_or}
 use Rattle.std.proofs.lemmas.Bool.{lt-leb, cases_lt}
 use Rattle.std.proofs.lemmas.Option.{same_Some}
 use Rattle.std.specs.Option.{option_map}
@@ -140,12 +140,12 @@ unfolding class_of
 class_lower [] h = absurd (cc)
 class_lower (b ∷ bs) h = elim (true_or_false (begins_name b)) [
   | inl is_so ↦ (
-    let is_so' : begins_name (to_ascii_lowercase b) ≡ true = begins_same b ∙ is_so in
-    ap (λ (st : State). accepts (run st (map to_ascii_lowercase bs))) (begin_name (to_ascii_lowercase b) is_so')
-    ∙ ap accepts (run_lower bs)
-    ∙ ap (λ (st : State). accepts (run st bs)) (sym (begin_name b is_so))
-    ∙ h
-  )
+      let is_so' : begins_name (to_ascii_lowercase b) ≡ true = begins_same b ∙ is_so in
+      ap (λ (st : State). accepts (run st (map to_ascii_lowercase bs))) (begin_name (to_ascii_lowercase b) is_so')
+      ∙ ap accepts (run_lower bs)
+      ∙ ap (λ (st : State). accepts (run st bs)) (sym (begin_name b is_so))
+      ∙ h
+      )
   | inr is_not ↦ absurd (true_is_false (can_name (run (begin b) bs)) (accepts_name (run (begin b) bs) h) (runs_no_name (begin b) bs (begins_no_name b is_not)))
 ]
 

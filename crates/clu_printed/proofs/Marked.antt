@@ -1,5 +1,5 @@
 -- The marks of a layout: there is one for each token, and prefix operators are signs.
-use Rattle.std.proofs.Common.{◌≡◌, ℕ, zero, suc, ◌+◌, ◌-◌, Bool, true, false, not, ◌&&◌, if◌then◌else◌, List, [], ◌∷◌, length, set, replicate, get_or, unwrap_or, Option, Some, None, slice_get, refl, sym, ap, ◌∙◌, subst, inl, inr, ◌⊎◌, length-set}
+use Rattle.std.proofs.Common.{◌≡◌, ℕ, zero, suc, ◌+◌, ◌-◌, Bool, true, false, not, ◌&&◌, if◌then◌else◌, List, [], ◌∷◌, length, set, replicate, get_or, Option, Some, None, slice_get, refl, sym, ap, ◌∙◌, subst, inl, inr, ◌⊎◌, length-set}
 use Rattle.std.proofs.lemmas.List.{length-replicate}
 use Rattle.clu_lexer.specs.declared.symbols.Symbol.{Symbol}
 use Rattle.clu_tree.specs.declared.node.Node.{Node}
@@ -7,9 +7,9 @@ use Rattle.clu_tree.specs.declared.node.NodeKind.{NodeKind}
 use Rattle.clu_tree.specs.declared.node.NodeKind.TheVariants as kind
 use Rattle.clu_grammar.specs.Choice.{has}
 use Rattle.clu_grammar.specs.Grammar.{signs}
-use Rattle.clu_parser.specs.Shape.{Letter, valued, node, IsWord, value_is, child_is, nothing, Spelled, a_value, IsProduction, IsShaped, value, child, expression, Part, forms, IsFormOf}
+use Rattle.clu_parser.specs.Shape.{Letter, valued, IsWord, value_is, Spelled, a_value, IsShaped, value, child, expression, Part, forms, IsFormOf}
 use Rattle.clu_parser.specs.Trees.{Text}
-use Rattle.clu_printer.specs.Lines.{begins_line, inner_indent, is_type_set, is_prefix, next, word_at, with_word, with_words, with_child, last_of, before_child, with_children, Lines, Marked, with_prefix, lines_with, with_node, with_nodes, no_lines, lines_of}
+use Rattle.clu_printer.specs.Lines.{begins_line, inner_indent, is_type_set, is_prefix, next, word_at, with_word, with_words, with_child, last_of, before_child, with_children, Marked, with_prefix, with_node, with_nodes, no_lines, lines_of}
 use Rattle.clu_printer.specs.Printed.{prefix_at}
 
 -- as many marks as before

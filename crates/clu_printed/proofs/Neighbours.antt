@@ -1,5 +1,5 @@
 -- Which symbols may stand one behind the other in a file: a test of the grammar's table.
-use Rattle.std.proofs.Common.{◌≡◌, ℕ, zero, suc, ◌+◌, ◌≤◌, ◌<◌, Bool, true, false, not, ◌&&◌, List, [], ◌∷◌, ◌++◌, length, Option, Some, None, slice_get, refl, sym, ◌∙◌, ap, subst, inl, inr, arith, rules}
+use Rattle.std.proofs.Common.{◌≡◌, ℕ, zero, suc, ◌+◌, ◌≤◌, Bool, true, false, not, ◌&&◌, List, [], ◌∷◌, ◌++◌, length, Option, Some, None, slice_get, refl, sym, ◌∙◌, subst, inl, inr, arith, rules}
 use Rattle.std.specs.List.{list_all}
 use Rattle.std.proofs.lemmas.Option.{slice_get_past}
 use Rattle.std.proofs.lemmas.Bool.{cases_lt}
@@ -12,7 +12,7 @@ use Rattle.clu_grammar.specs.declared.items.Nonterminal.{Nonterminal}
 use Rattle.clu_grammar.specs.declared.items.Nonterminal.TheVariants as r
 use Rattle.clu_grammar.specs.Choice.{has}
 use Rattle.clu_grammar.specs.Grammar.{productions}
-use Rattle.clu_grammar.specs.Language.{IsAlternative, IsOneOf, Derives, done, symbol, action, choice, whole, IsFile}
+use Rattle.clu_grammar.specs.Language.{IsOneOf, Derives, done, symbol, action, choice, whole, IsFile}
 use Rattle.clu_grammar.specs.Rows.{Production, take, peek, otherwise}
 use Rattle.clu_grammar.proofs.Flags.{and_left, and_right, implied}
 use Rattle.clu_grammar.proofs.Lookahead.{after}
@@ -111,12 +111,12 @@ fit_from ys _ at _ (done _) last followed joined i one x le is then =
 fit_from ys _ at to (symbol z items _ _ here d) last followed joined i one x le is then = elim (cases_lt at i) [
   | inl less ↦ fit_from ys items (at + 1) to d last followed joined.1 i one x (omega arith) is then
   | inr more ↦ (
-    let same : i ≡ at = omega arith in
-    let first : one ≡ z = (let it : slice_get ys at ≡ Some one = subst (λ (k : ℕ). slice_get ys k ≡ Some one) same is in cc) in
-    let next : slice_get ys (at + 1) ≡ Some x = subst (λ (k : ℕ). slice_get ys (k + 1) ≡ Some x) same then in
-    let h : fits_behind (Some x) z ≡ true = joined.0 (Some x) (subst (λ (o : Option Symbol). begins items at_end o ≡ true) next (begun ys items (at + 1) to d last)) in
-    subst (λ (y : Symbol). fits y x ≡ true) (sym first) h
-  )
+      let same : i ≡ at = omega arith in
+      let first : one ≡ z = (let it : slice_get ys at ≡ Some one = subst (λ (k : ℕ). slice_get ys k ≡ Some one) same is in cc) in
+      let next : slice_get ys (at + 1) ≡ Some x = subst (λ (k : ℕ). slice_get ys (k + 1) ≡ Some x) same then in
+      let h : fits_behind (Some x) z ≡ true = joined.0 (Some x) (subst (λ (o : Option Symbol). begins items at_end o ≡ true) next (begun ys items (at + 1) to d last)) in
+      subst (λ (y : Symbol). fits y x ≡ true) (sym first) h
+      )
 ]
 fit_from ys _ at to (action a items _ _ d) last followed joined i one x le is then = fit_from ys items at to d last followed joined i one x le is then
 fit_from ys _ at to (choice n items alternative _ _ it d) last followed joined i one x le is then =

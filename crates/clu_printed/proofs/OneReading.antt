@@ -1,5 +1,5 @@
 -- Bytes have one list of tokens, and these have one tree.
-use Rattle.std.proofs.Common.{◌≡◌, ℕ, zero, suc, ◌+◌, ◌-◌, ◌<◌, ◌≤◌, List, [], ◌∷◌, length, drop, take, Option, Some, None, slice_get, refl, sym, ap, ◌∙◌, subst, inl, inr, ◌⊎◌, arith}
+use Rattle.std.proofs.Common.{◌≡◌, ℕ, ◌+◌, ◌-◌, List, [], ◌∷◌, length, drop, take, Some, None, slice_get, refl, sym, ap, ◌∙◌, subst, inl, inr, arith}
 use Rattle.std.proofs.lemmas.Bool.{cases_order}
 use Rattle.std.proofs.lemmas.Option.{same_Some}
 use Rattle.clu_base.specs.declared.tokens.Kind.{Kind}
@@ -8,7 +8,6 @@ use Rattle.clu_base.specs.declared.tokens.Token.{Token}
 use Rattle.clu_lexer.specs.declared.symbols.Symbol.{Symbol}
 use Rattle.clu_lexer.specs.Places.{place_at}
 use Rattle.clu_lexer.specs.Scanner.{IsLongest}
-use Rattle.clu_lexer.specs.Separators.{gap_len}
 use Rattle.clu_lexer.specs.Tokens.{kind_of, IsGap, IsToken, Cut, Tokens}
 use Rattle.clu_lexer.proofs.Cuts.{token_within}
 use Rattle.clu_tree.specs.declared.node.Node.{Node}
@@ -16,7 +15,7 @@ use Rattle.clu_grammar.specs.declared.items.Action.{Action}
 use Rattle.clu_grammar.specs.declared.items.Item.{Item}
 use Rattle.clu_grammar.specs.declared.items.Item.TheVariants as item
 use Rattle.clu_grammar.specs.declared.items.Nonterminal.{Nonterminal}
-use Rattle.clu_grammar.specs.Choice.{Step, Take, Go, step}
+use Rattle.clu_grammar.specs.Choice.{Step, Take, Go}
 use Rattle.clu_grammar.specs.Grammar.{productions}
 use Rattle.clu_grammar.specs.Language.{whole}
 use Rattle.clu_grammar.proofs.Deterministic.{IsChosen}
@@ -108,7 +107,7 @@ ran_one t _ _ _ _ _ _ _ _ _ _ (did a xs at b c to z is d) (took y ys at' b' to' 
 ran_one t _ _ _ _ _ _ _ _ _ _ (did a xs at b c to z is d) (did a' ys at' b' c' to' z' is' d') items place built =
     let action : a ≡ a' = cc in
     let same : acted t a (at - 1) b ≡ acted t a' (at' - 1) b' =
-      ap (λ (y : Action). acted t y (at - 1) b) action ∙ ap (λ (k : ℕ). acted t a' (k - 1) b) place ∙ ap (acted t a' (at' - 1)) built in
+    ap (λ (y : Action). acted t y (at - 1) b) action ∙ ap (λ (k : ℕ). acted t a' (k - 1) b) place ∙ ap (acted t a' (at' - 1)) built in
     ran_one t xs ys at at' c c' to to' z z' d d' (cc) place (same_Some c c' (sym is ∙ same ∙ is'))
 ran_one t _ _ _ _ _ _ _ _ _ _ (did a xs at b c to z is d) (chose n' ys row' at' b' mid' c' to' z' one' it' d' e') items place built = absurd (cc)
 ran_one t _ _ _ _ _ _ _ _ _ _ (chose n xs row at b mid c to z one it d e) (stopped at' b') items place built = absurd (cc)

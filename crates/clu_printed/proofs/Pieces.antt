@@ -1,13 +1,13 @@
 -- A printed text in pieces: each token with its line and its text, and the tokens of that text.
-use Rattle.std.proofs.Common.{◌≡◌, ℕ, zero, suc, ◌+◌, ◌-◌, ◌<◌, ◌≤◌, Bool, true, false, not, ◌&&◌, ◌||◌, ◌==◌, if◌then◌else◌, List, [], ◌∷◌, ◌++◌, length, map, take, drop, Option, Some, None, refl, sym, ap, ◌∙◌, subst, inl, inr, arith, append_assoc, append-nil, length-append, add-zero}
+use Rattle.std.proofs.Common.{◌≡◌, ℕ, zero, suc, ◌+◌, Bool, true, false, not, ◌&&◌, ◌||◌, ◌==◌, if◌then◌else◌, List, [], ◌∷◌, ◌++◌, length, Option, Some, None, refl, sym, ap, ◌∙◌, subst, append_assoc, append-nil}
 use Rattle.std.specs.List.{list_all}
 use Rattle.clu_base.specs.declared.tokens.Kind.{Kind}
 use Rattle.clu_base.specs.declared.tokens.Token.{Token}
 use Rattle.clu_lexer.specs.declared.symbols.Symbol.{Symbol}
 use Rattle.clu_lexer.specs.Places.{place_at}
-use Rattle.clu_grammar.proofs.Flags.{and_left, and_right, and_both, true_or_false}
+use Rattle.clu_grammar.proofs.Flags.{and_left, and_right, and_both}
 use Rattle.clu_printer.specs.Blanks.{blank_between}
-use Rattle.clu_printer.specs.Printed.{Made, indentation, line_end, blank_behind, space, nothing_made}
+use Rattle.clu_printer.specs.Printed.{Made, indentation, line_end, blank_behind, space}
 
 pub record Piece : Type 0 where
   pub kind : Kind

@@ -1,19 +1,19 @@
 -- The printed text of a source in pieces, and these pieces read again.
-use Rattle.std.proofs.Common.{◌≡◌, ℕ, zero, suc, ◌+◌, ◌-◌, ◌<◌, ◌≤◌, Bool, true, false, not, ◌&&◌, if◌then◌else◌, List, [], ◌∷◌, ◌++◌, length, map, take, drop, Option, Some, None, slice_get, unwrap_or, option_map, refl, sym, ap, ◌∙◌, subst, inl, inr, arith, length-drop, drop_of_length-le}
-use Rattle.std.proofs.lemmas.Option.{slice_get_within, slice_get-map, same_Some}
+use Rattle.std.proofs.Common.{◌≡◌, ℕ, zero, suc, ◌+◌, ◌-◌, ◌<◌, ◌≤◌, Bool, true, false, if◌then◌else◌, List, [], ◌∷◌, ◌++◌, length, map, take, drop, Option, Some, None, slice_get, unwrap_or, option_map, refl, sym, ap, ◌∙◌, subst, arith, length-drop, drop_of_length-le}
+use Rattle.std.proofs.lemmas.Option.{slice_get_within, slice_get-map}
 use Rattle.clu_base.specs.declared.tokens.Kind.{Kind}
 use Rattle.clu_base.specs.declared.tokens.Token.{Token}
 use Rattle.clu_lexer.specs.declared.symbols.Symbol.{Symbol}
-use Rattle.clu_lexer.specs.Tokens.{kind_of, IsToken, Cut}
+use Rattle.clu_lexer.specs.Tokens.{kind_of, Cut}
 use Rattle.clu_lexer.specs.Words.{symbol_of}
 use Rattle.clu_grammar.specs.Choice.{has}
 use Rattle.clu_grammar.specs.Grammar.{signs}
 use Rattle.clu_parser.specs.Spellings.{spelled}
 use Rattle.clu_printer.specs.Lines.{Lines}
-use Rattle.clu_printer.specs.Printed.{Made, bytes_of, symbol_in, token_text, indent_at, prefix_at, known, symbol_at, with_token, with_next, printed_behind}
+use Rattle.clu_printer.specs.Printed.{Made, bytes_of, symbol_in, token_text, indent_at, prefix_at, known, symbol_at, with_token, printed_behind}
 use Rattle.clu_printed.proofs.Kept.{is_optional, kept}
-use Rattle.clu_printed.proofs.Laid.{IsWhole, Parts, Are, HasFirst, first_of, bytes_laid, next_laid}
-use Rattle.clu_printed.proofs.Lowered.{printed_kind, printed_symbol, printed_spelled, printed_again}
+use Rattle.clu_printed.proofs.Laid.{bytes_laid, next_laid}
+use Rattle.clu_printed.proofs.Lowered.{printed_kind, printed_symbol, printed_again}
 use Rattle.clu_printed.proofs.Pieces.{Piece, gap_before, added, shown, more_text, laid}
 
 abbrev pub piece_of : List ℕ → List Symbol → Lines → ℕ → Token → Piece
@@ -149,11 +149,11 @@ module _ (text : List ℕ) where
       let bytes = bytes_laid text p ps m is in
       let rest = pieces text symbols lines (n + 1) (laid text ps (added p m)) in
       let one : with_parts p.kind (token_text p.kind (take (length m.text + length (gap_before p m) + length p.text - (length m.text + length (gap_before p m))) (drop (length m.text + length (gap_before p m)) text))) (symbol_at symbols n) (indent_at lines.begins n) (prefix_at lines.prefix n) ≡ p =
-        ap (λ (bs : List ℕ). with_parts p.kind (token_text p.kind bs) (symbol_at symbols n) (indent_at lines.begins n) (prefix_at lines.prefix n)) bytes
-        ∙ ap (λ (bs : List ℕ). with_parts p.kind bs (symbol_at symbols n) (indent_at lines.begins n) (prefix_at lines.prefix n)) good.0.again
-        ∙ ap (λ (x : Symbol). with_parts p.kind p.text x (indent_at lines.begins n) (prefix_at lines.prefix n)) symbol
-        ∙ ap (λ (x : Option ℕ). with_parts p.kind p.text p.symbol x (prefix_at lines.prefix n)) begins
-        ∙ ap (λ (x : Bool). with_parts p.kind p.text p.symbol p.begins x) prefix in
+      ap (λ (bs : List ℕ). with_parts p.kind (token_text p.kind bs) (symbol_at symbols n) (indent_at lines.begins n) (prefix_at lines.prefix n)) bytes
+      ∙ ap (λ (bs : List ℕ). with_parts p.kind bs (symbol_at symbols n) (indent_at lines.begins n) (prefix_at lines.prefix n)) good.0.again
+      ∙ ap (λ (x : Symbol). with_parts p.kind p.text x (indent_at lines.begins n) (prefix_at lines.prefix n)) symbol
+      ∙ ap (λ (x : Option ℕ). with_parts p.kind p.text p.symbol x (prefix_at lines.prefix n)) begins
+      ∙ ap (λ (x : Bool). with_parts p.kind p.text p.symbol p.begins x) prefix in
       let first = with_parts p.kind (token_text p.kind (take (length m.text + length (gap_before p m) + length p.text - (length m.text + length (gap_before p m))) (drop (length m.text + length (gap_before p m)) text))) (symbol_at symbols n) (indent_at lines.begins n) (prefix_at lines.prefix n) in
       ap (λ (test : Bool). if◌then◌else◌ {A = List Piece} test rest (first ∷ rest)) (ap is_optional symbol ∙ good.0.left)
       ∙ ap (λ (q : Piece). q ∷ rest) one

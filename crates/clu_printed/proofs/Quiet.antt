@@ -1,17 +1,15 @@
 -- Where a node begins, and where a name, a value or a base is noted, the last token is no optional `;`: a test of the
 -- grammar's table.
-use Rattle.std.proofs.Common.{◌≡◌, Bool, true, false, not, ◌&&◌, List, [], ◌∷◌, ◌++◌, refl, sym, subst, inl, inr, rules}
+use Rattle.std.proofs.Common.{◌≡◌, Bool, true, false, not, ◌&&◌, List, [], ◌∷◌, ◌++◌, refl, sym, subst, inl, inr}
 use Rattle.std.specs.List.{list_all}
-use Rattle.clu_lexer.specs.declared.symbols.Symbol.{Symbol}
 use Rattle.clu_grammar.specs.declared.items.Action.{Action}
 use Rattle.clu_grammar.specs.declared.items.Action.TheVariants as action
 use Rattle.clu_grammar.specs.declared.items.Item.{Item}
 use Rattle.clu_grammar.specs.declared.items.Item.TheVariants as item
 use Rattle.clu_grammar.specs.declared.items.Nonterminal.{Nonterminal}
 use Rattle.clu_grammar.specs.declared.items.Nonterminal.TheVariants as r
-use Rattle.clu_grammar.specs.Choice.{has}
 use Rattle.clu_grammar.specs.Grammar.{productions}
-use Rattle.clu_grammar.specs.Language.{IsAlternative, IsOneOf}
+use Rattle.clu_grammar.specs.Language.{IsOneOf}
 use Rattle.clu_grammar.specs.Rows.{Production, take, peek, otherwise}
 use Rattle.clu_grammar.proofs.Flags.{and_left, and_right, and_both, implied}
 use Rattle.clu_grammar.proofs.Tests.{implies}

@@ -1,6 +1,6 @@
 -- The tokens without the optional `;` are a file with the same tree: the same rows are read, and each action does the
 -- same to trees whose tokens have moved.
-use Rattle.std.proofs.Common.{◌≡◌, ℕ, zero, suc, ◌+◌, ◌-◌, ◌<◌, ◌≤◌, Bool, true, false, not, cond, List, [], ◌∷◌, ◌++◌, length, map, take, drop, Option, Some, None, slice_get, refl, sym, ap, ◌∙◌, subst, inl, inr, arith}
+use Rattle.std.proofs.Common.{◌≡◌, ℕ, zero, suc, ◌+◌, ◌-◌, ◌<◌, ◌≤◌, Bool, true, false, not, List, [], ◌∷◌, ◌++◌, length, map, take, drop, Option, Some, None, slice_get, refl, sym, ap, ◌∙◌, subst, inl, inr, arith}
 use Rattle.std.specs.List.{AllZip}
 use Rattle.std.proofs.lemmas.List.Elements.{AllZip-push}
 use Rattle.std.proofs.lemmas.Bool.{not-true}
@@ -12,13 +12,12 @@ use Rattle.clu_tree.specs.declared.node.NodeKind.TheVariants as kind
 use Rattle.clu_grammar.specs.declared.items.Action.{Action}
 use Rattle.clu_grammar.specs.declared.items.Action.TheVariants as action
 use Rattle.clu_grammar.specs.declared.items.Item.{Item}
-use Rattle.clu_grammar.specs.declared.items.Item.TheVariants as item
 use Rattle.clu_grammar.proofs.Flags.{and_left, and_right, implied, true_or_false}
 use Rattle.clu_parser.specs.declared.begun.Begun.{Begun}
 use Rattle.clu_parser.specs.Spellings.{is_idn, closes}
 use Rattle.clu_parser.specs.Trees.{Text, Built, spelling_at, value_of, end_at, end_in, last_of, node_of, closed_in, closed, opened, wrapped_on, wrapped_in, wrapped, noted, noted_in, given_in, then_wrapped, acted, Builds, finished, terminal, act, chosen, nothing_built}
 use Rattle.clu_printed.proofs.Fitting.{Fitting, drop_fitting, closes_kept}
-use Rattle.clu_printed.proofs.Kept.{is_optional, kept, place_of, IsKept, got_kept, place_kept, place_gone, place_up, place_small, drop_kept}
+use Rattle.clu_printed.proofs.Kept.{is_optional, kept, place_of, IsKept, got_kept, place_kept, place_gone, place_small, drop_kept}
 use Rattle.clu_printed.proofs.Quiet.{asks, quiet, row_quiet}
 use Rattle.clu_printed.proofs.Stripped.{stripped, stripped_gone, stripped_left, stripped-append, one_stripped}
 
@@ -114,7 +113,7 @@ module _ (s t : Text) (without : t.symbols ≡ kept s.symbols s.symbols) (spelle
             made = opened m.0.first taken' (length c.tops - 1) c;
             is = ap (wrapped_in taken' c) (tops_same ∙ is) ∙ ap (wrapped_on taken' c) m.1;
             moved = subst (λ (y : Built). AreMoved y (opened m.0.first taken' (length c.tops - 1) c)) e
-              (open_moved n.first taken m.0.first taken' b c (length b.tops - 1) (length c.tops - 1) known m.2.first_is m.2.first_kept (ap (λ (xs : List ℕ). length xs - 1) known.tops));
+                (open_moved n.first taken m.0.first taken' b c (length b.tops - 1) (length c.tops - 1) known m.2.first_is m.2.first_kept (ap (λ (xs : List ℕ). length xs - 1) known.tops));
           }
 
       at_top : (o : Option ℕ) → slice_get b.tops (length b.tops - 1) ≡ o → wrapped_in taken b o ≡ Some b' → Made (wrapped taken' c) b'
@@ -152,16 +151,16 @@ module _ (s t : Text) (without : t.symbols ≡ kept s.symbols s.symbols) (spelle
           let e : record { nodes = b.nodes ++ node_of s k last b.nodes (drop o.height b.tops) o ∷ []; tops = take o.height b.tops ++ length b.nodes ∷ []; begun = os } ≡ b' = same_Some _ _ h in
           let end = subst (λ (ds : List ℕ). Ends (last_of k b.nodes (drop o.height b.tops) last) (last_of k c.nodes ds last')) (sym children) (ends k b c (drop o.height b.tops) last last' known ended) in
           let node : IsMoved s.symbols (node_of s k last b.nodes (drop o.height b.tops) o) (node_of t k last' c.nodes (drop p.height c.tops) p) =
-            record {
-              kind_is = refl;
-              children_are = children;
-              names_are = z.0.names_are;
-              value_is = z.0.value_is;
-              first_is = z.0.first_is;
-              last_is = end.is;
-              first_kept = z.0.first_kept;
-              small = end.small;
-            } in
+          record {
+            kind_is = refl;
+            children_are = children;
+            names_are = z.0.names_are;
+            value_is = z.0.value_is;
+            first_is = z.0.first_is;
+            last_is = end.is;
+            first_kept = z.0.first_kept;
+            small = end.small;
+          } in
           record {
             made = record { nodes = c.nodes ++ node_of t k last' c.nodes (drop p.height c.tops) p ∷ []; tops = take p.height c.tops ++ length c.nodes ∷ []; begun = ps };
             is = ap (closed_in t k last' c) is';
@@ -198,7 +197,7 @@ module _ (s t : Text) (without : t.symbols ≡ kept s.symbols s.symbols) (spelle
             made = record { nodes = c.nodes; tops = c.tops; begun = noted is_name taken' p ∷ ps };
             is = rw (is, same) refl;
             moved = subst (λ (y : Built). AreMoved y (record { nodes = c.nodes; tops = c.tops; begun = noted is_name taken' p ∷ ps })) e
-              (record { nodes = known.nodes; tops = known.tops; begun = (noted_so is_name o p z.0, z.1) });
+                (record { nodes = known.nodes; tops = known.tops; begun = (noted_so is_name o p z.0, z.1) });
           }
 
   names_append : (xs ys us vs : List ℕ) → map (spelling_at t) ys ≡ map (spelling_at s) xs → map (spelling_at t) vs ≡ map (spelling_at s) us → map (spelling_at t) (ys ++ vs) ≡ map (spelling_at s) (xs ++ us)
@@ -222,12 +221,12 @@ module _ (s t : Text) (without : t.symbols ≡ kept s.symbols s.symbols) (spelle
           let e : record { nodes = b.nodes; tops = b.tops; begun = record { first = o'.first; mark = o'.mark; height = o'.height; names = o'.names ++ o.names; value = o'.value } ∷ os } ≡ b' = same_Some _ _ h in
           let w = z.1.0 in
           let one : IsBegun (record { first = o'.first; mark = o'.mark; height = o'.height; names = o'.names ++ o.names; value = o'.value }) (record { first = p'.first; mark = p'.mark; height = p'.height; names = p'.names ++ p.names; value = p'.value }) =
-            record { first_is = w.first_is; first_kept = w.first_kept; height_is = w.height_is; names_are = names_append o'.names p'.names o.names p.names w.names_are z.0.names_are; value_is = w.value_is } in
+          record { first_is = w.first_is; first_kept = w.first_kept; height_is = w.height_is; names_are = names_append o'.names p'.names o.names p.names w.names_are z.0.names_are; value_is = w.value_is } in
           record {
             made = record { nodes = c.nodes; tops = c.tops; begun = record { first = p'.first; mark = p'.mark; height = p'.height; names = p'.names ++ p.names; value = p'.value } ∷ ps };
             is = ap (given_in c) is;
             moved = subst (λ (y : Built). AreMoved y (record { nodes = c.nodes; tops = c.tops; begun = record { first = p'.first; mark = p'.mark; height = p'.height; names = p'.names ++ p.names; value = p'.value } ∷ ps })) e
-              (record { nodes = known.nodes; tops = known.tops; begun = (one, z.1.1) });
+                (record { nodes = known.nodes; tops = known.tops; begun = (one, z.1.1) });
           }
 
   -- a bracket that closes before a $ does so
@@ -293,14 +292,14 @@ module _ (s t : Text) (without : t.symbols ≡ kept s.symbols s.symbols) (spelle
       let h = rebuilt (not (is_optional x)) items (at + 1) b to z d c moved still (λ stays. subst (IsKept s.symbols) (sym e) (x, is, not-true (is_optional x) stays)) (omega arith) in
       elim (true_or_false (is_optional x)) [
         | inl gone ↦ (
-          let p = place_gone s.symbols at x is gone in
-          record { made = h.made; builds = subst (λ (xs : List Item). Builds t xs (place_of s.symbols at) c (place_of s.symbols to) h.made) (sym (stripped_gone x items gone)) (subst (λ (k : ℕ). Builds t (stripped items) k c (place_of s.symbols to) h.made) p h.builds); moved = h.moved }
-        )
+            let p = place_gone s.symbols at x is gone in
+            record { made = h.made; builds = subst (λ (xs : List Item). Builds t xs (place_of s.symbols at) c (place_of s.symbols to) h.made) (sym (stripped_gone x items gone)) (subst (λ (k : ℕ). Builds t (stripped items) k c (place_of s.symbols to) h.made) p h.builds); moved = h.moved }
+            )
         | inr stays ↦ (
-          let p = place_kept s.symbols at x is stays in
-          let found : slice_get t.symbols (place_of s.symbols at) ≡ Some x = got at (x, is, stays) ∙ is in
-          record { made = h.made; builds = subst (λ (xs : List Item). Builds t xs (place_of s.symbols at) c (place_of s.symbols to) h.made) (sym (stripped_left x items stays)) (terminal x (stripped items) (place_of s.symbols at) c (place_of s.symbols to) h.made found (subst (λ (k : ℕ). Builds t (stripped items) k c (place_of s.symbols to) h.made) p h.builds)); moved = h.moved }
-        )
+            let p = place_kept s.symbols at x is stays in
+            let found : slice_get t.symbols (place_of s.symbols at) ≡ Some x = got at (x, is, stays) ∙ is in
+            record { made = h.made; builds = subst (λ (xs : List Item). Builds t xs (place_of s.symbols at) c (place_of s.symbols to) h.made) (sym (stripped_left x items stays)) (terminal x (stripped items) (place_of s.symbols at) c (place_of s.symbols to) h.made found (subst (λ (k : ℕ). Builds t (stripped items) k c (place_of s.symbols to) h.made) p h.builds)); moved = h.moved }
+            )
       ]
   rebuilt known _ at b to z (act a items _ _ d _ _ is e) c moved still left within =
       let r = act_moved a at b c d moved (λ asked. left (implied _ _ (and_left _ _ still) asked)) within is in
