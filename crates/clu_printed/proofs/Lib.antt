@@ -1,0 +1,17 @@
+pub mod Accepted
+pub mod Again
+pub mod Fitting
+pub mod Joined
+pub mod Joints
+pub mod Kept
+pub mod Laid
+pub mod Lined
+pub mod Lowered
+pub mod Marked
+pub mod Neighbours
+pub mod OneReading
+pub mod Pieces
+pub mod Printing
+pub mod Quiet
+pub mod Rebuilt
+pub mod Stripped
