@@ -53,6 +53,7 @@ inner_is_of_entries e library is = room_is_of_entries e library (inner_is_of_roo
 pub kept_is_of_entries : (e : BuildError) (library : Contents) (name : List ℕ) (kept : Spec) → spec_of library name ≡ Some kept → IsOfKept e name kept → IsOfEntries e library
 kept_is_of_entries (error.SpecDiffers d) library name kept found is = (name, kept, found, is)
 kept_is_of_entries error.Memory library name kept found is = tt
+kept_is_of_entries error.NotYet library name kept found is = tt
 kept_is_of_entries _ library name kept found is = elim is [ ]
 
 pub room_is_of_replacement : (e : BuildError) → IsOfRoom e → IsOfReplacement e

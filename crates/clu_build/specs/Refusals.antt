@@ -23,11 +23,10 @@ IsOfRoom e = IsInner e
 abbrev pub IsDifferent : Difference → List ℕ → Spec → Type 0
 IsDifferent d name kept = (d.name ≡ name) × (d.kept ≡ spec_text (seen kept)) × (d.given ≢ d.kept)
 
--- another specification is kept of the module of this name, or memory was refused
+-- or another specification is kept of the module of this name
 abbrev pub IsOfKept : BuildError → List ℕ → Spec → Type 0
 IsOfKept (error.SpecDiffers d) name kept = IsDifferent d name kept
-IsOfKept error.Memory name kept = Unit {0}
-IsOfKept _ name kept = ⊥
+IsOfKept e name kept = IsInner e
 
 -- the modules of a file are not entered: another specification is kept of one of them, or there is no room
 abbrev pub IsOfEntries : BuildError → Contents → Type 0

@@ -1,14 +1,13 @@
-//! Specifications of a file as entries of a library. What is entered is read from its own text, so that a library holds
-//! only what its file can hold.
+//! Specifications of a file as entries of a library.
 
 ghost use Rattle.std.specs.Prelude.{◌≡◌, IfErr, IfOk};
 ghost use Rattle.clu_specs.specs.Specifications.{SpecHolds};
 ghost use Rattle.clu_build.specs.Refusals.{IsInner, IsOfEntries, IsOfKept, IsOfReplacement, IsOfRoom};
 
 use crate::errors::{BuildError, Difference};
-use clu_base::{Bytes, FormatError};
+use clu_base::Bytes;
 use clu_library::{Library, is_whole};
-use clu_specs::{read_spec, spec_text};
+use clu_specs::spec_text;
 use clu_types::Spec;
 use indexmap::IndexMap;
 use std::alloc::Global;
@@ -22,9 +21,9 @@ const MODULE_LIMIT: u32 = 4096;
 pub fn enter_specs(alloc: Global, library: &mut Library, specs: &[Spec]) -> Result<(), BuildError>
     ensures refused { IfErr result (λ e. IsOfEntries e library.old) }
 {
-    let mut given = texts_of(alloc, specs)?;
-    ask_each(alloc, library, &given)?;
-    enter_ascending(alloc, library, &mut given)
+    ask_each(alloc, library, specs)?;
+    let numbers = ascending(alloc, specs)?;
+    enter_each(alloc, library, specs, &numbers)
 }
 
 /// Enters specifications in place of the kept ones, in the order in which they are given. `LibraryFull` if there is no
@@ -34,67 +33,41 @@ pub fn enter_specs(alloc: Global, library: &mut Library, specs: &[Spec]) -> Resu
 pub fn replace_specs(alloc: Global, library: &mut Library, specs: &[Spec]) -> Result<(), BuildError>
     ensures refused { IfErr result IsOfReplacement }
 {
-    let given = texts_of(alloc, specs)?;
-    replace_each(alloc, library, &given)?;
-    ask_needed(alloc, library, &given)
+    replace_each(alloc, library, specs)?;
+    ask_needed(alloc, library, specs)
 }
 
-/// The texts of specifications, by the names of their modules.
-fn texts_of(alloc: Global, specs: &[Spec]) -> Result<Box<IndexMap<Bytes, Bytes>>, BuildError>
+/// The numbers of specifications by the names of their modules, ascending.
+pub fn ascending(alloc: Global, specs: &[Spec]) -> Result<Box<IndexMap<Bytes, usize>>, BuildError>
     ensures refused { IfErr result IsInner }
 {
-    let mut texts = Box::new(alloc, IndexMap::new(alloc))?;
-    put_texts(alloc, specs, &mut texts)?;
-    Ok(texts)
+    let mut numbers = Box::new(alloc, IndexMap::new(alloc))?;
+    number(alloc, specs, &mut numbers)?;
+    Ok(numbers)
 }
 
-fn put_texts(
+fn number(
     alloc: Global,
     specs: &[Spec],
-    texts: &mut IndexMap<Bytes, Bytes>,
+    numbers: &mut IndexMap<Bytes, usize>,
 ) -> Result<(), BuildError>
     ensures refused { IfErr result IsInner }
 {
-    for spec in specs {
-        texts.insert(spec.name.copy(alloc)?, text_of(alloc, spec)?)?;
+    for (number, spec) in specs.iter().enumerate() {
+        numbers.insert(spec.name.copy(alloc)?, number)?;
     }
-    Ok(())
-}
-
-fn text_of(alloc: Global, spec: &Spec) -> Result<Bytes, BuildError>
-    ensures refused { IfErr result IsInner }
-{
-    if !is_whole(spec) {
-        return Err(BuildError::NotYet);
-    }
-    Ok(spec_text(alloc, spec)?)
-}
-
-/// The specification of a text.
-fn spec_of(alloc: Global, text: &Bytes) -> Result<Spec, BuildError>
-    ensures holds { IfOk result SpecHolds }
-    ensures refused { IfErr result IsInner }
-{
-    match read_spec(alloc, text.as_slice()) {
-        Ok(spec) => Ok(spec),
-        Err(FormatError::Memory) => Err(BuildError::Memory),
-        Err(FormatError::Bad(_)) => Err(BuildError::NotYet),
-    }
+    Ok(numbers.sort_keys()?)
 }
 
 /// Whether each may be entered after those before it.
 #[tactic(auto, using(crate::proofs::Refusals::entries))]
-fn ask_each(
-    alloc: Global,
-    library: &Library,
-    given: &IndexMap<Bytes, Bytes>,
-) -> Result<(), BuildError>
+fn ask_each(alloc: Global, library: &Library, specs: &[Spec]) -> Result<(), BuildError>
     ensures refused { IfErr result (λ e. IsOfEntries e library.now) }
 {
     let mut new = 0u32;
-    for (name, text) in given {
-        match library.spec(name) {
-            Some(kept) => ask_same(alloc, name, kept, text)?,
+    for spec in specs {
+        match library.spec(&spec.name) {
+            Some(kept) => ask_same(alloc, kept, spec)?,
             None => {
                 new = new.saturating_add(1);
                 ask_room(library, new)?;
@@ -104,19 +77,23 @@ fn ask_each(
     Ok(())
 }
 
-/// Whether the specification that is kept of the module has this text.
-fn ask_same(alloc: Global, name: &Bytes, kept: &Spec, given: &Bytes) -> Result<(), BuildError>
+/// Whether the specification that is kept of the module has the text of this one.
+fn ask_same(alloc: Global, kept: &Spec, given: &Spec) -> Result<(), BuildError>
     requires { SpecHolds kept.now }
-    ensures refused { IfErr result (λ e. IsOfKept e name.now kept.now) }
+    ensures refused { IfErr result (λ e. IsOfKept e given.now.name kept.now) }
 {
+    if !is_whole(given) {
+        return Err(BuildError::NotYet);
+    }
     let text = spec_text(alloc, kept)?;
-    if text == *given {
+    let other = spec_text(alloc, given)?;
+    if text == other {
         return Ok(());
     }
     Err(BuildError::SpecDiffers(Difference {
-        name: name.copy(alloc)?,
+        name: given.name.copy(alloc)?,
         kept: text,
-        given: given.copy(alloc)?,
+        given: other,
     }))
 }
 
@@ -133,84 +110,74 @@ fn ask_room(library: &Library, new: u32) -> Result<(), BuildError>
 
 /// Enters those of which none is kept; in ascending order none that is there is moved.
 #[tactic(auto, using(crate::proofs::Refusals::entries))]
-fn enter_ascending(
-    alloc: Global,
-    library: &mut Library,
-    given: &mut IndexMap<Bytes, Bytes>,
-) -> Result<(), BuildError>
-    ensures refused { IfErr result IsOfRoom }
-{
-    given.sort_keys()?;
-    enter_each(alloc, library, given)
-}
-
 fn enter_each(
     alloc: Global,
     library: &mut Library,
-    given: &IndexMap<Bytes, Bytes>,
+    specs: &[Spec],
+    numbers: &IndexMap<Bytes, usize>,
 ) -> Result<(), BuildError>
     ensures refused { IfErr result IsOfRoom }
 {
-    for (name, text) in given {
-        if library.spec(name).is_none() {
-            enter(alloc, library, text)?;
+    for number in numbers.values() {
+        let Some(spec) = specs.get(*number) else {
+            return Err(BuildError::NotYet);
+        };
+        if library.spec(&spec.name).is_none() {
+            enter(alloc, library, spec.copy(alloc)?)?;
         }
     }
     Ok(())
 }
 
 #[tactic(auto, using(crate::proofs::Refusals::entries))]
-fn enter(alloc: Global, library: &mut Library, text: &Bytes) -> Result<(), BuildError>
+fn enter(alloc: Global, library: &mut Library, spec: Spec) -> Result<(), BuildError>
     ensures refused { IfErr result IsOfRoom }
 {
-    let spec = spec_of(alloc, text)?;
+    if !is_whole(&spec) {
+        return Err(BuildError::NotYet);
+    }
     Ok(library.enter_spec(alloc, spec)?)
 }
 
-fn replace_each(
-    alloc: Global,
-    library: &mut Library,
-    given: &IndexMap<Bytes, Bytes>,
-) -> Result<(), BuildError>
+#[tactic(auto, using(crate::proofs::Refusals::entries))]
+fn replace_each(alloc: Global, library: &mut Library, specs: &[Spec]) -> Result<(), BuildError>
     ensures refused { IfErr result IsOfRoom }
 {
-    for text in given.values() {
-        replace(alloc, library, text)?;
+    for spec in specs {
+        replace(alloc, library, spec.copy(alloc)?)?;
     }
     Ok(())
 }
 
 #[tactic(auto, using(crate::proofs::Refusals::entries))]
-fn replace(alloc: Global, library: &mut Library, text: &Bytes) -> Result<(), BuildError>
+fn replace(alloc: Global, library: &mut Library, spec: Spec) -> Result<(), BuildError>
     ensures refused { IfErr result IsOfRoom }
 {
-    let spec = spec_of(alloc, text)?;
+    if !is_whole(&spec) {
+        return Err(BuildError::NotYet);
+    }
     library.replace_spec(alloc, spec)?;
     Ok(())
 }
 
 /// Whether the specifications of all other modules are sound.
 #[tactic(auto, using(crate::proofs::Refusals::entries))]
-fn ask_needed(
-    alloc: Global,
-    library: &Library,
-    given: &IndexMap<Bytes, Bytes>,
-) -> Result<(), BuildError>
+fn ask_needed(alloc: Global, library: &Library, specs: &[Spec]) -> Result<(), BuildError>
     ensures refused { IfErr result IsOfReplacement }
 {
-    let names = names_of(alloc, given)?;
+    let names = names_of(alloc, specs)?;
     match library.unmet(alloc, names.as_slice())? {
         Some(name) => Err(BuildError::SpecNeeded(name)),
         None => Ok(()),
     }
 }
 
-fn names_of(alloc: Global, given: &IndexMap<Bytes, Bytes>) -> Result<Vec<Bytes>, BuildError>
+fn names_of(alloc: Global, specs: &[Spec]) -> Result<Vec<Bytes>, BuildError>
     ensures refused { IfErr result IsInner }
 {
     let mut names = Vec::new(alloc);
-    for name in given.keys() {
-        names.push(name.copy(alloc)?)?;
+    for spec in specs {
+        names.push(spec.name.copy(alloc)?)?;
     }
     Ok(names)
 }

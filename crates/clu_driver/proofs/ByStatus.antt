@@ -46,7 +46,7 @@ not_gathered library file files faults faults' (inl unread) = not_library librar
 not_gathered library file files faults faults' (inr unparsed) = unparsed.2
 
 not_put : (name : List ℕ) (kept : library.Contents) (files files' : Option Files) (faults faults' : ℕ) → LibraryShows outcome.Usage name kept files files' faults faults' → ⊥
-not_put name kept files files' faults faults' (inl memory) = let no : outcome.Usage ≡ outcome.Memory = memory.0 in cc
+not_put name kept files files' faults faults' (inl unwritable) = unwritable.0
 not_put name kept files files' faults faults' (inr torn) = torn
 
 -- no refusal of an entry comes to it

@@ -41,10 +41,16 @@ abbrev pub BytesShow : Outcome → List ℕ → List ℕ → Option Files → Op
 BytesShow outcome.Done name bytes files files' faults faults' = IsPut name bytes files files'
 BytesShow how name bytes files files' faults faults' = NotPut how name bytes files files' faults faults'
 
+-- why a library has no file that can be read
+abbrev pub IsUnwritable : Outcome → Type 0
+IsUnwritable outcome.Memory = Unit {0}
+IsUnwritable outcome.NotYet = Unit {0}
+IsUnwritable _ = ⊥
+
 -- this library was put, or why it was not
 abbrev pub LibraryShows : Outcome → List ℕ → library.Contents → Option Files → Option Files → ℕ → ℕ → Type 0
 LibraryShows how name kept files files' faults faults' =
-    ((how ≡ outcome.Memory) × (files' ≡ files)) ⊎ BytesShow how name (library_bytes kept) files files' faults faults'
+    (IsUnwritable how × (files' ≡ files)) ⊎ BytesShow how name (library_bytes kept) files files' faults faults'
 
 -- some library was
 abbrev pub KeptShows : Outcome → List ℕ → Option Files → Option Files → ℕ → ℕ → Type 0

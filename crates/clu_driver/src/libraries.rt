@@ -1,11 +1,12 @@
 //! Libraries as files. An absent file is an empty library.
 
-ghost use Rattle.std.specs.Prelude.{◌≡◌, ◌≤◌, IfErr};
-ghost use Rattle.clu_driver.specs.Libraries.{BytesShow, IsUnreadable, LibraryShows, NotLibrary};
+ghost use Rattle.std.specs.Prelude.{◌≡◌, ◌≤◌, IfErr, IfOk};
+ghost use Rattle.clu_library.specs.LibraryFile.{library_bytes};
+ghost use Rattle.clu_driver.specs.Libraries.{BytesShow, IsUnreadable, IsUnwritable, LibraryShows, NotLibrary};
 ghost use Rattle.clu_driver.specs.Shows.{Reported};
 
 use crate::file::{content_if_any, put};
-use clu_base::{FormatError, Sink, Store};
+use clu_base::{Bytes, FormatError, Sink, Store};
 use clu_library::Library;
 use clu_outcome::{Outcome, report};
 use std::alloc::Global;
@@ -64,9 +65,24 @@ pub fn put_library<E: Sink, F: Store>(
     ensures told { Reported (λ how. LibraryShows how name.now library.now (F.files files.old) (F.files files.new) (F.faults files.old) (F.faults files.new))
         result (E.written errors.old) (E.written errors.new) (E.faults errors.old) (E.faults errors.new) }
 {
-    match library.write(alloc) {
+    match file_of(alloc, library) {
         Ok(bytes) => put_bytes(alloc, name, bytes.as_slice(), errors, files),
-        Err(_) => report(errors, &Outcome::Memory),
+        Err(how) => report(errors, &how),
+    }
+}
+
+// The file of a library. No contract shows yet that it can be read: it is tried.
+fn file_of<'a>(alloc: Global, library: &Library) -> Result<Bytes, Outcome<'a>>
+    ensures bytes { IfOk result (λ b. b ≡ library_bytes library.now) }
+    ensures refused { IfErr result IsUnwritable }
+{
+    match library.write(alloc) {
+        Ok(bytes) => match Library::read(alloc, bytes.as_slice()) {
+            Ok(_) => Ok(bytes),
+            Err(FormatError::Bad(_)) => Err(Outcome::NotYet),
+            Err(FormatError::Memory) => Err(Outcome::Memory),
+        },
+        Err(_) => Err(Outcome::Memory),
     }
 }
 
