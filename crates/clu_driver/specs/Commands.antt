@@ -6,6 +6,7 @@ use Rattle.clu_asm.specs.AssemblyText.{asm_text}
 use Rattle.clu_asm.specs.Faults.{IsFaultAt}
 use Rattle.clu_image.specs.Faults.{fault_of}
 use Rattle.clu_image.specs.ImageFile.{IsFileOf, image_bytes}
+use Rattle.clu_printed.specs.Again.{IsReadAgain}
 use Rattle.clu_printer.specs.Printed.{printed}
 use Rattle.clu_tree.specs.declared.node.Node.{Node}
 use Rattle.clu_words.specs.Command.{Limits, Meant}
@@ -57,9 +58,10 @@ GenShows outcome.Done n written written' faults faults' = written' ≡ appended 
 GenShows outcome.WriteFault n written written' faults faults' = Rose faults faults' × GrewWithin written written' (generated_text n)
 GenShows _ n written written' faults faults' = ⊥
 
--- the text is what the printer makes of a source of these bytes
+-- the text is what the printer makes of a source of these bytes, and is read again: as a source with the same tree, which is
+-- printed as the same text
 abbrev pub IsPrintOf : List ℕ → List ℕ → Type 0
-IsPrintOf bytes text = (tokens : List Token) × (nodes : List Node) × IsSource bytes tokens nodes × (text ≡ printed bytes tokens nodes)
+IsPrintOf bytes text = (tokens : List Token) × (nodes : List Node) × IsSource bytes tokens nodes × (text ≡ printed bytes tokens nodes) × IsReadAgain text nodes
 
 -- the printed text of the file was written, or some first bytes of it
 abbrev pub PrintShows : Outcome → List ℕ → Option Files → Option (List ℕ) → ℕ → Option (List ℕ) → ℕ → Type 0
