@@ -155,7 +155,7 @@ module _ (program : Program) (low : Level) (round : Round) where
     eval (elements_from t e es) = node (value (eval e) (λ o. and_then (eval_all es) (λ os. makes_elements_from (substituted (here round).given t) o os)))
     eval (up e) = node (value (eval e) (seals_here (here round)))
     eval (down e) = node (value (eval e) (opens_here (here round)))
-    eval (besides n e) = counts n (eval e)
+    eval (besides n e) = and_then (eval e) (λ os. counts n (gives os))
 
     -- one object of each
     pub eval_all : Expressions → Computation (List Object)
