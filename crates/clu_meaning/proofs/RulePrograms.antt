@@ -8,7 +8,7 @@ use Rattle.clu_syntax.specs.declared.words.ListType.TheVariants as list
 use Rattle.clu_syntax.specs.declared.words.RoutineKind.TheVariants as kind
 use Rattle.clu_syntax.specs.Syntax.{integer, string, an_infix, a_paren, a_literal, a_name, an_index, a_call, an_operation, a_force, no_expressions, expression_and, an_expression, a_type, no_constants, constant_and, a_simple_type, a_list_type, a_routine_type, a_named_type, no_types, type_and, no_exceptions, exception_and, an_equate, no_equates, equate_and, objects, an_init, an_assign, a_call_statement, a_while, a_for, an_if, a_return, a_yield, a_signal, a_begin, an_except, no_statements, statement_and, a_body, no_clauses, clause_and, nothing_else, no_whens, when_and, no_others, own_init, has_operations, Module, a_routine, a_cluster}
 use Rattle.clu_layout.specs.Computing.{computing}
-use Rattle.clu_meaning.specs.Run.{running, returned_normally, failure_with}
+use Rattle.clu_meaning.specs.Run.{still_running, returned_normally, failure_with}
 use Rattle.clu_meaning.specs.Executing.{executing}
 use Rattle.clu_meaning.proofs.Running.{d, m, typed, a_variable, parameter, routine, cluster, Ends, Works, Traces}
 
@@ -370,7 +370,7 @@ turns_of_while_turns_4 : Ends turns_of_while_declared turns_of_while_modules (co
 unfolding executing computing digits
 turns_of_while_turns_4 = refl
 
-turns_of_while_turns_3 : Ends turns_of_while_declared turns_of_while_modules (codes "") 3 running (codes "")
+turns_of_while_turns_3 : Ends turns_of_while_declared turns_of_while_modules (codes "") 3 still_running (codes "")
 unfolding executing computing digits
 turns_of_while_turns_3 = refl
 
@@ -399,7 +399,7 @@ turns_of_loop_turns_9 : Ends turns_of_loop_declared turns_of_loop_modules (codes
 unfolding executing computing digits
 turns_of_loop_turns_9 = refl
 
-turns_of_loop_turns_8 : Ends turns_of_loop_declared turns_of_loop_modules (codes "") 8 running (49 ∷ 10 ∷ [])
+turns_of_loop_turns_8 : Ends turns_of_loop_declared turns_of_loop_modules (codes "") 8 still_running (49 ∷ 10 ∷ [])
 unfolding executing computing digits
 turns_of_loop_turns_8 = refl
 

@@ -1,5 +1,6 @@
 -- The meaning of CLU programs.
 pub mod Programs
+pub mod Lists
 pub mod Constants
 pub mod Counting
 pub mod Scoping
