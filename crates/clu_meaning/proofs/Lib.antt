@@ -31,6 +31,8 @@ mod ClusterPrograms
 mod ParameterPrograms
 mod CopyPrograms
 mod FailurePrograms
+mod WrongPrograms
+mod WorkPrograms
 mod RulePrograms
 mod InstancePrograms
 mod CounterPrograms
