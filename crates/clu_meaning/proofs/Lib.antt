@@ -3,6 +3,8 @@ pub mod Going
 pub mod Evaluating
 pub mod Executed
 pub mod Levels
+pub mod TypedFacts
+pub mod TypedComputing
 mod TextCounts
 mod Running
 mod BasicPrograms
@@ -33,6 +35,7 @@ mod CopyPrograms
 mod FailurePrograms
 mod WrongPrograms
 mod WorkPrograms
+mod FilePrograms
 mod RulePrograms
 mod InstancePrograms
 mod CounterPrograms

@@ -6,6 +6,7 @@ pub mod Counting
 pub mod Scoping
 pub mod Settling
 pub mod Resolving
+pub mod Files
 pub mod Schemes
 pub mod Texts
 pub mod State
@@ -18,4 +19,5 @@ pub mod Expressions
 pub mod Statements
 pub mod Run
 pub mod Executing
+pub mod Typed
 pub mod More
