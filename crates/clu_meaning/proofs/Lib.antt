@@ -5,6 +5,7 @@ pub mod Executed
 pub mod Levels
 pub mod TypedFacts
 pub mod TypedComputing
+pub mod TypedMaking
 mod TextCounts
 mod Running
 mod BasicPrograms
