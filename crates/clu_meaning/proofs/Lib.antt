@@ -37,6 +37,7 @@ mod FailurePrograms
 mod WrongPrograms
 mod WorkPrograms
 mod FilePrograms
+mod NamedPrograms
 mod RulePrograms
 mod InstancePrograms
 mod CounterPrograms

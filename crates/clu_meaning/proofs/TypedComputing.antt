@@ -171,30 +171,46 @@ module _ (program : Program) (round : Round) where
     pub stays_names : (x : Variable) (o : Object) → IsTyped program base o → fits_in (put_in (here round) (term_of (here round) x)) o ≡ true →
         Stays base P (names (here round) x o rest)
     unfolding names with_frame with_owns
-    stays_names (local n) o h k = record { at = λ turns st t l. stays.at turns _ (record {
-      cells = t.cells;
-      frame = frame_named program st.world.cells round st.frame n (Some o) t.frame (typed_on program base st.world.cells l o h, k);
-      owns = t.owns }) l }
-    stays_names (own_of_routine n) o h k = record { at = λ turns st t l. stays.at turns _ (record {
-      cells = t.cells;
-      frame = t.frame;
-      owns = own_named program st.world.cells st.owns (here round).instance n o t.owns (typed_on program base st.world.cells l o h,
-        fits_like (put_in (here round) (declared_in (here round).definition.owns n)) (own_type_of program (here round).instance n) o (belongs.own n) k) }) l }
-    stays_names (own_of_cluster n) o h k = record { at = λ turns st t l. stays.at turns _ (record {
-      cells = t.cells;
-      frame = t.frame;
-      owns = own_named program st.world.cells st.owns (cluster_instance (here round)) n o t.owns (typed_on program base st.world.cells l o h,
-        fits_like (put_in (here round) (declared_in (owns_of (here round).home) n)) (own_type_of program (cluster_instance (here round)) n) o (belongs.shared n) k) }) l }
+    stays_names (local n) o h k = record {
+      at = λ turns st t l. stays.at turns _ (record {
+        cells = t.cells;
+        frame = frame_named program st.world.cells round st.frame n (Some o) t.frame (typed_on program base st.world.cells l o h, k);
+        owns = t.owns;
+      }) l;
+    }
+    stays_names (own_of_routine n) o h k = record {
+      at = λ turns st t l. stays.at turns _ (record {
+        cells = t.cells;
+        frame = t.frame;
+        owns = own_named program st.world.cells st.owns (here round).instance n o t.owns (
+          typed_on program base st.world.cells l o h,
+          fits_like (put_in (here round) (declared_in (here round).definition.owns n)) (own_type_of program (here round).instance n) o (belongs.own n) k,
+        );
+      }) l;
+    }
+    stays_names (own_of_cluster n) o h k = record {
+      at = λ turns st t l. stays.at turns _ (record {
+        cells = t.cells;
+        frame = t.frame;
+        owns = own_named program st.world.cells st.owns (cluster_instance (here round)) n o t.owns (
+          typed_on program base st.world.cells l o h,
+          fits_like (put_in (here round) (declared_in (owns_of (here round).home) n)) (own_type_of program (cluster_instance (here round)) n) o (belongs.shared n) k,
+        );
+      }) l;
+    }
 
   -- a variable that is forgotten
   module _ {A : Type 0} (base : List Cell) (P : List Cell → A → Type 0) (rest : Computation A) (stays : Stays base P rest) where
     pub stays_forgets : (xs : List Variable) → Stays base P (forgets xs rest)
     unfolding forgets with_frame
     stays_forgets [] = stays
-    stays_forgets (local n ∷ xs) = record { at = λ turns st t l. (stays_forgets xs).at turns _ (record {
-      cells = t.cells;
-      frame = frame_named program st.world.cells round st.frame n None t.frame tt;
-      owns = t.owns }) l }
+    stays_forgets (local n ∷ xs) = record {
+      at = λ turns st t l. (stays_forgets xs).at turns _ (record {
+        cells = t.cells;
+        frame = frame_named program st.world.cells round st.frame n None t.frame tt;
+        owns = t.owns;
+      }) l;
+    }
     stays_forgets (own_of_routine n ∷ xs) = stays_forgets xs
     stays_forgets (own_of_cluster n ∷ xs) = stays_forgets xs
 
@@ -260,12 +276,18 @@ module _ (program : Program) (round : Round) where
 
   pub stays_uses : (base : List Cell) (x : Variable) → Stays base Objects (uses (here round) x)
   unfolding uses sees_frame sees_owns
-  stays_uses base (local n) = record { at = λ turns st t l. good_from Objects base st.world.cells _ l
-      ((stays_gives_named st.world.cells (local_type (here round) n) (st.frame.variables n) (frame_slot st.world.cells round st.frame t.frame n)).at turns st t (longer_refl st.world.cells)) }
-  stays_uses base (own_of_routine n) = record { at = λ turns st t l. good_from Objects base st.world.cells _ l
-      ((stays_gives_named st.world.cells (own_type_of program (here round).instance n) (st.owns.variables (here round).instance n) (t.owns (here round).instance n)).at turns st t (longer_refl st.world.cells)) }
-  stays_uses base (own_of_cluster n) = record { at = λ turns st t l. good_from Objects base st.world.cells _ l
-      ((stays_gives_named st.world.cells (own_type_of program (cluster_instance (here round)) n) (st.owns.variables (cluster_instance (here round)) n) (t.owns (cluster_instance (here round)) n)).at turns st t (longer_refl st.world.cells)) }
+  stays_uses base (local n) = record {
+    at = λ turns st t l. good_from Objects base st.world.cells _ l
+        ((stays_gives_named st.world.cells (local_type (here round) n) (st.frame.variables n) (frame_slot st.world.cells round st.frame t.frame n)).at turns st t (longer_refl st.world.cells));
+  }
+  stays_uses base (own_of_routine n) = record {
+    at = λ turns st t l. good_from Objects base st.world.cells _ l
+        ((stays_gives_named st.world.cells (own_type_of program (here round).instance n) (st.owns.variables (here round).instance n) (t.owns (here round).instance n)).at turns st t (longer_refl st.world.cells));
+  }
+  stays_uses base (own_of_cluster n) = record {
+    at = λ turns st t l. good_from Objects base st.world.cells _ l
+        ((stays_gives_named st.world.cells (own_type_of program (cluster_instance (here round)) n) (st.owns.variables (cluster_instance (here round)) n) (t.owns (cluster_instance (here round)) n)).at turns st t (longer_refl st.world.cells));
+  }
 
 -- ---- the state in which a program begins is typed
 

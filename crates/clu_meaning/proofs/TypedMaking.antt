@@ -70,12 +70,15 @@ module _ (program : Program) where
 
     fitting_makes : (cell : Cell) → CellFits program base cell → Fitting base (makes cell)
     unfolding makes
-    fitting_makes cell h = record { at = λ w e l.
-      let longer = longer_added w.cells cell in
-      (each_added program (w.cells ++ cell ∷ []) w.cells cell (each_on program w.cells (w.cells ++ cell ∷ []) longer w.cells e)
-        (cell_on program base (w.cells ++ cell ∷ []) (longer_trans base w.cells (w.cells ++ cell ∷ []) l longer) cell h),
-      longer_trans base w.cells (w.cells ++ cell ∷ []) l longer,
-      (last_kind w.cells cell, tt)) }
+    fitting_makes cell h = record {
+      at = λ w e l.
+          let longer = longer_added w.cells cell in (
+            each_added program (w.cells ++ cell ∷ []) w.cells cell (each_on program w.cells (w.cells ++ cell ∷ []) longer w.cells e)
+                (cell_on program base (w.cells ++ cell ∷ []) (longer_trans base w.cells (w.cells ++ cell ∷ []) l longer) cell h),
+            longer_trans base w.cells (w.cells ++ cell ∷ []) l longer,
+            (last_kind w.cells cell, tt),
+          );
+    }
 
     -- ---- constructors
 
@@ -106,9 +109,11 @@ module _ (program : Program) (round : Round) where
   outcome_good : (base : List Cell) (turns : ℕ) (st : State) (o : Outcome) → Typed program round st → Longer base st.world.cells → Makes program st.world.cells o →
       Good program round base Given (outcome o turns st)
   unfolding outcome
-  outcome_good base turns st (returned os w) t l h =
-      (record { cells = h.0; frame = frame_on program st.world.cells w.cells h.1 round st.frame t.frame; owns = owns_on program st.world.cells w.cells h.1 st.owns t.owns },
-      longer_trans base st.world.cells w.cells l h.1, h.2)
+  outcome_good base turns st (returned os w) t l h = (
+    record { cells = h.0; frame = frame_on program st.world.cells w.cells h.1 round st.frame t.frame; owns = owns_on program st.world.cells w.cells h.1 st.owns t.owns },
+    longer_trans base st.world.cells w.cells l h.1,
+    h.2,
+  )
   outcome_good base turns st (signalled name os w) t l h =
       good_from program round Given base w.cells _ (longer_trans base st.world.cells w.cells l h.1) ((stays_raises program round w.cells Given name os h.2).at turns (record st { world = w })
       (record { cells = h.0; frame = frame_on program st.world.cells w.cells h.1 round st.frame t.frame; owns = owns_on program st.world.cells w.cells h.1 st.owns t.owns })
@@ -123,8 +128,10 @@ module _ (program : Program) (round : Round) where
   -- an action that is fitting whatever cells there are more
   pub stays_does : (base : List Cell) (action : Action) → ((cells : List Cell) → Longer base cells → Fitting program cells action) → Stays program round base Given (does action)
   unfolding does done_in
-  stays_does base action h = record { at = λ turns st t l. outcome_good base turns st (outcome_in st.world (action (before st.world))) t l
-      (made_in st.world.cells st.world (action (before st.world)) ((h st.world.cells l).at (before st.world) t.cells (longer_refl st.world.cells))) }
+  stays_does base action h = record {
+    at = λ turns st t l. outcome_good base turns st (outcome_in st.world (action (before st.world))) t l
+        (made_in st.world.cells st.world (action (before st.world)) ((h st.world.cells l).at (before st.world) t.cells (longer_refl st.world.cells)));
+  }
 
   pub stays_makes_elements : (base : List Cell) (t : CluType) (os : List Object) → AllTyped program base os → Stays program round base Given (makes_elements t os)
   unfolding makes_elements
