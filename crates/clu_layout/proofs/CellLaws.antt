@@ -41,7 +41,7 @@ kind_set (x ∷ xs) cell zero (suc n) t same h = h
 kind_set (x ∷ xs) cell (suc c) zero t same h = h
 kind_set (x ∷ xs) cell (suc c) (suc n) t same h = kind_set xs cell c n t same h
 
-longer_added : (a : List Cell) (cell : Cell) → Longer a (a ++ cell ∷ [])
+pub longer_added : (a : List Cell) (cell : Cell) → Longer a (a ++ cell ∷ [])
 longer_added a cell = record { at = λ c t h. kind_added a cell c t h }
 
 longer_set : (a : List Cell) (cell : Cell) (c : ℕ) → kind_at a c ≡ Some (cell_type cell) → Longer a (slice_set a c cell)

@@ -97,7 +97,7 @@ mutual
   signals_are no_signals (signal_and s' ts' ss') h = no h
   signals_are (signal_and s ts ss) no_signals h = no h
 
-  actuals_are : (a b : Actuals) → same_actuals a b ≡ true → a ≡ b
+  pub actuals_are : (a b : Actuals) → same_actuals a b ≡ true → a ≡ b
   actuals_are no_actuals no_actuals h = refl
   actuals_are (actual_type t xs) (actual_type u ys) h = λ i. actual_type
       (types_are t u (left (same_type t u) (same_actuals xs ys) h) i) (actuals_are xs ys (right (same_type t u) (same_actuals xs ys) h) i)

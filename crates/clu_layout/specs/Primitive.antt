@@ -9,7 +9,7 @@ use Rattle.clu_layout.specs.declared.store.Shape.TheVariants as shape
 use Rattle.clu_layout.specs.Cost.{cost}
 use Rattle.clu_layout.specs.Objects.{Routine, module_routine, operation_of, force_of, Object, own_type, own_types}
 use Rattle.clu_layout.specs.SameType.{same_type, is_any, is_routine_type, fits, all_fit}
-use Rattle.clu_layout.specs.Actions.{World, Outcome, returned, signalled, wrong, Action, Primitive, either, gives, gives_all, signals_with, need, needed, and_then, counts, takes, with_one, with_int, makes_array, makes_sequence, makes_struct, makes_record, new_struct, new_record}
+use Rattle.clu_layout.specs.Actions.{World, Outcome, returned, signalled, wrong, Action, Primitive, either, gives, gives_all, signals_with, need, needed, and_then, counts, takes, with_one, with_int, makes_array, makes_sequence, makes_struct, makes_record}
 use Rattle.clu_layout.specs.PlainOperations.{Primitives, null_primitives, routine_primitives, bool_primitives}
 use Rattle.clu_layout.specs.NumberOperations.{int_primitives, char_primitives}
 use Rattle.clu_layout.specs.StringOperations.{string_primitives}
@@ -135,13 +135,6 @@ struct_construction fs xs = binds (parts_of fs) xs (makes_struct fs xs)
 
 abbrev pub record_construction : Fields → List Object → Action
 record_construction fs xs = binds (parts_of fs) xs (makes_record fs xs)
-
--- what `copy` of a struct or record makes of the copies of its components, which count as in any operation
-abbrev pub struct_copy : Fields → List Object → Action
-struct_copy fs xs = binds (parts_of fs) xs (new_struct fs xs)
-
-abbrev pub record_copy : Fields → List Object → Action
-record_copy fs xs = binds (parts_of fs) xs (new_record fs xs)
 
 -- ---- an action in a world
 

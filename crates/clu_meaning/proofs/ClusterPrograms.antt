@@ -7,7 +7,7 @@ use Rattle.clu_syntax.specs.declared.words.SimpleType.TheVariants as simple
 use Rattle.clu_syntax.specs.declared.words.ListType.TheVariants as list
 use Rattle.clu_syntax.specs.declared.words.FieldsType.TheVariants as fields_word
 use Rattle.clu_syntax.specs.declared.words.RoutineKind.TheVariants as kind
-use Rattle.clu_syntax.specs.Syntax.{integer, string, an_infix, a_literal, a_name, an_index, a_call, fields, elements, an_operation, an_up, a_down, no_expressions, expression_and, no_components, component_and, an_expression, a_type, no_constants, constant_and, a_simple_type, a_list_type, a_fields_type, a_named_type, no_types, type_and, no_selectors, selector_and, no_exceptions, exception_and, an_equate, no_equates, equate_and, objects, an_init, a_call_statement, an_if, a_return, a_signal, an_except, no_statements, statement_and, a_body, no_clauses, clause_and, nothing_else, no_whens, when_and, no_others, Module, a_routine, a_cluster}
+use Rattle.clu_syntax.specs.Syntax.{integer, string, an_infix, a_literal, a_name, an_index, a_call, fields, elements, an_operation, an_up, a_down, no_expressions, expression_and, no_components, component_and, an_expression, a_type, no_constants, constant_and, a_simple_type, a_list_type, a_fields_type, a_named_type, no_types, type_and, no_selectors, selector_and, no_exceptions, exception_and, an_equate, no_equates, equate_and, objects, an_init, a_call_statement, a_for, an_if, a_return, a_yield, a_signal, an_except, no_statements, statement_and, a_body, no_clauses, clause_and, nothing_else, no_whens, when_and, no_others, Module, a_routine, a_cluster}
 use Rattle.clu_layout.specs.Computing.{computing}
 use Rattle.clu_meaning.specs.Run.{returned_normally}
 use Rattle.clu_meaning.specs.Executing.{executing}
@@ -168,3 +168,37 @@ abstract_equality_in_arrays_declared =
 abstract_equality_in_arrays : Runs abstract_equality_in_arrays_declared abstract_equality_in_arrays_modules (codes "") 10000 returned_normally (111 ∷ 116 ∷ 104 ∷ 101 ∷ 114 ∷ 10 ∷ 115 ∷ 105 ∷ 109 ∷ 105 ∷ 108 ∷ 97 ∷ 114 ∷ 49 ∷ 10 ∷ 101 ∷ 113 ∷ 117 ∷ 97 ∷ 108 ∷ 10 ∷ 115 ∷ 116 ∷ 114 ∷ 117 ∷ 99 ∷ 116 ∷ 115 ∷ 10 ∷ []) 26 734
 unfolding executing computing digits
 abstract_equality_in_arrays = refl
+
+-- % objects that are yielded as cvt
+-- c = cluster is all, get
+--   rep = int
+--   all = iter () yields (cvt) yield (1) yield (2) end all
+--   get = proc (x: cvt) returns (int) return (x) end get
+-- end c
+-- start_up = proc ()
+--   for x: c in c$all() do stream$puts(stream$primary_output(), int$unparse(c$get(x))) end
+-- end start_up
+abbrev objects_that_are_yielded_as_cvt_modules : List Module
+objects_that_are_yielded_as_cvt_modules =
+    ((a_cluster 17 no_equates (cluster 16 (codes "c") (codes "c") [] ((codes "all") ∷ (codes "get") ∷ []) ([]) (equate_and (an_equate 1 None (a_type
+    (a_simple_type 0 simple.Int))) no_equates) ([]) ((routine 8 (codes "all") (codes "all") kind.Iterator [] ([]) (type_and (a_simple_type 2
+    simple.Cvt) no_types) no_exceptions ([]) no_equates ([]) (statement_and (a_yield 5 (expression_and (a_literal 4 (integer (codes "1")))
+    no_expressions)) (statement_and (a_yield 7 (expression_and (a_literal 6 (integer (codes "2"))) no_expressions)) no_statements))) ∷ (routine 15
+    (codes "get") (codes "get") kind.Procedure [] (typed 10 ((codes "x") ∷ []) (a_simple_type 9 simple.Cvt) ∷ []) (type_and (a_simple_type 11
+    simple.Int) no_types) no_exceptions ([]) no_equates ([]) (statement_and (a_return 14 (expression_and (a_name 13 (codes "x")) no_expressions))
+    no_statements)) ∷ []))) ∷ (a_routine 39 no_equates (routine 38 (codes "start_up") (codes "start_up") kind.Procedure [] ([]) no_types no_exceptions
+    ([]) no_equates ([]) (statement_and (a_for 37 (typed 19 ((codes "x") ∷ []) (a_named_type 18 (codes "c") no_constants) ∷ []) (a_call 22
+    (an_operation 21 (a_named_type 20 (codes "c") no_constants) (codes "all")) no_expressions) (a_body no_equates (statement_and (a_call_statement 36
+    (a_call 35 (an_operation 24 (a_named_type 23 (codes "stream") no_constants) (codes "puts")) (expression_and (a_call 27 (an_operation 26
+    (a_named_type 25 (codes "stream") no_constants) (codes "primary_output")) no_expressions) (expression_and (a_call 34 (an_operation 29
+    (a_simple_type 28 simple.Int) (codes "unparse")) (expression_and (a_call 33 (an_operation 31 (a_named_type 30 (codes "c") no_constants) (codes
+    "get")) (expression_and (a_name 32 (codes "x")) no_expressions)) no_expressions)) no_expressions)))) no_statements))) no_statements))) ∷ [])
+
+abbrev objects_that_are_yielded_as_cvt_declared : List Declared
+objects_that_are_yielded_as_cvt_declared =
+    (d (codes "rep") 1 0 16 (Some 0) ∷ d (codes "all") 8 0 16 (Some 0) ∷ d (codes "x") 10 11 15 (Some 0) ∷ d (codes "get") 15 0 16 (Some 0) ∷ d (codes
+    "c") 16 0 4294967295 None ∷ d (codes "x") 19 23 36 (Some 0) ∷ d (codes "start_up") 38 0 4294967295 None ∷ [])
+
+objects_that_are_yielded_as_cvt : Runs objects_that_are_yielded_as_cvt_declared objects_that_are_yielded_as_cvt_modules (codes "") 10000 returned_normally (codes "12") 8 204
+unfolding executing computing digits
+objects_that_are_yielded_as_cvt = refl

@@ -5,12 +5,13 @@ use Rattle.clu_names.specs.declared.scopes.Declared.{Declared}
 use Rattle.clu_syntax.specs.declared.words.Operator.TheVariants as op
 use Rattle.clu_syntax.specs.declared.words.SimpleType.TheVariants as simple
 use Rattle.clu_syntax.specs.declared.words.ListType.TheVariants as list
+use Rattle.clu_syntax.specs.declared.words.FieldsType.TheVariants as fields_word
 use Rattle.clu_syntax.specs.declared.words.RoutineKind.TheVariants as kind
-use Rattle.clu_syntax.specs.Syntax.{integer, string, an_infix, a_paren, a_literal, a_name, an_index, a_call, elements, an_operation, no_expressions, expression_and, an_expression, a_type, no_constants, constant_and, a_simple_type, a_list_type, a_routine_type, a_named_type, no_types, type_and, no_exceptions, an_equate, no_equates, equate_and, objects, an_init, an_assign, a_set_index, a_call_statement, a_for, an_if, a_return, a_yield, an_except, no_statements, statement_and, a_body, no_clauses, clause_and, nothing_else, no_whens, when_and, no_others, own_init, has_operations, Module, a_routine, a_cluster}
+use Rattle.clu_syntax.specs.Syntax.{integer, string, an_infix, a_paren, a_literal, a_name, an_index, a_call, fields, elements, an_operation, no_expressions, expression_and, no_components, component_and, an_expression, a_type, no_constants, constant_and, a_simple_type, a_list_type, a_fields_type, a_routine_type, a_named_type, no_types, type_and, no_selectors, selector_and, no_exceptions, an_equate, no_equates, equate_and, objects, an_init, an_assign, a_set_index, a_call_statement, a_for, an_if, a_return, a_yield, a_signal, an_except, no_statements, statement_and, a_body, no_clauses, clause_and, nothing_else, no_whens, when_and, no_others, own_init, has_operations, Module, a_routine, a_cluster}
 use Rattle.clu_layout.specs.Computing.{computing}
 use Rattle.clu_meaning.specs.Run.{returned_normally, failure_with}
 use Rattle.clu_meaning.specs.Executing.{executing}
-use Rattle.clu_meaning.proofs.Running.{d, typed, a_variable, parameter, routine, cluster, Runs}
+use Rattle.clu_meaning.proofs.Running.{d, typed, a_variable, parameter, routine, cluster, Runs, Works}
 
 -- % copies of a parameter
 -- dup = proc [t: type] (x: t) returns (t) where t has copy: proctype (t) returns (t) return (t$copy(x)) end dup
@@ -269,3 +270,44 @@ example_5_declared =
 example_5 : Runs example_5_declared example_5_modules (codes "") 10000 returned_normally (49 ∷ 49 ∷ 54 ∷ 57 ∷ 54 ∷ 49 ∷ 10 ∷ []) 4 384
 unfolding executing computing digits
 example_5 = refl
+
+-- % a copy of a component that fails
+-- c = cluster is make, copy
+--   rep = int
+--   make = proc () returns (cvt) return (1) end make
+--   copy = proc (x: cvt) returns (cvt) signal failure("no") end copy
+-- end c
+-- start_up = proc ()
+--   s = struct[a: c, b: int]
+--   x: s := s${a: c$make(), b: 2}
+--   x := s$copy(x) except when failure (t: string): stream$puts(stream$primary_output(), t) end
+-- end start_up
+abbrev a_copy_of_a_component_that_fails_modules : List Module
+a_copy_of_a_component_that_fails_modules =
+    ((a_cluster 15 no_equates (cluster 14 (codes "c") (codes "c") [] ((codes "make") ∷ (codes "copy") ∷ []) ([]) (equate_and (an_equate 1 None (a_type
+    (a_simple_type 0 simple.Int))) no_equates) ([]) ((routine 6 (codes "make") (codes "make") kind.Procedure [] ([]) (type_and (a_simple_type 2
+    simple.Cvt) no_types) no_exceptions ([]) no_equates ([]) (statement_and (a_return 5 (expression_and (a_literal 4 (integer (codes "1")))
+    no_expressions)) no_statements)) ∷ (routine 13 (codes "copy") (codes "copy") kind.Procedure [] (typed 8 ((codes "x") ∷ []) (a_simple_type 7
+    simple.Cvt) ∷ []) (type_and (a_simple_type 9 simple.Cvt) no_types) no_exceptions ([]) no_equates ([]) (statement_and (a_signal 12 (codes
+    "failure") (expression_and (a_literal 11 (string (34 ∷ 110 ∷ 111 ∷ 34 ∷ []))) no_expressions)) no_statements)) ∷ []))) ∷ (a_routine 50 no_equates
+    (routine 49 (codes "start_up") (codes "start_up") kind.Procedure [] ([]) no_types no_exceptions ([]) (equate_and (an_equate 21 (Some (codes "s"))
+    (a_type (a_fields_type 20 fields_word.Struct (selector_and 17 ((codes "a") ∷ []) (a_named_type 16 (codes "c") no_constants) (selector_and 19
+    ((codes "b") ∷ []) (a_simple_type 18 simple.Int) no_selectors))))) no_equates) ([]) (statement_and (an_init 31 (a_variable (codes "x")
+    (a_named_type 22 (codes "s") no_constants)) (fields 30 (a_named_type 23 (codes "s") no_constants) (component_and 27 ((codes "a") ∷ []) (a_call 26
+    (an_operation 25 (a_named_type 24 (codes "c") no_constants) (codes "make")) no_expressions) (component_and 29 ((codes "b") ∷ []) (a_literal 28
+    (integer (codes "2"))) no_components)))) (statement_and (an_except 48 (an_assign 36 ((codes "x") ∷ []) (expression_and (a_call 35 (an_operation 33
+    (a_named_type 32 (codes "s") no_constants) (codes "copy")) (expression_and (a_name 34 (codes "x")) no_expressions)) no_expressions)) (when_and 47
+    ((codes "failure") ∷ []) (objects (typed 38 ((codes "t") ∷ []) (a_simple_type 37 simple.String) ∷ [])) (a_body no_equates (statement_and
+    (a_call_statement 46 (a_call 45 (an_operation 40 (a_named_type 39 (codes "stream") no_constants) (codes "puts")) (expression_and (a_call 43
+    (an_operation 42 (a_named_type 41 (codes "stream") no_constants) (codes "primary_output")) no_expressions) (expression_and (a_name 44 (codes "t"))
+    no_expressions)))) no_statements)) no_whens) no_others) no_statements)))) ∷ [])
+
+abbrev a_copy_of_a_component_that_fails_declared : List Declared
+a_copy_of_a_component_that_fails_declared =
+    (d (codes "rep") 1 0 14 (Some 0) ∷ d (codes "make") 6 0 14 (Some 0) ∷ d (codes "x") 8 9 13 (Some 0) ∷ d (codes "copy") 13 0 14 (Some 0) ∷ d (codes
+    "c") 14 0 4294967295 None ∷ d (codes "s") 21 16 49 (Some 0) ∷ d (codes "x") 31 32 49 (Some 0) ∷ d (codes "t") 38 39 46 (Some 0) ∷ d (codes
+    "start_up") 49 0 4294967295 None ∷ [])
+
+a_copy_of_a_component_that_fails_work : Works a_copy_of_a_component_that_fails_declared a_copy_of_a_component_that_fails_modules (codes "") 10000 262
+unfolding executing computing digits
+a_copy_of_a_component_that_fails_work = refl

@@ -88,7 +88,7 @@ module _ (program : Program) (k b : ℕ) (low low' : Level) (lows : AllGo k b lo
     goes_eval (elements_from t e es) = goes_counts _ (goes_value (goes_eval e) (λ o. goes_and_then (goes_eval_all es) (λ os. goes_makes_elements_from _ o os)))
     goes_eval (up e) = goes_counts _ (goes_value (goes_eval e) (goes_seals_here (here round)))
     goes_eval (down e) = goes_counts _ (goes_value (goes_eval e) (goes_opens_here (here round)))
-    goes_eval (besides n e) = goes_counts _ (goes_eval e)
+    goes_eval (besides n e) = goes_and_then (goes_eval e) (λ os. goes_counts _ (goes_gives _))
 
     pub goes_eval_all : (es : Expressions) → Goes k (suc b) (eval_all program low round es) (eval_all program low' round es)
     goes_eval_all no_expressions = goes_gives _

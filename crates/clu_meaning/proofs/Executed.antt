@@ -44,7 +44,7 @@ goes_signals : {k b : ℕ} (r : Running) (name : List ℕ) (os : List Object) �
 goes_signals r name os = goes_needed _ (λ types. goes_handed_out r types os (λ handed. goes_ends (signalled name handed)))
 
 goes_resignals : {k b : ℕ} (r : Running) (names : List (List ℕ)) (name : List ℕ) (os : List Object) → Goes k b (resignals r names name os) (resignals r names name os)
-goes_resignals r names name os = goes_either _ (goes_counts _ (goes_signals r name os)) (goes_counts _ (goes_ends _))
+goes_resignals r names name os = goes_counts _ (goes_either _ (goes_signals r name os) (goes_ends _))
 
 module _ (program : Program) (k b : ℕ) (low low' : Level) (lows : AllGo k b low low') (round : Round) where
   mutual
@@ -72,8 +72,8 @@ module _ (program : Program) (k b : ℕ) (low low' : Level) (lows : AllGo k b lo
     goes_exec (begin_statement body) = goes_counts _ (goes_exec_all body)
     goes_exec (resignal_statement s names) = goes_counts _ (goes_either_way (goes_exec s) (λ done. (goes_gives _)) (λ e. goes_handled e (goes_resignals (here round) names) (λ name os. (goes_ends _))))
     goes_exec (except_statement s whens other) = goes_counts _ (goes_either_way (goes_exec s) (λ done. (goes_gives _)) (λ e. goes_handled e
-        (λ name os. goes_exec_whens whens 1 name os (goes_exec_others other name (goes_ends _)))
-        (λ name os. goes_exec_whens whens 0 name os (goes_ends _))))
+        (λ name os. goes_counts _ (goes_exec_whens whens name os (goes_exec_others other name (goes_ends _))))
+        (λ name os. goes_exec_whens whens name os (goes_ends _))))
 
     pub goes_exec_all : (ss : Statements) → Goes k (suc b) (exec_all program low round ss) (exec_all program low' round ss)
     goes_exec_all no_statements = goes_gives _
@@ -92,10 +92,10 @@ module _ (program : Program) (k b : ℕ) (low low' : Level) (lows : AllGo k b lo
     goes_exec_tag_arms no_tag_arms tag o g = g
     goes_exec_tag_arms (tag_arm_and tags xs body arms) tag o g = goes_either _ (goes_arm_if_named (here round) xs o (goes_exec_all body)) (goes_exec_tag_arms arms tag o g)
 
-    goes_exec_whens : {m m' : Computation (Unit {0})} (ws : Whens) (each : ℕ) (name : List ℕ) (os : List Object) → Goes k (suc b) m m' →
-        Goes k (suc b) (exec_whens program low round ws each name os m) (exec_whens program low' round ws each name os m')
-    goes_exec_whens no_whens each name os g = g
-    goes_exec_whens (when_and names taken body whens) each name os g = goes_either _ (goes_counts _ (goes_taken_by (here round) taken os (goes_exec_all body))) (goes_counts _ (goes_exec_whens whens each name os g))
+    goes_exec_whens : {m m' : Computation (Unit {0})} (ws : Whens) (name : List ℕ) (os : List Object) → Goes k (suc b) m m' →
+        Goes k (suc b) (exec_whens program low round ws name os m) (exec_whens program low' round ws name os m')
+    goes_exec_whens no_whens name os g = g
+    goes_exec_whens (when_and names taken body whens) name os g = goes_either _ (goes_taken_by (here round) taken os (goes_exec_all body)) (goes_exec_whens whens name os g)
 
     goes_exec_others : {m m' : Computation (Unit {0})} (o : Others) (name : List ℕ) → Goes k (suc b) m m' → Goes k (suc b) (exec_others program low round o name m) (exec_others program low' round o name m')
     goes_exec_others no_others name g = g

@@ -25,7 +25,8 @@ pub goes_names_each : {A : Type 0} {k b : ℕ} {m m' : Computation A} (r : Runni
     Goes k b (names_each r xs os m) (names_each r xs os m')
 unfolding names_each
 goes_names_each r (x ∷ xs) (o ∷ os) g = goes_names r x o (goes_names_each r xs os g)
-goes_names_each r _ _ g = g
+goes_names_each r [] [] g = g
+goes_names_each r _ _ g = goes_ends _
 
 pub goes_assigned : {A : Type 0} {k b : ℕ} {m m' : Computation A} (r : Running) (xs : List Variable) (os : List Object) → Goes k b m m' →
     Goes k b (assigned r xs os m) (assigned r xs os m')

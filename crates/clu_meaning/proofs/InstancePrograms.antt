@@ -7,11 +7,11 @@ use Rattle.clu_syntax.specs.declared.words.Sign.TheVariants as sign
 use Rattle.clu_syntax.specs.declared.words.SimpleType.TheVariants as simple
 use Rattle.clu_syntax.specs.declared.words.ListType.TheVariants as list
 use Rattle.clu_syntax.specs.declared.words.RoutineKind.TheVariants as kind
-use Rattle.clu_syntax.specs.Syntax.{true_literal, false_literal, integer, string, an_infix, a_prefix, a_literal, a_name, an_index, a_call, elements, an_operation, no_expressions, expression_and, an_expression, a_type, no_constants, constant_and, a_simple_type, a_list_type, a_routine_type, a_named_type, no_types, type_and, no_exceptions, a_set_equate, a_type_set, no_equates, equate_and, an_init, an_assign, a_call_statement, an_if, a_return, no_statements, statement_and, a_body, no_clauses, clause_and, nothing_else, own_variables, own_init, is_in, Module, a_routine}
+use Rattle.clu_syntax.specs.Syntax.{true_literal, false_literal, integer, string, an_infix, a_prefix, a_literal, a_name, an_index, a_call, elements, an_operation, no_expressions, expression_and, an_expression, a_type, no_constants, constant_and, a_simple_type, a_list_type, a_routine_type, a_named_type, no_types, type_and, no_exceptions, a_set_equate, a_type_set, no_equates, equate_and, an_init, an_assign, a_call_statement, an_if, a_return, no_statements, statement_and, a_body, no_clauses, clause_and, nothing_else, own_variables, own_init, is_in, is_in_set, Module, a_routine}
 use Rattle.clu_layout.specs.Computing.{computing}
 use Rattle.clu_meaning.specs.Run.{returned_normally}
 use Rattle.clu_meaning.specs.Executing.{executing}
-use Rattle.clu_meaning.proofs.Running.{d, typed, a_variable, parameter, routine, Ends}
+use Rattle.clu_meaning.proofs.Running.{d, typed, a_variable, parameter, routine, Runs, Ends}
 
 -- g = proc [t: type] (n: int) returns (int) return (n) end g
 -- start_up = proc ()
@@ -185,3 +185,30 @@ rest_of_operations_declared =
 rest_of_operations : Ends rest_of_operations_declared rest_of_operations_modules (codes "") 10000 returned_normally (51 ∷ 10 ∷ 55 ∷ 10 ∷ 52 ∷ 10 ∷ 53 ∷ 10 ∷ 52 ∷ 10 ∷ 100 ∷ 105 ∷ 102 ∷ 102 ∷ 101 ∷ 114 ∷ [])
 unfolding executing computing digits
 rest_of_operations = refl
+
+-- % a parameter in a set of types
+-- same = proc [t: type] (x, y: t) returns (bool) where t in {s | s has equal: proctype (s, s) returns (bool)} return (x = y) end same
+-- start_up = proc () if same[int](1, 1) then stream$puts(stream$primary_output(), "yes") end end start_up
+abbrev a_parameter_in_a_set_modules : List Module
+a_parameter_in_a_set_modules =
+    ((a_routine 19 no_equates (routine 18 (codes "same") (codes "same") kind.Procedure (parameter 0 ((codes "t") ∷ []) None ∷ []) (typed 2 ((codes
+    "x") ∷ (codes "y") ∷ []) (a_named_type 1 (codes "t") no_constants) ∷ []) (type_and (a_simple_type 3 simple.Bool) no_types) no_exceptions
+    ((is_in_set 12 (codes "t") (a_type_set 11 (codes "s") (codes "s") (typed 10 ((codes "equal") ∷ []) (a_routine_type 9 kind.Procedure (type_and
+    (a_named_type 5 (codes "s") no_constants) (type_and (a_named_type 6 (codes "s") no_constants) no_types)) (type_and (a_simple_type 7 simple.Bool)
+    no_types) no_exceptions) ∷ []) no_equates)) ∷ []) no_equates ([]) (statement_and (a_return 17 (expression_and (an_infix 16 op.Equal (a_name 14
+    (codes "x")) (a_name 15 (codes "y"))) no_expressions)) no_statements))) ∷ (a_routine 36 no_equates (routine 35 (codes "start_up") (codes
+    "start_up") kind.Procedure [] ([]) no_types no_exceptions ([]) no_equates ([]) (statement_and (an_if 34 (clause_and (a_call 25 (an_index 22
+    (a_name 20 (codes "same")) (constant_and (a_type (a_simple_type 21 simple.Int)) no_constants)) (expression_and (a_literal 23 (integer (codes
+    "1"))) (expression_and (a_literal 24 (integer (codes "1"))) no_expressions))) (a_body no_equates (statement_and (a_call_statement 33 (a_call 32
+    (an_operation 27 (a_named_type 26 (codes "stream") no_constants) (codes "puts")) (expression_and (a_call 30 (an_operation 29 (a_named_type 28
+    (codes "stream") no_constants) (codes "primary_output")) no_expressions) (expression_and (a_literal 31 (string (34 ∷ 121 ∷ 101 ∷ 115 ∷ 34 ∷ [])))
+    no_expressions)))) no_statements)) no_clauses) nothing_else) no_statements))) ∷ [])
+
+abbrev a_parameter_in_a_set_declared : List Declared
+a_parameter_in_a_set_declared =
+    (d (codes "t") 0 0 18 (Some 0) ∷ d (codes "x") 2 3 18 (Some 0) ∷ d (codes "y") 2 3 18 (Some 0) ∷ d (codes "s") 11 5 11 (Some 0) ∷ d (codes "same")
+    18 0 4294967295 None ∷ d (codes "start_up") 35 0 4294967295 None ∷ [])
+
+a_parameter_in_a_set : Runs a_parameter_in_a_set_declared a_parameter_in_a_set_modules (codes "") 10000 returned_normally (codes "yes") 0 174
+unfolding executing computing digits
+a_parameter_in_a_set = refl

@@ -11,7 +11,7 @@ use Rattle.clu_syntax.specs.Syntax.{integer, string, an_infix, a_prefix, a_liter
 use Rattle.clu_layout.specs.Computing.{computing}
 use Rattle.clu_meaning.specs.Run.{returned_normally}
 use Rattle.clu_meaning.specs.Executing.{executing}
-use Rattle.clu_meaning.proofs.Running.{d, typed, a_variable, routine, Runs}
+use Rattle.clu_meaning.proofs.Running.{d, typed, a_variable, routine, Runs, Works}
 
 -- % an own exception of an iterator
 -- it = iter () yields (int) begin yield (1) x: int := 1 / 0 end except when zero_divide: stream$putl(stream$primary_output(), "it") end yield (2) end it
@@ -310,3 +310,42 @@ the_state_of_loops_side_by_side_declared =
 the_state_of_loops_side_by_side : Runs the_state_of_loops_side_by_side_declared the_state_of_loops_side_by_side_modules (codes "") 10000 returned_normally (49 ∷ 32 ∷ 50 ∷ 59 ∷ 49 ∷ 32 ∷ 52 ∷ 59 ∷ 54 ∷ 32 ∷ 55 ∷ 59 ∷ 54 ∷ 32 ∷ 57 ∷ 59 ∷ 10 ∷ []) 32 720
 unfolding executing computing digits
 the_state_of_loops_side_by_side = refl
+
+-- % an iterator that handles no exception
+-- it = iter () yields (int) yield (1) yield (1 / 0) end it
+-- start_up = proc ()
+--   for x: int in it() do stream$puts(stream$primary_output(), int$unparse(x)) end
+--   except when zero_divide: stream$puts(stream$primary_output(), "no")
+--          when failure (s: string): stream$puts(stream$primary_output(), s) end
+-- end start_up
+abbrev an_iterator_that_handles_no_exception_modules : List Module
+an_iterator_that_handles_no_exception_modules =
+    ((a_routine 9 no_equates (routine 8 (codes "it") (codes "it") kind.Iterator [] ([]) (type_and (a_simple_type 0 simple.Int) no_types) no_exceptions
+    ([]) no_equates ([]) (statement_and (a_yield 3 (expression_and (a_literal 2 (integer (codes "1"))) no_expressions)) (statement_and (a_yield 7
+    (expression_and (an_infix 6 op.Divide (a_literal 4 (integer (codes "1"))) (a_literal 5 (integer (codes "0")))) no_expressions)) no_statements))))
+    ∷ (a_routine 48 no_equates (routine 47 (codes "start_up") (codes "start_up") kind.Procedure [] ([]) no_types no_exceptions ([]) no_equates ([])
+    (statement_and (an_except 46 (a_for 25 (typed 11 ((codes "x") ∷ []) (a_simple_type 10 simple.Int) ∷ []) (a_call 13 (a_name 12 (codes "it"))
+    no_expressions) (a_body no_equates (statement_and (a_call_statement 24 (a_call 23 (an_operation 15 (a_named_type 14 (codes "stream") no_constants)
+    (codes "puts")) (expression_and (a_call 18 (an_operation 17 (a_named_type 16 (codes "stream") no_constants) (codes "primary_output"))
+    no_expressions) (expression_and (a_call 22 (an_operation 20 (a_simple_type 19 simple.Int) (codes "unparse")) (expression_and (a_name 21 (codes
+    "x")) no_expressions)) no_expressions)))) no_statements))) (when_and 34 ((codes "zero_divide") ∷ []) (objects []) (a_body no_equates
+    (statement_and (a_call_statement 33 (a_call 32 (an_operation 27 (a_named_type 26 (codes "stream") no_constants) (codes "puts")) (expression_and
+    (a_call 30 (an_operation 29 (a_named_type 28 (codes "stream") no_constants) (codes "primary_output")) no_expressions) (expression_and (a_literal
+    31 (string (34 ∷ 110 ∷ 111 ∷ 34 ∷ []))) no_expressions)))) no_statements)) (when_and 45 ((codes "failure") ∷ []) (objects (typed 36 ((codes "s") ∷
+    []) (a_simple_type 35 simple.String) ∷ [])) (a_body no_equates (statement_and (a_call_statement 44 (a_call 43 (an_operation 38 (a_named_type 37
+    (codes "stream") no_constants) (codes "puts")) (expression_and (a_call 41 (an_operation 40 (a_named_type 39 (codes "stream") no_constants) (codes
+    "primary_output")) no_expressions) (expression_and (a_name 42 (codes "s")) no_expressions)))) no_statements)) no_whens)) no_others)
+    no_statements))) ∷ [])
+
+abbrev an_iterator_that_handles_no_exception_declared : List Declared
+an_iterator_that_handles_no_exception_declared =
+    (d (codes "it") 8 0 4294967295 None ∷ d (codes "x") 11 14 24 (Some 0) ∷ d (codes "s") 36 37 44 (Some 0) ∷ d (codes "start_up") 47 0 4294967295
+    None ∷ [])
+
+an_iterator_that_handles_no_exception : Runs an_iterator_that_handles_no_exception_declared an_iterator_that_handles_no_exception_modules (codes "") 10000 returned_normally (codes "1unhandled exception: zero_divide") 9 210
+unfolding executing computing digits
+an_iterator_that_handles_no_exception = refl
+
+an_iterator_that_handles_no_exception_work : Works an_iterator_that_handles_no_exception_declared an_iterator_that_handles_no_exception_modules (codes "") 10000 222
+unfolding executing computing digits
+an_iterator_that_handles_no_exception_work = refl

@@ -3,6 +3,9 @@ pub mod Going
 pub mod Evaluating
 pub mod Executed
 pub mod Levels
+pub mod TypedFacts
+pub mod TypedComputing
+pub mod TypedMaking
 mod TextCounts
 mod Running
 mod BasicPrograms
@@ -31,6 +34,10 @@ mod ClusterPrograms
 mod ParameterPrograms
 mod CopyPrograms
 mod FailurePrograms
+mod WrongPrograms
+mod WorkPrograms
+mod FilePrograms
+mod NamedPrograms
 mod RulePrograms
 mod InstancePrograms
 mod CounterPrograms

@@ -6,11 +6,11 @@ use Rattle.clu_syntax.specs.declared.words.Operator.TheVariants as op
 use Rattle.clu_syntax.specs.declared.words.Sign.TheVariants as sign
 use Rattle.clu_syntax.specs.declared.words.SimpleType.TheVariants as simple
 use Rattle.clu_syntax.specs.declared.words.RoutineKind.TheVariants as kind
-use Rattle.clu_syntax.specs.Syntax.{integer, string, an_infix, a_prefix, a_literal, a_name, a_call, an_operation, a_force, no_expressions, expression_and, no_constants, a_simple_type, a_named_type, no_types, type_and, no_exceptions, exception_and, no_equates, objects, a_declare, a_call_statement, a_for, a_for_of_names, an_if, a_return, a_yield, a_signal, a_break, a_continue, an_except, no_statements, statement_and, a_body, no_clauses, clause_and, nothing_else, no_whens, when_and, no_others, Module, a_routine}
+use Rattle.clu_syntax.specs.Syntax.{true_literal, integer, string, an_infix, a_prefix, a_literal, a_name, a_call, an_operation, a_force, no_expressions, expression_and, no_constants, a_simple_type, a_named_type, no_types, type_and, no_exceptions, exception_and, no_equates, objects, a_declare, an_init, an_assign, a_call_statement, a_while, a_for, a_for_of_names, an_if, a_return, a_yield, a_signal, a_break, a_continue, an_except, no_statements, statement_and, a_body, no_clauses, clause_and, nothing_else, otherwise, no_whens, when_and, no_others, Module, a_routine}
 use Rattle.clu_layout.specs.Computing.{computing}
-use Rattle.clu_meaning.specs.Run.{returned_normally}
+use Rattle.clu_meaning.specs.Run.{still_running, returned_normally}
 use Rattle.clu_meaning.specs.Executing.{executing}
-use Rattle.clu_meaning.proofs.Running.{d, typed, routine, Runs}
+use Rattle.clu_meaning.proofs.Running.{d, typed, a_variable, routine, Runs, Ends, Works}
 
 -- % from_to
 -- start_up = proc ()
@@ -270,3 +270,87 @@ an_iterator_signals_declared =
 an_iterator_signals : Runs an_iterator_signals_declared an_iterator_signals_modules (codes "") 10000 returned_normally (49 ∷ 10 ∷ 53 ∷ 10 ∷ 49 ∷ 10 ∷ 50 ∷ 10 ∷ []) 16 416
 unfolding executing computing digits
 an_iterator_signals = refl
+
+-- % break and continue in a while
+-- start_up = proc ()
+--   i: int := 0
+--   while true do
+--     i := i + 1
+--     if i = 2 then continue end
+--     if i = 4 then break end
+--     stream$puts(stream$primary_output(), int$unparse(i))
+--   end
+--   stream$puts(stream$primary_output(), "!")
+-- end start_up
+abbrev break_and_continue_in_a_while_modules : List Module
+break_and_continue_in_a_while_modules =
+    ((a_routine 39 no_equates (routine 38 (codes "start_up") (codes "start_up") kind.Procedure [] ([]) no_types no_exceptions ([]) no_equates ([])
+    (statement_and (an_init 2 (a_variable (codes "i") (a_simple_type 0 simple.Int)) (a_literal 1 (integer (codes "0")))) (statement_and (a_while 29
+    (a_literal 3 true_literal) (a_body no_equates (statement_and (an_assign 7 ((codes "i") ∷ []) (expression_and (an_infix 6 op.Add (a_name 4 (codes
+    "i")) (a_literal 5 (integer (codes "1")))) no_expressions)) (statement_and (an_if 12 (clause_and (an_infix 10 op.Equal (a_name 8 (codes "i"))
+    (a_literal 9 (integer (codes "2")))) (a_body no_equates (statement_and (a_continue 11) no_statements)) no_clauses) nothing_else) (statement_and
+    (an_if 17 (clause_and (an_infix 15 op.Equal (a_name 13 (codes "i")) (a_literal 14 (integer (codes "4")))) (a_body no_equates (statement_and
+    (a_break 16) no_statements)) no_clauses) nothing_else) (statement_and (a_call_statement 28 (a_call 27 (an_operation 19 (a_named_type 18 (codes
+    "stream") no_constants) (codes "puts")) (expression_and (a_call 22 (an_operation 21 (a_named_type 20 (codes "stream") no_constants) (codes
+    "primary_output")) no_expressions) (expression_and (a_call 26 (an_operation 24 (a_simple_type 23 simple.Int) (codes "unparse")) (expression_and
+    (a_name 25 (codes "i")) no_expressions)) no_expressions)))) no_statements)))))) (statement_and (a_call_statement 37 (a_call 36 (an_operation 31
+    (a_named_type 30 (codes "stream") no_constants) (codes "puts")) (expression_and (a_call 34 (an_operation 33 (a_named_type 32 (codes "stream")
+    no_constants) (codes "primary_output")) no_expressions) (expression_and (a_literal 35 (string (34 ∷ 33 ∷ 34 ∷ []))) no_expressions))))
+    no_statements))))) ∷ [])
+
+abbrev break_and_continue_in_a_while_declared : List Declared
+break_and_continue_in_a_while_declared =
+    (d (codes "i") 2 3 38 (Some 0) ∷ d (codes "start_up") 38 0 4294967295 None ∷ [])
+
+break_and_continue_in_a_while : Runs break_and_continue_in_a_while_declared break_and_continue_in_a_while_modules (codes "") 10000 returned_normally (codes "13!") 8 160
+unfolding executing computing digits
+break_and_continue_in_a_while = refl
+
+break_and_continue_in_a_while_in_5_turns : Ends break_and_continue_in_a_while_declared break_and_continue_in_a_while_modules (codes "") 5 returned_normally (codes "13!")
+unfolding executing computing digits
+break_and_continue_in_a_while_in_5_turns = refl
+
+break_and_continue_in_a_while_in_4_turns : Ends break_and_continue_in_a_while_declared break_and_continue_in_a_while_modules (codes "") 4 still_running (codes "13")
+unfolding executing computing digits
+break_and_continue_in_a_while_in_4_turns = refl
+
+break_and_continue_in_a_while_work : Works break_and_continue_in_a_while_declared break_and_continue_in_a_while_modules (codes "") 10000 207
+unfolding executing computing digits
+break_and_continue_in_a_while_work = refl
+
+-- % two variables without objects in a loop
+-- start_up = proc ()
+--   for i: int in int$from_to(1, 3) do
+--     x, y: int
+--     if i = 1 then x, y := 3, 4 elseif i = 2 then x := 5 else y := 6 end
+--     stream$puts(stream$primary_output(), int$unparse(x + y)) except when failure (s: string): stream$puts(stream$primary_output(), "-") end
+--   end
+-- end start_up
+abbrev variables_without_objects_in_a_loop_modules : List Module
+variables_without_objects_in_a_loop_modules =
+    ((a_routine 51 no_equates (routine 50 (codes "start_up") (codes "start_up") kind.Procedure [] ([]) no_types no_exceptions ([]) no_equates ([])
+    (statement_and (a_for 49 (typed 1 ((codes "i") ∷ []) (a_simple_type 0 simple.Int) ∷ []) (a_call 6 (an_operation 3 (a_simple_type 2 simple.Int)
+    (codes "from_to")) (expression_and (a_literal 4 (integer (codes "1"))) (expression_and (a_literal 5 (integer (codes "3"))) no_expressions)))
+    (a_body no_equates (statement_and (a_declare 9 (typed 8 ((codes "x") ∷ (codes "y") ∷ []) (a_simple_type 7 simple.Int))) (statement_and (an_if 23
+    (clause_and (an_infix 12 op.Equal (a_name 10 (codes "i")) (a_literal 11 (integer (codes "1")))) (a_body no_equates (statement_and (an_assign 15
+    ((codes "x") ∷ (codes "y") ∷ []) (expression_and (a_literal 13 (integer (codes "3"))) (expression_and (a_literal 14 (integer (codes "4")))
+    no_expressions))) no_statements)) (clause_and (an_infix 18 op.Equal (a_name 16 (codes "i")) (a_literal 17 (integer (codes "2")))) (a_body
+    no_equates (statement_and (an_assign 20 ((codes "x") ∷ []) (expression_and (a_literal 19 (integer (codes "5"))) no_expressions)) no_statements))
+    no_clauses)) (otherwise (a_body no_equates (statement_and (an_assign 22 ((codes "y") ∷ []) (expression_and (a_literal 21 (integer (codes "6")))
+    no_expressions)) no_statements)))) (statement_and (an_except 48 (a_call_statement 36 (a_call 35 (an_operation 25 (a_named_type 24 (codes "stream")
+    no_constants) (codes "puts")) (expression_and (a_call 28 (an_operation 27 (a_named_type 26 (codes "stream") no_constants) (codes
+    "primary_output")) no_expressions) (expression_and (a_call 34 (an_operation 30 (a_simple_type 29 simple.Int) (codes "unparse")) (expression_and
+    (an_infix 33 op.Add (a_name 31 (codes "x")) (a_name 32 (codes "y"))) no_expressions)) no_expressions)))) (when_and 47 ((codes "failure") ∷ [])
+    (objects (typed 38 ((codes "s") ∷ []) (a_simple_type 37 simple.String) ∷ [])) (a_body no_equates (statement_and (a_call_statement 46 (a_call 45
+    (an_operation 40 (a_named_type 39 (codes "stream") no_constants) (codes "puts")) (expression_and (a_call 43 (an_operation 42 (a_named_type 41
+    (codes "stream") no_constants) (codes "primary_output")) no_expressions) (expression_and (a_literal 44 (string (34 ∷ 45 ∷ 34 ∷ [])))
+    no_expressions)))) no_statements)) no_whens) no_others) no_statements))))) no_statements))) ∷ [])
+
+abbrev variables_without_objects_in_a_loop_declared : List Declared
+variables_without_objects_in_a_loop_declared =
+    (d (codes "i") 1 7 48 (Some 0) ∷ d (codes "x") 8 10 48 (Some 0) ∷ d (codes "y") 8 10 48 (Some 0) ∷ d (codes "s") 38 39 46 (Some 0) ∷ d (codes
+    "start_up") 50 0 4294967295 None ∷ [])
+
+variables_without_objects_in_a_loop : Runs variables_without_objects_in_a_loop_declared variables_without_objects_in_a_loop_modules (codes "") 10000 returned_normally (codes "7--") 4 370
+unfolding executing computing digits
+variables_without_objects_in_a_loop = refl

@@ -9,7 +9,7 @@ use Rattle.clu_syntax.specs.Syntax.{integer, string, an_infix, a_literal, a_name
 use Rattle.clu_layout.specs.Computing.{computing}
 use Rattle.clu_meaning.specs.Run.{returned_normally}
 use Rattle.clu_meaning.specs.Executing.{executing}
-use Rattle.clu_meaning.proofs.Running.{d, typed, a_variable, parameter, routine, cluster, Runs}
+use Rattle.clu_meaning.proofs.Running.{d, typed, a_variable, parameter, routine, cluster, Runs, Works}
 
 -- % own variables are set up at the first call
 -- init = proc (s: string) returns (string) stream$putl(stream$primary_output(), "init " || s) return (s) end init
@@ -181,3 +181,47 @@ own_variables_by_constants_declared =
 own_variables_by_constants : Runs own_variables_by_constants_declared own_variables_by_constants_modules (codes "") 10000 returned_normally (50 ∷ 10 ∷ 54 ∷ 10 ∷ 51 ∷ 10 ∷ []) 12 218
 unfolding executing computing digits
 own_variables_by_constants = refl
+
+-- % own variables of two clusters
+-- a = cluster is next rep = null own n: int := 0 next = proc () returns (int) n := n + 1 return (n) end next end a
+-- b = cluster is next rep = null own n: int := 10 next = proc () returns (int) n := n + 1 return (n) end next end b
+-- start_up = proc () stream$puts(stream$primary_output(), int$unparse(a$next())) stream$puts(stream$primary_output(), int$unparse(b$next())) stream$puts(stream$primary_output(), int$unparse(a$next())) end start_up
+abbrev own_variables_of_two_clusters_modules : List Module
+own_variables_of_two_clusters_modules =
+    ((a_cluster 15 no_equates (cluster 14 (codes "a") (codes "a") [] ((codes "next") ∷ []) ([]) (equate_and (an_equate 1 None (a_type (a_simple_type 0
+    simple.Null))) no_equates) ((own_init 4 (a_variable (codes "n") (a_simple_type 2 simple.Int)) (a_literal 3 (integer (codes "0")))) ∷ []) ((routine
+    13 (codes "next") (codes "next") kind.Procedure [] ([]) (type_and (a_simple_type 5 simple.Int) no_types) no_exceptions ([]) no_equates ([])
+    (statement_and (an_assign 10 ((codes "n") ∷ []) (expression_and (an_infix 9 op.Add (a_name 7 (codes "n")) (a_literal 8 (integer (codes "1"))))
+    no_expressions)) (statement_and (a_return 12 (expression_and (a_name 11 (codes "n")) no_expressions)) no_statements))) ∷ []))) ∷ (a_cluster 31
+    no_equates (cluster 30 (codes "b") (codes "b") [] ((codes "next") ∷ []) ([]) (equate_and (an_equate 17 None (a_type (a_simple_type 16
+    simple.Null))) no_equates) ((own_init 20 (a_variable (codes "n") (a_simple_type 18 simple.Int)) (a_literal 19 (integer (codes "10")))) ∷ [])
+    ((routine 29 (codes "next") (codes "next") kind.Procedure [] ([]) (type_and (a_simple_type 21 simple.Int) no_types) no_exceptions ([]) no_equates
+    ([]) (statement_and (an_assign 26 ((codes "n") ∷ []) (expression_and (an_infix 25 op.Add (a_name 23 (codes "n")) (a_literal 24 (integer (codes
+    "1")))) no_expressions)) (statement_and (a_return 28 (expression_and (a_name 27 (codes "n")) no_expressions)) no_statements))) ∷ []))) ∷
+    (a_routine 72 no_equates (routine 71 (codes "start_up") (codes "start_up") kind.Procedure [] ([]) no_types no_exceptions ([]) no_equates ([])
+    (statement_and (a_call_statement 44 (a_call 43 (an_operation 33 (a_named_type 32 (codes "stream") no_constants) (codes "puts")) (expression_and
+    (a_call 36 (an_operation 35 (a_named_type 34 (codes "stream") no_constants) (codes "primary_output")) no_expressions) (expression_and (a_call 42
+    (an_operation 38 (a_simple_type 37 simple.Int) (codes "unparse")) (expression_and (a_call 41 (an_operation 40 (a_named_type 39 (codes "a")
+    no_constants) (codes "next")) no_expressions) no_expressions)) no_expressions)))) (statement_and (a_call_statement 57 (a_call 56 (an_operation 46
+    (a_named_type 45 (codes "stream") no_constants) (codes "puts")) (expression_and (a_call 49 (an_operation 48 (a_named_type 47 (codes "stream")
+    no_constants) (codes "primary_output")) no_expressions) (expression_and (a_call 55 (an_operation 51 (a_simple_type 50 simple.Int) (codes
+    "unparse")) (expression_and (a_call 54 (an_operation 53 (a_named_type 52 (codes "b") no_constants) (codes "next")) no_expressions)
+    no_expressions)) no_expressions)))) (statement_and (a_call_statement 70 (a_call 69 (an_operation 59 (a_named_type 58 (codes "stream")
+    no_constants) (codes "puts")) (expression_and (a_call 62 (an_operation 61 (a_named_type 60 (codes "stream") no_constants) (codes
+    "primary_output")) no_expressions) (expression_and (a_call 68 (an_operation 64 (a_simple_type 63 simple.Int) (codes "unparse")) (expression_and
+    (a_call 67 (an_operation 66 (a_named_type 65 (codes "a") no_constants) (codes "next")) no_expressions) no_expressions)) no_expressions))))
+    no_statements))))) ∷ [])
+
+abbrev own_variables_of_two_clusters_declared : List Declared
+own_variables_of_two_clusters_declared =
+    (d (codes "rep") 1 0 14 (Some 0) ∷ d (codes "n") 4 5 14 (Some 0) ∷ d (codes "next") 13 0 14 (Some 0) ∷ d (codes "a") 14 0 4294967295 None ∷ d
+    (codes "rep") 17 16 30 (Some 0) ∷ d (codes "n") 20 21 30 (Some 0) ∷ d (codes "next") 29 16 30 (Some 0) ∷ d (codes "b") 30 0 4294967295 None ∷ d
+    (codes "start_up") 71 0 4294967295 None ∷ [])
+
+own_variables_of_two_clusters : Runs own_variables_of_two_clusters_declared own_variables_of_two_clusters_modules (codes "") 10000 returned_normally (codes "1112") 12 220
+unfolding executing computing digits
+own_variables_of_two_clusters = refl
+
+own_variables_of_two_clusters_work : Works own_variables_of_two_clusters_declared own_variables_of_two_clusters_modules (codes "") 10000 333
+unfolding executing computing digits
+own_variables_of_two_clusters_work = refl

@@ -6,11 +6,11 @@ use Rattle.clu_syntax.specs.declared.words.Operator.TheVariants as op
 use Rattle.clu_syntax.specs.declared.words.Sign.TheVariants as sign
 use Rattle.clu_syntax.specs.declared.words.SimpleType.TheVariants as simple
 use Rattle.clu_syntax.specs.declared.words.RoutineKind.TheVariants as kind
-use Rattle.clu_syntax.specs.Syntax.{true_literal, integer, string, an_infix, a_prefix, a_literal, a_name, a_call, an_operation, no_expressions, expression_and, no_constants, a_simple_type, a_named_type, no_types, type_and, no_exceptions, exception_and, no_equates, objects, an_init, a_call_statement, a_for, an_if, a_signal, an_exit, a_break, a_continue, a_begin, a_resignal, an_except, no_statements, statement_and, a_body, no_clauses, clause_and, nothing_else, no_whens, when_and, no_others, others, Module, a_routine}
+use Rattle.clu_syntax.specs.Syntax.{true_literal, integer, string, an_infix, a_prefix, a_literal, a_name, a_call, an_operation, a_force, no_expressions, expression_and, no_constants, a_simple_type, a_named_type, no_types, type_and, no_exceptions, exception_and, no_equates, objects, an_init, a_call_statement, a_for, an_if, a_signal, an_exit, a_break, a_continue, a_begin, a_resignal, an_except, no_statements, statement_and, a_body, no_clauses, clause_and, nothing_else, no_whens, when_and, no_others, others, Module, a_routine}
 use Rattle.clu_layout.specs.Computing.{computing}
 use Rattle.clu_meaning.specs.Run.{returned_normally}
 use Rattle.clu_meaning.specs.Executing.{executing}
-use Rattle.clu_meaning.proofs.Running.{d, typed, a_variable, routine, Runs}
+use Rattle.clu_meaning.proofs.Running.{d, typed, a_variable, routine, Runs, Works}
 
 -- % resignal
 -- p = proc (n: int) signals (e, f(int), g(string, int)) if n = 0 then signal e elseif n = 1 then signal f(7)
@@ -170,3 +170,38 @@ break_and_continue_in_arms_declared =
 break_and_continue_in_arms : Runs break_and_continue_in_arms_declared break_and_continue_in_arms_modules (codes "") 10000 returned_normally (45 ∷ 51 ∷ 10 ∷ 45 ∷ 54 ∷ 10 ∷ 115 ∷ 107 ∷ 105 ∷ 112 ∷ 10 ∷ 54 ∷ 10 ∷ 51 ∷ 10 ∷ 115 ∷ 116 ∷ 111 ∷ 112 ∷ 10 ∷ []) 16 372
 unfolding executing computing digits
 break_and_continue_in_arms = refl
+
+-- % a resignal of an object of type any
+-- p = proc (n: int) signals (e(any)) signal e(n) end p
+-- q = proc () signals (e(any)) p(7) resignal e end q
+-- start_up = proc ()
+--   q() except when e (x: any): stream$puts(stream$primary_output(), int$unparse(force[int](x))) end
+-- end start_up
+abbrev a_resignal_of_an_object_of_type_any_modules : List Module
+a_resignal_of_an_object_of_type_any_modules =
+    ((a_routine 8 no_equates (routine 7 (codes "p") (codes "p") kind.Procedure [] (typed 1 ((codes "n") ∷ []) (a_simple_type 0 simple.Int) ∷ [])
+    no_types (exception_and 3 (codes "e") (type_and (a_simple_type 2 simple.Any) no_types) no_exceptions) ([]) no_equates ([]) (statement_and
+    (a_signal 6 (codes "e") (expression_and (a_name 5 (codes "n")) no_expressions)) no_statements))) ∷ (a_routine 18 no_equates (routine 17 (codes
+    "q") (codes "q") kind.Procedure [] ([]) no_types (exception_and 10 (codes "e") (type_and (a_simple_type 9 simple.Any) no_types) no_exceptions)
+    ([]) no_equates ([]) (statement_and (a_resignal 16 (a_call_statement 15 (a_call 14 (a_name 12 (codes "p")) (expression_and (a_literal 13 (integer
+    (codes "7"))) no_expressions))) ((codes "e") ∷ [])) no_statements))) ∷ (a_routine 41 no_equates (routine 40 (codes "start_up") (codes "start_up")
+    kind.Procedure [] ([]) no_types no_exceptions ([]) no_equates ([]) (statement_and (an_except 39 (a_call_statement 21 (a_call 20 (a_name 19 (codes
+    "q")) no_expressions)) (when_and 38 ((codes "e") ∷ []) (objects (typed 23 ((codes "x") ∷ []) (a_simple_type 22 simple.Any) ∷ [])) (a_body
+    no_equates (statement_and (a_call_statement 37 (a_call 36 (an_operation 25 (a_named_type 24 (codes "stream") no_constants) (codes "puts"))
+    (expression_and (a_call 28 (an_operation 27 (a_named_type 26 (codes "stream") no_constants) (codes "primary_output")) no_expressions)
+    (expression_and (a_call 35 (an_operation 30 (a_simple_type 29 simple.Int) (codes "unparse")) (expression_and (a_call 34 (a_force 32 (a_simple_type
+    31 simple.Int)) (expression_and (a_name 33 (codes "x")) no_expressions)) no_expressions)) no_expressions)))) no_statements)) no_whens) no_others)
+    no_statements))) ∷ [])
+
+abbrev a_resignal_of_an_object_of_type_any_declared : List Declared
+a_resignal_of_an_object_of_type_any_declared =
+    (d (codes "n") 1 2 7 (Some 0) ∷ d (codes "p") 7 0 4294967295 None ∷ d (codes "q") 17 0 4294967295 None ∷ d (codes "x") 23 24 37 (Some 0) ∷ d
+    (codes "start_up") 40 0 4294967295 None ∷ [])
+
+a_resignal_of_an_object_of_type_any : Runs a_resignal_of_an_object_of_type_any_declared a_resignal_of_an_object_of_type_any_modules (codes "") 10000 returned_normally (codes "7") 12 196
+unfolding executing computing digits
+a_resignal_of_an_object_of_type_any = refl
+
+a_resignal_of_an_object_of_type_any_work : Works a_resignal_of_an_object_of_type_any_declared a_resignal_of_an_object_of_type_any_modules (codes "") 10000 188
+unfolding executing computing digits
+a_resignal_of_an_object_of_type_any_work = refl

@@ -6,9 +6,9 @@ use Rattle.clu_syntax.specs.declared.words.Operator.TheVariants as op
 use Rattle.clu_syntax.specs.declared.words.SimpleType.TheVariants as simple
 use Rattle.clu_syntax.specs.declared.words.ListType.TheVariants as list
 use Rattle.clu_syntax.specs.declared.words.RoutineKind.TheVariants as kind
-use Rattle.clu_syntax.specs.Syntax.{integer, string, an_infix, a_paren, a_literal, a_name, an_index, a_call, an_operation, a_force, no_expressions, expression_and, an_expression, a_type, no_constants, constant_and, a_simple_type, a_list_type, a_routine_type, a_named_type, no_types, type_and, no_exceptions, exception_and, an_equate, no_equates, equate_and, objects, an_init, an_assign, a_call_statement, a_while, a_for, an_if, a_return, a_yield, a_signal, a_begin, an_except, no_statements, statement_and, a_body, no_clauses, clause_and, nothing_else, no_whens, when_and, no_others, own_init, has_operations, Module, a_routine, a_cluster}
+use Rattle.clu_syntax.specs.Syntax.{integer, string, an_infix, a_paren, a_literal, a_name, an_index, a_call, an_operation, a_force, no_expressions, expression_and, an_expression, a_type, no_constants, constant_and, a_simple_type, a_list_type, a_routine_type, a_named_type, no_types, type_and, no_exceptions, exception_and, an_equate, no_equates, equate_and, objects, a_declare, an_init, an_assign, a_call_statement, a_while, a_for, an_if, a_return, a_yield, a_signal, a_begin, an_except, no_statements, statement_and, a_body, no_clauses, clause_and, nothing_else, no_whens, when_and, no_others, own_init, has_operations, Module, a_routine, a_cluster}
 use Rattle.clu_layout.specs.Computing.{computing}
-use Rattle.clu_meaning.specs.Run.{running, returned_normally, failure_with}
+use Rattle.clu_meaning.specs.Run.{still_running, returned_normally, failure_with}
 use Rattle.clu_meaning.specs.Executing.{executing}
 use Rattle.clu_meaning.proofs.Running.{d, m, typed, a_variable, parameter, routine, cluster, Ends, Works, Traces}
 
@@ -370,7 +370,7 @@ turns_of_while_turns_4 : Ends turns_of_while_declared turns_of_while_modules (co
 unfolding executing computing digits
 turns_of_while_turns_4 = refl
 
-turns_of_while_turns_3 : Ends turns_of_while_declared turns_of_while_modules (codes "") 3 running (codes "")
+turns_of_while_turns_3 : Ends turns_of_while_declared turns_of_while_modules (codes "") 3 still_running (codes "")
 unfolding executing computing digits
 turns_of_while_turns_3 = refl
 
@@ -399,7 +399,7 @@ turns_of_loop_turns_9 : Ends turns_of_loop_declared turns_of_loop_modules (codes
 unfolding executing computing digits
 turns_of_loop_turns_9 = refl
 
-turns_of_loop_turns_8 : Ends turns_of_loop_declared turns_of_loop_modules (codes "") 8 running (49 ∷ 10 ∷ [])
+turns_of_loop_turns_8 : Ends turns_of_loop_declared turns_of_loop_modules (codes "") 8 still_running (49 ∷ 10 ∷ [])
 unfolding executing computing digits
 turns_of_loop_turns_8 = refl
 
@@ -421,3 +421,56 @@ work_of_sum = refl
 work_of_sum_work : Works work_of_sum_declared work_of_sum_modules (codes "") 10000 36
 unfolding executing computing digits
 work_of_sum_work = refl
+
+-- start_up = proc () for x: int in it() do y: int := x / 0 end end start_up
+-- it = iter () yields (int) yield (1) end it
+abbrev trace_in_a_body_modules : List Module
+trace_in_a_body_modules =
+    ((a_routine 11 no_equates (routine 10 (codes "start_up") (codes "start_up") kind.Procedure [] ([]) no_types no_exceptions ([]) no_equates ([])
+    (statement_and (a_for 9 (typed 1 ((codes "x") ∷ []) (a_simple_type 0 simple.Int) ∷ []) (a_call 3 (a_name 2 (codes "it")) no_expressions) (a_body
+    no_equates (statement_and (an_init 8 (a_variable (codes "y") (a_simple_type 4 simple.Int)) (an_infix 7 op.Divide (a_name 5 (codes "x")) (a_literal
+    6 (integer (codes "0"))))) no_statements))) no_statements))) ∷ (a_routine 17 no_equates (routine 16 (codes "it") (codes "it") kind.Iterator []
+    ([]) (type_and (a_simple_type 12 simple.Int) no_types) no_exceptions ([]) no_equates ([]) (statement_and (a_yield 15 (expression_and (a_literal 14
+    (integer (codes "1"))) no_expressions)) no_statements))) ∷ [])
+
+abbrev trace_in_a_body_declared : List Declared
+trace_in_a_body_declared =
+    (d (codes "x") 1 4 8 (Some 0) ∷ d (codes "y") 8 9 8 (Some 0) ∷ d (codes "start_up") 10 0 4294967295 None ∷ d (codes "it") 16 0 4294967295 None ∷
+    [])
+
+trace_in_a_body : Ends trace_in_a_body_declared trace_in_a_body_modules (codes "") 10000 (failure_with (codes "unhandled exception: zero_divide")) (codes "")
+unfolding executing computing digits
+trace_in_a_body = refl
+
+trace_in_a_body_trace : Traces trace_in_a_body_declared trace_in_a_body_modules (codes "") 10000 (m "it" ∷ m "start_up" ∷ [])
+unfolding executing computing digits
+trace_in_a_body_trace = refl
+
+-- a = iter () yields (int) yield (1) end a
+-- b = iter () yields (int) yield (1) end b
+-- start_up = proc () for x: int in a() do for y: int in b() do z: int z := z + x + y end end end start_up
+abbrev trace_in_nested_bodies_modules : List Module
+trace_in_nested_bodies_modules =
+    ((a_routine 5 no_equates (routine 4 (codes "a") (codes "a") kind.Iterator [] ([]) (type_and (a_simple_type 0 simple.Int) no_types) no_exceptions
+    ([]) no_equates ([]) (statement_and (a_yield 3 (expression_and (a_literal 2 (integer (codes "1"))) no_expressions)) no_statements))) ∷ (a_routine
+    11 no_equates (routine 10 (codes "b") (codes "b") kind.Iterator [] ([]) (type_and (a_simple_type 6 simple.Int) no_types) no_exceptions ([])
+    no_equates ([]) (statement_and (a_yield 9 (expression_and (a_literal 8 (integer (codes "1"))) no_expressions)) no_statements))) ∷ (a_routine 32
+    no_equates (routine 31 (codes "start_up") (codes "start_up") kind.Procedure [] ([]) no_types no_exceptions ([]) no_equates ([]) (statement_and
+    (a_for 30 (typed 13 ((codes "x") ∷ []) (a_simple_type 12 simple.Int) ∷ []) (a_call 15 (a_name 14 (codes "a")) no_expressions) (a_body no_equates
+    (statement_and (a_for 29 (typed 17 ((codes "y") ∷ []) (a_simple_type 16 simple.Int) ∷ []) (a_call 19 (a_name 18 (codes "b")) no_expressions)
+    (a_body no_equates (statement_and (a_declare 22 (typed 21 ((codes "z") ∷ []) (a_simple_type 20 simple.Int))) (statement_and (an_assign 28 ((codes
+    "z") ∷ []) (expression_and (an_infix 27 op.Add (an_infix 25 op.Add (a_name 23 (codes "z")) (a_name 24 (codes "x"))) (a_name 26 (codes "y")))
+    no_expressions)) no_statements)))) no_statements))) no_statements))) ∷ [])
+
+abbrev trace_in_nested_bodies_declared : List Declared
+trace_in_nested_bodies_declared =
+    (d (codes "a") 4 0 4294967295 None ∷ d (codes "b") 10 0 4294967295 None ∷ d (codes "x") 13 16 29 (Some 0) ∷ d (codes "y") 17 20 28 (Some 0) ∷ d
+    (codes "z") 21 23 28 (Some 0) ∷ d (codes "start_up") 31 0 4294967295 None ∷ [])
+
+trace_in_nested_bodies : Ends trace_in_nested_bodies_declared trace_in_nested_bodies_modules (codes "") 10000 (failure_with (codes "uninitialized variable")) (codes "")
+unfolding executing computing digits
+trace_in_nested_bodies = refl
+
+trace_in_nested_bodies_trace : Traces trace_in_nested_bodies_declared trace_in_nested_bodies_modules (codes "") 10000 (m "b" ∷ m "a" ∷ m "start_up" ∷ [])
+unfolding executing computing digits
+trace_in_nested_bodies_trace = refl

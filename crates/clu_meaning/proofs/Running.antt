@@ -1,13 +1,13 @@
 -- What a program that computes is told to come to.
 use Prim.Native.String.{String}
-use Rattle.std.specs.Prelude.{◌≡◌, ℕ, List, Option, codes}
+use Rattle.std.specs.Prelude.{◌≡◌, ℕ, List, [], ◌∷◌, Option, codes}
 use Rattle.clu_names.specs.declared.scopes.Declared.{Declared}
 use Rattle.clu_types.specs.CluType.{no_actuals}
 use Rattle.clu_layout.specs.Objects.{module_routine}
 use Rattle.clu_syntax.specs.declared.words.RoutineKind.{RoutineKind}
 use Rattle.clu_syntax.specs.Syntax.{Identifier, TypeExpression, TypeExpressions, Exceptions, Typed, Variable, Equates, Statements, Parameter, Own, Restriction, Routine, Cluster, Module}
 use Rattle.clu_meaning.specs.State.{Instance, of_routine}
-use Rattle.clu_meaning.specs.Resolving.{resolved}
+use Rattle.clu_meaning.specs.Resolving.{File, resolved}
 use Rattle.clu_meaning.specs.Run.{Progress, Seen, run}
 
 -- ---- words for trees
@@ -34,8 +34,14 @@ d name node from to unit = record { name = name; node = node; from = from; to = 
 
 -- ---- what a run comes to
 
+abbrev pub file : List Declared → List Module → File
+file declared modules = record { declarations = declared; modules = modules }
+
+abbrev pub run_of_files : List File → List ℕ → ℕ → Seen
+run_of_files files input turns = run (resolved files) (codes "start_up") input turns
+
 abbrev pub run_of : List Declared → List Module → List ℕ → ℕ → Seen
-run_of declared modules input turns = run (resolved declared modules) (codes "start_up") input turns
+run_of declared modules input turns = run_of_files (file declared modules ∷ []) input turns
 
 abbrev pub told : Seen → Progress × List ℕ × ℕ × ℕ
 told s = (s.progress, s.output, s.store, s.stack)
@@ -46,6 +52,10 @@ ending s = (s.progress, s.output)
 -- from start_up, with this input and so many turns: how it ends, its output, its words of store, and its most live words
 abbrev pub Runs : List Declared → List Module → List ℕ → ℕ → Progress → List ℕ → ℕ → ℕ → Type 0
 Runs declared modules input turns progress output store stack = told (run_of declared modules input turns) ≡ (progress, output, store, stack)
+
+-- the same of the program of several files
+abbrev pub RunsFiles : List File → List ℕ → ℕ → Progress → List ℕ → ℕ → ℕ → Type 0
+RunsFiles files input turns progress output store stack = told (run_of_files files input turns) ≡ (progress, output, store, stack)
 
 -- the same without meters
 abbrev pub Ends : List Declared → List Module → List ℕ → ℕ → Progress → List ℕ → Type 0

@@ -254,3 +254,27 @@ mutual_recursion_declared =
 mutual_recursion : Runs mutual_recursion_declared mutual_recursion_modules (codes "") 10000 returned_normally (101 ∷ 118 ∷ 101 ∷ 110 ∷ 10 ∷ 111 ∷ 100 ∷ 100 ∷ 10 ∷ []) 0 5384
 unfolding executing computing digits
 mutual_recursion = refl
+
+-- % one variable twice
+-- start_up = proc ()
+--   x: int
+--   x, x := 1, 2
+--   stream$puts(stream$primary_output(), int$unparse(x))
+-- end start_up
+abbrev one_variable_twice_modules : List Module
+one_variable_twice_modules =
+    ((a_routine 18 no_equates (routine 17 (codes "start_up") (codes "start_up") kind.Procedure [] ([]) no_types no_exceptions ([]) no_equates ([])
+    (statement_and (a_declare 2 (typed 1 ((codes "x") ∷ []) (a_simple_type 0 simple.Int))) (statement_and (an_assign 5 ((codes "x") ∷ (codes "x") ∷
+    []) (expression_and (a_literal 3 (integer (codes "1"))) (expression_and (a_literal 4 (integer (codes "2"))) no_expressions))) (statement_and
+    (a_call_statement 16 (a_call 15 (an_operation 7 (a_named_type 6 (codes "stream") no_constants) (codes "puts")) (expression_and (a_call 10
+    (an_operation 9 (a_named_type 8 (codes "stream") no_constants) (codes "primary_output")) no_expressions) (expression_and (a_call 14 (an_operation
+    12 (a_simple_type 11 simple.Int) (codes "unparse")) (expression_and (a_name 13 (codes "x")) no_expressions)) no_expressions)))) no_statements)))))
+    ∷ [])
+
+abbrev one_variable_twice_declared : List Declared
+one_variable_twice_declared =
+    (d (codes "x") 1 3 17 (Some 0) ∷ d (codes "start_up") 17 0 4294967295 None ∷ [])
+
+one_variable_twice : Runs one_variable_twice_declared one_variable_twice_modules (codes "") 10000 returned_normally (codes "2") 4 120
+unfolding executing computing digits
+one_variable_twice = refl

@@ -7,9 +7,10 @@ use Rattle.clu_layout.specs.Objects.{Object, sealed, own_types}
 use Rattle.clu_layout.specs.Openers.{unsealed}
 use Rattle.clu_layout.specs.SameType.{all_fit}
 use Rattle.clu_layout.specs.Primitive.{words_for_all}
+use Rattle.clu_meaning.specs.Lists.{in_front}
 use Rattle.clu_meaning.specs.Programs.{Variable, local, own_of_routine, own_of_cluster, HeadingType, plain, cvt, Declaration, Formal, Exception, RoutineDefinition, ClusterDefinition}
 use Rattle.clu_meaning.specs.State.{Instance, own_set_up, with_variable, with_own}
-use Rattle.clu_meaning.specs.Computations.{Computation, need, needed, with_frame, with_owns, takes}
+use Rattle.clu_meaning.specs.Computations.{Computation, goes_wrong, need, needed, with_frame, with_owns, takes}
 
 -- A routine that runs: which instance it is, the actuals for the parameters of its module, the cluster in which it stands,
 -- and its definition.
@@ -67,10 +68,11 @@ names here (local n) o rest =
 names here (own_of_routine n) o rest = with_owns (λ owns. with_own owns here.instance n o) rest
 names here (own_of_cluster n) o rest = with_owns (λ owns. with_own owns (cluster_instance here) n o) rest
 
--- as many objects as variables
+-- each variable names the object at its place
 unfoldable pub names_each : {A : Type 0} → Running → List Variable → List Object → Computation A → Computation A
 names_each here (x ∷ xs) (o ∷ os) rest = names here x o (names_each here xs os rest)
-names_each here _ _ rest = rest
+names_each here [] [] rest = rest
+names_each here _ _ rest = goes_wrong
 
 abbrev pub assigned : {A : Type 0} → Running → List Variable → List Object → Computation A → Computation A
 assigned here xs os rest = needed (types_of here xs) (λ types. bound types os (names_each here xs os rest))
@@ -113,14 +115,10 @@ seals given _ _ = []
 abbrev pub handed_out : {A : Type 0} → Running → List HeadingType → List Object → (List Object → Computation A) → Computation A
 handed_out here types os rest = bound (inward here.given types) os (rest (seals here.given types os))
 
-abbrev pub object_after : Option Object → Option (List Object) → Option (List Object)
-object_after (Some o) (Some os) = Some (o ∷ os)
-object_after _ _ = None
-
 abbrev pub opens : Actuals → List HeadingType → List Object → Option (List Object)
 opens given [] [] = Some []
-opens given (cvt abstract representation ∷ rest) (o ∷ os) = object_after (opened (substituted given abstract) o) (opens given rest os)
-opens given (plain t ∷ rest) (o ∷ os) = object_after (Some o) (opens given rest os)
+opens given (cvt abstract representation ∷ rest) (o ∷ os) = in_front (opened (substituted given abstract) o) (opens given rest os)
+opens given (plain t ∷ rest) (o ∷ os) = in_front (Some o) (opens given rest os)
 opens given _ _ = None
 
 abbrev pub types_of_formals : List Formal → List HeadingType

@@ -2,7 +2,7 @@
 use Rattle.std.specs.Prelude.{ℕ, ◌+◌, ◌*◌, false, not, List, [], ◌∷◌, Option, None, Some, codes}
 use Rattle.clu_layout.specs.Objects.{Object}
 use Rattle.clu_layout.specs.Places.{is_empty}
-use Rattle.clu_meaning.specs.Programs.{Variable, Statements, HeadingType, Declaration, RoutineDefinition, ClusterDefinition}
+use Rattle.clu_meaning.specs.Programs.{Variable, Statements, no_statements, HeadingType, Declaration, RoutineDefinition, ClusterDefinition}
 use Rattle.clu_meaning.specs.State.{Instance, new_frame, called_from, caller_of, back_to, with_set_up}
 use Rattle.clu_meaning.specs.Computations.{Ending, broken, continued, returned, signalled, raised, through, wrong, Computation, gives, ends, goes_wrong, and_then, either_way, spends_a_turn, need, either, sees_frame, sees_owns, sees_stack, with_frame, with_owns, enters, goes_deeper, leaves, counts, raise_count, raises, fails}
 use Rattle.clu_meaning.specs.Binding.{Running, argued, assigned, handed_out, cluster_instance}
@@ -70,7 +70,7 @@ body_ending e = ends (through e)
 
 -- the setting up of the own variables of a cluster, as a call of its own
 abbrev pub set_up_definition : ClusterDefinition → RoutineDefinition
-set_up_definition cluster = record { name = codes "own"; is_iterator = false; parameters = 0; formals = []; results = []; signals = []; locals = []; owns = []; set_up = cluster.set_up; body = cluster.set_up; count = cluster.set_up_count }
+set_up_definition cluster = record { name = codes "own"; is_iterator = false; parameters = 0; formals = []; results = []; signals = []; locals = []; owns = []; set_up = no_statements; body = cluster.set_up; count = cluster.set_up_count }
 
 abbrev pub setting_up : Running → ClusterDefinition → Running
 setting_up r cluster = record { instance = cluster_instance r; given = r.given; home = Some cluster; definition = set_up_definition cluster }

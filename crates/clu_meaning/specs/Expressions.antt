@@ -7,6 +7,7 @@ use Rattle.clu_types.specs.Substituted.{substituted}
 use Rattle.clu_layout.specs.Objects.{Routine, operation_of, Object, bool_object, int_object, routine_object, sealed, own_type, object_of, routine_substituted}
 use Rattle.clu_layout.specs.SameType.{fits}
 use Rattle.clu_layout.specs.Primitive.{array_construction, sequence_construction, struct_construction, record_construction}
+use Rattle.clu_meaning.specs.Lists.{selectors, in_front}
 use Rattle.clu_meaning.specs.Programs.{Variable, local, own_of_routine, own_of_cluster, Expression, constant, constant_parameter, variable, routine, parenthesized, operator, negated, cand, cor, call, fields, elements, elements_from, up, down, besides, Expressions, no_expressions, expression_and, Components, no_components, component_and, ClusterDefinition, Program}
 use Rattle.clu_meaning.specs.Computations.{Computation, gives, goes_wrong, and_then, need, needed, with_one, with_bool, with_routine, either, if_there, sees_frame, sees_owns, counts, node, fails, does}
 use Rattle.clu_meaning.specs.Binding.{Running, cluster_instance, opened}
@@ -40,22 +41,14 @@ abbrev pub object_named : List (List ℕ × Object) → List ℕ → Option Obje
 object_named [] name = None
 object_named (named ∷ rest) name = if bytes_eq named.0 name then Some named.1 else object_named rest name
 
-abbrev pub in_front : Option Object → Option (List Object) → Option (List Object)
-in_front (Some o) (Some os) = Some (o ∷ os)
-in_front _ _ = None
-
 -- the objects in the order of the type's selectors
 abbrev pub arranged : Fields → List (List ℕ × Object) → Option (List Object)
 arranged no_fields named = Some []
 arranged (field_and name t rest) named = in_front (object_named named name) (arranged rest named)
 
-abbrev pub selectors_of : Fields → ℕ
-selectors_of no_fields = 0
-selectors_of (field_and name t rest) = suc (selectors_of rest)
-
 -- exactly the type's selectors have objects
 abbrev pub arranged_exactly : Fields → List (List ℕ × Object) → Option (List Object)
-arranged_exactly fs named = if nat_eq (length named) (selectors_of fs) then arranged fs named else None
+arranged_exactly fs named = if nat_eq (length named) (selectors fs) then arranged fs named else None
 
 unfoldable pub makes_fields : CluType → List (List ℕ × Object) → Computation (List Object)
 makes_fields (struct_of fs) named = needed (arranged_exactly fs named) (λ os. does (struct_construction fs os))
@@ -155,7 +148,7 @@ module _ (program : Program) (low : Level) (round : Round) where
     eval (elements_from t e es) = node (value (eval e) (λ o. and_then (eval_all es) (λ os. makes_elements_from (substituted (here round).given t) o os)))
     eval (up e) = node (value (eval e) (seals_here (here round)))
     eval (down e) = node (value (eval e) (opens_here (here round)))
-    eval (besides n e) = counts n (eval e)
+    eval (besides n e) = and_then (eval e) (λ os. counts n (gives os))
 
     -- one object of each
     pub eval_all : Expressions → Computation (List Object)

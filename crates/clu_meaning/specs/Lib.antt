@@ -1,10 +1,12 @@
 -- The meaning of CLU programs.
 pub mod Programs
+pub mod Lists
 pub mod Constants
 pub mod Counting
 pub mod Scoping
 pub mod Settling
 pub mod Resolving
+pub mod Files
 pub mod Schemes
 pub mod Texts
 pub mod State
@@ -17,4 +19,5 @@ pub mod Expressions
 pub mod Statements
 pub mod Run
 pub mod Executing
+pub mod Typed
 pub mod More

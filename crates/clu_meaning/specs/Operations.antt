@@ -6,6 +6,7 @@ use Rattle.clu_builtin.specs.Table.{operation}
 use Rattle.clu_layout.specs.Objects.{Routine, module_routine, operation_of, force_of, Object}
 use Rattle.clu_layout.specs.Actions.{Action, no_case}
 use Rattle.clu_layout.specs.Primitive.{invocation, force_invocation, heading_type, force_heading}
+use Rattle.clu_meaning.specs.Lists.{is_among}
 use Rattle.clu_meaning.specs.Programs.{Exception, RoutineDefinition, ClusterDefinition, Module, routine_module, cluster_module, Program}
 use Rattle.clu_meaning.specs.State.{of_routine}
 use Rattle.clu_meaning.specs.Binding.{Running, outward, types_of_formals}
@@ -25,23 +26,23 @@ abbrev pub routine_named : List RoutineDefinition → List ℕ → Option Routin
 routine_named [] name = None
 routine_named (r ∷ rs) name = if bytes_eq r.name name then Some r else routine_named rs name
 
--- a routine of these actuals, where it has this definition
-abbrev pub running : Routine → Actuals → Option ClusterDefinition → Option RoutineDefinition → Option Running
-running r given home (Some definition) = Some (record { instance = of_routine r; given = given; home = home; definition = definition })
-running r given home None = None
+-- a routine of these actuals as it runs, if it has a definition
+abbrev pub with_definition : Routine → Actuals → Option ClusterDefinition → Option RoutineDefinition → Option Running
+with_definition r given home (Some definition) = Some (record { instance = of_routine r; given = given; home = home; definition = definition })
+with_definition r given home None = None
 
 abbrev pub of_module : Routine → Actuals → Option Module → Option Running
-of_module r given (Some (routine_module definition)) = running r given None (Some definition)
+of_module r given (Some (routine_module definition)) = with_definition r given None (Some definition)
 of_module r given _ = None
 
 abbrev pub of_cluster : Routine → List ℕ → Actuals → Option Module → Option Running
-of_cluster r op given (Some (cluster_module cluster)) = running r given (Some cluster) (routine_named cluster.routines op)
+of_cluster r op given (Some (cluster_module cluster)) = with_definition r given (Some cluster) (routine_named cluster.routines op)
 of_cluster r op given _ = None
 
 -- an operation of a cluster instance, or of a built-in type, if a text defines it
 abbrev pub of_type : Program → Routine → CluType → List ℕ → Option Running
 of_type program r (cluster_of cluster given) op = of_cluster r op given (module_named program cluster)
-of_type program r T op = running r (text_given T) None (text_of T op)
+of_type program r T op = with_definition r (text_given T) None (text_of T op)
 
 -- the routine with its definition, if it has one
 abbrev pub defined : Program → Routine → Option Running
@@ -79,10 +80,6 @@ headed program (operation_of T op) = option_map heading_type (operation T op)
 headed program (force_of t) = Some (heading_type (force_heading t))
 
 -- ---- which operations a routine may name: those of a cluster that it exports, and inside the cluster all
-
-abbrev pub is_among : List (List ℕ) → List ℕ → Bool
-is_among [] name = false
-is_among (n ∷ ns) name = bytes_eq n name || is_among ns name
 
 abbrev pub exports : Option Module → List ℕ → Bool
 exports (Some (cluster_module cluster)) op = is_among cluster.exports op

@@ -35,7 +35,7 @@ mutual
     elements_from : CluType → Expression → Expressions → Expression
     -- up(e), down(e)
     up down : Expression → Expression
-    -- an expression that does so many units of work besides
+    -- an expression that counts so many units of work besides, once it has given its objects
     besides : ℕ → Expression → Expression
 
   pub data Expressions : Type 0 where

@@ -315,6 +315,16 @@ abbrev pub module_of : Scope → syntax.Module → Module
 module_of scope (a_routine n es r) = routine_module (routine_definition (record { scope = scope; home = None }) (parameter_number r.parameters) r)
 module_of scope (a_cluster n es c) = cluster_module (cluster_definition scope c)
 
--- the modules of a file, with the declarations of its names
-abbrev pub resolved : List Declared → List syntax.Module → Program
-resolved declarations modules = map (module_of (record { declarations = declarations; bindings = of_modules modules })) modules
+-- a file: the declarations of its names, and its modules
+pub record File : Type 0 where
+  pub declarations : List Declared
+  pub modules : List syntax.Module
+
+abbrev pub scope_of : File → Scope
+scope_of file = record { declarations = file.declarations; bindings = of_modules file.modules }
+
+-- The program of some files. A name means what it does in its own file; one that this doesn't declare is that of a module
+-- of another file.
+abbrev pub resolved : List File → Program
+resolved [] = []
+resolved (file ∷ files) = map (module_of (scope_of file)) file.modules ++ resolved files

@@ -37,41 +37,37 @@ first_state input = record {
 abbrev pub may_start : RoutineDefinition → Bool
 may_start r = not r.is_iterator && r.parameters == 0 && is_empty r.formals && is_empty r.results
 
--- how a program ends: it returns, or fails with a text
-pub data Finish : Type 0 where
-  finished : Finish
-  failed : List ℕ → Finish
+-- how far a program has come: it still runs, it has returned, it has failed with a text, or no case applied
+pub data Progress : Type 0 where
+  still_running returned_normally went_wrong : Progress
+  failure_with : List ℕ → Progress
 
-unfoldable pub fails_with : List Object → Computation Finish
-fails_with (string_object text ∷ []) = gives (failed text)
+unfoldable pub fails_with : List Object → Computation Progress
+fails_with (string_object text ∷ []) = gives (failure_with text)
 fails_with _ = goes_wrong
 
 -- the system handles no exception. What the start signals takes no words there, since no routine makes its text
-unfoldable pub start_ending : Ending → Computation Finish
-start_ending (returned os) = gives finished
+unfoldable pub start_ending : Ending → Computation Progress
+start_ending (returned os) = gives returned_normally
 start_ending (signalled name os) = fails_with (failure_objects name os)
 start_ending (raised name os) = unhandled name os fails_with
 start_ending _ = goes_wrong
 
-abbrev pub starts : Level → Running → Computation Finish
+abbrev pub starts : Level → Running → Computation Progress
 starts low r =
     need (may_start r.definition) (spends_a_turn (either_way
     (enters r.instance (call_words r.definition.count) (executes low (in_procedure r) []))
-    (λ done. gives finished)
+    (λ done. gives returned_normally)
     start_ending))
 
 -- the module of this name is the start
-abbrev pub begins : Program → Level → List ℕ → Computation Finish
+abbrev pub begins : Program → Level → List ℕ → Computation Progress
 begins program low start = needed (defined program (module_routine start no_actuals)) (starts low)
 
-abbrev pub result_of_run : Program → List ℕ → List ℕ → ℕ → Result Finish
+abbrev pub result_of_run : Program → List ℕ → List ℕ → ℕ → Result Progress
 result_of_run program start input turns = begins program (level program turns) start turns (first_state input)
 
 -- ---- what is seen of it
-
-pub data Progress : Type 0 where
-  running returned_normally misused : Progress
-  failure_with : List ℕ → Progress
 
 -- the output, the words of store, the most live words, the units of work, and the trace
 pub record Seen : Type 0 where
@@ -85,11 +81,10 @@ pub record Seen : Type 0 where
 abbrev pub seen : Progress → State → Seen
 seen progress st = record { progress = progress; output = st.world.output; store = st.world.words; stack = st.stack.most; work = st.world.work; trace = st.trace }
 
-abbrev pub seen_of : Result Finish → Seen
-seen_of (normal finished turns st) = seen returned_normally st
-seen_of (normal (failed text) turns st) = seen (failure_with text) st
-seen_of (ended e turns st) = seen misused st
-seen_of (out_of_turns st) = seen running st
+abbrev pub seen_of : Result Progress → Seen
+seen_of (normal progress turns st) = seen progress st
+seen_of (ended e turns st) = seen went_wrong st
+seen_of (out_of_turns st) = seen still_running st
 
 -- a program that begins at this module, with so many turns
 abbrev pub run : Program → List ℕ → List ℕ → ℕ → Seen

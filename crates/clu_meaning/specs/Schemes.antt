@@ -1,14 +1,11 @@
 -- The operations of structs, records, oneofs and variants that apply an operation of each component's type: a family of
 -- texts over the selectors, in ascending order. `a` and `b` are the arguments, T their type.
-use Rattle.std.specs.Prelude.{ℕ, suc, ◌+◌, ◌*◌, Bool, true, false, List, [], ◌∷◌, ◌++◌, Option, None, Some, if◌then◌else◌, bytes_eq, codes}
+use Rattle.std.specs.Prelude.{ℕ, suc, ◌+◌, ◌*◌, true, false, List, [], ◌∷◌, ◌++◌, Option, None, Some, if◌then◌else◌, bytes_eq, codes}
 use Rattle.clu_base.specs.declared.constants.Const.TheVariants as constant_of
 use Rattle.clu_types.specs.CluType.{CluType, bool_type, record_of, struct_of, oneof_of, variant_of, Fields, no_fields, field_and}
 use Rattle.clu_layout.specs.Objects.{operation_of}
+use Rattle.clu_meaning.specs.Lists.{is_among, selectors}
 use Rattle.clu_meaning.specs.Programs.{local, Expression, constant, variable, routine, operator, call, fields, besides, Expressions, no_expressions, expression_and, Components, no_components, component_and, Statement, if_statement, tagcase_statement, return_statement, Statements, no_statements, statement_and, no_clauses, clause_and, nothing_else, otherwise, TagArms, no_tag_arms, tag_arm_and, plain, Declaration, Formal, RoutineDefinition}
-
-abbrev pub selectors : Fields → ℕ
-selectors no_fields = 0
-selectors (field_and s u rest) = suc (selectors rest)
 
 -- the nodes that a scheme counts
 abbrev pub scheme_count : Fields → ℕ
@@ -135,14 +132,10 @@ copy T fs body = Some (scheme (codes "copy") (T ∷ []) T fs body)
 abbrev pub applied_by : List ℕ → List ℕ
 applied_by op = if bytes_eq op (codes "similar1") then codes "equal" else op
 
-abbrev pub is_one_of : List ℕ → List (List ℕ) → Bool
-is_one_of op [] = false
-is_one_of op (name ∷ names) = if bytes_eq name op then true else is_one_of op names
-
 -- the operation if it is one of these comparisons, or copy
 abbrev pub scheme_among : List (List ℕ) → List ℕ → CluType → Fields → Statements → Statements → Option RoutineDefinition
 scheme_among comparisons op T fs compares copies =
-    if is_one_of op comparisons then comparison op T fs compares else
+    if is_among comparisons op then comparison op T fs compares else
     if bytes_eq op (codes "copy") then copy T fs copies else
     None
 

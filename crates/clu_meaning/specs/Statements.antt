@@ -1,23 +1,25 @@
 -- How statements are executed.
-use Rattle.std.specs.Prelude.{ℕ, suc, ◌*◌, List, [], ◌∷◌, length, Option, Some, if◌then◌else◌, bytes_eq}
+use Rattle.std.specs.Prelude.{ℕ, ◌+◌, List, [], ◌∷◌, length, Option, Some, if◌then◌else◌, bytes_eq}
 use Rattle.clu_types.specs.CluType.{string_type}
 use Rattle.clu_layout.specs.Objects.{Object, string_object}
 use Rattle.clu_layout.specs.Openers.{tagged_in}
 use Rattle.clu_layout.specs.Places.{is_empty}
+use Rattle.clu_meaning.specs.Lists.{is_among, names_before}
 use Rattle.clu_meaning.specs.Programs.{Variable, HeadingType, plain, Taken, named, dropped, Statement, declaration, initialisation, assignment, assignment_of_results, update, call_statement, while_statement, for_statement, if_statement, tagcase_statement, return_statement, yield_statement, signal_statement, exit_statement, break_statement, continue_statement, begin_statement, resignal_statement, except_statement, Statements, no_statements, statement_and, Clauses, no_clauses, clause_and, Otherwise, nothing_else, otherwise, TagArms, no_tag_arms, tag_arm_and, Whens, no_whens, when_and, Others, no_others, others, Program}
 use Rattle.clu_meaning.specs.Computations.{Ending, broken, continued, returned, signalled, raised, exited, Computation, gives, ends, goes_wrong, and_then, either_way, spends_a_turn, need, needed, with_routine, either, sees_world, counts, node}
 use Rattle.clu_meaning.specs.Binding.{Running, assigned, forgets, handed_out, signal_types}
-use Rattle.clu_meaning.specs.Operations.{defined, is_among}
+use Rattle.clu_meaning.specs.Operations.{defined}
 use Rattle.clu_meaning.specs.Calls.{Round, here, Level, iterates, yields}
 use Rattle.clu_meaning.specs.Expressions.{value, condition, operates, eval, eval_all}
 use Rattle.clu_meaning.specs.Unhandled.{failure}
 
 -- ---- names of arms
 
--- how many names come before this one
-abbrev pub names_before : List (List ℕ) → List ℕ → ℕ
-names_before [] name = 0
-names_before (n ∷ ns) name = if bytes_eq n name then 0 else suc (names_before ns name)
+-- how many names an exception passes before the arm that takes it; all of them if none does
+abbrev pub names_passed : Whens → List ℕ → ℕ
+names_passed no_whens name = 0
+names_passed (when_and names taken body whens) name =
+    names_before names name + (if is_among names name then 0 else names_passed whens name)
 
 -- ---- what is done at an ending
 
@@ -71,7 +73,7 @@ signals r name os = needed (types_of_signal r name) (λ types. handed_out r type
 
 abbrev pub resignals : Running → List (List ℕ) → List ℕ → List Object → Computation (Unit {0})
 resignals r names name os =
-    either (is_among names name) (counts (names_before names name) (signals r name os)) (counts (length names) (raises_on name os))
+    counts (names_before names name) (either (is_among names name) (signals r name os) (raises_on name os))
 
 module _ (program : Program) (low : Level) (round : Round) where
   unfoldable mutual
@@ -100,8 +102,8 @@ module _ (program : Program) (low : Level) (round : Round) where
     exec (resignal_statement s names) = node (either_way (exec s) gives (handled (resignals (here round) names) exits_on))
     exec (except_statement s whens other) =
         node (either_way (exec s) gives (handled
-        (λ name os. exec_whens whens 1 name os (exec_others other name (raises_on name os)))
-        (λ name os. exec_whens whens 0 name os (exits_on name os))))
+        (λ name os. counts (names_passed whens name) (exec_whens whens name os (exec_others other name (raises_on name os))))
+        (λ name os. exec_whens whens name os (exits_on name os))))
 
     pub exec_all : Statements → Computation (Unit {0})
     exec_all no_statements = gives tt
@@ -121,13 +123,11 @@ module _ (program : Program) (low : Level) (round : Round) where
     exec_tag_arms (tag_arm_and tags xs body arms) tag o rest =
         either (is_among tags tag) (arm_if_named (here round) xs o (exec_all body)) (exec_tag_arms arms tag o rest)
 
-    -- the first arm of the name, or else the rest; each name that is passed counts so many units of work
-    pub exec_whens : Whens → ℕ → List ℕ → List Object → Computation (Unit {0}) → Computation (Unit {0})
-    exec_whens no_whens each name os rest = rest
-    exec_whens (when_and names taken body whens) each name os rest =
-        either (is_among names name)
-        (counts (each * names_before names name) (taken_by (here round) taken os (exec_all body)))
-        (counts (each * length names) (exec_whens whens each name os rest))
+    -- the first arm of the name, or else the rest
+    pub exec_whens : Whens → List ℕ → List Object → Computation (Unit {0}) → Computation (Unit {0})
+    exec_whens no_whens name os rest = rest
+    exec_whens (when_and names taken body whens) name os rest =
+        either (is_among names name) (taken_by (here round) taken os (exec_all body)) (exec_whens whens name os rest)
 
     pub exec_others : Others → List ℕ → Computation (Unit {0}) → Computation (Unit {0})
     exec_others no_others name rest = rest

@@ -278,16 +278,16 @@ abbrev pub Texts : Type 0
 Texts = List Routine
 
 abbrev pub int_texts : Texts
-int_texts = from_to_by ∷ from_to ∷ []
+int_texts = from_to ∷ from_to_by ∷ []
 
 abbrev pub string_texts : Texts
 string_texts = chars ∷ []
 
 abbrev pub array_texts : Texts
-array_texts = array_indexes ∷ array_elements ∷ array_similar "similar" "similar" ∷ array_similar "similar1" "equal" ∷ array_copy ∷ []
+array_texts = array_elements ∷ array_indexes ∷ array_similar "similar" "similar" ∷ array_similar "similar1" "equal" ∷ array_copy ∷ []
 
 abbrev pub sequence_texts : Texts
-sequence_texts = sequence_indexes ∷ sequence_elements ∷ sequence_similar "similar" ∷ sequence_similar "equal" ∷ sequence_copy ∷ []
+sequence_texts = sequence_elements ∷ sequence_indexes ∷ sequence_similar "equal" ∷ sequence_similar "similar" ∷ sequence_copy ∷ []
 
 abbrev pub texts_of : CluType → Texts
 texts_of int_type = int_texts

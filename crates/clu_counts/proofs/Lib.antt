@@ -1,0 +1,1 @@
+-- The counts of texts and schemes.

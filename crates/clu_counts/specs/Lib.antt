@@ -1,0 +1,2 @@
+-- What is counted for operations that texts define.
+pub mod Counts
