@@ -1,5 +1,5 @@
 -- How a file that is checked is told, and what comes of it.
-use Rattle.std.specs.Prelude.{◌≡◌, ℕ, zero, suc, List, [], ◌∷◌, length, replicate, slice_get, Option, Some, None}
+use Rattle.std.specs.Prelude.{◌≡◌, ℕ, zero, suc, List, [], length, replicate, slice_get, Option, Some, None}
 use Rattle.std.specs.Fmt.{digits}
 use Rattle.clu_base.specs.declared.rules.Rule.{Rule}
 use Rattle.clu_tree.specs.declared.node.Node.{Node}
@@ -14,7 +14,6 @@ use Rattle.clu_names.specs.Scopes.{declared_to}
 use Rattle.clu_literal.specs.Literal.{with_byte}
 use Rattle.clu_layout.specs.Computing.{computing}
 use Rattle.clu_meaning.specs.Settling.{unfolded_to}
-use Rattle.clu_checking.specs.Specifications.{Specification}
 use Rattle.clu_checking.specs.Files.{checked_file}
 use Rattle.clu_checking.specs.Equates.{leads_far, set_in}
 use Rattle.clu_checking.specs.Refusals.{is_bad_in, refusal}

@@ -1,8 +1,7 @@
 -- The rules on constants and types: V8 NotConstant, V9 NotType, V10 Real, V19 ParameterKind, V31 CvtPlace. `bad` says of an
 -- Equate whether a rule is violated in it, or in one that it leads to.
-use Rattle.std.specs.Prelude.{ℕ, zero, suc, ◌+◌, ◌==◌, ◌&&◌, ◌||◌, nat_lt, not, Bool, true, false, List, [], ◌∷◌, length, filter, is_none, is_some, codes, bytes_eq, if◌then◌else◌, Option, Some, None}
+use Rattle.std.specs.Prelude.{ℕ, ◌+◌, ◌==◌, ◌&&◌, ◌||◌, nat_lt, not, Bool, true, false, List, length, is_none, is_some, codes, bytes_eq, if◌then◌else◌, Option, Some, None}
 use Rattle.std.specs.List.{list_any}
-use Rattle.clu_types.specs.CluType.{CluType}
 use Rattle.clu_specs.specs.Texts.{type_text}
 use Rattle.clu_specs.specs.Constants.{constant_text}
 use Rattle.clu_tree.specs.declared.node.NodeKind.{NodeKind}
@@ -13,17 +12,16 @@ use Rattle.clu_syntax.specs.contracts.words.SimpleType.{the_type}
 use denote.Enum.Bare.{sameb}
 use Rattle.clu_syntax.specs.Kinds.{is_expression}
 use Rattle.clu_syntax.specs.Roles.{has_no_name}
-use Rattle.clu_syntax.specs.Splits.{first_name, name_at}
-use Rattle.clu_syntax.specs.Syntax.{Identifier, Literal, real, Expression, a_name, a_literal, an_index, Constants, no_constants, constant_and, TypeExpression, a_simple_type, Parameter, Restriction, has_operations, is_in, is_in_set, TypeSet, a_type_set, Equate, an_equate, a_set_equate, Equates, no_equates, equate_and}
+use Rattle.clu_syntax.specs.Syntax.{Identifier, Literal, real, Expression, a_name, a_literal, an_index, Constants, no_constants, constant_and, TypeExpression, a_simple_type, Restriction, is_in, TypeSet, a_type_set, Equate, an_equate, a_set_equate, Equates, no_equates, equate_and}
 use Rattle.clu_meaning.specs.Scoping.{Meaning, is_equate, is_type_set, is_type_parameter, is_constant_parameter, is_local, is_own_of_routine, is_own_of_cluster, is_routine_of_cluster, is_module}
-use Rattle.clu_meaning.specs.Settling.{Value, settled_type, settled_constant, settled_parameter, unsettled, settled}
+use Rattle.clu_meaning.specs.Settling.{Value, settled_type, settled_constant, settled_parameter, settled}
 use Rattle.clu_checking.specs.Specifications.{Form, of_routine, of_cluster, Specification}
-use Rattle.clu_checking.specs.Files.{File, item, kind_in, is_kind, is_kind_at, stands_in, parent, parent_of, names, round, meaning, is_of_module, declaration, equate_named}
-use Rattle.clu_checking.specs.Equates.{is_circular, set_named, is_set_name}
+use Rattle.clu_checking.specs.Files.{File, item, kind_in, is_kind, is_kind_at, stands_in, parent, parent_of, names, round, meaning, is_of_module, equate_named}
+use Rattle.clu_checking.specs.Equates.{is_circular, set_named}
 use Rattle.clu_checking.specs.Headings.{specification, kind_of_parameter, parameter_type}
 use Rattle.clu_checking.specs.Typing.{is_type_value, takes_actuals}
 use Rattle.clu_checking.specs.Invocations.{is_object_wanted}
-use Rattle.clu_checking.specs.Wanted.{Wanted, an_object, some_objects, a_loop_call, a_constant, a_type, a_name_with_actuals, nothing, wanted, wants_type, Named, named_at, has_fitting_kinds, first_name_at}
+use Rattle.clu_checking.specs.Wanted.{Wanted, a_constant, a_name_with_actuals, wanted, wants_type, Named, named_at, has_fitting_kinds, first_name_at}
 
 abbrev pub is_routine_form : Form → Bool
 is_routine_form (of_routine h) = true

@@ -1,13 +1,13 @@
 -- Equates that lead to themselves, and the type sets that names stand for. What else a name is equated to is settled by
 -- clu_meaning, whether a rule is violated on the way or not.
-use Rattle.std.specs.Prelude.{ℕ, zero, suc, ◌-◌, ◌||◌, Bool, true, false, List, [], ◌∷◌, length, is_some, codes, bytes_eq, if◌then◌else◌, Option, Some, None, map, flat_map, ◌++◌}
+use Rattle.std.specs.Prelude.{ℕ, zero, suc, Bool, true, false, List, [], ◌∷◌, length, is_some, codes, Option, Some, None, map, flat_map, ◌++◌}
 use Rattle.std.specs.List.{list_any}
 use Rattle.clu_tree.specs.declared.node.NodeKind.{NodeKind}
 use Rattle.clu_tree.specs.declared.node.NodeKind.TheVariants as kind
 use Rattle.clu_syntax.specs.declared.words.SimpleType.TheVariants as simple
-use Rattle.clu_syntax.specs.Syntax.{Identifier, Expression, a_name, an_expression, TypeExpression, a_simple_type, Equate, an_equate, a_set_equate, TypeSet, Typed, a_type_set, Restriction, has_operations, is_in, is_in_set}
+use Rattle.clu_syntax.specs.Syntax.{Identifier, a_name, an_expression, TypeExpression, a_simple_type, Equate, an_equate, a_set_equate, TypeSet, Typed, a_type_set, Restriction, has_operations, is_in, is_in_set}
 use Rattle.clu_meaning.specs.Scoping.{Meaning, is_type_parameter, Scope, binding, meaning_of}
-use Rattle.clu_meaning.specs.Settling.{Value, settled_type, unsettled, settled, type_settled}
+use Rattle.clu_meaning.specs.Settling.{type_settled}
 use Rattle.clu_checking.specs.Specifications.{Demand}
 use Rattle.clu_checking.specs.Files.{File, item, kind_in, names, below, equate_named}
 

@@ -1,12 +1,12 @@
 -- The rules on exceptions: V23 ArmTypes, V24 ArmTwice, V25 SignalNotListed, V26 SignalTypes, V27 ExitNoArm.
-use Rattle.std.specs.Prelude.{ℕ, ◌==◌, ◌&&◌, ◌||◌, not, Bool, true, false, List, [], ◌∷◌, ◌++◌, length, map, flat_map, filter, find, is_none, is_some, codes, bytes_eq, if◌then◌else◌, Option, Some, None}
+use Rattle.std.specs.Prelude.{ℕ, ◌&&◌, not, Bool, true, false, List, [], ◌∷◌, flat_map, filter, find, is_none, is_some, codes, bytes_eq, if◌then◌else◌, Option, Some, None}
 use Rattle.std.specs.List.{list_any, list_all}
 use Rattle.clu_types.specs.CluType.{CluType, string_type, CluTypes, no_types, type_and, Signals, no_signals, signal_and}
 use Rattle.clu_layout.specs.SameType.{fits, same_types}
 use Rattle.clu_tree.specs.declared.node.NodeKind.{NodeKind}
 use Rattle.clu_tree.specs.declared.node.NodeKind.TheVariants as kind
 use Rattle.clu_syntax.specs.Splits.{first_name}
-use Rattle.clu_syntax.specs.Syntax.{Identifier, Expressions, TypeExpressions, Typed, Variable, Taken, objects, any_objects, Statement, a_signal, an_exit, a_resignal, an_except, Whens, no_whens, when_and, Others, no_others, others, Exception, Routine}
+use Rattle.clu_syntax.specs.Syntax.{Identifier, Taken, objects, any_objects, Statement, a_signal, an_exit, a_resignal, an_except, Whens, no_whens, when_and, Others, others, Exception, Routine}
 use Rattle.clu_syntax.specs.Items.{When}
 use Rattle.clu_checking.specs.Files.{File, numbers, item, kind_in, is_kind, parent, children, names, routine_round, stands_below}
 use Rattle.clu_checking.specs.Headings.{type_inside, results_inside, signals_inside}

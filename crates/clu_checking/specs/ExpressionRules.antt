@@ -1,24 +1,23 @@
 -- The rules on expressions: V11 NoOperation, V12 ArgumentCount, V13 ArgumentType, V17 Selectors, V18 WhereNotMet,
 -- V20 NotInTypeSet, V32 UpDown, and of V14 ResultCount, V16 NotBool and V36 IteratorUse what is asked of expressions.
 -- An expression without a type violates a rule by itself, so nothing is asked of it here.
-use Rattle.std.specs.Prelude.{ℕ, zero, suc, ◌+◌, ◌-◌, ◌==◌, ◌&&◌, ◌||◌, nat_lt, not, Bool, true, false, List, [], ◌∷◌, ◌++◌, length, map, filter, is_none, is_some, codes, bytes_eq, if◌then◌else◌, Option, Some, None}
+use Rattle.std.specs.Prelude.{ℕ, suc, ◌==◌, ◌&&◌, ◌||◌, not, Bool, true, false, List, [], ◌∷◌, ◌++◌, length, is_none, is_some, bytes_eq, if◌then◌else◌, Option, Some, None}
 use Rattle.std.specs.List.{list_any, list_all}
-use Rattle.std.specs.Option.{option_map, option_and_then}
 use Rattle.clu_types.specs.CluType.{CluType, bool_type, int_type, array_of, sequence_of, record_of, struct_of, iter_of, CluTypes, no_types, type_and, Fields, no_fields, field_and}
 use Rattle.clu_layout.specs.SameType.{same_type, fits, is_routine_type}
 use Rattle.clu_tree.specs.declared.node.NodeKind.{NodeKind}
 use Rattle.clu_tree.specs.declared.node.NodeKind.TheVariants as kind
 use Rattle.clu_syntax.specs.Kinds.{is_type}
-use Rattle.clu_syntax.specs.Syntax.{Identifier, Expression, an_infix, a_name, an_index, fields, elements, elements_from, an_up, a_down, Expressions, Components, no_components, component_and, TypeExpression}
-use Rattle.clu_meaning.specs.Constants.{Sugar, is_cand, is_cor, is_operation, is_negated, sugar}
+use Rattle.clu_syntax.specs.Syntax.{Identifier, Expression, an_infix, a_name, an_index, fields, elements, elements_from, an_up, a_down, Expressions, Components, no_components, component_and}
+use Rattle.clu_meaning.specs.Constants.{Sugar, is_cand, is_cor, sugar}
 use Rattle.clu_meaning.specs.Scoping.{Meaning, is_equate, is_type_set, is_type_parameter, is_module}
 use Rattle.clu_meaning.specs.Settling.{settled, type_settled}
-use Rattle.clu_checking.specs.Files.{File, item, kind_in, is_kind, parent, names, meaning, is_of_module}
+use Rattle.clu_checking.specs.Files.{File, item, kind_in, parent, names, meaning, is_of_module}
 use Rattle.clu_checking.specs.Equates.{is_set_name}
 use Rattle.clu_checking.specs.Headings.{own_type}
 use Rattle.clu_checking.specs.Operations.{Asked, Found, is_met}
 use Rattle.clu_checking.specs.Typing.{type_of, arguments_of, results_of, takes_actuals, is_type_value, representation}
-use Rattle.clu_checking.specs.Wanted.{Wanted, an_object, some_objects, a_loop_call, a_constant, a_type, a_name_with_actuals, nothing, wanted, first_name_at}
+use Rattle.clu_checking.specs.Wanted.{Wanted, an_object, a_loop_call, a_name_with_actuals, wanted, first_name_at}
 use Rattle.clu_checking.specs.Invocations.{Invocation, is_object_wanted, invocations, operations_at, asks_at, types_of}
 use Rattle.clu_checking.specs.NameRules.{stands_twice, stands_before}
 use Rattle.clu_checking.specs.ConstantRules.{is_module_routine}

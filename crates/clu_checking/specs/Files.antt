@@ -1,7 +1,7 @@
 -- A file as it is checked: the nodes of its tree, what surrounds them, its declarations, and the specifications of a
 -- library. What stands at a node, and what a name denotes there.
-use Rattle.std.specs.Prelude.{ℕ, suc, ◌+◌, ◌-◌, ◌&&◌, ◌||◌, ◌==◌, nat_le, Bool, true, false, List, [], ◌∷◌, ◌++◌, length, map, slice_get, get_or, filter, flat_map, is_some, codes, bytes_eq, if◌then◌else◌, Option, Some, None}
-use Rattle.std.specs.List.{list_any, range_with_len}
+use Rattle.std.specs.Prelude.{ℕ, suc, ◌+◌, ◌-◌, ◌&&◌, ◌||◌, nat_le, Bool, true, false, List, [], ◌∷◌, ◌++◌, length, slice_get, filter, flat_map, is_some, if◌then◌else◌, Option, Some, None}
+use Rattle.std.specs.List.{range_with_len}
 use Rattle.clu_tree.specs.declared.node.Node.{Node}
 use Rattle.clu_tree.specs.declared.node.NodeKind.{NodeKind}
 use Rattle.clu_tree.specs.declared.node.NodeKind.TheVariants as kind
@@ -11,11 +11,11 @@ use Rattle.clu_syntax.specs.Splits.{is_of}
 use Rattle.clu_syntax.specs.Rounds.{round_at}
 use Rattle.clu_syntax.specs.Items.{Item}
 use Rattle.clu_syntax.specs.Nodes.{item_at, file_of}
-use Rattle.clu_syntax.specs.Syntax.{Identifier, TypeExpression, Parameter, TypeSet, a_type_set, Routine, Cluster, Module, a_routine, a_cluster}
+use Rattle.clu_syntax.specs.Syntax.{Identifier, Parameter, TypeSet, a_type_set, Routine, Cluster, Module, a_routine, a_cluster}
 use Rattle.clu_names.specs.declared.scopes.Declared.{Declared}
 use Rattle.clu_names.specs.Scopes.{declarations, is_stream}
 use Rattle.clu_names.specs.Denotes.{found}
-use Rattle.clu_meaning.specs.Scoping.{Meaning, is_type_parameter, is_module, Binding, Bindings, binding, of_equates, of_modules, parameter_number, Scope, meaning_of, declaration_at}
+use Rattle.clu_meaning.specs.Scoping.{Meaning, is_type_parameter, is_module, Bindings, binding, of_equates, of_modules, parameter_number, Scope, meaning_of, declaration_at}
 use Rattle.clu_checking.specs.Specifications.{Specification, specification_in}
 
 pub record File : Type 0 where

@@ -1,19 +1,17 @@
 -- The headings of a file's modules: kinds of parameters, types as callers and as bodies see them, and specifications.
-use Rattle.std.specs.Prelude.{ℕ, zero, suc, ◌==◌, ◌&&◌, ◌||◌, nat_lt, Bool, true, false, List, [], ◌∷◌, ◌++◌, map, flat_map, filter_map, filter, slice_get, is_some, codes, bytes_eq, if◌then◌else◌, Option, Some, None}
+use Rattle.std.specs.Prelude.{ℕ, zero, suc, ◌==◌, ◌&&◌, ◌||◌, nat_lt, Bool, true, false, List, [], ◌∷◌, map, flat_map, filter, slice_get, is_some, codes, bytes_eq, if◌then◌else◌, Option, Some, None}
 use Rattle.std.specs.List.{list_any}
-use Rattle.std.specs.Option.{option_and_then, option_map}
+use Rattle.std.specs.Option.{option_and_then}
 use Rattle.clu_types.specs.CluType.{CluType, null_type, bool_type, int_type, char_type, string_type, CluTypes, no_types, type_and, Signals, no_signals, signal_and}
 use Rattle.clu_types.specs.declared.spec.ParamKind.{ParamKind}
 use Rattle.clu_types.specs.declared.spec.ParamKind.TheVariants as param
-use Rattle.clu_syntax.specs.declared.words.SimpleType.TheVariants as simple
-use Rattle.clu_syntax.specs.Syntax.{Identifier, TypeExpression, a_simple_type, TypeExpressions, Exceptions, Typed, Parameter, Restriction, Routine, Cluster, Module, a_routine, a_cluster}
+use Rattle.clu_syntax.specs.Syntax.{Identifier, TypeExpression, TypeExpressions, Exceptions, Parameter, Routine, Cluster, Module, a_routine, a_cluster}
 use Rattle.clu_syntax.specs.Nodes.{file_of}
 use Rattle.clu_names.specs.Scopes.{is_stream}
-use Rattle.clu_meaning.specs.Scoping.{equate_name}
 use Rattle.clu_meaning.specs.Settling.{comes_after, type_settled, routine_type}
 use Rattle.clu_meaning.specs.Programs.{HeadingType, plain, cvt, Formal, Exception}
 use Rattle.clu_meaning.specs.Resolving.{Place, cluster_place, heading_type, heading_types, formals_of, exceptions_of}
-use Rattle.clu_checking.specs.Specifications.{Demand, Heading, Form, of_routine, of_cluster, Specification, specification_in, heading_named}
+use Rattle.clu_checking.specs.Specifications.{Demand, Heading, of_routine, of_cluster, Specification, specification_in}
 use Rattle.clu_checking.specs.Files.{File, declaration, cluster_round, parameters_round, round}
 use Rattle.clu_checking.specs.Equates.{demands_in}
 

@@ -1,10 +1,10 @@
 -- What is invoked at a node, by a call or by sugar, and what is asked of types there.
-use Rattle.std.specs.Prelude.{ℕ, ◌++◌, ◌==◌, ◌&&◌, ◌||◌, not, Bool, true, false, List, [], ◌∷◌, map, flat_map, filter_map, codes, bytes_eq, if◌then◌else◌, Option, Some, None}
-use Rattle.std.specs.Option.{option_map, option_and_then}
+use Rattle.std.specs.Prelude.{ℕ, ◌++◌, ◌&&◌, Bool, true, false, List, [], ◌∷◌, map, flat_map, codes, Option, Some, None}
+use Rattle.std.specs.Option.{option_and_then}
 use Rattle.clu_types.specs.CluType.{CluType}
 use Rattle.clu_tree.specs.declared.node.NodeKind.{NodeKind}
 use Rattle.clu_tree.specs.declared.node.NodeKind.TheVariants as kind
-use Rattle.clu_syntax.specs.Syntax.{Identifier, Expression, an_infix, a_prefix, a_paren, a_literal, a_name, an_index, a_get, a_call, an_operation, Expressions, no_expressions, expression_and, Constant, an_expression, a_type, Constants, no_constants, constant_and, Statement, a_set_field, a_set_index}
+use Rattle.clu_syntax.specs.Syntax.{Identifier, Expression, an_infix, a_prefix, a_name, an_index, a_get, a_call, an_operation, Expressions, no_expressions, expression_and, Constant, an_expression, a_type, Constants, no_constants, constant_and, Statement, a_set_field, a_set_index}
 use Rattle.clu_meaning.specs.Constants.{Sugar, is_cand, is_cor, is_operation, is_negated, sugar, prefix_name}
 use Rattle.clu_meaning.specs.Scoping.{Meaning, is_routine_of_cluster}
 use Rattle.clu_meaning.specs.Settling.{type_settled, actuals_settled}
@@ -13,7 +13,7 @@ use Rattle.clu_checking.specs.Files.{File, item, kind_in, meaning, is_of_module}
 use Rattle.clu_checking.specs.Headings.{specification}
 use Rattle.clu_checking.specs.Operations.{Asked, demanded, Found, operation_found}
 use Rattle.clu_checking.specs.Typing.{type_of, name_type, own_found, found_type, result_of, takes_actuals}
-use Rattle.clu_checking.specs.Wanted.{Wanted, an_object, some_objects, a_loop_call, a_constant, a_type, a_name_with_actuals, nothing, wanted, Named, named_at, has_fitting_kinds}
+use Rattle.clu_checking.specs.Wanted.{Wanted, an_object, some_objects, a_loop_call, a_type, wanted, Named, named_at, has_fitting_kinds}
 
 -- What is invoked, unless the left operand's type has no such operation; and the types of the arguments, as far as they
 -- have some.

@@ -1,5 +1,5 @@
 -- The rules on modules: V33 ExportMissing, V34 EndName, V35 RoutineTooLarge.
-use Rattle.std.specs.Prelude.{ℕ, ◌+◌, ◌&&◌, ◌||◌, nat_lt, not, Bool, true, false, List, [], ◌∷◌, map, get_or, bytes_eq, filter, fold}
+use Rattle.std.specs.Prelude.{ℕ, ◌+◌, ◌&&◌, ◌||◌, nat_lt, not, Bool, false, List, map, get_or, bytes_eq, filter, fold}
 use Rattle.std.specs.List.{list_any, list_all}
 use Rattle.clu_tree.specs.Count.{counts}
 use Rattle.clu_tree.specs.declared.node.NodeKind.{NodeKind}

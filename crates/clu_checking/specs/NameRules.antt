@@ -1,24 +1,22 @@
 -- The rules on names: V4 LiteralRange, V5 UnknownName, V6 DefinedTwice, V7 CircularEquate, V37 OwnPlace.
-use Rattle.std.specs.Prelude.{ℕ, zero, suc, ◌+◌, ◌-◌, ◌==◌, ◌&&◌, ◌||◌, nat_lt, not, Bool, true, false, List, [], ◌∷◌, ◌++◌, length, map, take, drop, slice_get, is_none, is_some, codes, bytes_eq, if◌then◌else◌, Option, Some, None}
+use Rattle.std.specs.Prelude.{ℕ, suc, ◌==◌, ◌&&◌, ◌||◌, nat_lt, not, Bool, false, List, [], ◌∷◌, ◌++◌, length, take, drop, slice_get, is_none, bytes_eq, if◌then◌else◌, Option, Some, None}
 use Rattle.std.specs.List.{list_any}
 use Rattle.clu_literal.specs.Literal.{string_denoted, char_denoted}
 use Rattle.clu_layout.specs.SameType.{same_type}
 use Rattle.clu_tree.specs.declared.node.NodeKind.{NodeKind}
 use Rattle.clu_tree.specs.declared.node.NodeKind.TheVariants as kind
-use Rattle.clu_syntax.specs.declared.words.SimpleType.TheVariants as simple
-use Rattle.clu_syntax.specs.Splits.{first_name, name_at}
-use Rattle.clu_syntax.specs.Syntax.{Identifier, Literal, nil, true_literal, false_literal, integer, real, character, string, Expression, a_literal, Restriction, Routine, Cluster, TypeSet, a_type_set}
+use Rattle.clu_syntax.specs.Splits.{first_name}
+use Rattle.clu_syntax.specs.Syntax.{Identifier, Literal, integer, character, string, Expression, a_literal, Restriction, Routine, Cluster, TypeSet}
 use Rattle.clu_names.specs.declared.scopes.Declared.{Declared}
 use Rattle.clu_names.specs.Denotes.{is_open, rank}
 use Rattle.clu_names.specs.Latest.{is_local}
 use Rattle.clu_names.specs.Scopes.{is_stream}
 use Rattle.clu_meaning.specs.Constants.{number_after}
-use Rattle.clu_meaning.specs.Scoping.{Meaning, is_routine_of_cluster}
 use Rattle.clu_meaning.specs.Counting.{variable_names}
 use Rattle.clu_meaning.specs.Resolving.{declared_from}
 use Rattle.clu_checking.specs.Specifications.{Demand}
-use Rattle.clu_checking.specs.Files.{File, item, kind_in, is_kind, is_kind_at, stands_in, parent, children, names, round, below, is_known, declared_by, equate_named, routine_round, cluster_round, children_at, variable_number}
-use Rattle.clu_checking.specs.Equates.{names_unfolded, is_circular_at, equates_named, demands_in, asked_by_set}
+use Rattle.clu_checking.specs.Files.{File, item, kind_in, is_kind, stands_in, parent, names, below, is_known, declared_by, equate_named, routine_round, cluster_round, children_at, variable_number}
+use Rattle.clu_checking.specs.Equates.{is_circular_at, equates_named, demands_in, asked_by_set}
 
 -- ---- V4: an identifier of more than 200 bytes, an integer above 9223372036854775807, an octal code above 377
 

@@ -1,18 +1,15 @@
 -- The operations that a type has at a node, and when what is asked of a type is met.
-use Rattle.std.specs.Prelude.{ℕ, zero, suc, ◌-◌, ◌==◌, ◌&&◌, ◌||◌, not, Bool, true, false, List, [], ◌∷◌, ◌++◌, map, flat_map, filter, find, bytes_eq, codes, if◌then◌else◌, Option, Some, None}
-use Rattle.std.specs.List.{list_any, list_all}
+use Rattle.std.specs.Prelude.{ℕ, ◌-◌, ◌==◌, ◌&&◌, Bool, true, false, List, [], ◌++◌, map, flat_map, filter, find, bytes_eq, if◌then◌else◌, Option, Some, None}
+use Rattle.std.specs.List.{list_all}
 use Rattle.std.specs.Option.{option_map}
-use Rattle.clu_types.specs.CluType.{CluType, any_type, null_type, bool_type, int_type, char_type, string_type, stream_type, array_of, sequence_of, record_of, struct_of, oneof_of, variant_of, proc_of, iter_of, cluster_of, parameter, Fields, no_fields, field_and, Actuals, no_actuals, actual_type, actual_const, actual_param}
+use Rattle.clu_types.specs.CluType.{CluType, array_of, sequence_of, record_of, struct_of, oneof_of, variant_of, proc_of, iter_of, cluster_of, parameter, Fields, no_fields, field_and, Actuals, no_actuals, actual_type, actual_const, actual_param}
 use Rattle.clu_types.specs.Substituted.{substituted, type_put}
 use Rattle.clu_builtin.specs.Operation.{Needed, Operation}
 use Rattle.clu_builtin.specs.Table.{operation}
 use Rattle.clu_layout.specs.SameType.{same_type, fits}
-use Rattle.clu_syntax.specs.declared.words.RoutineKind.{RoutineKind}
-use Rattle.clu_syntax.specs.Syntax.{Identifier, TypeSet, a_type_set, Restriction, Routine, Cluster}
-use Rattle.clu_tree.specs.declared.node.NodeKind.TheVariants as kind
-use Rattle.clu_meaning.specs.Scoping.{parameter_number}
-use Rattle.clu_checking.specs.Specifications.{Demand, Heading, Form, of_routine, of_cluster, Specification, heading_named, demands_of, operations_of, heading_put}
-use Rattle.clu_checking.specs.Files.{File, item, round, routine_round, cluster_round, stands_below, type_sets, variable_number}
+use Rattle.clu_syntax.specs.Syntax.{Identifier, TypeSet, Routine, Cluster}
+use Rattle.clu_checking.specs.Specifications.{Demand, Heading, Specification, heading_named, operations_of}
+use Rattle.clu_checking.specs.Files.{File, item, routine_round, cluster_round, stands_below, type_sets, variable_number}
 use Rattle.clu_checking.specs.Equates.{asked_by_set, demands_in}
 use Rattle.clu_checking.specs.Headings.{routines_of, specification}
 
@@ -60,15 +57,11 @@ routine_found given h = record { type = substituted given h.type; asks = map (de
 
 -- ---- what is met
 
--- tests on types: whether one has an operation of this name and wanted type
-abbrev pub Test : Type 0
-Test = CluType → Identifier → CluType → Bool
-
-abbrev pub are_met_by : Test → List Needed → Bool
+abbrev pub are_met_by : (CluType → Identifier → CluType → Bool) → List Needed → Bool
 are_met_by test needs = list_all (λ n. test n.of n.op n.wanted) needs
 
--- a built-in operation, by a test for its parts
-abbrev pub is_met_by : Test → CluType → Option Operation → Bool
+-- a built-in operation, by a test for its parts: whether one has an operation of this name and wanted type
+abbrev pub is_met_by : (CluType → Identifier → CluType → Bool) → CluType → Option Operation → Bool
 is_met_by test wanted (Some op) = fits (builtin_type op.iter op) wanted && are_met_by test op.needs
 is_met_by test wanted None = false
 
@@ -101,7 +94,7 @@ module _ (given : List Demand) (specified : Identifier → Option Specification)
     meets t name wanted = is_met_by (λ of op w. true) wanted (operation t name)
 
     -- the component of this type
-    pub part_meets : Fields → Test
+    pub part_meets : Fields → CluType → Identifier → CluType → Bool
     part_meets no_fields of name wanted = false
     part_meets (field_and selector t fs) of name wanted = if same_type t of then meets t name wanted else part_meets fs of name wanted
 

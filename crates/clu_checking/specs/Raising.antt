@@ -1,5 +1,5 @@
 -- What a statement may raise: pairs of a name and the types of objects, as callers see them.
-use Rattle.std.specs.Prelude.{ℕ, ◌++◌, ◌==◌, ◌&&◌, not, Bool, true, false, List, [], ◌∷◌, map, filter, flat_map, bytes_eq, codes, if◌then◌else◌, Option, Some, None}
+use Rattle.std.specs.Prelude.{ℕ, ◌++◌, not, Bool, true, false, List, [], ◌∷◌, filter, bytes_eq, codes, Option, Some, None}
 use Rattle.std.specs.List.{list_any}
 use Rattle.clu_types.specs.CluType.{CluType, string_type, CluTypes, no_types, type_and, Signals, no_signals, signal_and}
 use Rattle.clu_syntax.specs.Syntax.{Identifier, Expression, an_infix, a_prefix, a_paren, a_literal, a_name, an_index, a_get, a_call, fields, elements, elements_from, an_operation, a_force, an_up, a_down, Expressions, no_expressions, expression_and, Components, no_components, component_and, Constant, an_expression, a_type, Constants, no_constants, constant_and, Statement, a_declare, an_init, a_call_init, an_assign, a_set_field, a_set_index, a_call_statement, a_while, a_for, a_for_of_names, an_if, a_tagcase, a_return, a_yield, a_signal, an_exit, a_break, a_continue, a_begin, a_resignal, an_except, Statements, no_statements, statement_and, Body, a_body, Clauses, no_clauses, clause_and, Otherwise, nothing_else, otherwise, TagArms, no_tag_arms, tag_arm_and, Whens, no_whens, when_and, Others, no_others, others}

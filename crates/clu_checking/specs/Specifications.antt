@@ -1,6 +1,6 @@
 -- What a module shows of itself: its parameters, the headings of its routines as callers see them, and what it asks of
 -- its type parameters.
-use Rattle.std.specs.Prelude.{ℕ, ◌==◌, Bool, true, false, List, [], ◌∷◌, map, find, bytes_eq, if◌then◌else◌, Option, Some, None, codes}
+use Rattle.std.specs.Prelude.{ℕ, Bool, true, false, List, [], map, find, bytes_eq, Option}
 use Rattle.clu_types.specs.CluType.{CluType, proc_of, iter_of, CluTypes, Signals, Actuals}
 use Rattle.clu_types.specs.Substituted.{substituted}
 use Rattle.clu_types.specs.Arena.{type_at, types_at, signals_at}

@@ -1,8 +1,8 @@
 -- The rules on statements: V15 AssignType, V21 NotTagged, V22 TagMissingOrTwice, V28 NotInLoop, V29 NotInIterator,
 -- V30 ReturnValues, and with those on expressions V14 ResultCount, V16 NotBool and V36 IteratorUse.
-use Rattle.std.specs.Prelude.{ℕ, zero, suc, ◌+◌, ◌==◌, ◌&&◌, ◌||◌, not, Bool, true, false, List, [], ◌∷◌, ◌++◌, length, map, flat_map, filter, is_none, is_some, codes, bytes_eq, if◌then◌else◌, Option, Some, None}
+use Rattle.std.specs.Prelude.{ℕ, suc, ◌==◌, ◌&&◌, ◌||◌, not, Bool, true, false, List, [], ◌∷◌, length, map, flat_map, is_none, bytes_eq, if◌then◌else◌, Option, Some, None}
 use Rattle.std.specs.List.{list_any, list_all}
-use Rattle.std.specs.Option.{option_map, option_and_then}
+use Rattle.std.specs.Option.{option_and_then}
 use Rattle.clu_types.specs.CluType.{CluType, bool_type, oneof_of, variant_of, CluTypes, no_types, type_and, Fields, no_fields, field_and}
 use Rattle.clu_layout.specs.SameType.{is_routine_type}
 use Rattle.clu_tree.specs.declared.node.NodeKind.{NodeKind}

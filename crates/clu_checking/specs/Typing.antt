@@ -1,17 +1,15 @@
 -- The types of expressions, each from the types of what stands in it. An expression that violates a rule may have none.
-use Rattle.std.specs.Prelude.{ℕ, ◌++◌, ◌==◌, ◌&&◌, ◌||◌, not, Bool, true, false, List, [], ◌∷◌, map, bytes_eq, codes, if◌then◌else◌, is_some, Option, Some, None}
+use Rattle.std.specs.Prelude.{ℕ, ◌++◌, ◌||◌, Bool, true, false, codes, Option, Some, None}
 use Rattle.std.specs.Option.{option_map, option_and_then}
 use Rattle.clu_base.specs.declared.constants.Const.{Const}
 use Rattle.clu_base.specs.declared.constants.Const.TheVariants as constant
 use Rattle.clu_types.specs.CluType.{CluType, null_type, bool_type, int_type, char_type, string_type, any_type, proc_of, iter_of, CluTypes, no_types, type_and, Signals, no_signals, signal_and, Actuals, no_actuals}
-use Rattle.clu_types.specs.declared.spec.ParamKind.{ParamKind}
-use Rattle.clu_syntax.specs.declared.words.Sign.{Sign}
-use Rattle.clu_syntax.specs.Syntax.{Identifier, Literal, nil, true_literal, false_literal, integer, real, character, string, Expression, an_infix, a_prefix, a_paren, a_literal, a_name, an_index, a_get, a_call, fields, elements, elements_from, an_operation, a_force, an_up, a_down, Constants, TypeExpression}
+use Rattle.clu_syntax.specs.Syntax.{Identifier, Literal, nil, true_literal, false_literal, integer, real, character, string, Expression, an_infix, a_prefix, a_paren, a_literal, a_name, an_index, a_get, a_call, fields, elements, elements_from, an_operation, a_force, an_up, a_down, Constants}
 use Rattle.clu_meaning.specs.Constants.{Sugar, is_cand, is_cor, is_operation, is_negated, sugar, prefix_name}
 use Rattle.clu_meaning.specs.Scoping.{Meaning, is_equate, is_type_set, is_type_parameter, is_constant_parameter, is_local, is_own_of_routine, is_own_of_cluster, is_routine_of_cluster, is_module}
-use Rattle.clu_meaning.specs.Settling.{Value, settled_type, settled_constant, settled_parameter, unsettled, settled, type_settled, actuals_settled}
-use Rattle.clu_checking.specs.Specifications.{Heading, Form, of_routine, of_cluster, Specification}
-use Rattle.clu_checking.specs.Files.{File, meaning, is_known}
+use Rattle.clu_meaning.specs.Settling.{Value, settled_type, settled_constant, settled_parameter, settled, type_settled, actuals_settled}
+use Rattle.clu_checking.specs.Specifications.{Form, of_routine, of_cluster, Specification}
+use Rattle.clu_checking.specs.Files.{File, meaning}
 use Rattle.clu_checking.specs.Equates.{is_set_name}
 use Rattle.clu_checking.specs.Headings.{type_inside, own_type, parameter_type, specification}
 use Rattle.clu_checking.specs.Operations.{Found, routine_found, operation_found}

@@ -1,9 +1,8 @@
 -- What is wanted where a node stands, and the instances of modules that names with actuals are.
-use Rattle.std.specs.Prelude.{ℕ, zero, suc, ◌+◌, ◌-◌, ◌==◌, ◌&&◌, ◌||◌, nat_lt, not, Bool, true, false, List, [], ◌∷◌, length, slice_get, codes, bytes_eq, if◌then◌else◌, Option, Some, None}
+use Rattle.std.specs.Prelude.{ℕ, suc, ◌==◌, ◌&&◌, Bool, true, false, List, [], ◌∷◌, slice_get, if◌then◌else◌, Option, Some, None}
 use Rattle.std.specs.Option.{option_and_then}
 use Rattle.clu_base.specs.declared.constants.Const.{Const}
 use Rattle.clu_base.specs.declared.constants.Const.TheVariants as constant
-use Rattle.clu_types.specs.CluType.{Actuals}
 use Rattle.clu_types.specs.declared.spec.ParamKind.{ParamKind}
 use Rattle.clu_types.specs.declared.spec.ParamKind.TheVariants as param
 use Rattle.clu_types.specs.contracts.spec.ParamKind.{the_type}
@@ -19,7 +18,7 @@ use Rattle.clu_meaning.specs.Settling.{Value, settled_type, settled_constant, se
 use Rattle.clu_checking.specs.Specifications.{Specification}
 use Rattle.clu_checking.specs.Files.{File, item, kind_in, round, parent, children, children_at, names, is_kind, is_kind_at, is_of_module}
 use Rattle.clu_checking.specs.Headings.{parameter_type, kind_of_type, specification}
-use Rattle.clu_checking.specs.Typing.{takes_actuals, constant_type}
+use Rattle.clu_checking.specs.Typing.{takes_actuals}
 
 -- one object; any number of them, for several variables or a call statement; the invocation of a loop; a constant or
 -- type, as the right side of an equate or an actual; a type; the name before actuals; none of these
