@@ -47,7 +47,7 @@ module _ (f : File) where
   by_sugar n name None arguments = []
 
   abbrev pub result_in : Invocation → Option CluType
-  result_in i = option_and_then result_of (found_type f i.invoked)
+  result_in i = option_and_then result_of (found_type i.invoked)
 
   -- of what a comparison gives `not` is invoked
   abbrev pub negations : ℕ → List Invocation → List Invocation

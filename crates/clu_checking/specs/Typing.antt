@@ -66,6 +66,21 @@ abbrev pub representation_of : Value → Option CluType
 representation_of (settled_type t) = Some t
 representation_of _ = None
 
+abbrev pub found_in : Actuals → Form → Option Found
+found_in given (of_routine h) = Some (routine_found given h)
+found_in given (of_cluster ds hs) = None
+
+abbrev pub heading_in : Actuals → Option Specification → Option Found
+heading_in given (Some s) = found_in given s.form
+heading_in given None = None
+
+abbrev pub found_type : Option Found → Option CluType
+found_type found = option_map (λ x. x.type) found
+
+abbrev pub is_type_value : Value → Bool
+is_type_value (settled_type t) = true
+is_type_value _ = false
+
 module _ (f : File) where
   -- ---- names
 
@@ -74,14 +89,6 @@ module _ (f : File) where
   value_type n (settled_parameter k) = parameter_type f n k
   value_type n _ = None
 
-  abbrev pub found_in : Actuals → Form → Option Found
-  found_in given (of_routine h) = Some (routine_found given h)
-  found_in given (of_cluster ds hs) = None
-
-  abbrev pub heading_in : Actuals → Option Specification → Option Found
-  heading_in given (Some s) = found_in given s.form
-  heading_in given None = None
-
   -- the routine of a module, with actuals
   abbrev pub module_found : Identifier → Actuals → Option Found
   module_found name given = heading_in given (specification f name)
@@ -89,9 +96,6 @@ module _ (f : File) where
   -- the routine of the cluster round a node by its name alone
   abbrev pub own_found : ℕ → Identifier → Option Found
   own_found n name = option_and_then (λ t. operation_found f n t name) (own_type f n)
-
-  abbrev pub found_type : Option Found → Option CluType
-  found_type found = option_map (λ x. x.type) found
 
   -- a name by what it denotes
   abbrev pub type_of_meaning : ℕ → Identifier → Meaning → Option CluType
@@ -106,10 +110,6 @@ module _ (f : File) where
 
   abbrev pub name_type : ℕ → Identifier → Option CluType
   name_type n name = type_of_meaning n name (meaning f n name)
-
-  abbrev pub is_type_value : Value → Bool
-  is_type_value (settled_type t) = true
-  is_type_value _ = false
 
   -- brackets after the name hold actuals, and no index: it is a module's, or stands for a type or a type set
   abbrev pub takes_actuals_by : ℕ → Identifier → Meaning → Bool
