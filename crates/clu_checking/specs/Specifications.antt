@@ -3,7 +3,7 @@
 use Rattle.std.specs.Prelude.{ℕ, Bool, true, false, List, [], map, find, bytes_eq, Option}
 use Rattle.clu_types.specs.CluType.{CluType, proc_of, iter_of, CluTypes, Signals, Actuals}
 use Rattle.clu_types.specs.Substituted.{substituted}
-use Rattle.clu_types.specs.Arena.{type_at, types_at, signals_at}
+use Rattle.clu_types.specs.Arena.{type_at, types_at, signals_at, types_of}
 use Rattle.clu_types.specs.declared.spec.ParamKind.{ParamKind}
 use Rattle.clu_types.specs.declared.spec.Demand.{Demand as KeptDemand}
 use Rattle.clu_types.specs.declared.spec.OpSpec.{OpSpec}
@@ -82,4 +82,4 @@ form_told types (kept.Routine op) = of_routine (heading_told types op)
 form_told types (kept.Cluster demands ops) = of_cluster (map (demand_told types) demands) (map (heading_told types) ops)
 
 abbrev pub specification_told : Spec → Specification
-specification_told s = record { name = s.name; kinds = s.kinds; form = form_told s.types s.form }
+specification_told s = record { name = s.name; kinds = s.kinds; form = form_told (types_of s.types) s.form }
