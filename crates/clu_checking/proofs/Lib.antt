@@ -1,9 +1,13 @@
 pub mod Checking
-mod NameSamples
 mod ConstantSamples
-mod ExpressionSamples
-mod DemandSamples
-mod StatementSamples
-mod ExceptionSamples
-mod ModuleSamples
 mod CornerSamples
+mod DemandSamples
+mod ExceptionSamples
+mod ExpressionSamples
+mod ModuleSamples
+mod NameSamples
+mod OrderSamples
+mod RaiseSamples
+mod ScopeSamples
+mod StatementSamples
+mod TypeSamples

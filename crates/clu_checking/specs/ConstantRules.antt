@@ -166,7 +166,7 @@ module _ (f : File) where
   is_no_restriction n = not (denotes_parameter (meaning f n (first_name_at f n))) || has_no_set (item f n).restriction
 
   abbrev pub is_other_variable : TypeSet → Bool
-  is_other_variable (a_type_set n variable asked operations equates) = not (bytes_eq asked variable)
+  is_other_variable (a_type_set n variable asked operations es) = not (bytes_eq asked variable)
 
   abbrev pub is_no_type : NodeKind → ℕ → Bool
   is_no_type kind.NameT n = is_no_type_name n (first_name_at f n)

@@ -88,7 +88,7 @@ module _ (f : File) where
 
   -- by a type set, with its variable replaced by the parameter
   abbrev pub asked_by_set : ℕ → TypeSet → List Demand
-  asked_by_set k (a_type_set n variable asked operations equates) = operations_asked (with_variable n variable k) k operations
+  asked_by_set k (a_type_set n variable asked operations es) = operations_asked (with_variable n variable k) k operations
 
   abbrev pub asked_by : ℕ → ℕ → Option TypeSet → List Demand
   asked_by n k (Some set) = map (asked_at n) (asked_by_set k set)

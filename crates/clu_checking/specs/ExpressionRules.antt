@@ -39,7 +39,7 @@ all_may_fit (t ∷ ts) (type_and wanted rest) = may_fit t wanted && all_may_fit 
 all_may_fit _ _ = true
 
 abbrev pub is_iterator : CluType → Bool
-is_iterator (iter_of args results signals) = true
+is_iterator (iter_of args results ss) = true
 is_iterator _ = false
 
 -- ---- invocations

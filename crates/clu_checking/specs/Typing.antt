@@ -22,18 +22,18 @@ only (type_and t no_types) = Some t
 only _ = None
 
 abbrev pub results_of : CluType → CluTypes
-results_of (proc_of args results signals) = results
-results_of (iter_of args results signals) = results
+results_of (proc_of args results ss) = results
+results_of (iter_of args results ss) = results
 results_of _ = no_types
 
 abbrev pub arguments_of : CluType → CluTypes
-arguments_of (proc_of args results signals) = args
-arguments_of (iter_of args results signals) = args
+arguments_of (proc_of args results ss) = args
+arguments_of (iter_of args results ss) = args
 arguments_of _ = no_types
 
 abbrev pub signals_of : CluType → Signals
-signals_of (proc_of args results signals) = signals
-signals_of (iter_of args results signals) = signals
+signals_of (proc_of args results ss) = ss
+signals_of (iter_of args results ss) = ss
 signals_of _ = no_signals
 
 abbrev pub result_of : CluType → Option CluType
