@@ -14,6 +14,7 @@ use Rattle.clu_names.specs.Scopes.{declared_to}
 use Rattle.clu_literal.specs.Literal.{with_byte}
 use Rattle.clu_layout.specs.Computing.{computing}
 use Rattle.clu_meaning.specs.Settling.{unfolded_to}
+use Rattle.clu_checking.specs.Specifications.{Specification}
 use Rattle.clu_checking.specs.Files.{checked_file}
 use Rattle.clu_checking.specs.Equates.{leads_far, set_in}
 use Rattle.clu_checking.specs.Refusals.{is_bad_in, refusal}
@@ -34,12 +35,19 @@ rounds_from nodes (suc k) rounds = rounds_from nodes k (with_children nodes k (s
 abbrev pub surroundings : List Node → List Round
 surroundings nodes = rounds_from nodes (length nodes) (replicate (length nodes) outside)
 
--- a file without a library is refused by this rule at this place, or accepted
+-- a file under these specifications is refused by this rule at this place, or accepted
+abbrev pub IsRefusedUnder : List Specification → List Node → Rule → ℕ → ℕ → Type 0
+IsRefusedUnder library nodes rule line col = refusal (checked_file nodes (surroundings nodes) library) ≡ Some (record { rule = rule; place = record { line = line; col = col } })
+
+abbrev pub IsFineUnder : List Specification → List Node → Type 0
+IsFineUnder library nodes = refusal (checked_file nodes (surroundings nodes) library) ≡ None
+
+-- the same without a library
 abbrev pub IsRefused : List Node → Rule → ℕ → ℕ → Type 0
-IsRefused nodes rule line col = refusal (checked_file nodes (surroundings nodes) []) ≡ Some (record { rule = rule; place = record { line = line; col = col } })
+IsRefused nodes rule line col = IsRefusedUnder [] nodes rule line col
 
 abbrev pub IsFine : List Node → Type 0
-IsFine nodes = refusal (checked_file nodes (surroundings nodes) []) ≡ None
+IsFine nodes = IsFineUnder [] nodes
 
 -- all that doesn't unfold by itself
 unfoldable pub checking : Unit {0}

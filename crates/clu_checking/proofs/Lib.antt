@@ -6,8 +6,10 @@ mod ExceptionSamples
 mod ExpressionSamples
 mod ModuleSamples
 mod NameSamples
+mod OperationSamples
 mod OrderSamples
 mod RaiseSamples
 mod ScopeSamples
+mod SpecificationSamples
 mod StatementSamples
 mod TypeSamples
