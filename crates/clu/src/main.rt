@@ -1,16 +1,10 @@
-//! The program `clu`: its arguments become words, and the terminal, the pipes and the disk become
-//! the objects that the commands work on.
+//! The program `clu`: its arguments become words, and the terminal, the pipes and the disk of the process are handed to
+//! the command that they say.
 #![tactic(auto)]
 
-mod disk;
-mod streams;
-#[cfg(test)]
-mod tests;
-
-use crate::disk::Disk;
-use crate::streams::{InputStream, OutputStream};
 use clu_base::{Memory, Sink};
 use clu_driver::{Outcome, clu, report};
+use clu_host::{Disk, InputStream, OutputStream};
 use std::alloc::Global;
 use std::env;
 use std::io::ErrorKind;

@@ -8,8 +8,6 @@ mod operands;
 mod places;
 mod reading;
 mod rows;
-#[cfg(test)]
-mod tests;
 mod writing;
 
 pub use crate::reading::read_asm;

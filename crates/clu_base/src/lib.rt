@@ -12,8 +12,6 @@ mod input;
 mod output;
 mod rules;
 mod sequences;
-#[cfg(test)]
-mod tests;
 mod tokens;
 
 pub use crate::byte_string::Bytes;

@@ -1,14 +1,19 @@
 -- What a status alone says, by the outcome that has it.
-use Rattle.std.proofs.Common.{◌≡◌, ◌≢◌, ◌⊎◌, ◌∙◌, ◌==◌, ℕ, Bool, true, List, [], ◌∷◌, Option, Some, None, inl, inr, refl, sym, ap, subst, arith}
+use Rattle.std.proofs.Common.{◌≡◌, ◌≢◌, ◌⊎◌, ◌∙◌, ◌==◌, ℕ, Bool, true, List, [], ◌∷◌, Option, Some, None, inl, inr, refl, sym, ap, subst, arith, map}
 use Rattle.clu_base.proofs.Written.{appended-nil}
 use Rattle.clu_base.specs.Outside.{Files, appended}
+use Rattle.std.specs.Char.{to_ascii_lowercase}
 use Rattle.std.specs.List.{list_any}
+use Rattle.clu_library.specs.Contents as library
+use Rattle.clu_tree.specs.declared.node.Node.{Node}
 use Rattle.rv_isa.specs.Image.{Contents}
 use Rattle.clu_words.specs.Command.{Limits, Meant}
 use Rattle.clu_words.specs.Command as command
-use Rattle.clu_driver.specs.Commands.{CluShows, CommandShows, GenShows, IsRefusal, NotPut, PutShows, TextShows}
+use Rattle.clu_driver.specs.Commands.{CluShows, CommandShows, GenShows, IsRefusal, PutShows}
+use Rattle.clu_driver.specs.Puts.{NotPut}
+use Rattle.clu_driver.specs.Shows.{Reported, RunShows, TextShows}
+use Rattle.clu_driver.specs.Libraries.{CompileShows, CompiledShows, EnteredShows, LibraryShows, LinkShows, LinkedShows, NotGathered, NotLibrary, SpecifiedShows, SpecifyShows}
 use Rattle.clu_driver.specs.Outcome.{IsTold, line_of, status_of, text_of}
-use Rattle.clu_driver.specs.Shows.{Reported, RunShows}
 use Rattle.clu_driver.specs.Sources.{NotCompiled}
 use Rattle.clu_driver.specs.World.{Streams, World}
 use Rattle.clu_driver.specs.declared.outcome.Outcome.{Outcome}
@@ -26,23 +31,71 @@ not_compiled : (name : List ℕ) (files : Option Files) (faults faults' : ℕ) �
 not_compiled name files faults faults' (inl unread) = unread
 not_compiled name files faults faults' (inr unmade) = elim unmade.2 [ inl refused ↦ refused | inr unbuilt ↦ unbuilt.1.2 ]
 
+-- nor does what is read of a library and a source, nor an entry
+not_library : (name : List ℕ) (faults faults' : ℕ) → NotLibrary outcome.Usage name faults faults' → ⊥
+not_library name faults faults' (inl unreadable) = unreadable
+not_library name faults faults' (inr unknown) = unknown
+
+not_gathered : (library file : List ℕ) (files : Option Files) (faults faults' : ℕ) → NotGathered outcome.Usage library file files faults faults' → ⊥
+not_gathered library file files faults faults' (inl unread) = not_library library faults faults' unread
+not_gathered library file files faults faults' (inr unparsed) = unparsed.2
+
+not_put : (name : List ℕ) (kept : library.Contents) (files files' : Option Files) (faults faults' : ℕ) → LibraryShows outcome.Usage name kept files files' faults faults' → ⊥
+not_put name kept files files' faults faults' (inl memory) = let no : outcome.Usage ≡ outcome.Memory = memory.0 in cc
+not_put name kept files files' faults faults' (inr torn) = torn
+
+not_linked : (name program start : List ℕ) (files files' : Option Files) (faults faults' : ℕ) → LinkedShows outcome.Usage name program start files faults files' faults' → ⊥
+not_linked name program start files files' faults faults' (inl refused) = refused.0
+not_linked name program start files files' faults faults' (inr linked) = not_put name linked.1 files files' faults faults' linked.3
+
+not_entered : (name : List ℕ) (files files' : Option Files) (faults faults' : ℕ) → EnteredShows outcome.Usage name files faults files' faults' → ⊥
+not_entered name files files' faults faults' (inl refused) = refused.0
+not_entered name files files' faults faults' (inr kept) = not_put name kept.0 files files' faults faults' kept.1
+
+not_specified : (name file : List ℕ) (files files' : Option Files) (faults faults' : ℕ) → SpecifiedShows outcome.Usage name file files faults files' faults' → ⊥
+not_specified name file files files' faults faults' (inl refused) = refused.0
+not_specified name file files files' faults faults' (inr entered) = not_entered name files files' faults faults' entered
+
+not_accepted : (name file : List ℕ) (nodes : List Node) (files files' : Option Files) (faults faults' : ℕ) → CompiledShows outcome.Usage name file nodes files faults files' faults' → ⊥
+not_accepted name file nodes files files' faults faults' (inl refused) = refused.0
+not_accepted name file nodes files files' faults faults' (inr entered) = not_entered name files files' faults faults' entered.1
+
 -- only words that are no command come to Usage
 usage_shown : (meant : Option Meant) (before after : World) → CommandShows meant outcome.Usage before after → meant ≡ None
+unfolding SpecifyShows CompileShows LinkShows
 usage_shown None before after shown = refl
 usage_shown (Some (command.go file image limits peep trace)) before after (inl refused) = elim (not_compiled file before.files before.store_faults after.store_faults refused.0) [ ]
 usage_shown (Some (command.go file image limits peep trace)) before after (inr put) = elim put.1.3 [ inl notput ↦ elim notput.0 [ ] | inr ran ↦ elim ran.1.ends [ ] ]
 usage_shown (Some (command.exec image limits)) before after (inl refused) = elim refused.0 [ ]
 usage_shown (Some (command.exec image limits)) before after (inr ran) = elim ran.1.2.ends [ ]
 usage_shown (Some (command.gen procedures)) before after shown = elim shown.2 [ ]
-usage_shown (Some (command.spec a b)) before after shown = cc
-usage_shown (Some (command.replace a b)) before after shown = cc
-usage_shown (Some (command.compile a b p)) before after shown = cc
-usage_shown (Some (command.link a b d)) before after shown = cc
-usage_shown (Some (command.run a b l)) before after shown = cc
+usage_shown (Some (command.spec a b)) before after shown = elim shown.1 [
+  | inl refused ↦ elim (not_gathered a b before.files before.store_faults after.store_faults refused.0) [ ]
+  | inr entered ↦ elim (not_specified a b before.files after.files entered.2.0 after.store_faults entered.2.2) [ ]
+]
+usage_shown (Some (command.replace a b)) before after shown = elim shown.1 [
+  | inl refused ↦ elim (not_gathered a b before.files before.store_faults after.store_faults refused.0) [ ]
+  | inr entered ↦ elim (not_specified a b before.files after.files entered.2.0 after.store_faults entered.2.2) [ ]
+]
+usage_shown (Some (command.compile a b p)) before after shown = elim shown.1 [
+  | inl refused ↦ elim (not_gathered a b before.files before.store_faults after.store_faults refused.0) [ ]
+  | inr entered ↦ elim (not_accepted a b entered.0 before.files after.files entered.2.0 after.store_faults entered.2.2) [ ]
+]
+usage_shown (Some (command.link a b d)) before after shown = elim shown.1 [
+  | inl refused ↦ elim (not_library a before.store_faults after.store_faults refused.0) [ ]
+  | inr entered ↦ elim (not_linked a b (map to_ascii_lowercase d) before.files after.files entered.0 after.store_faults entered.2) [ ]
+]
+usage_shown (Some (command.run a b l)) before after shown = elim shown.1 [
+  | inl refused ↦ elim (not_library a before.store_faults after.store_faults refused.0) [ ]
+  | inr program ↦ elim program [ inl none ↦ elim none.0 [ ] | inr ran ↦ elim ran.1.ends [ ] ]
+]
 usage_shown (Some (command.list a)) before after shown = elim shown.1.1 [ inl refused ↦ elim refused.0 [ ] | inr written ↦ elim written.2 [ ] ]
 usage_shown (Some (command.asm a b)) before after shown = elim shown.1 [ inl refused ↦ elim refused.0 [ ] | inr put ↦ elim put.2.2 [ ] ]
 usage_shown (Some (command.print a)) before after shown = elim shown.1.1 [ inl refused ↦ elim refused.0 [ ] | inr written ↦ elim written.2 [ ] ]
-usage_shown (Some (command.xref a)) before after shown = cc
+usage_shown (Some (command.xref a)) before after shown = elim shown.1.1 [
+  | inl refused ↦ elim (not_library a before.store_faults after.store_faults refused.0) [ ]
+  | inr written ↦ elim written.1 [ ]
+]
 
 -- the status is the outcome's, or the line could not be written
 status_is : (how : Outcome) (status : ℕ) (old new : Option (List ℕ)) (faults faults' : ℕ) → IsTold how status old new faults faults' → (status ≡ status_of how) ⊎ (status ≡ 23)
@@ -93,7 +146,7 @@ quiet Shows status old new faults faults' r zero = elim r.told [
 
 -- a status with which a command is refused is one of these numbers
 abbrev refusing : ℕ → Bool
-refusing n = list_any (λ m. m == n) (2 ∷ 10 ∷ 11 ∷ 14 ∷ 16 ∷ 17 ∷ 18 ∷ 20 ∷ 21 ∷ 24 ∷ 25 ∷ 26 ∷ 27 ∷ 30 ∷ [])
+refusing n = list_any (λ m. m == n) (2 ∷ 10 ∷ 11 ∷ 12 ∷ 13 ∷ 14 ∷ 15 ∷ 16 ∷ 17 ∷ 18 ∷ 19 ∷ 20 ∷ 21 ∷ 24 ∷ 25 ∷ 26 ∷ 27 ∷ 28 ∷ 29 ∷ 30 ∷ 31 ∷ [])
 
 refusal_test : (n : ℕ) → IsRefusal n → refusing n ≡ true
 refusal_test n (inl e) = rw e refl
@@ -109,7 +162,14 @@ refusal_test n (inr (inr (inr (inr (inr (inr (inr (inr (inr (inl e)))))))))) = r
 refusal_test n (inr (inr (inr (inr (inr (inr (inr (inr (inr (inr (inl e))))))))))) = rw e refl
 refusal_test n (inr (inr (inr (inr (inr (inr (inr (inr (inr (inr (inr (inl e)))))))))))) = rw e refl
 refusal_test n (inr (inr (inr (inr (inr (inr (inr (inr (inr (inr (inr (inr (inl e))))))))))))) = rw e refl
-refusal_test n (inr (inr (inr (inr (inr (inr (inr (inr (inr (inr (inr (inr (inr e))))))))))))) = rw e refl
+refusal_test n (inr (inr (inr (inr (inr (inr (inr (inr (inr (inr (inr (inr (inr (inl e)))))))))))))) = rw e refl
+refusal_test n (inr (inr (inr (inr (inr (inr (inr (inr (inr (inr (inr (inr (inr (inr (inl e))))))))))))))) = rw e refl
+refusal_test n (inr (inr (inr (inr (inr (inr (inr (inr (inr (inr (inr (inr (inr (inr (inr (inl e)))))))))))))))) = rw e refl
+refusal_test n (inr (inr (inr (inr (inr (inr (inr (inr (inr (inr (inr (inr (inr (inr (inr (inr (inl e))))))))))))))))) = rw e refl
+refusal_test n (inr (inr (inr (inr (inr (inr (inr (inr (inr (inr (inr (inr (inr (inr (inr (inr (inr (inl e)))))))))))))))))) = rw e refl
+refusal_test n (inr (inr (inr (inr (inr (inr (inr (inr (inr (inr (inr (inr (inr (inr (inr (inr (inr (inr (inl e))))))))))))))))))) = rw e refl
+refusal_test n (inr (inr (inr (inr (inr (inr (inr (inr (inr (inr (inr (inr (inr (inr (inr (inr (inr (inr (inr (inl e)))))))))))))))))))) = rw e refl
+refusal_test n (inr (inr (inr (inr (inr (inr (inr (inr (inr (inr (inr (inr (inr (inr (inr (inr (inr (inr (inr (inr e)))))))))))))))))))) = rw e refl
 
 -- a run that is refused has written nothing
 ran_refused : (how : Outcome) (image : Contents) (limits : Limits) (before after : Streams) → IsRefusal (status_of how) → RunShows how image limits before after → after.written ≡ before.written
@@ -154,12 +214,18 @@ refused_shown (Some (command.list a)) before after how h shown = elim shown.1.1 
   | inr text ↦ text_refused how text.0 before.streams.written before.streams.write_faults after.streams.written after.streams.write_faults h text.2
 ]
 refused_shown (Some (command.asm a b)) before after how h shown = shown.0.written
-refused_shown (Some (command.spec a b)) before after how h shown = shown.1.1.written
-refused_shown (Some (command.replace a b)) before after how h shown = shown.1.1.written
-refused_shown (Some (command.compile a b p)) before after how h shown = shown.1.1.written
-refused_shown (Some (command.link a b d)) before after how h shown = shown.1.1.written
-refused_shown (Some (command.run a b l)) before after how h shown = shown.1.1.written
-refused_shown (Some (command.xref a)) before after how h shown = shown.1.1.written
+refused_shown (Some (command.spec a b)) before after how h shown = shown.0.written
+refused_shown (Some (command.replace a b)) before after how h shown = shown.0.written
+refused_shown (Some (command.compile a b p)) before after how h shown = shown.0.written
+refused_shown (Some (command.link a b d)) before after how h shown = shown.0.written
+refused_shown (Some (command.run a b l)) before after how h shown = elim shown.1 [
+  | inl refused ↦ refused.1.written
+  | inr program ↦ elim program [ inl none ↦ none.1.written | inr ran ↦ ran_refused how ran.0 l before.streams after.streams h ran.1 ]
+]
+refused_shown (Some (command.xref a)) before after how h shown = elim shown.1.1 [
+  | inl refused ↦ refused.1
+  | inr text ↦ text_refused how text.0 before.streams.written before.streams.write_faults after.streams.written after.streams.write_faults h text.1
+]
 
 refused_by : (meant : Option Meant) (before after : World) (how : Outcome) → IsRefusal (status_of how) → CluShows meant how before after → after.streams.written ≡ before.streams.written
 refused_by meant before after how h (inl memory) = memory.1.1.written

@@ -16,7 +16,8 @@ use Rattle.clu_tree.specs.declared.node.Node.{Node}
 use Rattle.clu_words.specs.Command.{Limits}
 use Rattle.rv_isa.specs.Image.{Contents}
 use Rattle.clu_asm.specs.AssemblyText.{asm_text}
-use Rattle.clu_driver.specs.Commands.{AsmShows, AssembledShows, GoShows, IsNoText, NotPut, PutShows}
+use Rattle.clu_driver.specs.Commands.{AsmShows, AssembledShows, GoShows, IsNoText, PutShows}
+use Rattle.clu_driver.specs.Puts.{NotPut}
 use Rattle.clu_driver.specs.Found.{IsFound}
 use Rattle.clu_driver.specs.Sources.{IsAccepted, IsParsed, IsRefusedBy, IsSource, NotCompiled, NotMade, NotParsed, NotSource}
 use Rattle.clu_driver.specs.World.{Streams, World, world_of}
@@ -57,7 +58,7 @@ pub found_text : (files : Option Files) (name bytes text : List ℕ) → IsFound
 found_text files name bytes text found same = let P : List ℕ → Type 0 = λ t. IsFound files name (λ b. b ≡ t) in subst P same found
 
 -- what holds of the content that was read holds of the file
-found_with : (P : List ℕ → Type 0) (files : Option Files) (name bytes : List ℕ) → IsFound files name (λ b. b ≡ bytes) → P bytes → IsFound files name P
+pub found_with : (P : List ℕ → Type 0) (files : Option Files) (name bytes : List ℕ) → IsFound files name (λ b. b ≡ bytes) → P bytes → IsFound files name P
 found_with P None name bytes found p = tt
 found_with P (Some all) name bytes found p = (found.0, found.1, subst P (sym found.2) p)
 
@@ -95,25 +96,22 @@ found_large (Some all) name first most found large = (found.0, found.1, longer m
     longer : (most : ℕ) (bytes first : List ℕ) → take (most + 1) bytes ≡ first → most < length first → most < length bytes
     longer most bytes first is large = let cut = length-take (most + 1) bytes in let same = ap length is in omega (arith, cut, same, large)
 
-pub not_parsed : (how : Outcome) (name first : List ℕ) (files : Option Files) (faults faults' : ℕ) → IsFound files name (λ b. take 1048577 b ≡ first) → NotSource how name first → NotParsed how name files faults faults'
-not_parsed (outcome.Refused n r) name first files faults faults' found why = (why.0, found_with (λ b. IsRefusedBy b r) files name first (found_whole files name first 1048576 found why.1.0) why.1)
-not_parsed (outcome.SourceTooLarge n) name first files faults faults' found why = (why.0, found_large files name first 1048576 found why.1)
-not_parsed outcome.Memory name first files faults faults' found why = tt
-not_parsed _ name first files faults faults' found why = elim why [ ]
+-- so why content is no source that is parsed is why the file is none
+pub not_parsed : (how : Outcome) (name bytes : List ℕ) (files : Option Files) (faults faults' : ℕ) → IsFound files name (λ b. b ≡ bytes) → NotSource how name bytes → NotParsed how name files faults faults'
+not_parsed (outcome.Refused n r) name bytes files faults faults' found why = (why.0, found_with (λ b. IsRefusedBy b r) files name bytes found why.1)
+not_parsed outcome.Memory name bytes files faults faults' found why = tt
+not_parsed _ name bytes files faults faults' found why = elim why [ ]
 
--- so the file of a source that was parsed has its bytes
-pub found_source : (result : Result Parsed Outcome) (first name : List ℕ) (files : Option Files) → IsFound files name (λ b. take 1048577 b ≡ first)
-    → IfOk result (λ source. source.bytes.items ≡ first) → IfOk result (λ source. IsSource source.bytes.items source.tokens.items source.tree)
-    → IfOk result (λ source. IsFound files name (λ b. b ≡ source.bytes.items))
-found_source (Err how) first name files found same parsed = tt
-found_source (Ok source) first name files found same parsed =
-    let P : List ℕ → Type 0 = λ f. IsFound files name (λ b. take 1048577 b ≡ f) in
-    found_whole files name source.bytes.items 1048576 (subst P (sym same) found) parsed.small
+-- and the file of a source that was parsed has its bytes
+pub found_source : (result : Result Parsed Outcome) (bytes name : List ℕ) (files : Option Files) → IsFound files name (λ b. b ≡ bytes)
+    → IfOk result (λ source. source.bytes.items ≡ bytes) → IfOk result (λ source. IsFound files name (λ b. b ≡ source.bytes.items))
+found_source (Err how) bytes name files found same = tt
+found_source (Ok source) bytes name files found same = let P : List ℕ → Type 0 = λ f. IsFound files name (λ b. b ≡ f) in subst P (sym same) found
 
-pub refused_source : (result : Result Parsed Outcome) (first name : List ℕ) (files : Option Files) (faults faults' : ℕ) → IsFound files name (λ b. take 1048577 b ≡ first)
-    → IfErr result (λ how. NotSource how name first) → IfErr result (λ how. NotParsed how name files faults faults')
-refused_source (Ok source) first name files faults faults' found why = tt
-refused_source (Err how) first name files faults faults' found why = not_parsed how name first files faults faults' found why
+pub refused_source : (result : Result Parsed Outcome) (bytes name : List ℕ) (files : Option Files) (faults faults' : ℕ) → IsFound files name (λ b. b ≡ bytes)
+    → IfErr result (λ how. NotSource how name bytes) → IfErr result (λ how. NotParsed how name files faults faults')
+refused_source (Ok source) bytes name files faults faults' found why = tt
+refused_source (Err how) bytes name files faults faults' found why = not_parsed how name bytes files faults faults' found why
 
 -- the parser's refusal of what was lexed and read is one of the source
 pub read_fault : (bytes read : List ℕ) (tokens lexed : List Token) (error known : ParseError) → error ≡ known → read ≡ bytes → lexed ≡ tokens

@@ -1,5 +1,6 @@
 pub mod ByStatus
 pub mod FailureText
 pub mod Found
+pub mod Entered
 pub mod Repeated
 pub mod Runs

@@ -1,6 +1,6 @@
 -- What each command shows of its outcome.
 use Rattle.std.specs.Prelude.{◌≡◌, ◌≢◌, ◌≤◌, ◌⊎◌, ℕ, List, Option, Some, None, IfSome, option_map}
-use Rattle.clu_base.specs.Outside.{Files, GrewWithin, IsTorn, Rose, appended, with_file}
+use Rattle.clu_base.specs.Outside.{Files, GrewWithin, Rose, appended}
 use Rattle.clu_base.specs.declared.tokens.Token.{Token}
 use Rattle.clu_asm.specs.AssemblyText.{asm_text}
 use Rattle.clu_image.specs.Faults.{fault_of}
@@ -12,7 +12,9 @@ use Rattle.clu_words.specs.Command as command
 use Rattle.rv_isa.specs.Image.{Contents, IsImage}
 use Rattle.clu_driver.specs.Found.{IsFound, NotRead}
 use Rattle.clu_driver.specs.Generated.{generated_text}
-use Rattle.clu_driver.specs.Shows.{RunShows}
+use Rattle.clu_driver.specs.Libraries.{CompileShows, LinkShows, RunOfShows, SpecifyShows, XrefShows}
+use Rattle.clu_driver.specs.Puts.{IsPut, NotPut}
+use Rattle.clu_driver.specs.Shows.{RunShows, TextShows}
 use Rattle.clu_driver.specs.Sources.{IsAccepted, IsSource, NotCompiled, NotParsed}
 use Rattle.clu_driver.specs.World.{IsUnrun, IsUntouched, World, world_of}
 use Rattle.clu_driver.specs.declared.outcome.Outcome.{Outcome}
@@ -22,16 +24,6 @@ use Rattle.clu_driver.specs.declared.outcome.Outcome.TheVariants as outcome
 abbrev pub NotLoaded : Outcome → List ℕ → Option Files → ℕ → ℕ → Type 0
 NotLoaded (outcome.ImageBad at) name files faults faults' = IsFound files name (λ bytes. fault_of bytes ≡ Some at)
 NotLoaded how name files faults faults' = NotRead how name files faults faults'
-
--- why a file was not put, and what stands under its name then
-abbrev pub NotPut : Outcome → List ℕ → List ℕ → Option Files → Option Files → ℕ → ℕ → Type 0
-NotPut (outcome.FileFault n) name bytes files files' faults faults' = (n.now ≡ name) × Rose faults faults' × IsTorn files files' name bytes
-NotPut outcome.Memory name bytes files files' faults faults' = files' ≡ files
-NotPut _ name bytes files files' faults faults' = ⊥
-
--- a file was put
-abbrev pub IsPut : List ℕ → List ℕ → Option Files → Option Files → Type 0
-IsPut name bytes files files' = files' ≡ option_map (λ all. with_file all name bytes) files
 
 -- a file of this image was put, from which the same image is loaded
 abbrev pub IsImagePut : List ℕ → Contents → Option Files → Option Files → Type 0
@@ -66,12 +58,6 @@ GenShows _ n written written' faults faults' = ⊥
 -- the text is what the printer makes of a source of these bytes
 abbrev pub IsPrintOf : List ℕ → List ℕ → Type 0
 IsPrintOf bytes text = (tokens : List Token) × (nodes : List Node) × IsSource bytes tokens nodes × (text ≡ printed bytes tokens nodes)
-
--- a text was written, or some first bytes of it
-abbrev pub TextShows : Outcome → List ℕ → Option (List ℕ) → ℕ → Option (List ℕ) → ℕ → Type 0
-TextShows outcome.Done text written faults written' faults' = written' ≡ appended written text
-TextShows outcome.WriteFault text written faults written' faults' = Rose faults faults' × GrewWithin written written' text
-TextShows _ text written faults written' faults' = ⊥
 
 -- the printed text of the file was written, or some first bytes of it
 abbrev pub PrintShows : Outcome → List ℕ → Option Files → Option (List ℕ) → ℕ → Option (List ℕ) → ℕ → Type 0
@@ -138,14 +124,27 @@ CommandShows (Some (command.list image)) how before after =
     after.files after.store_faults after.streams.written after.streams.write_faults
 CommandShows (Some (command.asm file image)) how before after =
     IsUnrun before.streams after.streams × AsmShows how file image before.files before.store_faults after.files after.store_faults
-CommandShows (Some _) how before after = (how ≡ outcome.NotYet) × IsUntouched before after
+CommandShows (Some (command.spec library file)) how before after =
+    IsUnrun before.streams after.streams × SpecifyShows how library file before.files before.store_faults after.files after.store_faults
+CommandShows (Some (command.replace library file)) how before after =
+    IsUnrun before.streams after.streams × SpecifyShows how library file before.files before.store_faults after.files after.store_faults
+CommandShows (Some (command.compile library file peep)) how before after =
+    IsUnrun before.streams after.streams × CompileShows how library file before.files before.store_faults after.files after.store_faults
+CommandShows (Some (command.link library program start)) how before after =
+    IsUnrun before.streams after.streams × LinkShows how library program start before.files before.store_faults after.files after.store_faults
+CommandShows (Some (command.run library program limits)) how before after = RunOfShows how library program limits before after
+CommandShows (Some (command.xref library)) how before after =
+    (after.streams.left ≡ before.streams.left)
+    × XrefShows how library before.files before.store_faults before.streams.written before.streams.write_faults
+    after.files after.store_faults after.streams.written after.streams.write_faults
 
 -- the same, or memory for reading the words was refused
 abbrev pub CluShows : Option Meant → Outcome → World → World → Type 0
 CluShows meant how before after = ((how ≡ outcome.Memory) × IsUntouched before after) ⊎ CommandShows meant how before after
 
--- a status with which a command is refused: its words, its files, its image or source, its program, or memory
+-- a status with which a command is refused: its words, its files, its image, library or source, its program, or memory
 abbrev pub IsRefusal : ℕ → Type 0
 IsRefusal status =
-    (status ≡ 2) ⊎ ((status ≡ 10) ⊎ ((status ≡ 11) ⊎ ((status ≡ 14) ⊎ ((status ≡ 16) ⊎ ((status ≡ 17) ⊎ ((status ≡ 18) ⊎ ((status ≡ 20)
-    ⊎ ((status ≡ 21) ⊎ ((status ≡ 24) ⊎ ((status ≡ 25) ⊎ ((status ≡ 26) ⊎ ((status ≡ 27) ⊎ (status ≡ 30)))))))))))))
+    (status ≡ 2) ⊎ ((status ≡ 10) ⊎ ((status ≡ 11) ⊎ ((status ≡ 12) ⊎ ((status ≡ 13) ⊎ ((status ≡ 14) ⊎ ((status ≡ 15) ⊎ ((status ≡ 16)
+    ⊎ ((status ≡ 17) ⊎ ((status ≡ 18) ⊎ ((status ≡ 19) ⊎ ((status ≡ 20) ⊎ ((status ≡ 21) ⊎ ((status ≡ 24) ⊎ ((status ≡ 25) ⊎ ((status ≡ 26)
+    ⊎ ((status ≡ 27) ⊎ ((status ≡ 28) ⊎ ((status ≡ 29) ⊎ ((status ≡ 30) ⊎ (status ≡ 31))))))))))))))))))))

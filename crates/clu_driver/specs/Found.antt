@@ -8,6 +8,12 @@ use Rattle.clu_driver.specs.declared.outcome.Outcome.TheVariants as outcome
 abbrev pub IsFound : Option Files → List ℕ → (List ℕ → Type 0) → Type 0
 IsFound files name P = IfSome files (λ all. (bytes : List ℕ) × (all name ≡ Some bytes) × P bytes)
 
+-- why it is not known what a file has, if anything: the store failed, or memory was refused
+abbrev pub NotHad : Outcome → List ℕ → ℕ → ℕ → Type 0
+NotHad (outcome.FileFault n) name faults faults' = (n.now ≡ name) × Rose faults faults'
+NotHad outcome.Memory name faults faults' = Unit {0}
+NotHad _ name faults faults' = ⊥
+
 -- why a file was not read: there is none, the store failed, or memory was refused
 abbrev pub NotRead : Outcome → List ℕ → Option Files → ℕ → ℕ → Type 0
 NotRead (outcome.NoFile n) name files faults faults' = (n.now ≡ name) × IfSome files (λ all. all name ≡ None)

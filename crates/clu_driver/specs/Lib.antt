@@ -1,8 +1,10 @@
-pub mod Built
 pub mod Commands
 pub mod Found
 pub mod Generated
+pub mod Libraries
 pub mod Outcome
+pub mod Puts
+pub mod Refusals
 pub mod Shows
 pub mod Sources
 pub mod World

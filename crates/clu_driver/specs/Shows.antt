@@ -1,6 +1,6 @@
 -- What each outcome of a command shows of the call.
 use Rattle.std.specs.Prelude.{◌≡◌, ◌⊎◌, ℕ, List, [], Option, Some, None, IfSome, IsSome, option_map}
-use Rattle.clu_base.specs.Outside.{IsTorn, Rose, appended, with_file}
+use Rattle.clu_base.specs.Outside.{GrewWithin, IsTorn, Rose, appended, with_file}
 use Rattle.clu_image.specs.Faults.{fault_of}
 use Rattle.clu_image.specs.ImageFile.{IsFileOf, image_bytes}
 use Rattle.clu_words.specs.Command.{Limits}
@@ -62,6 +62,12 @@ pub record Ran (how : Outcome) (image : Contents) (limits : Limits) (before afte
 abbrev pub RunShows : Outcome → Contents → Limits → Streams → Streams → Type 0
 RunShows outcome.Memory image limits before after = after.written ≡ before.written
 RunShows how image limits before after = Ran how image limits before after
+
+-- a text was written, or some first bytes of it
+abbrev pub TextShows : Outcome → List ℕ → Option (List ℕ) → ℕ → Option (List ℕ) → ℕ → Type 0
+TextShows outcome.Done text written faults written' faults' = written' ≡ appended written text
+TextShows outcome.WriteFault text written faults written' faults' = Rose faults faults' × GrewWithin written written' text
+TextShows _ text written faults written' faults' = ⊥
 
 -- a command came to an outcome that shows this, and its status and line were told
 pub record Reported (Shows : Outcome → Type 0) (status : ℕ) (old new : Option (List ℕ)) (faults_before faults_after : ℕ) : Type 0 where

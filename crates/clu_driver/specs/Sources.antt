@@ -47,18 +47,21 @@ IsRefusedBy bytes r =
     × (((r.rule ≡ rule.Syntax) × parser.IsFault bytes tokens (parse.Syntax r.place))
     ⊎ ((r.rule ≡ rule.TooDeep) × parser.IsFault bytes tokens (parse.TooDeep r.place)))))
 
+-- why the content of a source is not got: it is more than a source may have, or the file was not read
+abbrev pub NotGot : Outcome → List ℕ → Option Files → ℕ → ℕ → Type 0
+NotGot (outcome.SourceTooLarge n) name files faults faults' = (n.now ≡ name) × IsFound files name (λ bytes. 1048576 < length bytes)
+NotGot how name files faults faults' = NotRead how name files faults faults'
+
 -- why bytes are no source that is parsed
 abbrev pub NotSource : Outcome → List ℕ → List ℕ → Type 0
 NotSource (outcome.Refused n r) name bytes = (n.now ≡ name) × IsRefusedBy bytes r
-NotSource (outcome.SourceTooLarge n) name bytes = (n.now ≡ name) × (1048576 < length bytes)
 NotSource outcome.Memory name bytes = Unit {0}
 NotSource _ name bytes = ⊥
 
--- the same of a file, or why it was not read
+-- the same of a file, or why its content is not got
 abbrev pub NotParsed : Outcome → List ℕ → Option Files → ℕ → ℕ → Type 0
 NotParsed (outcome.Refused n r) name files faults faults' = (n.now ≡ name) × IsFound files name (λ bytes. IsRefusedBy bytes r)
-NotParsed (outcome.SourceTooLarge n) name files faults faults' = (n.now ≡ name) × IsFound files name (λ bytes. 1048576 < length bytes)
-NotParsed how name files faults faults' = NotRead how name files faults faults'
+NotParsed how name files faults faults' = NotGot how name files faults faults'
 
 -- what a refusal by the check comes to
 abbrev pub IsRefusalOf : CheckError → Outcome → List ℕ → Type 0
@@ -74,6 +77,14 @@ NotAccepted (outcome.Refused n r) name nodes = (n.now ≡ name) × IsOfTree node
 NotAccepted outcome.Memory name nodes = Unit {0}
 NotAccepted outcome.NotYet name nodes = Unit {0}
 NotAccepted _ name nodes = ⊥
+
+-- why the headings of a source are refused: a rule on modules is, or memory was. No definition says yet which rule it is, nor
+-- when NotYet comes
+abbrev pub NotHeaded : Outcome → List ℕ → Type 0
+NotHeaded (outcome.Refused n r) name = n.now ≡ name
+NotHeaded outcome.Memory name = Unit {0}
+NotHeaded outcome.NotYet name = Unit {0}
+NotHeaded _ name = ⊥
 
 -- of these specifications, the first of the module with which a program starts
 abbrev pub start_in : List Spec → Option Spec

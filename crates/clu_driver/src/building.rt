@@ -6,10 +6,10 @@ ghost use Rattle.std.specs.Str.{bytes_eq};
 ghost use Rattle.clu_tree.specs.Nodes.{modules};
 ghost use Rattle.clu_driver.specs.Sources.{NotBuilt, start_in};
 
-use crate::build_error::BuildError;
-use crate::entering::{Text, enter};
 use crate::outcome::Outcome;
+use crate::refusals::refusal_of_file;
 use clu_base::Bytes;
+use clu_build::{BuildError, Text, enter_file, own_specs};
 use clu_core::Checked;
 use clu_library::Library;
 use clu_link::{is_start, link};
@@ -30,23 +30,14 @@ pub fn image_of_modules<'a>(
 {
     match library_of(alloc, text, c) {
         Ok(library) => image_from(alloc, &library, own_specs(c)),
-        Err(error) => Err(error.outcome()),
+        Err(error) => Err(refusal_of_file(&error)),
     }
-}
-
-/// The specifications of the file's own modules.
-fn own_specs(c: &Checked) -> &[Spec]
-    ensures { result.now ≡ take (length (modules c.now.tree)) c.now.specs.items }
-{
-    let specs = c.specs.as_slice();
-    let (own, _) = specs.split_at(c.tree.modules().len().min(specs.len()));
-    own
 }
 
 /// The library in which nothing is kept but the modules of the file.
 fn library_of(alloc: Global, text: Text<'_>, c: &Checked) -> Result<Box<Library>, BuildError> {
     let mut library = Box::new(alloc, Library::empty(alloc))?;
-    enter(alloc, &mut library, text, c)?;
+    enter_file(alloc, &mut library, text, c)?;
     Ok(library)
 }
 
@@ -57,7 +48,7 @@ fn image_from<'a>(alloc: Global, library: &Library, own: &[Spec]) -> Result<Imag
     match may_start(own) {
         Ok(()) => match linked(alloc, library) {
             Ok(image) => Ok(image),
-            Err(error) => Err(error.outcome()),
+            Err(error) => Err(refusal_of_file(&error)),
         },
         Err(how) => Err(how),
     }
@@ -69,9 +60,9 @@ fn may_start<'a>(own: &[Spec]) -> Result<(), Outcome<'a>>
     ensures { IfErr result (λ how. NotBuilt how own.now) }
 {
     match start_of(own) {
-        None => Err(Outcome::NoModule(START)),
+        None => Err(Outcome::NoModule(START.as_bytes())),
         Some(spec) if is_start(spec) => Ok(()),
-        Some(_) => Err(Outcome::BadStart(START)),
+        Some(_) => Err(Outcome::BadStart(START.as_bytes())),
     }
 }
 

@@ -1,32 +1,54 @@
-//! The check of a source's tree, and what a refusal by it comes to.
+//! The check of a source's tree over specifications, and what a refusal by it comes to.
 
 ghost use Rattle.std.specs.Prelude.{◌≡◌, All, IfErr, IfOk, OnOk};
-ghost use Rattle.clu_rules.specs.Modules.{BeginWithOwn};
+ghost use Rattle.clu_rules.specs.Modules.{AreOf, BeginWithOwn};
 ghost use Rattle.clu_rules.specs.Refusals.{IsOfTree};
 ghost use Rattle.clu_rules.specs.Rules.{IsClosedAt};
 ghost use Rattle.clu_tree.specs.Nodes.{modules};
-ghost use Rattle.clu_driver.specs.Sources.{IsRefusalOf, NotAccepted};
+ghost use Rattle.clu_driver.specs.Sources.{IsRefusalOf, NotAccepted, NotHeaded};
 
 use crate::outcome::Outcome;
-use clu_check_mod::{CheckError, check};
+use clu_check_mod::{CheckError, check, specs_of};
 use clu_core::Checked;
 use clu_tree::Tree;
-use clu_types::Specs;
+use clu_types::{Spec, Specs};
 use std::alloc::Global;
 
-/// The tree of the source `name`, checked over no specifications. The outcomes are `Refused` by one of the rules V4 to
-/// V37, `Memory` and `NotYet`.
-pub fn checked<'a>(alloc: Global, name: &'a str, tree: Tree) -> Result<Box<Checked>, Outcome<'a>>
+/// The tree of the source `name`, checked over specifications, with its own in the place of those of their modules. The
+/// outcomes are `Refused` by one of the rules V4 to V37, `Memory` and `NotYet`.
+pub fn checked<'a>(
+    alloc: Global,
+    name: &'a str,
+    tree: Tree,
+    specs: &Specs,
+) -> Result<Box<Checked>, Outcome<'a>>
     ensures tree { IfOk result (λ checked. checked.value.tree ≡ tree) }
     ensures specs { IfOk result (λ checked. BeginWithOwn tree checked.value.specs.items) }
     ensures closed { OnOk result (All (IsClosedAt tree) (modules tree)) }
     ensures refused { IfErr result (λ how. NotAccepted how name.now tree) }
 {
-    match check(alloc, tree, &Specs::new(alloc)) {
+    match check(alloc, tree, specs) {
         Ok(checked) => match Box::new(alloc, checked) {
             Ok(checked) => Ok(checked),
             Err(_) => Err(Outcome::Memory),
         },
+        Err(error) => Err(refusal(name, error)),
+    }
+}
+
+/// The specifications of the modules of the source `name`, over others; its headings alone are checked. The outcomes are
+/// those of `checked`.
+pub fn headings<'a>(
+    alloc: Global,
+    name: &'a str,
+    tree: &Tree,
+    specs: &Specs,
+) -> Result<Vec<Spec>, Outcome<'a>>
+    ensures own { IfOk result (λ own. AreOf tree.now (modules tree.now) own.items) }
+    ensures refused { IfErr result (λ how. NotHeaded how name.now) }
+{
+    match specs_of(alloc, tree, specs) {
+        Ok(own) => Ok(own),
         Err(error) => Err(refusal(name, error)),
     }
 }

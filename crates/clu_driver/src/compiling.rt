@@ -5,7 +5,8 @@ ghost use Rattle.clu_rules.specs.Rules.{IsClosedAt};
 ghost use Rattle.clu_image.specs.ImageFile.{image_bytes};
 ghost use Rattle.clu_tree.specs.Nodes.{modules};
 ghost use Rattle.clu_words.specs.Command.{seen_limits};
-ghost use Rattle.clu_driver.specs.Commands.{GoShows, IsImagePut, NotPut, PutShows};
+ghost use Rattle.clu_driver.specs.Commands.{GoShows, IsImagePut, PutShows};
+ghost use Rattle.clu_driver.specs.Puts.{NotPut};
 ghost use Rattle.clu_driver.specs.Sources.{IsAccepted, NotBuilt, NotCompiled, NotMade};
 ghost use Rattle.clu_driver.specs.Found.{IsFound};
 ghost use Rattle.clu_driver.specs.Shows.{Reported};
@@ -13,14 +14,15 @@ ghost use Rattle.clu_driver.specs.World.{streams_of, world_of};
 
 use crate::building::image_of_modules;
 use crate::checking::checked;
-use crate::entering::Text;
 use crate::file::put;
 use crate::outcome::{Outcome, report};
 use crate::running::run;
 use crate::sources::{Parsed, parse_file};
 use clu_base::{Sink, Source, Store, Token};
+use clu_build::Text;
 use clu_core::Checked;
 use clu_image::store;
+use clu_types::Specs;
 use clu_words::RunLimits;
 use rv_isa::Image;
 use std::alloc::Global;
@@ -97,7 +99,7 @@ fn image_of<'a>(alloc: Global, name: &'a str, source: Parsed) -> Result<Image, O
         tokens,
         tree,
     } = source;
-    match checked(alloc, name, tree) {
+    match checked(alloc, name, tree, &Specs::new(alloc)) {
         Ok(checked) => built(alloc, &bytes, &tokens, &checked),
         Err(how) => Err(how),
     }

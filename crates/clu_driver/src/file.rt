@@ -1,8 +1,8 @@
 //! Reading and putting the files that the words name.
 
 ghost use Rattle.std.specs.Prelude.{◌≡◌, ◌≤◌, IfErr, IfOk, OnOk, take};
-ghost use Rattle.clu_driver.specs.Commands.{IsPut, NotPut};
-ghost use Rattle.clu_driver.specs.Found.{IsFound, NotRead};
+ghost use Rattle.clu_driver.specs.Puts.{IsPut, NotPut};
+ghost use Rattle.clu_driver.specs.Found.{IsFound, NotHad, NotRead};
 
 use crate::outcome::Outcome;
 use clu_base::{Store, StoreError};
@@ -22,6 +22,23 @@ pub fn content<'a, F: Store>(
     match files.get(alloc, name) {
         Ok(Some(bytes)) => Ok(bytes),
         Ok(None) => Err(Outcome::NoFile(name)),
+        Err(StoreError::Failed) => Err(Outcome::FileFault(name)),
+        Err(StoreError::Memory) => Err(Outcome::Memory),
+    }
+}
+
+/// The content of a file, or that there is none. The outcomes are `FileFault` and `Memory`.
+pub fn content_if_any<'a, F: Store>(
+    alloc: Global,
+    name: &'a str,
+    files: &mut F,
+) -> Result<Option<Vec<u8>>, Outcome<'a>>
+    ensures counts { F.faults files.old ≤ F.faults files.new }
+    ensures kept { F.files files.new ≡ F.files files.old }
+    ensures refused { IfErr result (λ how. NotHad how name.now (F.faults files.old) (F.faults files.new)) }
+{
+    match files.get(alloc, name) {
+        Ok(content) => Ok(content),
         Err(StoreError::Failed) => Err(Outcome::FileFault(name)),
         Err(StoreError::Memory) => Err(Outcome::Memory),
     }

@@ -3,19 +3,25 @@
 #![tactic(auto)]
 
 mod assembling;
-mod build_error;
 mod building;
 mod checking;
 mod compiling;
-mod entering;
 mod executing;
 mod file;
+mod gathering;
 mod generating;
+mod launching;
+mod libraries;
+mod linking;
 mod listing;
 mod outcome;
 mod printing;
+mod referring;
+mod refusals;
 mod running;
+mod separate;
 mod sources;
+mod specifying;
 mod top;
 
 pub use crate::outcome::{Outcome, USAGE, report};

@@ -4,12 +4,13 @@
 ghost use Rattle.std.specs.Prelude.{◌≡◌, ◌≤◌, ◌⊎◌, ◌++◌, OnOk, OnErr, decimal};
 ghost use Rattle.clu_base.specs.Outside.{appended, GrewWithin, Rose};
 ghost use Rattle.clu_base.specs.Rules.{name_of};
-ghost use Rattle.clu_driver.specs.Outcome.{IsTold, detail_of, hexadecimal_of, line_end_of, line_of, mark_text, place_text, refused_text, rule_text, status_of, text_of};
+ghost use Rattle.clu_driver.specs.Outcome.{IsTold, detail_of, difference_text, hexadecimal_of, line_end_of, line_of, mark_text, place_text, refused_text, revisions_text, rule_text, stale_text, status_of, text_of};
 
 use clu_base::{Failed, Place, Refused, Rule, Sink, write_all};
+use clu_build::{Difference, StaleBody};
 use itoa::Buffer;
 
-/// How a command ended. A name is that of a file as the words give it.
+/// How a command ended. A name of text is that of a file or a program as the words give it, one of bytes that of a module.
 #[derive(Clone, Copy)]
 pub enum Outcome<'a> {
     /// The command was done, or the program returned.
@@ -36,17 +37,25 @@ pub enum Outcome<'a> {
     NoFile(&'a str),
     /// The source breaks this rule at this place, the first that it breaks.
     Refused(&'a str, Refused),
+    /// The file is no library; the number is the offset of the fault.
+    LibraryBad(u64),
+    /// Another specification is kept of a module.
+    SpecDiffers(&'a Difference),
     /// No module of this name, at which a program is to start.
-    NoModule(&'a str),
+    NoModule(&'a [u8]),
+    /// No body is kept of this module.
+    NoBody(&'a [u8]),
     /// A module of this name, at which no program starts.
-    BadStart(&'a str),
+    BadStart(&'a [u8]),
     /// A program of more than 4,096 instances.
     TooManyInstances,
     /// A program that weighs more than 262,144.
     ProgramTooLarge,
+    /// The library has no program of this name.
+    NoProgram(&'a str),
     /// The file is no image; the number is the offset of the fault.
     ImageBad(u64),
-    /// More than 4,096 modules or programs of a library.
+    /// More than 4,096 modules or programs of a library, or more revisions than it counts.
     LibraryFull,
     /// A read of the input failed.
     ReadFault,
@@ -60,8 +69,14 @@ pub enum Outcome<'a> {
     SourceTooLarge(&'a str),
     /// What this program cannot do yet.
     NotYet,
+    /// The body of a module is stale.
+    Stale(&'a StaleBody),
+    /// The kept specification of this module needs one that would be replaced.
+    SpecNeeded(&'a [u8]),
     /// The file is no assembly text; the number is the offset of the fault.
     AsmBad(u64),
+    /// The object of this module does not fit what is kept.
+    Misfit(&'a [u8]),
 }
 
 impl Outcome<'_> {
@@ -82,10 +97,14 @@ impl Outcome<'_> {
             Outcome::BadEcall(_) => 9,
             Outcome::NoFile(_) => 10,
             Outcome::Refused(_, _) => 11,
+            Outcome::LibraryBad(_) => 12,
+            Outcome::SpecDiffers(_) => 13,
             Outcome::NoModule(_) => 14,
+            Outcome::NoBody(_) => 15,
             Outcome::BadStart(_) => 16,
             Outcome::TooManyInstances => 17,
             Outcome::ProgramTooLarge => 18,
+            Outcome::NoProgram(_) => 19,
             Outcome::ImageBad(_) => 20,
             Outcome::LibraryFull => 21,
             Outcome::ReadFault => 22,
@@ -94,7 +113,10 @@ impl Outcome<'_> {
             Outcome::Memory => 25,
             Outcome::SourceTooLarge(_) => 26,
             Outcome::NotYet => 27,
+            Outcome::Stale(_) => 28,
+            Outcome::SpecNeeded(_) => 29,
             Outcome::AsmBad(_) => 30,
+            Outcome::Misfit(_) => 31,
         }
     }
 
@@ -115,10 +137,14 @@ impl Outcome<'_> {
             Outcome::BadJump(_) => "bad jump to ",
             Outcome::BadEcall(_) => "bad ecall ",
             Outcome::NoFile(_) => "no file: ",
+            Outcome::LibraryBad(_) => "library bad at ",
+            Outcome::SpecDiffers(_) => "spec differs: ",
             Outcome::NoModule(_) => "no module: ",
+            Outcome::NoBody(_) => "no body: ",
             Outcome::BadStart(_) => "bad start: ",
             Outcome::TooManyInstances => "too many instances",
             Outcome::ProgramTooLarge => "program too large",
+            Outcome::NoProgram(_) => "no program: ",
             Outcome::ImageBad(_) => "image bad at ",
             Outcome::LibraryFull => "library full",
             Outcome::ReadFault => "read fault",
@@ -127,7 +153,10 @@ impl Outcome<'_> {
             Outcome::Memory => "out of memory",
             Outcome::SourceTooLarge(_) => "source too large: ",
             Outcome::NotYet => "not yet",
+            Outcome::Stale(_) => "stale: ",
+            Outcome::SpecNeeded(_) => "spec needed: ",
             Outcome::AsmBad(_) => "asm bad at ",
+            Outcome::Misfit(_) => "object misfit: ",
         }
     }
 
@@ -169,7 +198,7 @@ fn write_decimal<E: Sink>(errors: &mut E, n: u64) -> Result<(), Failed>
     write_all(errors, Buffer::new().format(n).as_bytes())
 }
 
-/// What stands before a part of a refusal's line.
+/// What stands before a part of a refusal's lines.
 #[derive(Clone, Copy)]
 enum Mark {
     /// Before a line or a column.
@@ -178,6 +207,14 @@ enum Mark {
     Rule,
     /// Before a rule's name.
     Name,
+    /// Before a line of its own.
+    Line,
+    /// Before the module by which a body is stale.
+    By,
+    /// Before the revision at which that module's specification was replaced.
+    Changed,
+    /// Before the revision at which the body was checked.
+    Checked,
 }
 
 impl Mark {
@@ -189,6 +226,10 @@ impl Mark {
             Mark::Place => ":",
             Mark::Rule => ": V",
             Mark::Name => " ",
+            Mark::Line => "\n",
+            Mark::By => ": ",
+            Mark::Changed => " changed at ",
+            Mark::Checked => ", checked at ",
         }
     }
 }
@@ -252,6 +293,56 @@ fn write_refused<E: Sink>(errors: &mut E, name: &str, refused: &Refused) -> Resu
     write_rule(errors, refused.rule)
 }
 
+// A mark and a text after it.
+#[tactic(auto, using(clu_base::proofs::Written::laws))]
+fn write_marked<E: Sink>(errors: &mut E, mark: Mark, text: &[u8]) -> Result<(), Failed>
+    ensures counts { E.faults errors.old ≤ E.faults errors.new }
+    ensures failed { OnErr result (Rose (E.faults errors.old) (E.faults errors.new)) }
+    ensures whole { OnOk result (E.written errors.new ≡ appended (E.written errors.old) (mark_text mark ++ text.now)) }
+    ensures part { OnErr result (GrewWithin (E.written errors.old) (E.written errors.new) (mark_text mark ++ text.now)) }
+{
+    write_all(errors, mark.text().as_bytes())?;
+    write_all(errors, text)
+}
+
+// A module's name, and the texts of both specifications on lines of their own.
+#[tactic(auto, using(clu_base::proofs::Written::laws))]
+fn write_difference<E: Sink>(errors: &mut E, difference: &Difference) -> Result<(), Failed>
+    ensures counts { E.faults errors.old ≤ E.faults errors.new }
+    ensures failed { OnErr result (Rose (E.faults errors.old) (E.faults errors.new)) }
+    ensures whole { OnOk result (E.written errors.new ≡ appended (E.written errors.old) (difference_text difference.now)) }
+    ensures part { OnErr result (GrewWithin (E.written errors.old) (E.written errors.new) (difference_text difference.now)) }
+{
+    write_all(errors, difference.name.as_slice())?;
+    write_marked(errors, Mark::Line, difference.kept.as_slice())?;
+    write_marked(errors, Mark::Line, difference.given.as_slice())
+}
+
+// The revisions by which a body is stale.
+#[tactic(auto, using(clu_base::proofs::Written::laws), unfolding(crate::specs::Outcome::revisions_text))]
+fn write_revisions<E: Sink>(errors: &mut E, changed: u32, checked: u32) -> Result<(), Failed>
+    ensures counts { E.faults errors.old ≤ E.faults errors.new }
+    ensures failed { OnErr result (Rose (E.faults errors.old) (E.faults errors.new)) }
+    ensures whole { OnOk result (E.written errors.new ≡ appended (E.written errors.old) (revisions_text changed checked)) }
+    ensures part { OnErr result (GrewWithin (E.written errors.old) (E.written errors.new) (revisions_text changed checked)) }
+{
+    write_numbered(errors, Mark::Changed, changed as u64)?;
+    write_numbered(errors, Mark::Checked, checked as u64)
+}
+
+// A module's name, the module by which its body is stale, and the revisions.
+#[tactic(auto, using(clu_base::proofs::Written::laws))]
+fn write_stale<E: Sink>(errors: &mut E, stale: &StaleBody) -> Result<(), Failed>
+    ensures counts { E.faults errors.old ≤ E.faults errors.new }
+    ensures failed { OnErr result (Rose (E.faults errors.old) (E.faults errors.new)) }
+    ensures whole { OnOk result (E.written errors.new ≡ appended (E.written errors.old) (stale_text stale.now)) }
+    ensures part { OnErr result (GrewWithin (E.written errors.old) (E.written errors.new) (stale_text stale.now)) }
+{
+    write_all(errors, stale.name.as_slice())?;
+    write_marked(errors, Mark::By, stale.by.as_slice())?;
+    write_revisions(errors, stale.changed, stale.checked)
+}
+
 // What the line tells of this outcome, after its text.
 #[tactic(auto, using(clu_base::proofs::Written::laws))]
 fn write_detail<E: Sink>(errors: &mut E, outcome: &Outcome<'_>) -> Result<(), Failed>
@@ -263,17 +354,22 @@ fn write_detail<E: Sink>(errors: &mut E, outcome: &Outcome<'_>) -> Result<(), Fa
     match outcome {
         Outcome::Failure(text) => write_all(errors, text),
         Outcome::NoFile(name)
-        | Outcome::NoModule(name)
-        | Outcome::BadStart(name)
+        | Outcome::NoProgram(name)
         | Outcome::FileFault(name)
         | Outcome::SourceTooLarge(name) => write_all(errors, name.as_bytes()),
+        Outcome::NoModule(name)
+        | Outcome::NoBody(name)
+        | Outcome::BadStart(name)
+        | Outcome::SpecNeeded(name)
+        | Outcome::Misfit(name) => write_all(errors, name),
+        Outcome::SpecDiffers(difference) => write_difference(errors, difference),
+        Outcome::Stale(stale) => write_stale(errors, stale),
         Outcome::Refused(name, refused) => write_refused(errors, name, refused),
         Outcome::BadInstruction(at) | Outcome::BadAccess(at) | Outcome::BadJump(at) => {
             write_hexadecimal(errors, *at)
         }
-        Outcome::BadEcall(n) | Outcome::ImageBad(n) | Outcome::AsmBad(n) => write_decimal(
-            errors, *n,
-        ),
+        Outcome::BadEcall(n) | Outcome::LibraryBad(n) | Outcome::ImageBad(n) | Outcome::AsmBad(n) =>
+            write_decimal(errors, *n),
         Outcome::Done
         | Outcome::Usage
         | Outcome::StoreFull

@@ -1,10 +1,10 @@
 //! The command `print`: writes a source in its one layout.
 
 ghost use Rattle.std.specs.Prelude.{◌≡◌, ◌≤◌, IfErr, IfOk};
-ghost use Rattle.clu_driver.specs.Commands.{IsPrintOf, PrintedShows, TextShows};
+ghost use Rattle.clu_driver.specs.Commands.{IsPrintOf, PrintedShows};
+ghost use Rattle.clu_driver.specs.Shows.{Reported, TextShows};
 ghost use Rattle.clu_driver.specs.Found.{IsFound};
 ghost use Rattle.clu_driver.specs.Sources.{NotParsed};
-ghost use Rattle.clu_driver.specs.Shows.{Reported};
 
 use crate::outcome::{Outcome, report};
 use crate::sources::parse_file;

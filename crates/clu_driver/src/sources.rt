@@ -1,8 +1,8 @@
 //! Reading a source file into its tokens and its tree.
 
-ghost use Rattle.std.specs.Prelude.{◌≡◌, ◌≤◌, IfErr, IfOk};
+ghost use Rattle.std.specs.Prelude.{◌≡◌, ◌≤◌, IfErr, IfOk, length};
 ghost use Rattle.clu_driver.specs.Found.{IsFound};
-ghost use Rattle.clu_driver.specs.Sources.{IsSource, NotParsed, NotSource};
+ghost use Rattle.clu_driver.specs.Sources.{IsSource, NotGot, NotParsed, NotSource};
 
 use crate::file::first_content;
 use crate::outcome::Outcome;
@@ -23,8 +23,7 @@ pub struct Parsed {
     pub tree: Tree,
 }
 
-/// The source file of this name, parsed; no more of it is read than shows that it is too large. The outcomes are `NoFile`, `FileFault`, `SourceTooLarge`,
-/// `Refused` by one of the rules V1 to V3, and `Memory`.
+/// The source file of this name, parsed. The outcomes are those of `source_content` and of `source`.
 pub fn parse_file<'a, F: Store>(
     alloc: Global,
     name: &'a str,
@@ -36,19 +35,37 @@ pub fn parse_file<'a, F: Store>(
     ensures parsed { IfOk result (λ source. IsSource source.bytes.items source.tokens.items source.tree) }
     ensures refused { IfErr result (λ how. NotParsed how name.now (F.files files.old) (F.faults files.old) (F.faults files.new)) }
 {
-    let bytes = first_content(alloc, name, SOURCE_LIMIT + 1, files)?;
+    let bytes = source_content(alloc, name, files)?;
     source(alloc, name, bytes)
 }
 
-// The source of these bytes.
-fn source<'a>(alloc: Global, name: &'a str, bytes: Vec<u8>) -> Result<Parsed, Outcome<'a>>
+/// The content of a source file; no more of it is read than shows that it is too large. The outcomes are `NoFile`,
+/// `FileFault`, `SourceTooLarge` and `Memory`.
+pub fn source_content<'a, F: Store>(
+    alloc: Global,
+    name: &'a str,
+    files: &mut F,
+) -> Result<Vec<u8>, Outcome<'a>>
+    ensures counts { F.faults files.old ≤ F.faults files.new }
+    ensures kept { F.files files.new ≡ F.files files.old }
+    ensures small { IfOk result (λ content. length content.items ≤ 1_048_576) }
+    ensures found { IfOk result (λ content. IsFound (F.files files.old) name.now (λ bytes. bytes ≡ content.items)) }
+    ensures refused { IfErr result (λ how. NotGot how name.now (F.files files.old) (F.faults files.old) (F.faults files.new)) }
+{
+    let bytes = first_content(alloc, name, SOURCE_LIMIT + 1, files)?;
+    if bytes.len() > SOURCE_LIMIT {
+        return Err(Outcome::SourceTooLarge(name));
+    }
+    Ok(bytes)
+}
+
+/// The source of these bytes. The outcomes are `Refused` by one of the rules V1 to V3, and `Memory`.
+pub fn source<'a>(alloc: Global, name: &'a str, bytes: Vec<u8>) -> Result<Parsed, Outcome<'a>>
+    requires { length bytes.items ≤ 1_048_576 }
     ensures same { IfOk result (λ source. source.bytes.items ≡ bytes.items) }
     ensures parsed { IfOk result (λ source. IsSource source.bytes.items source.tokens.items source.tree) }
     ensures refused { IfErr result (λ how. NotSource how name.now bytes.items) }
 {
-    if bytes.len() > SOURCE_LIMIT {
-        return Err(Outcome::SourceTooLarge(name));
-    }
     match lex(alloc, &bytes) {
         Ok(tokens) => match parse(alloc, &bytes, &tokens) {
             Ok(tree) => Ok(Parsed {

@@ -11,9 +11,14 @@ use crate::assembling::assemble;
 use crate::compiling::go;
 use crate::executing::exec;
 use crate::generating::generate;
+use crate::launching::run;
+use crate::linking::link;
 use crate::listing::list;
 use crate::outcome::{Outcome, report};
 use crate::printing::print;
+use crate::referring::refer;
+use crate::separate::compile;
+use crate::specifying::{Kept, specify};
 use clu_base::{Sink, Source, Store};
 use clu_words::{Command, WordsError, read_command};
 use std::alloc::Global;
@@ -95,29 +100,29 @@ fn run_command<S: Source, K: Sink, E: Sink, F: Store>(
         Command::List { image } => list(alloc, image, output, errors, files),
         Command::Asm { file, image } => assemble(alloc, file, image, errors, files),
         Command::Gen { procedures } => generate(procedures, output, errors),
-        Command::Spec {
-            library: _,
-            file: _,
+        Command::Spec { library, file } => {
+            specify(alloc, Kept::Stays, library, file, errors, files)
         }
-        | Command::Replace {
-            library: _,
-            file: _,
+        Command::Replace { library, file } => {
+            specify(alloc, Kept::Goes, library, file, errors, files)
         }
-        | Command::Compile {
-            library: _,
-            file: _,
+        Command::Compile {
+            library,
+            file,
             peep: _,
-        }
-        | Command::Link {
-            library: _,
-            program: _,
-            start: _,
-        }
-        | Command::Run {
-            library: _,
-            program: _,
-            limits: _,
-        }
-        | Command::Xref { library: _ } => report(errors, &Outcome::NotYet),
+        } => compile(alloc, library, file, errors, files),
+        Command::Link {
+            library,
+            program,
+            start,
+        } => link(alloc, library, program, start, errors, files),
+        Command::Run {
+            library,
+            program,
+            limits,
+        } => run(
+            alloc, library, program, limits, input, output, errors, files,
+        ),
+        Command::Xref { library } => refer(alloc, library, output, errors, files),
     }
 }

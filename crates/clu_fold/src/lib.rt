@@ -7,8 +7,3 @@ mod text;
 
 pub use crate::folding::{Operator, Prefix, fold, fold_prefix, infix_operator, prefix_operator};
 pub use crate::text::{LONGEST_TEXT, decimal_length, is_long, text_length};
-
-#[cfg(test)]
-mod rows;
-#[cfg(test)]
-mod tests;

@@ -4,8 +4,6 @@
 mod header;
 mod loading;
 mod storing;
-#[cfg(test)]
-mod tests;
 
 pub use crate::loading::load;
 pub use crate::storing::store;

@@ -43,23 +43,3 @@ pub fn words(s: Shape) -> u64
         Shape::Boxed => 2,
     }
 }
-
-#[cfg(test)]
-mod tests {
-    use super::*;
-
-    #[test]
-    fn costs(rt: HostRuntime) {
-        assert_eq!(rt; words(Shape::Str(9)), 3);
-        assert_eq!(rt; words(Shape::Sequence(4)), 5);
-        assert_eq!(rt; words(Shape::Record(2)), 3);
-        assert_eq!(rt; words(Shape::Array), 6);
-        assert_eq!(rt; words(Shape::Cells(8)), 8);
-        assert_eq!(rt; words(Shape::Boxed), 2);
-        assert_eq!(rt; words(Shape::Str(0)), 1);
-        assert_eq!(rt; words(Shape::Str(8)), 2);
-        assert_eq!(rt; words(Shape::Struct(3)), 4);
-        assert_eq!(rt; words(Shape::Oneof), 2);
-        assert_eq!(rt; words(Shape::Variant), 3);
-    }
-}

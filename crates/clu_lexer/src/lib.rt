@@ -12,6 +12,3 @@ mod tokens;
 pub use crate::symbols::{Symbol, symbol_of};
 pub use crate::tokens::{LexError, end_place, lex};
 pub use clu_base::{Kind, Token};
-
-#[cfg(test)]
-mod tests;

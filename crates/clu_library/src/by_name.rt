@@ -1,8 +1,9 @@
 //! Lists of items that ascend by name.
 
-ghost use Rattle.std.specs.Prelude.{◌≡◌, [], find, length, slice_get, OnOk, OnErr};
+ghost use Rattle.std.specs.Prelude.{◌≡◌, not, [], find, length, slice_get, OnOk, OnErr};
 ghost use Rattle.std.specs.Str.{bytes_eq};
 ghost use Rattle.std.specs.Option.{option_copied};
+ghost use Rattle.std.specs.List.{filter};
 ghost use Rattle.std.specs.List.Sorted.{IsSearchInRange};
 ghost use Rattle.clu_types.specs.Specs.{name_order};
 ghost use Rattle.clu_library.specs.ByName.{AreAscending, place_of, with_item};
@@ -55,6 +56,20 @@ impl<T: Named> ByName<T> {
         self.items.len()
     }
 
+    /// All of them, ascending.
+    pub fn as_slice(&self) -> &[T]
+        ensures { result.now ≡ self.now }
+    {
+        self.items.as_slice()
+    }
+
+    /// Makes room for one item more. The only error is that memory runs out.
+    pub fn reserve(&mut self) -> Result<(), Memory>
+        ensures { self.new ≡ self.old }
+    {
+        Ok(self.items.reserve(1)?)
+    }
+
     /// The item of this name.
     pub fn get(&self, name: &Bytes) -> Option<&T>
         ensures { option_copied result ≡ find (λ x. bytes_eq (T.name_of x) name.now) self.now }
@@ -99,5 +114,16 @@ impl<T: Named + Drop> ByName<T> {
             }
             Err(i) => Ok(self.items.insert(i, item)?),
         }
+    }
+
+    /// Leaves the items of other names.
+    pub fn leave_out(&mut self, name: &Bytes)
+        ensures { self.new ≡ filter (λ x. not (bytes_eq (T.name_of x) name.now)) self.old }
+    {
+        self.items.retain(
+            |x| -> bool
+                ensures { result ≡ not (bytes_eq (T.name_of x.now) name.entry.now) }
+            { x.name() != name },
+        );
     }
 }

@@ -1,16 +1,26 @@
 //! The library: what is kept of modules between commands, their specifications and bodies, and the programs that
-//! were linked from them.
+//! were linked from them, in memory and as a file.
 #![tactic(auto)]
 
 mod body;
 mod by_name;
+mod closure;
 mod errors;
+mod instances;
+mod latest;
 mod library;
+mod parts;
 mod program;
+mod reading;
+mod replacing;
+mod staleness;
+mod unmet;
 mod whole;
+mod writing;
 
 pub use crate::body::Body;
 pub use crate::errors::EnterError;
 pub use crate::library::Library;
 pub use crate::program::Program;
+pub use crate::staleness::StaleBy;
 pub use crate::whole::is_whole;

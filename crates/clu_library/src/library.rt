@@ -1,6 +1,6 @@
 //! The library.
 
-ghost use Rattle.std.specs.Prelude.{◌≡◌, ◌<◌, length, IfErr, IfSome, OnOk, OnErr, IsSome};
+ghost use Rattle.std.specs.Prelude.{◌≡◌, ◌<◌, length, slice_get, IfErr, IfSome, OnOk, OnErr, IsSome};
 ghost use Rattle.std.specs.Option.{option_copied};
 ghost use Rattle.clu_specs.specs.Specifications.{SpecHolds};
 ghost use Rattle.clu_library.specs.Contents.{nothing, spec_of, last_change, limit, changed_of, body_of, program_of, HaveSameText, IsDifference, KeepsFirst, MayEnter, NotAdded, NotEntered, NotKept, HasRoom, with_entered, with_new_spec, with_body, with_program};
@@ -16,17 +16,17 @@ use std::alloc::Global;
 use std::marker::Model;
 
 /// The most modules of a library, and the most programs.
-const LIMIT: u32 = 4096;
+pub const LIMIT: u32 = 4096;
 
 /// What is kept of modules, and programs.
 #[derive(Debug, Drop)]
 pub struct Library {
-    revision: u32,
-    specs: Specs,
+    pub(crate) revision: u32,
+    pub(crate) specs: Specs,
     /// Of the modules whose specification was replaced.
-    changes: ByName<Change>,
-    bodies: ByName<ModuleBody>,
-    programs: ByName<Program>,
+    pub(crate) changes: ByName<Change>,
+    pub(crate) bodies: ByName<ModuleBody>,
+    pub(crate) programs: ByName<Program>,
 }
 
 impl Model for Library {
@@ -81,6 +81,18 @@ impl Library {
         }
     }
 
+    /// The n-th kept specification in ascending order of names, from 0.
+    #[tactic(auto, using(crate::proofs::Entering::laws))]
+    pub(crate) fn nth_spec(&self, n: u32) -> Option<&Spec>
+        ensures nth { option_copied result ≡ slice_get self.now.specs n }
+        ensures whole { IfSome result (λ s. SpecHolds s.now) }
+    {
+        match self.specs.at(n) {
+            Some(kept) => Some(kept),
+            None => None,
+        }
+    }
+
     /// The revision at which the specification of a module was replaced last, 0 where it never was. None exactly where no
     /// such module is kept.
     pub fn changed(&self, name: &Bytes) -> Option<u32>
@@ -92,7 +104,8 @@ impl Library {
         }
     }
 
-    fn last_change(&self, name: &Bytes) -> u32
+    /// The revision at which the specification of a module was replaced last, or 0.
+    pub(crate) fn last_change(&self, name: &Bytes) -> u32
         ensures { result ≡ last_change self.now name.now }
     {
         match self.changes.get(name) {
@@ -137,7 +150,7 @@ impl Library {
 
     /// Adds the specification of a module of which none is kept.
     #[tactic(auto, using(crate::proofs::Entering::laws))]
-    fn add_spec(&mut self, s: Spec) -> Result<(), EnterError>
+    pub(crate) fn add_spec(&mut self, s: Spec) -> Result<(), EnterError>
         requires { SpecHolds s }
         ensures added { OnOk result (self.new ≡ with_new_spec self.old s) }
         ensures unchanged { OnErr result (self.new ≡ self.old) }
@@ -183,7 +196,7 @@ impl Library {
 }
 
 /// Whether the two specifications are the same, by their texts.
-fn same_spec(alloc: Global, kept: &Spec, entered: &Spec) -> Result<(), EnterError>
+pub fn same_spec(alloc: Global, kept: &Spec, entered: &Spec) -> Result<(), EnterError>
     requires kept_holds { SpecHolds kept.now }
     requires entered_holds { SpecHolds entered.now }
     ensures same { OnOk result (HaveSameText kept.now entered.now) }

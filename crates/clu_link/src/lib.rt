@@ -6,6 +6,7 @@ mod bounds;
 mod collecting;
 mod denoting;
 mod errors;
+mod faults;
 mod filling;
 mod linking;
 mod member;

@@ -8,6 +8,7 @@ ghost use Rattle.clu_link.specs.Starts.{IsRefusal, IsStartRefusal, MayStart, is_
 use crate::bounds::{cluster_variables, fits, weight};
 use crate::denoting::{Needs, Use, uses_of};
 use crate::errors::LinkError;
+use crate::faults::Faults;
 use crate::member::Member;
 use crate::operation_codes::{Family, family_of};
 use crate::operations::code_of;
@@ -27,9 +28,6 @@ use std::boxed::Box;
 
 /// The most instances of a program.
 const MAX_INSTANCES: usize = 4096;
-
-/// The most that the instances of a program may weigh.
-const MAX_WEIGHT: u64 = 262_144;
 
 /// A routine whose code stands once in a program, whatever its instances.
 #[derive(Debug, Drop, PartialEq, Eq, Hash)]
@@ -85,9 +83,7 @@ pub struct Reached<'a> {
 struct Work<'a> {
     lib: &'a Library,
     reached: Box<Reached<'a>>,
-    no_body: Option<Bytes>,
-    misfit: Option<Bytes>,
-    weight: u64,
+    faults: Box<Faults>,
 }
 
 /// What an instance uses and the types that it names, with its actual parameters put in.
@@ -193,9 +189,7 @@ impl<'a> Work<'a> {
         Ok(Work {
             lib,
             reached: Box::new(alloc, Reached::new(alloc))?,
-            no_body: None,
-            misfit: None,
-            weight: 0,
+            faults: Box::new(alloc, Faults::new(alloc))?,
         })
     }
 
@@ -242,12 +236,17 @@ impl<'a> Work<'a> {
         let lib = self.lib;
         match lib.body(&kept.module) {
             None => {
-                self.no_body.get_or_insert(kept.module);
+                self.faults.add_bodiless(kept.module);
                 Ok(())
             }
-            // Whether a specification that was replaced since is one that the body rests on is not asked yet.
-            Some(body) if body.checked < lib.revision() => Err(LinkError::NotYet),
-            Some(body) => self.visit_object(alloc, kept, &body.object),
+            Some(body) => {
+                if body.checked < lib.revision()
+                    && self.faults.is_stale(alloc, lib, &kept.module)?
+                {
+                    return Ok(());
+                }
+                self.visit_object(alloc, kept, &body.object)
+            }
         }
     }
 
@@ -268,7 +267,7 @@ impl<'a> Work<'a> {
                 self.visit_routine(alloc, kept, routine, cluster)
             }
             _ => {
-                self.misfit.get_or_insert(kept.module);
+                self.faults.add_misfit(kept.module);
                 Ok(())
             }
         }
@@ -315,8 +314,7 @@ impl<'a> Work<'a> {
             Needs::Asked,
         )? {
             Some(parts) => {
-                let heavier = weight(routine, actuals.as_slice());
-                self.weight = self.weight.saturating_add(heavier);
+                self.faults.add_weight(weight(routine, actuals.as_slice()));
                 let name = RoutineName::Kept(module, name);
                 let code = Code::Kept(routine);
                 Ok(
@@ -325,7 +323,7 @@ impl<'a> Work<'a> {
                 )
             }
             None => {
-                self.misfit.get_or_insert(module);
+                self.faults.add_misfit(module);
                 Ok(())
             }
         }
@@ -368,8 +366,7 @@ impl<'a> Work<'a> {
             Needs::Met,
         )? {
             Some(parts) => {
-                let heavier = weight(&routine, actuals.as_slice());
-                self.weight = self.weight.saturating_add(heavier);
+                self.faults.add_weight(weight(&routine, actuals.as_slice()));
                 let code = Code::Made(routine);
                 Ok(self.reached.add(alloc, name, code, actuals, parts, None)?)
             }
@@ -384,18 +381,14 @@ impl<'a> Work<'a> {
         let Work {
             lib: _,
             reached,
-            no_body,
-            misfit,
-            weight,
+            faults,
         } = self;
         if reached.members.len() > MAX_INSTANCES {
             return Err(LinkError::TooManyInstances);
         }
-        match (no_body, misfit) {
-            (Some(name), _) => Err(LinkError::NoBody(name)),
-            (None, Some(name)) => Err(LinkError::Misfit(name)),
-            (None, None) if weight > MAX_WEIGHT => Err(LinkError::ProgramTooLarge),
-            (None, None) => Ok(reached),
+        match Box::into_inner(faults).first() {
+            Some(error) => Err(error),
+            None => Ok(reached),
         }
     }
 }

@@ -6,6 +6,3 @@ mod escapes;
 mod literals;
 
 pub use crate::literals::{char_byte, string_bytes};
-
-#[cfg(test)]
-mod tests;

@@ -13,7 +13,7 @@ fn is_pair(upper: u32, lower: u32) -> bool
 }
 
 /// Whether such words stand from this place on.
-fn has_pair(code: &[u32], at: usize) -> bool
+pub fn has_pair(code: &[u32], at: usize) -> bool
     requires { at < 2 ^ 32 }
     ensures { result ≡ is_pair_at code.now at }
 {

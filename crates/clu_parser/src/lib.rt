@@ -15,6 +15,3 @@ mod source;
 
 pub use crate::errors::ParseError;
 pub use crate::parsing::parse;
-
-#[cfg(test)]
-mod tests;

@@ -54,7 +54,7 @@ fn a_put_that_fails(rt: HostRuntime) -> Result<(), Fail> {
 }
 
 /// An image that writes `hi` and the end of a line.
-const HI_IMAGE: &[u8] = b"CLUI\x01\0\0\0\0\0\0\0\x07\0\0\0\x08\0\0\0\
+pub const HI_IMAGE: &[u8] = b"CLUI\x01\0\0\0\0\0\0\0\x07\0\0\0\x08\0\0\0\
     \x93\x08\x40\0\x37\x05\x01\0\x13\x05\x05\x02\x93\x05\x30\0\x73\0\0\0\x93\x08\0\0\x73\0\0\0hi\n\0\0\0\0\0";
 
 /// Whether `exec` of it writes this if the write of this number fails, in pieces of this size.

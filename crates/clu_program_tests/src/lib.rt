@@ -11,6 +11,8 @@ mod derived_texts;
 #[cfg(test)]
 mod example_rows;
 #[cfg(test)]
+mod fault_tests;
+#[cfg(test)]
 mod go_arm_rows;
 #[cfg(test)]
 mod go_bound_rows;
@@ -20,6 +22,8 @@ mod go_data_rows;
 mod go_iter_rows;
 #[cfg(test)]
 mod go_rows;
+#[cfg(test)]
+mod kept_tests;
 #[cfg(test)]
 mod limit_rows;
 #[cfg(test)]
@@ -47,6 +51,12 @@ mod program_tests;
 #[cfg(test)]
 mod rows;
 #[cfg(test)]
+mod session_rows;
+#[cfg(test)]
+mod session_tests;
+#[cfg(test)]
+mod sessions;
+#[cfg(test)]
 mod status_rows;
 #[cfg(test)]
 mod syntax_rows;
@@ -54,3 +64,5 @@ mod syntax_rows;
 mod syntax_tests;
 #[cfg(test)]
 mod text_rows;
+#[cfg(test)]
+mod walk_rows;

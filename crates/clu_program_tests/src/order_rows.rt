@@ -192,9 +192,9 @@ pub const GO_PAIRS: &str = "\
 ";
 
 /// How many rows `OTHER_PAIRS` has.
-pub const OTHER_PAIR_COUNT: usize = 73;
+pub const OTHER_PAIR_COUNT: usize = 101;
 
-/// Rows of the other commands, in the same form. What is not built asks nothing of files.
+/// Rows of the other commands, in the same form.
 pub const OTHER_PAIRS: &str = "\
     exec c d\t\t\t2\t\tusage: clu go|spec|replace|compile|link|run|exec|gen|list|asm|print|xref\n\t0x 43 4c 55 49 01 \
     00 00 00 00 00 00 00 07 00 00 00 08 00 00 00 93 08 40 00 37 05 01 00 13 05 05 02 93 05 30 00 73 00 00 00 93 08 00 \
@@ -266,22 +266,22 @@ pub const OTHER_PAIRS: &str = "\
     gen 1\t\tget\t0\tm1 = proc (x: int) returns (int)\nfor i: int in int$from_to(1, 1) do\nx := (x * 31 + i) // \
     1000000\nend\nreturn (x)\nend m1\nstart_up = proc ()\nx: int := 1\nx := \
     m1(x)\nstream$putl(stream$primary_output(), int$unparse(x))\nend start_up\n\t\t\0\
-    spec a c\t\tget put write\t27\t\tnot yet\n\tstart_up = proc () @\"hi\") end start_up\0\
-    replace a c\t\tget put write\t27\t\tnot yet\n\tstart_up = proc () @\"hi\") end start_up\0\
-    compile a c\t\tget put write\t27\t\tnot yet\n\tstart_up = proc () @\"hi\") end start_up\0\
-    link a c d\t\tget put write\t27\t\tnot yet\n\tstart_up = proc () @\"hi\") end start_up\0\
-    run a c\t\tget put write\t27\t\tnot yet\n\tstart_up = proc () @\"hi\") end start_up\0\
+    spec a c\t\tget put write\t24\t\tfile fault: a\n\tstart_up = proc () @\"hi\") end start_up\0\
+    replace a c\t\tget put write\t24\t\tfile fault: a\n\tstart_up = proc () @\"hi\") end start_up\0\
+    compile a c\t\tget put write\t24\t\tfile fault: a\n\tstart_up = proc () @\"hi\") end start_up\0\
+    link a c d\t\tget put write\t24\t\tfile fault: a\n\tstart_up = proc () @\"hi\") end start_up\0\
+    run a c\t\tget put write\t24\t\tfile fault: a\n\tstart_up = proc () @\"hi\") end start_up\0\
     list a\t\tget put write\t24\t\tfile fault: a\n\tstart_up = proc () @\"hi\") end start_up\0\
     asm a c\t\tget put write\t24\t\tfile fault: a\n\tstart_up = proc () @\"hi\") end start_up\0\
-    xref a\t\tget put write\t27\t\tnot yet\n\tstart_up = proc () @\"hi\") end start_up\0\
-    spec e c\t\t\t27\t\tnot yet\n\tstart_up = proc () @\"hi\") end start_up\0\
-    replace e c\t\t\t27\t\tnot yet\n\tstart_up = proc () @\"hi\") end start_up\0\
-    compile e c\t\t\t27\t\tnot yet\n\tstart_up = proc () @\"hi\") end start_up\0\
-    link e c d\t\t\t27\t\tnot yet\n\tstart_up = proc () @\"hi\") end start_up\0\
-    run e c\t\t\t27\t\tnot yet\n\tstart_up = proc () @\"hi\") end start_up\0\
+    xref a\t\tget put write\t24\t\tfile fault: a\n\tstart_up = proc () @\"hi\") end start_up\0\
+    spec e c\t\t\t10\t\tno file: c\n\tstart_up = proc () @\"hi\") end start_up\0\
+    replace e c\t\t\t10\t\tno file: c\n\tstart_up = proc () @\"hi\") end start_up\0\
+    compile e c\t\t\t10\t\tno file: c\n\tstart_up = proc () @\"hi\") end start_up\0\
+    link e c d\t\t\t14\t\tno module: d\n\tstart_up = proc () @\"hi\") end start_up\0\
+    run e c\t\t\t19\t\tno program: c\n\tstart_up = proc () @\"hi\") end start_up\0\
     list e\t\t\t10\t\tno file: e\n\tstart_up = proc () @\"hi\") end start_up\0\
     asm e c\t\t\t10\t\tno file: e\n\tstart_up = proc () @\"hi\") end start_up\0\
-    xref e\t\t\t27\t\tnot yet\n\tstart_up = proc () @\"hi\") end start_up\0\
+    xref e\t\t\t0\t\t\tstart_up = proc () @\"hi\") end start_up\0\
     spec a c\t\terrors\t23\t\t\tstart_up = proc () @\"hi\") end start_up\0\
     replace a c\t\terrors\t23\t\t\tstart_up = proc () @\"hi\") end start_up\0\
     compile a c\t\terrors\t23\t\t\tstart_up = proc () @\"hi\") end start_up\0\
@@ -290,4 +290,32 @@ pub const OTHER_PAIRS: &str = "\
     list a\t\terrors\t23\t\t\tstart_up = proc () @\"hi\") end start_up\0\
     asm a c\t\terrors\t23\t\t\tstart_up = proc () @\"hi\") end start_up\0\
     xref a\t\terrors\t23\t\t\tstart_up = proc () @\"hi\") end start_up\0\
+    spec e c\t\tget\t24\t\tfile fault: e\n\tp = proc () end p\0\
+    spec a c\t\t\t10\t\tno file: c\n\tCLU\0\
+    spec a a\t\t\t26\t\tsource too large: a\n\tCLU^1048577^%^\0\
+    spec a a\t\terrors\t23\t\t\tCLU\0\
+    spec e a\t\tlast\t11\t\ta:1:14: V5 UnknownName\n\tp = proc (x: y) end p\0\
+    spec e a\t\tlast\t21\t\tlibrary full\n\t^4097^k? = proc () end k? ^\0\
+    spec e a\t\t\t11\t\ta:1:14: V5 UnknownName\n\tp = proc (x: y) end p ^4097^k? = proc () end k? ^\0\
+    spec e a\t\twrite\t0\t\t\tp = proc () end p\0\
+    replace e c\t\tget\t24\t\tfile fault: e\n\tp = proc () end p\0\
+    replace a c\t\t\t10\t\tno file: c\n\tCLU\0\
+    replace a a\t\t\t26\t\tsource too large: a\n\tCLU^1048577^%^\0\
+    replace a a\t\terrors\t23\t\t\tCLU\0\
+    replace e a\t\tlast\t11\t\ta:1:14: V5 UnknownName\n\tp = proc (x: y) end p\0\
+    replace e a\t\tlast\t21\t\tlibrary full\n\t^4097^k? = proc () end k? ^\0\
+    replace e a\t\t\t11\t\ta:1:14: V5 UnknownName\n\tp = proc (x: y) end p ^4097^k? = proc () end k? ^\0\
+    replace e a\t\twrite\t0\t\t\tp = proc () end p\0\
+    compile e c\t\tget\t24\t\tfile fault: e\n\tp = proc () end p\0\
+    compile a c\t\t\t10\t\tno file: c\n\tCLU\0\
+    compile a a\t\t\t26\t\tsource too large: a\n\tCLU^1048577^%^\0\
+    compile a a\t\terrors\t23\t\t\tCLU\0\
+    compile e a\t\tlast\t11\t\ta:1:14: V5 UnknownName\n\tp = proc (x: y) end p\0\
+    compile e a\t\tlast\t21\t\tlibrary full\n\t^4097^k? = proc () end k? ^\0\
+    compile e a\t\t\t11\t\ta:1:14: V5 UnknownName\n\tp = proc (x: y) end p ^4097^k? = proc () end k? ^\0\
+    compile e a\t\twrite\t0\t\t\tp = proc () end p\0\
+    link a p p\t\terrors\t23\t\t\tCLU\0\
+    run a g --steps 0\t\t\t2\t\tusage: clu go|spec|replace|compile|link|run|exec|gen|list|asm|print|xref\n\tCLU\0\
+    run a g\t\twrite read\t12\t\tlibrary bad at 0\n\tCLU\0\
+    xref a\t\twrite\t12\t\tlibrary bad at 0\n\tCLU\0\
 ";

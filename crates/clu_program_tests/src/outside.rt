@@ -22,7 +22,8 @@ struct Faults {
 
 impl Faults {
     /// What fails is named by words with blanks between them: the first `read` of the input, the first `write` of the
-    /// output, the first line to `errors`, the `get` of the file that the command reads, and the `put` after it.
+    /// output, the first line to `errors`, the `get` of the first file that the command reads, and the `put` after it; of a
+    /// command that reads two files `put` is the get of the second one, and `last` the put.
     fn named(alloc: Global, words: &str) -> Result<Faults, Fail> {
         let mut faults = Faults {
             input: Vec::new(alloc),
@@ -44,6 +45,7 @@ impl Faults {
             "errors" => Ok(self.errors.push(0)?),
             "get" => Ok(self.files.push(1)?),
             "put" => Ok(self.files.push(2)?),
+            "last" => Ok(self.files.push(3)?),
             "" => Ok(()),
             _ => Err("no such fault")?,
         }
@@ -70,6 +72,13 @@ impl Outside {
         let faults = Faults::named(alloc, faults)?;
         let mut outside = Outside::failing(alloc, input, faults)?;
         outside.files.put(alloc, FILE, content)?;
+        Ok(outside)
+    }
+
+    /// One whose store call of this number fails; if it is a put it leaves so many bytes.
+    pub fn with_failing_call(alloc: Global, call: u64, torn: usize) -> Result<Box<Outside>, Fail> {
+        let mut outside = Outside::failing(alloc, b"", Faults::named(alloc, "")?)?;
+        outside.files = MemStore::new(alloc, vec![in alloc; call]?, torn);
         Ok(outside)
     }
 
@@ -103,7 +112,7 @@ impl Outside {
     /// Whether a call of this status left `IMAGE` as it was, if it is a refusal before the put.
     pub fn is_kept(&self, status: u8) -> bool {
         match status {
-            2 | 10..=21 | 25..=27 => self.files.file(IMAGE).is_none(),
+            2 | 10..=21 | 25..=31 => self.files.file(IMAGE).is_none(),
             _ => true,
         }
     }

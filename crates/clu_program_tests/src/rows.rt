@@ -55,7 +55,7 @@ pub fn spelled(alloc: Global, short: &str) -> Result<String, Fail> {
 }
 
 /// The bytes of numbers of two hexadecimal digits with blanks between them.
-fn bytes_of(alloc: Global, digits: &str) -> Result<Vec<u8>, Fail> {
+pub fn bytes_of(alloc: Global, digits: &str) -> Result<Vec<u8>, Fail> {
     let mut bytes = Vec::new(alloc);
     for byte in digits.split(' ') {
         bytes.push(u8::from_str_radix(byte, 16)?)?;

@@ -80,7 +80,7 @@ pub const EXEC_STATUSES: &str = "\
 ";
 
 /// How many rows `OTHER_STATUSES` has.
-pub const OTHER_COUNT: usize = 53;
+pub const OTHER_COUNT: usize = 97;
 
 /// Rows of the other commands, and of words that are none, in the same form.
 pub const OTHER_STATUSES: &str = "\
@@ -103,11 +103,11 @@ pub const OTHER_STATUSES: &str = "\
     gen 2\t\twrite\t23\t\twrite fault\n\t\0\
     gen 0\t\t\t2\t\tusage: clu go|spec|replace|compile|link|run|exec|gen|list|asm|print|xref\n\t\0\
     gen 501\t\t\t2\t\tusage: clu go|spec|replace|compile|link|run|exec|gen|list|asm|print|xref\n\t\0\
-    spec a c\t\t\t27\t\tnot yet\n\tstart_up = proc () @\"hi\") end start_up\0\
-    replace a c\t\t\t27\t\tnot yet\n\tstart_up = proc () @\"hi\") end start_up\0\
-    compile a c\t\t\t27\t\tnot yet\n\tstart_up = proc () @\"hi\") end start_up\0\
-    link a c d\t\t\t27\t\tnot yet\n\tstart_up = proc () @\"hi\") end start_up\0\
-    run a c\t\t\t27\t\tnot yet\n\tstart_up = proc () @\"hi\") end start_up\0\
+    spec a c\t\t\t10\t\tno file: c\n\tstart_up = proc () @\"hi\") end start_up\0\
+    replace a c\t\t\t10\t\tno file: c\n\tstart_up = proc () @\"hi\") end start_up\0\
+    compile a c\t\t\t10\t\tno file: c\n\tstart_up = proc () @\"hi\") end start_up\0\
+    link a c d\t\t\t12\t\tlibrary bad at 0\n\tstart_up = proc () @\"hi\") end start_up\0\
+    run a c\t\t\t12\t\tlibrary bad at 0\n\tstart_up = proc () @\"hi\") end start_up\0\
     list a\t\t\t0\tentry 0\naddi x17,x0,4\nlui x10,65536\naddi x10,x10,32\naddi x11,x0,3\necall\naddi \
     x17,x0,0\necall\ndata 68690a0000000000\n\t\t0x 43 4c 55 49 01 00 00 00 00 00 00 00 07 00 00 00 08 00 00 00 93 08 40 00 37 05 \
     01 00 13 05 05 02 93 05 30 00 73 00 00 00 93 08 00 00 73 00 00 00 68 69 0a 00 00 00 00 00\0\
@@ -125,7 +125,51 @@ pub const OTHER_STATUSES: &str = "\
     asm a b\t\t\t30\t\tasm bad at 14\n\tentry 0\necall\nx\n\0\
     asm a b\t\t\t30\t\tasm bad at 15\n\tentry 0\necall\nx\0\
     asm a b\t\twrite\t0\t\t\tentry 0\necall\n\0\
-    xref a\t\t\t27\t\tnot yet\n\tstart_up = proc () @\"hi\") end start_up\0\
+    xref a\t\t\t12\t\tlibrary bad at 0\n\tstart_up = proc () @\"hi\") end start_up\0\
+    spec e a\t\t\t0\t\t\tp = proc () end p\0\
+    spec e a\t\t\t11\t\ta:1:1: V1 Token\n\t`\0\
+    spec e a\t\t\t11\t\ta:1:18: V2 Syntax\n\tp = proc () end p;\0\
+    spec e a\t\t\t11\t\ta:1:14: V5 UnknownName\n\tp = proc (x: y) end p\0\
+    spec a a\t\t\t12\t\tlibrary bad at 0\n\tCLU\0\
+    spec e a\t\tget\t24\t\tfile fault: e\n\tp = proc () end p\0\
+    spec e a\t\tput\t24\t\tfile fault: a\n\tp = proc () end p\0\
+    spec e a\t\tlast\t24\t\tfile fault: e\n\tp = proc () end p\0\
+    spec e a\t\t\t26\t\tsource too large: a\n\t^1048577^%^\0\
+    spec e a\t\t\t21\t\tlibrary full\n\t^4097^k? = proc () end k? ^\0\
+    replace e a\t\t\t0\t\t\tp = proc () end p\0\
+    replace e a\t\t\t11\t\ta:1:1: V1 Token\n\t`\0\
+    replace e a\t\t\t11\t\ta:1:18: V2 Syntax\n\tp = proc () end p;\0\
+    replace e a\t\t\t11\t\ta:1:14: V5 UnknownName\n\tp = proc (x: y) end p\0\
+    replace a a\t\t\t12\t\tlibrary bad at 0\n\tCLU\0\
+    replace e a\t\tget\t24\t\tfile fault: e\n\tp = proc () end p\0\
+    replace e a\t\tput\t24\t\tfile fault: a\n\tp = proc () end p\0\
+    replace e a\t\tlast\t24\t\tfile fault: e\n\tp = proc () end p\0\
+    replace e a\t\t\t26\t\tsource too large: a\n\t^1048577^%^\0\
+    replace e a\t\t\t21\t\tlibrary full\n\t^4097^k? = proc () end k? ^\0\
+    compile e a\t\t\t0\t\t\tp = proc () end p\0\
+    compile e a\t\t\t11\t\ta:1:1: V1 Token\n\t`\0\
+    compile e a\t\t\t11\t\ta:1:18: V2 Syntax\n\tp = proc () end p;\0\
+    compile e a\t\t\t11\t\ta:1:14: V5 UnknownName\n\tp = proc (x: y) end p\0\
+    compile a a\t\t\t12\t\tlibrary bad at 0\n\tCLU\0\
+    compile e a\t\tget\t24\t\tfile fault: e\n\tp = proc () end p\0\
+    compile e a\t\tput\t24\t\tfile fault: a\n\tp = proc () end p\0\
+    compile e a\t\tlast\t24\t\tfile fault: e\n\tp = proc () end p\0\
+    compile e a\t\t\t26\t\tsource too large: a\n\t^1048577^%^\0\
+    compile e a\t\t\t21\t\tlibrary full\n\t^4097^k? = proc () end k? ^\0\
+    spec e a\t\t\t0\t\t\tp = proc () q() end q\0\
+    replace e a\t\t\t0\t\t\tp = proc () q() end q\0\
+    compile e a\t\t\t11\t\ta:1:13: V5 UnknownName\n\tp = proc () q() end p\0\
+    link e p p\t\t\t14\t\tno module: p\n\t\0\
+    link e p MAIN\t\t\t14\t\tno module: main\n\t\0\
+    link a p p\t\t\t12\t\tlibrary bad at 0\n\tCLU\0\
+    link a p p\t\tget\t24\t\tfile fault: a\n\tCLU\0\
+    run e g\t\t\t19\t\tno program: g\n\t\0\
+    run a g\t\t\t12\t\tlibrary bad at 0\n\tCLU\0\
+    run a g\t\tget\t24\t\tfile fault: a\n\tCLU\0\
+    xref e\t\t\t0\t\t\t\0\
+    xref e\t\twrite\t0\t\t\t\0\
+    xref a\t\t\t12\t\tlibrary bad at 0\n\tCLU\0\
+    xref a\t\tget\t24\t\tfile fault: a\n\tCLU\0\
     go a\t\t\t2\t\tusage: clu go|spec|replace|compile|link|run|exec|gen|list|asm|print|xref\n\tstart_up = proc () \
     @\"hi\") end start_up\0\
     exec\t\t\t2\t\tusage: clu go|spec|replace|compile|link|run|exec|gen|list|asm|print|xref\n\tstart_up = proc () \

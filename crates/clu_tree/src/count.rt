@@ -83,23 +83,3 @@ pub fn count_with(counts: &[u32], node: &Node) -> u32
     }
     count
 }
-
-#[cfg(test)]
-mod tests {
-    use super::*;
-
-    #[test]
-    fn counts_denoted_bytes(rt: HostRuntime) {
-        let literals: [(&[u8], usize); 6] = [
-            (b"\"\"", 0),
-            (b"\"ab\"", 2),
-            (b"\"a\\tb\\101\"", 4),
-            (b"\"\\\"\\\\\"", 2),
-            (b"'a'", 0),
-            (b"nil", 0),
-        ];
-        for (literal, denoted) in literals {
-            assert_eq!(rt; string_len(literal), denoted, "{literal:?}");
-        }
-    }
-}

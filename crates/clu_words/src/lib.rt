@@ -12,6 +12,3 @@ mod reading;
 pub use crate::commands::{Command, read_command};
 pub use crate::limits::RunLimits;
 pub use crate::reading::WordsError;
-
-#[cfg(test)]
-mod tests;

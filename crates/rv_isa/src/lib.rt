@@ -11,8 +11,6 @@ mod image;
 mod instr;
 mod op;
 mod reg;
-#[cfg(test)]
-mod tests;
 
 pub use decoding::decode;
 pub use encoding::encode;

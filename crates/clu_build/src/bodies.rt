@@ -1,0 +1,80 @@
+//! What is kept of a module beside its specification: the text, the names of other modules in it, and the object.
+
+use crate::errors::BuildError;
+use clu_base::{Bytes, Sequence, Token};
+use clu_core::Checked;
+use clu_frames::flatten;
+use clu_handlers::Regions;
+use clu_library::Body;
+use clu_lower_ctl::lower;
+use clu_object::{ObjRoutine, Object, copy_texts, is_object};
+use rv_select::select;
+use std::alloc::Global;
+
+/// The source of a file: its bytes and its tokens.
+#[derive(Clone, Copy)]
+pub struct Text<'a> {
+    pub bytes: &'a [u8],
+    pub tokens: &'a [Token],
+}
+
+/// The body of a module with this source, which names these other modules.
+pub fn body_of(
+    alloc: Global,
+    c: &Checked,
+    module: u32,
+    name: &Bytes,
+    names: &[Bytes],
+    source: &[u8],
+) -> Result<Body, BuildError> {
+    Ok(Body {
+        text: Bytes::from_slice(alloc, source)?,
+        names: Some(copy_texts(alloc, names)?),
+        checked: 0,
+        object: object_of(alloc, c, module, name)?,
+    })
+}
+
+/// The bytes of the source from a module's first token to its last.
+pub fn source_of<'a>(text: Text<'a>, c: &Checked, module: u32) -> Result<&'a [u8], BuildError> {
+    if module >= c.tree.len() {
+        return Err(BuildError::NotYet);
+    }
+    let node = c.tree.node(module);
+    let first = text.tokens.get(node.first as usize);
+    let last = text.tokens.get(node.last as usize);
+    match (first, last) {
+        (Some(first), Some(last)) => between(text.bytes, first.start as usize, last.end as usize),
+        _ => Err(BuildError::NotYet),
+    }
+}
+
+fn between(bytes: &[u8], start: usize, end: usize) -> Result<&[u8], BuildError> {
+    if start > end || end > bytes.len() {
+        return Err(BuildError::NotYet);
+    }
+    Ok(&bytes[start..end])
+}
+
+/// The code of a module. No contract shows yet that it is of the format of objects: it is tested.
+fn object_of(alloc: Global, c: &Checked, module: u32, name: &Bytes) -> Result<Object, BuildError> {
+    let object = Object {
+        module: name.copy(alloc)?,
+        routines: Sequence::from_vec(routines_of(alloc, c, module)?),
+    };
+    if is_object(alloc, &object)? {
+        Ok(object)
+    } else {
+        Err(BuildError::NotYet)
+    }
+}
+
+fn routines_of(alloc: Global, c: &Checked, module: u32) -> Result<Vec<ObjRoutine>, BuildError> {
+    let mut routines = Vec::new(alloc);
+    for routine in lower(alloc, c, module)? {
+        let mut regions = Regions::new(alloc);
+        let flat = flatten(alloc, &routine, &mut regions)?;
+        routines.push(select(alloc, &flat, &regions)?)?;
+    }
+    Ok(routines)
+}

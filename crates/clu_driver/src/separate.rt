@@ -1,0 +1,84 @@
+//! The command `compile`: checks a source under a library's specifications and enters its modules.
+
+ghost use Rattle.std.specs.Prelude.{◌≡◌};
+ghost use Rattle.clu_driver.specs.Libraries.{CompileShows, CompiledShows, EnteredShows};
+ghost use Rattle.clu_driver.specs.Shows.{Reported};
+
+use crate::checking::checked;
+use crate::gathering::{Gathered, gather};
+use crate::libraries::put_library;
+use crate::outcome::report;
+use crate::refusals::refusal_of;
+use crate::sources::Parsed;
+use clu_base::{Sink, Store};
+use clu_build::{Text, enter_file};
+use clu_core::Checked;
+use clu_library::Library;
+use std::alloc::Global;
+
+/// Compiles the source `file` into the library `library`.
+pub fn compile<E: Sink, F: Store>(
+    alloc: Global,
+    library: &str,
+    file: &str,
+    errors: &mut E,
+    files: &mut F,
+) -> u8
+    ensures told { Reported (λ how. CompileShows how library.now file.now (F.files files.old) (F.faults files.old) (F.files files.new) (F.faults files.new))
+        result (E.written errors.old) (E.written errors.new) (E.faults errors.old) (E.faults errors.new) }
+{
+    match gather(alloc, library, file, files) {
+        Ok(gathered) => compile_source(alloc, library, file, gathered, errors, files),
+        Err(how) => report(errors, &how),
+    }
+}
+
+// Compiles a source.
+fn compile_source<E: Sink, F: Store>(
+    alloc: Global,
+    name: &str,
+    file: &str,
+    gathered: Gathered,
+    errors: &mut E,
+    files: &mut F,
+) -> u8
+    ensures told { Reported (λ how. CompiledShows how name.now file.now gathered.source.value.tree (F.files files.old) (F.faults files.old) (F.files files.new) (F.faults files.new))
+        result (E.written errors.old) (E.written errors.new) (E.faults errors.old) (E.faults errors.new) }
+{
+    let Gathered {
+        mut library,
+        source,
+    } = gathered;
+    let Parsed {
+        bytes,
+        tokens,
+        tree,
+    } = Box::into_inner(source);
+    let text = Text {
+        bytes: &bytes,
+        tokens: &tokens,
+    };
+    match checked(alloc, file, tree, library.specs()) {
+        Ok(checked) => enter_and_put(alloc, name, &mut library, text, &checked, errors, files),
+        Err(how) => report(errors, &how),
+    }
+}
+
+// Enters the modules of a checked source into a library and puts it.
+fn enter_and_put<E: Sink, F: Store>(
+    alloc: Global,
+    name: &str,
+    library: &mut Library,
+    text: Text<'_>,
+    checked: &Checked,
+    errors: &mut E,
+    files: &mut F,
+) -> u8
+    ensures told { Reported (λ how. EnteredShows how name.now (F.files files.old) (F.faults files.old) (F.files files.new) (F.faults files.new))
+        result (E.written errors.old) (E.written errors.new) (E.faults errors.old) (E.faults errors.new) }
+{
+    match enter_file(alloc, library, text, checked) {
+        Ok(()) => put_library(alloc, name, library, errors, files),
+        Err(error) => report(errors, &refusal_of(&error)),
+    }
+}

@@ -1,0 +1,59 @@
+//! The table of scripts, run.
+
+use crate::file_tests::counted;
+use crate::script_rows;
+use crate::scripts::step;
+use clu_library::Library;
+use std::alloc::Global;
+use std::test::Fail;
+
+/// Does the step of a line, and compares what comes of it.
+fn keep_line(library: &mut Library, alloc: Global, line: &str, row: &str) -> Result<(), Fail> {
+    let (taken, due) = line.split_once('\t').unwrap_or((line, ""));
+    let (sort, text) = taken.split_once(' ').unwrap_or((taken, ""));
+    let mut out = String::new(alloc);
+    step(&mut out, library, alloc, sort, text)?;
+    if out.as_str() != due {
+        return Err(format!(in alloc; "{out} of {line} in {row}")?)?;
+    }
+    Ok(())
+}
+
+fn keep_lines(library: &mut Library, alloc: Global, row: &str) -> Result<(), Fail> {
+    for line in row.split_terminator('\n') {
+        keep_line(library, alloc, line, row)?;
+    }
+    Ok(())
+}
+
+/// The library is written, read and written again as the same bytes.
+fn keep_file(library: &Library, alloc: Global, row: &str) -> Result<(), Fail> {
+    let file = library.write(alloc)?;
+    match Library::read(alloc, file.as_slice()) {
+        Ok(again) => {
+            if again.write(alloc)? != file {
+                return Err(format!(in alloc; "written otherwise: {row}")?)?;
+            }
+            Ok(())
+        }
+        Err(_) => Err(format!(in alloc; "not read again: {row}")?)?,
+    }
+}
+
+fn keep_script(library: &mut Library, alloc: Global, row: &str) -> Result<(), Fail> {
+    keep_lines(library, alloc, row)?;
+    keep_file(library, alloc, row)
+}
+
+#[test]
+fn scripts(rt: HostRuntime) -> Result<(), Fail> {
+    let mut count = 0usize;
+    for row in script_rows::SCRIPTS.split_terminator('\0') {
+        if !row.starts_with('%') {
+            let mut library = Library::empty(rt.alloc());
+            keep_script(&mut library, rt.alloc(), row)?;
+            count = count.saturating_add(1);
+        }
+    }
+    counted(count, script_rows::SCRIPT_COUNT)
+}
