@@ -3,7 +3,7 @@ use Rattle.std.specs.Prelude.{refl, List, [], ◌∷◌, codes, Some, None}
 use Rattle.clu_base.specs.declared.rules.Rule.TheVariants as rule
 use Rattle.clu_tree.specs.declared.node.Node.{Node}
 use Rattle.clu_tree.specs.declared.node.NodeKind.TheVariants as kind
-use Rattle.clu_checking.proofs.Checking.{n, IsRefused, IsFine, checking}
+use Rattle.clu_checking.proofs.Checking.{n, IsRefused, checking}
 
 -- c = cluster is m rep = 1 m = proc () end m end c
 -- p = proc (x: q) end p

@@ -12,7 +12,7 @@ use Rattle.clu_syntax.specs.contracts.words.SimpleType.{the_type}
 use denote.Enum.Bare.{sameb}
 use Rattle.clu_syntax.specs.Kinds.{is_expression}
 use Rattle.clu_syntax.specs.Roles.{has_no_name}
-use Rattle.clu_syntax.specs.Syntax.{Identifier, Literal, real, Expression, a_name, a_literal, an_index, Constants, no_constants, constant_and, TypeExpression, a_simple_type, Restriction, is_in, TypeSet, a_type_set, Equate, an_equate, a_set_equate, Equates, no_equates, equate_and}
+use Rattle.clu_syntax.specs.Syntax.{Identifier, real, Expression, a_name, a_literal, an_index, Constants, no_constants, constant_and, TypeExpression, a_simple_type, Restriction, is_in, TypeSet, a_type_set, Equate, an_equate, a_set_equate, Equates, no_equates, equate_and}
 use Rattle.clu_meaning.specs.Scoping.{Meaning, is_equate, is_type_set, is_type_parameter, is_constant_parameter, is_local, is_own_of_routine, is_own_of_cluster, is_routine_of_cluster, is_module}
 use Rattle.clu_meaning.specs.Settling.{Value, settled_type, settled_constant, settled_parameter, settled}
 use Rattle.clu_checking.specs.Specifications.{Form, of_routine, of_cluster, Specification}

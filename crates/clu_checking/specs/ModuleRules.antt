@@ -4,7 +4,7 @@ use Rattle.std.specs.List.{list_any, list_all}
 use Rattle.clu_tree.specs.Count.{counts}
 use Rattle.clu_tree.specs.declared.node.NodeKind.{NodeKind}
 use Rattle.clu_tree.specs.declared.node.NodeKind.TheVariants as kind
-use Rattle.clu_syntax.specs.Syntax.{Identifier, Routine, Cluster}
+use Rattle.clu_syntax.specs.Syntax.{Identifier, Cluster}
 use Rattle.clu_syntax.specs.Splits.{first_name, last_name}
 use Rattle.clu_checking.specs.Files.{File, item, kind_in, is_kind, children, names}
 

@@ -6,7 +6,7 @@ use Rattle.clu_layout.specs.SameType.{same_type}
 use Rattle.clu_tree.specs.declared.node.NodeKind.{NodeKind}
 use Rattle.clu_tree.specs.declared.node.NodeKind.TheVariants as kind
 use Rattle.clu_syntax.specs.Splits.{first_name}
-use Rattle.clu_syntax.specs.Syntax.{Identifier, Literal, integer, character, string, Expression, a_literal, Restriction, Routine, Cluster, TypeSet}
+use Rattle.clu_syntax.specs.Syntax.{Identifier, Literal, integer, character, string, Expression, a_literal, Restriction, Routine, Cluster}
 use Rattle.clu_names.specs.declared.scopes.Declared.{Declared}
 use Rattle.clu_names.specs.Denotes.{is_open, rank}
 use Rattle.clu_names.specs.Latest.{is_local}

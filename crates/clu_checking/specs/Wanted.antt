@@ -13,7 +13,7 @@ use Rattle.clu_syntax.specs.declared.round.Role.{Role}
 use Rattle.clu_syntax.specs.declared.round.Role.TheVariants as role
 use Rattle.clu_syntax.specs.Splits.{first_name}
 use Rattle.clu_syntax.specs.Roles.{has_no_name}
-use Rattle.clu_syntax.specs.Syntax.{Identifier, Expression, a_name, an_index, Constant, Constants, no_constants, constant_and, TypeExpression, a_named_type}
+use Rattle.clu_syntax.specs.Syntax.{Identifier, Expression, a_name, an_index, Constants, no_constants, constant_and, TypeExpression, a_named_type}
 use Rattle.clu_meaning.specs.Settling.{Value, settled_type, settled_constant, settled_parameter, unsettled, settled}
 use Rattle.clu_checking.specs.Specifications.{Specification}
 use Rattle.clu_checking.specs.Files.{File, item, kind_in, round, parent, children, children_at, names, is_kind, is_kind_at, is_of_module}
