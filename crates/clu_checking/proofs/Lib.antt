@@ -1,0 +1,15 @@
+pub mod Checking
+mod ConstantSamples
+mod CornerSamples
+mod DemandSamples
+mod ExceptionSamples
+mod ExpressionSamples
+mod ModuleSamples
+mod NameSamples
+mod OperationSamples
+mod OrderSamples
+mod RaiseSamples
+mod ScopeSamples
+mod SpecificationSamples
+mod StatementSamples
+mod TypeSamples
