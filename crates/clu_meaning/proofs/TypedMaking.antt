@@ -1,6 +1,6 @@
 -- Constructors make objects that fit, and leave a state typed.
 use Rattle.std.proofs.Common.{◌≡◌, ℕ, zero, suc, Bool, true, false, List, [], ◌∷◌, ◌++◌, length, Option, None, Some, refl, sym, subst, arith, ◌≤◌}
-use Rattle.std.specs.Prelude.{ℤ, slice_get}
+use Rattle.std.specs.Prelude.{ℤ, pos, slice_get}
 use Rattle.std.specs.Option.{option_map}
 use Rattle.clu_types.specs.CluType.{CluType, CluTypes, Fields, array_of, sequence_of, struct_of, record_of}
 use Rattle.clu_builtin.specs.Table.{parts_of}
@@ -135,7 +135,7 @@ module _ (program : Program) (round : Round) where
 
   pub stays_makes_elements : (base : List Cell) (t : CluType) (os : List Object) → AllTyped program base os → Stays program round base Given (makes_elements t os)
   unfolding makes_elements
-  stays_makes_elements base (array_of t) os h = stays_does base _ (λ cells l. fitting_array program cells t _ os (all_on program base cells l os h))
+  stays_makes_elements base (array_of t) os h = stays_does base _ (λ cells l. fitting_array program cells t (pos 1) os (all_on program base cells l os h))
   stays_makes_elements base (sequence_of t) os h = stays_does base _ (λ cells l. fitting_sequence program cells t os (all_on program base cells l os h))
   stays_makes_elements base _ os h = stays_wrong program round base Given
 
