@@ -1,1 +1,0 @@
--- The counts of texts and schemes.

@@ -1,2 +1,0 @@
--- What is counted for operations that texts define.
-pub mod Counts
