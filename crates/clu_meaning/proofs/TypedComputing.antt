@@ -1,15 +1,14 @@
 -- What computations are put together from leaves a state typed, and the cells with the types that they had.
 use Rattle.std.proofs.Common.{◌≡◌, ℕ, zero, suc, Bool, true, false, List, [], ◌∷◌, Option, None, Some, refl, sym, ap, subst}
 use Rattle.std.proofs.lemmas.Bool.{false≢true, and_parts}
-use Rattle.std.specs.Prelude.{◌&&◌}
 use Rattle.clu_types.specs.CluType.{CluType, CluTypes, no_types, type_and}
 use Rattle.clu_layout.specs.Objects.{Object, bool_object, routine_object, Routine, string_object, Cell, own_type, own_types}
 use Rattle.clu_layout.specs.SameType.{fits, all_fit}
 use Rattle.clu_layout.proofs.CellLaws.{Longer, longer_refl, longer_trans}
 use Rattle.clu_meaning.specs.Programs.{Variable, local, own_of_routine, own_of_cluster, Program}
-use Rattle.clu_meaning.specs.State.{Instance, Frame, Owns, Stack, State, with_variable}
-use Rattle.clu_meaning.specs.Computations.{Ending, raised, wrong, Result, normal, ended, out_of_turns, Computation, gives, ends, goes_wrong, continue_with, and_then, continue_either_way, either_way, spends_a_turn, need, needed, with_one, with_bool, with_routine, either, if_there, sees_frame, sees_world, sees_owns, sees_stack, with_frame, with_owns, enters, goes_deeper, leaves, counts, takes, traced, raises, fails}
-use Rattle.clu_meaning.specs.Binding.{Running, declared_in, owns_of, term_of, put_in, type_after, types_of, cluster_instance, bound, names, names_each, assigned, forgets}
+use Rattle.clu_meaning.specs.State.{Instance, Frame, Stack, State}
+use Rattle.clu_meaning.specs.Computations.{Ending, raised, wrong, Result, normal, ended, out_of_turns, Computation, gives, ends, goes_wrong, continue_with, and_then, continue_either_way, either_way, spends_a_turn, need, needed, with_one, with_bool, with_routine, either, if_there, sees_frame, sees_owns, with_frame, with_owns, enters, goes_deeper, leaves, counts, takes, traced, raises, fails}
+use Rattle.clu_meaning.specs.Binding.{Running, declared_in, owns_of, term_of, put_in, type_after, types_of, cluster_instance, names, names_each, assigned, forgets}
 use Rattle.clu_meaning.specs.Calls.{Round, in_procedure, in_iterator, here}
 use Rattle.clu_meaning.specs.Expressions.{gives_named, uses}
 use Rattle.clu_meaning.specs.Run.{first_state}

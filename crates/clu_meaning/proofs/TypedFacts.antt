@@ -3,7 +3,7 @@ use Rattle.std.proofs.Common.{◌≡◌, ℕ, Bool, true, false, cond, List, [],
 use Rattle.std.proofs.lemmas.Bool.{false≢true, and_parts, eqb-true}
 use Rattle.std.proofs.lemmas.Slice.Eq.{bytes_eq-Decides}
 use Rattle.std.specs.Prelude.{◌==◌, bytes_eq}
-use Rattle.clu_types.specs.CluType.{CluType, Actuals}
+use Rattle.clu_types.specs.CluType.{CluType}
 use Rattle.clu_layout.specs.Objects.{Routine, module_routine, operation_of, force_of, Object, sequence_object, struct_object, oneof_object, routine_object, reference, sealed, Objects, no_objects, object_and, Cell, array_cell, record_cell, variant_cell}
 use Rattle.clu_layout.specs.SameType.{same_type, same_actuals, same_routine}
 use Rattle.clu_layout.proofs.SameTypeLaws.{types_are, actuals_are}

@@ -1,23 +1,23 @@
 -- Constructors make objects that fit, and leave a state typed.
-use Rattle.std.proofs.Common.{◌≡◌, ℕ, zero, suc, Bool, true, false, List, [], ◌∷◌, ◌++◌, length, Option, None, Some, refl, sym, subst, arith, ◌≤◌}
+use Rattle.std.proofs.Common.{◌≡◌, ℕ, Bool, true, false, List, [], ◌∷◌, ◌++◌, length, Some, refl, sym, subst, arith, ◌≤◌}
 use Rattle.std.specs.Prelude.{ℤ, pos, slice_get}
 use Rattle.std.specs.Option.{option_map}
-use Rattle.clu_types.specs.CluType.{CluType, CluTypes, Fields, array_of, sequence_of, struct_of, record_of}
+use Rattle.clu_types.specs.CluType.{CluType, CluTypes, Fields, array_of, sequence_of}
 use Rattle.clu_builtin.specs.Table.{parts_of}
-use Rattle.clu_layout.specs.Objects.{Object, int_object, string_object, sequence_object, struct_object, reference, Objects, listed, inside, Cell, array_cell, record_cell, cell_type, own_types}
+use Rattle.clu_layout.specs.Objects.{Object, int_object, string_object, sequence_object, struct_object, inside, Cell, array_cell, record_cell, cell_type, own_types}
 use Rattle.clu_layout.specs.SameType.{all_fit}
-use Rattle.clu_layout.specs.Actions.{World, Outcome, returned, signalled, wrong, Action, gives_all, signals_with, no_case, or_fails, need, takes, makes, has_int_bounds, fresh_array, makes_array, makes_sequence, makes_struct, makes_record}
+use Rattle.clu_layout.specs.Actions.{World, Outcome, returned, signalled, wrong, Action, gives_all, signals_with, no_case, or_fails, need, takes, makes, fresh_array, makes_array, makes_sequence, makes_struct, makes_record}
 use Rattle.clu_layout.specs.Primitive.{binds, same_for_each, before, outcome_in, done_in, array_construction, sequence_construction, struct_construction, record_construction}
 use Rattle.clu_layout.proofs.Laws.{listed_inside}
 use Rattle.clu_layout.proofs.CellLaws.{Longer, longer_refl, longer_added, longer_trans}
 use Rattle.clu_meaning.specs.Programs.{Program}
 use Rattle.clu_meaning.specs.State.{State}
-use Rattle.clu_meaning.specs.Computations.{Computation, outcome, does}
+use Rattle.clu_meaning.specs.Computations.{outcome, does}
 use Rattle.clu_meaning.specs.Calls.{Round}
-use Rattle.clu_meaning.specs.Expressions.{makes_fields, makes_elements, makes_elements_from, arranged_exactly}
-use Rattle.clu_meaning.specs.Typed.{IsTyped, AreTyped, AllTyped, CellFits, EachFits, Typed}
-use Rattle.clu_meaning.proofs.TypedFacts.{all_on, are_on, cell_on, each_on, frame_on, owns_on}
-use Rattle.clu_meaning.proofs.TypedComputing.{Good, Stays, good_from, stays_needed, stays_wrong, stays_raises}
+use Rattle.clu_meaning.specs.Expressions.{makes_elements, makes_elements_from}
+use Rattle.clu_meaning.specs.Typed.{AreTyped, AllTyped, CellFits, EachFits, Typed}
+use Rattle.clu_meaning.proofs.TypedFacts.{all_on, cell_on, each_on, frame_on, owns_on}
+use Rattle.clu_meaning.proofs.TypedComputing.{Good, Stays, good_from, stays_wrong, stays_raises}
 
 each_added : (program : Program) (a : List Cell) (cells : List Cell) (cell : Cell) → EachFits program a cells → CellFits program a cell → EachFits program a (cells ++ cell ∷ [])
 each_added program a [] cell h k = (k, tt)
