@@ -87,13 +87,13 @@ cluster_specified : own_specifications (checked_file cluster_nodes (surroundings
       name = codes "c";
       kinds = param.OfType ∷ [];
       form = of_cluster
-        (record { node = 6; parameter = 1; operation = codes "g"; wanted = proc_of (type_and (parameter 1) no_types) no_types no_signals; in_set = true } ∷ [])
-        (record {
-          name = codes "m";
-          type = iter_of (type_and (cluster_of (codes "c") (actual_type (parameter 1) no_actuals)) (type_and (array_of (parameter 1)) no_types))
-              (type_and (cluster_of (codes "c") (actual_type (parameter 1) no_actuals)) no_types) no_signals;
-          demands = record { node = 19; parameter = 1; operation = codes "h"; wanted = proc_of no_types no_types no_signals; in_set = false } ∷ [];
-        } ∷ []);
+          (record { node = 6; parameter = 1; operation = codes "g"; wanted = proc_of (type_and (parameter 1) no_types) no_types no_signals; in_set = true } ∷ [])
+          (record {
+            name = codes "m";
+            type = iter_of (type_and (cluster_of (codes "c") (actual_type (parameter 1) no_actuals)) (type_and (array_of (parameter 1)) no_types))
+                (type_and (cluster_of (codes "c") (actual_type (parameter 1) no_actuals)) no_types) no_signals;
+            demands = record { node = 19; parameter = 1; operation = codes "h"; wanted = proc_of no_types no_types no_signals; in_set = false } ∷ [];
+          } ∷ []);
     } ∷ []
 unfolding checking
 cluster_specified = refl
