@@ -1,4 +1,5 @@
 pub mod Checking
+pub mod First
 mod ConstantSamples
 mod CornerSamples
 mod DemandSamples

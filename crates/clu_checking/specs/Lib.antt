@@ -16,3 +16,4 @@ pub mod ExceptionRules
 pub mod ModuleRules
 pub mod Rules
 pub mod Refusals
+pub mod Order

@@ -41,6 +41,11 @@ rules_by _ walk in_heading = of_part walk in_heading
 abbrev pub Fault : Type 0
 Fault = ℕ × Rule
 
+-- the first of the nodes at which there is a fault
+abbrev pub first_among : (ℕ → Option Rule) → List ℕ → Option Fault
+first_among fault [] = None
+first_among fault (n ∷ ns) = elim (fault n) [ Some r ↦ Some (n, r) | None ↦ first_among fault ns ]
+
 module _ (f : File) where
   -- ---- bad equates: a rule is violated in the right side, where the name of a bad equate violates one
 
@@ -64,13 +69,9 @@ module _ (f : File) where
   abbrev pub fault_at : Walk → ℕ → Option Rule
   fault_at walk n = least (violates f is_bad n) (rules_asked walk n)
 
-  abbrev pub first_among : Walk → List ℕ → Option Fault
-  first_among walk [] = None
-  first_among walk (n ∷ ns) = elim (fault_at walk n) [ Some r ↦ Some (n, r) | None ↦ first_among walk ns ]
-
   -- nodes come after their children, in the order of the text
   abbrev pub first_on : Walk → Option Fault
-  first_on walk = first_among walk (numbers f.nodes)
+  first_on walk = first_among (fault_at walk) (numbers f.nodes)
 
   abbrev pub first_fault : Option Fault
   first_fault = elim (first_on headings) [ Some fault ↦ Some fault | None ↦ first_on rest ]
