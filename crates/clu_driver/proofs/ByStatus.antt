@@ -118,7 +118,7 @@ usage_shown (Some (command.asm a b)) before after shown = elim shown.1 [ inl ref
 usage_shown (Some (command.print a)) before after shown = elim shown.1.1 [ inl refused ↦ elim refused.0 [ ] | inr written ↦ elim written.2 [ ] ]
 usage_shown (Some (command.xref a)) before after shown = elim shown.1.1 [
   | inl refused ↦ elim (not_library a before.store_faults after.store_faults refused.0) [ ]
-  | inr written ↦ elim written.1 [ ]
+  | inr written ↦ elim written.2 [ ]
 ]
 
 -- the status is the outcome's, or the line could not be written

@@ -3,6 +3,7 @@ use Rattle.std.specs.Prelude.{◌≡◌, ◌≤◌, ◌⊎◌, ℕ, List, All, O
 use Rattle.std.specs.Char.{to_ascii_lowercase}
 use Rattle.clu_base.specs.Outside.{Files}
 use Rattle.clu_build.specs.Programs.{IsLinked}
+use Rattle.clu_build.specs.References.{cross_reference}
 use Rattle.clu_library.specs.Contents as library
 use Rattle.clu_library.specs.LibraryFile.{library_bytes}
 use Rattle.clu_rules.specs.Rules.{IsClosedAt}
@@ -117,8 +118,12 @@ RunOfShows how library name limits before after =
     × ((NotLibrary how library before.store_faults after.store_faults × IsUnrun before.streams after.streams)
     ⊎ ProgramShows how name limits before.streams after.streams)
 
--- xref: no file changed, and the library was refused and nothing written, or a text was written, or some first bytes of it
+-- the text is the cross-reference of some library
+abbrev pub IsReferenceText : List ℕ → Type 0
+IsReferenceText text = (kept : library.Contents) × (text ≡ cross_reference kept)
+
+-- xref: no file changed, and the library was refused and nothing written, or such a text was written, or some first bytes of it
 abbrev pub XrefShows : Outcome → List ℕ → Option Files → ℕ → Option (List ℕ) → ℕ → Option Files → ℕ → Option (List ℕ) → ℕ → Type 0
 XrefShows how name files store_faults written faults files' store_faults' written' faults' =
     (files' ≡ files)
-    × ((NotLibrary how name store_faults store_faults' × (written' ≡ written)) ⊎ ((text : List ℕ) × TextShows how text written faults written' faults'))
+    × ((NotLibrary how name store_faults store_faults' × (written' ≡ written)) ⊎ ((text : List ℕ) × IsReferenceText text × TextShows how text written faults written' faults'))

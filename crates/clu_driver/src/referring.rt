@@ -1,7 +1,7 @@
 //! The command `xref`: writes which modules of a library name which.
 
-ghost use Rattle.std.specs.Prelude.{◌≡◌, ◌≤◌, IfErr};
-ghost use Rattle.clu_driver.specs.Libraries.{NotLibrary, XrefShows};
+ghost use Rattle.std.specs.Prelude.{◌≡◌, ◌≤◌, IfErr, IfOk};
+ghost use Rattle.clu_driver.specs.Libraries.{IsReferenceText, NotLibrary, XrefShows};
 ghost use Rattle.clu_driver.specs.Shows.{Reported};
 
 use crate::libraries::library_in;
@@ -38,6 +38,7 @@ fn references<'a, F: Store>(
 ) -> Result<Vec<u8>, Outcome<'a>>
     ensures counts { F.faults files.old ≤ F.faults files.new }
     ensures kept { F.files files.new ≡ F.files files.old }
+    ensures text { IfOk result (λ text. IsReferenceText text.items) }
     ensures refused { IfErr result (λ how. NotLibrary how name.now (F.faults files.old) (F.faults files.new)) }
 {
     let library = library_in(alloc, name, files)?;
