@@ -248,7 +248,7 @@ refused_shown (Some (command.run a b l)) before after how h shown = elim shown.1
 ]
 refused_shown (Some (command.xref a)) before after how h shown = elim shown.1.1 [
   | inl refused ↦ refused.1
-  | inr text ↦ text_refused how text.0 before.streams.written before.streams.write_faults after.streams.written after.streams.write_faults h text.1
+  | inr text ↦ text_refused how text.0 before.streams.written before.streams.write_faults after.streams.written after.streams.write_faults h text.2
 ]
 
 refused_by : (meant : Option Meant) (before after : World) (how : Outcome) → IsRefusal (status_of how) → CluShows meant how before after → after.streams.written ≡ before.streams.written
