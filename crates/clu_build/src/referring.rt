@@ -5,11 +5,8 @@ ghost use Rattle.clu_library.specs.Contents.{body_of};
 ghost use Rattle.clu_build.specs.References.{body_text, cross_reference as references_of, module_text, names_text, those_of};
 
 use clu_base::{Bytes, Memory};
-use clu_library::{Body, Library};
+use clu_library::{Body, LIMIT, Library};
 use std::alloc::Global;
-
-/// The most modules of a library.
-const MODULE_LIMIT: u32 = 4096;
 
 /// The cross-reference of a library: a line for each module in ascending order, its name and `:`, and then, each after
 /// a blank, the modules that its body names; `*` stands for all, `-` for no body.
@@ -17,7 +14,7 @@ pub fn cross_reference(alloc: Global, library: &Library) -> Result<Vec<u8>, Memo
     ensures { IfOk result (λ text. text.items ≡ references_of library.now) }
 {
     let mut text = Vec::new(alloc);
-    for number in 0..MODULE_LIMIT {
+    for number in 0..LIMIT {
         let Some(spec) = library.specs().at(number) else {
             break;
         };

@@ -6,14 +6,11 @@ ghost use Rattle.clu_build.specs.Refusals.{IsInner, IsOfEntries, IsOfKept, IsOfR
 
 use crate::errors::{BuildError, Difference};
 use clu_base::Bytes;
-use clu_library::{Library, is_whole};
+use clu_library::{LIMIT, Library, is_whole};
 use clu_specs::spec_text;
 use clu_types::Spec;
 use indexmap::IndexMap;
 use std::alloc::Global;
-
-/// The most modules of a library.
-const MODULE_LIMIT: u32 = 4096;
 
 /// Enters specifications. First it is asked of each, in the order in which they are given, whether another one is kept of
 /// its module (`SpecDiffers`) and whether there is room (`LibraryFull`).
@@ -101,7 +98,7 @@ fn ask_same(alloc: Global, kept: &Spec, given: &Spec) -> Result<(), BuildError>
 fn ask_room(library: &Library, new: u32) -> Result<(), BuildError>
     ensures refused { IfErr result IsOfRoom }
 {
-    if new <= MODULE_LIMIT && library.specs().at(MODULE_LIMIT - new).is_none() {
+    if new <= LIMIT && library.specs().at(LIMIT - new).is_none() {
         Ok(())
     } else {
         Err(BuildError::LibraryFull)

@@ -11,34 +11,34 @@ pub const ARMS: &str = "
 is p 7
 names ee,other
 does enter 0; constant 0 0; word 1 77; raise 0
-does take 4 5; load 4 5 0; show 4 5; leave 0
-does take 4 5; load 4 4 0; show 4 5; leave 0
-region 1 3 - /12/4
-region 3 3 0 ee/4/4
+does result 4 0; show 4 5; leave 0
+does take 4; load 4 4 0; show 4 5; leave 0
+region 1 3 - /11/3
+region 3 3 0 ee/4/3
 = returned 5
 is p 7
 names ee,other
 does enter 0; constant 0 1; word 1 77; raise 0
-does take 4 5; load 4 5 0; show 4 5; leave 0
-does take 4 5; load 4 4 0; show 4 5; leave 0
-region 1 3 - /12/4
-region 3 3 0 ee/4/4
+does result 4 0; show 4 5; leave 0
+does take 4; load 4 4 0; show 4 5; leave 0
+region 1 3 - /11/3
+region 3 3 0 ee/4/3
 = returned 2
 is p 7
 names ee,other
 does enter 0; constant 0 0; word 1 77; raise 0
-does take 4 5; load 4 5 0; show 4 5; leave 0
-does take 4 5; load 4 4 0; show 4 5; leave 0
-region 1 3 - /12/4
-region 2 2 0 ee/4/4
+does result 4 0; show 4 5; leave 0
+does take 4; load 4 4 0; show 4 5; leave 0
+region 1 3 - /11/3
+region 2 2 0 ee/4/3
 = returned 5
 is p 7
 names ee,other
 does enter 0; constant 0 1; word 1 77; raise 0
-does take 4 5; load 4 5 0; show 4 5; leave 0
-does take 4 5; load 4 4 0; show 4 5; leave 0
-region 1 3 - /12/4
-region 2 2 0 ee/4/4
+does result 4 0; show 4 5; leave 0
+does take 4; load 4 4 0; show 4 5; leave 0
+region 1 3 - /11/3
+region 2 2 0 ee/4/3
 ";
 
 /// How many rows `SIGNALS` has.
@@ -52,8 +52,8 @@ is p 8
 uses signals
 names failure,ee
 does enter 0; descriptor 0 0; invoke 0; leave 0
-does take 4 5; load 4 5 0; load 5 4 0; show 5 6; load 5 4 8; show 5 6; leave 0
-region 2 2 - failure/4/4 ee/4/4
+does result 4 0; load 5 4 0; show 5 6; load 5 4 8; show 5 6; leave 0
+region 2 2 - failure/4/3 ee/4/3
 is signals 2
 names ee,abc
 does enter 0; constant 0 0; constant 1 1; signal 0
@@ -63,13 +63,13 @@ is p 8
 uses passes
 names ee,failure
 does enter 0; descriptor 0 0; invoke 0; leave 0
-does take 4 5; load 4 5 0; load 5 4 0; show 5 6; load 5 4 8; show 5 6; leave 0
-region 2 2 - ee/4/4 failure/4/4
+does result 4 0; load 5 4 0; show 5 6; load 5 4 8; show 5 6; leave 0
+region 2 2 - ee/4/3 failure/4/3
 is passes 2
 uses signals
 names another
 does enter 0; descriptor 0 0; invoke 0; leave 0
-region 2 2 - another/3/4
+region 2 2 - another/3/3
 is signals 2
 names ee,abc
 does enter 0; constant 0 0; constant 1 1; signal 0
@@ -78,13 +78,13 @@ is p 8
 uses passes
 names ee,failure
 does enter 0; descriptor 0 0; invoke 0; leave 0
-does take 4 5; load 4 5 0; load 5 4 0; show 5 6; load 5 4 8; show 5 6; leave 0
-region 2 2 - ee/4/4 failure/4/4
+does result 4 0; load 5 4 0; show 5 6; load 5 4 8; show 5 6; leave 0
+region 2 2 - ee/4/3 failure/4/3
 is passes 2
 uses signals
 names another
 does enter 0; descriptor 0 0; invoke 0; leave 0
-region 2 2 - another/3/4
+region 2 2 - another/3/3
 is signals 2
 names failure,abc
 does enter 0; constant 0 0; constant 1 1; signal 0
@@ -154,34 +154,34 @@ pub const LOOPS: &str = "
 is p 7
 uses guarded
 names early,late
-does enter 0; descriptor 1 0; invoke 1; jump 0; take 0 1; constant 1 0; word 2 55; raise 1
-does take 4 5; load 4 5 0; show 4 5; leave 0; label 0; leave 0
-region 1 7 - early/8/4 late/8/4
+does enter 0; descriptor 1 0; invoke 1; jump 0; take 0; constant 1 0; word 2 55; raise 1
+does result 4 0; show 4 5; leave 0; label 0; leave 0
+region 1 7 - early/8/3 late/8/3
 is guarded 7
 names late
 does enter 0; word 0 1; yield 0; constant 0 0; word 1 66; signal 0
-does take 4 5; load 4 5 0; show 4 5; leave 0
-region 1 5 - /6/4
+does result 4 0; show 4 5; leave 0
+region 1 5 - /6/3
 = returned 66
 is p 7
 uses guarded
 names early,late
-does enter 0; descriptor 1 0; invoke 1; jump 0; take 0 1; constant 1 0; word 2 55; resume 0
-does take 4 5; load 4 5 0; show 4 5; leave 0; label 0; leave 0
-region 1 7 - early/8/4 late/8/4
+does enter 0; descriptor 1 0; invoke 1; jump 0; take 0; constant 1 0; word 2 55; resume 0
+does result 4 0; show 4 5; leave 0; label 0; leave 0
+region 1 7 - early/8/3 late/8/3
 is guarded 7
 names late
 does enter 0; word 0 1; yield 0; constant 0 0; word 1 66; signal 0
-does take 4 5; load 4 5 0; show 4 5; leave 0
-region 1 5 - /6/4
+does result 4 0; show 4 5; leave 0
+region 1 5 - /6/3
 
 = returned 4 4
 is p 8
 uses twice signals
 names ee
-does enter 0; descriptor 1 0; invoke 1; jump 0; take 0 1; descriptor 1 1; invoke 1
-does take 4 5; load 5 5 0; load 5 5 0; show 5 6; resume 0; label 0; leave 0
-region 6 6 - ee/7/5
+does enter 0; descriptor 1 0; invoke 1; jump 0; take 0; descriptor 1 1; invoke 1
+does result 5 0; load 5 5 0; show 5 6; resume 0; label 0; leave 0
+region 6 6 - ee/7/4
 is twice 1
 does enter 0; yield 0; yield 0; leave 0
 is signals 2
@@ -199,13 +199,13 @@ is start 8
 uses p
 names e
 does enter 0; descriptor 0 0; invoke 0; leave 0
-does result 4 0; result 5 8; show 4 6; show 5 6; leave 0
-region 2 2 - e/4/4
+does result 4 0; result 5 1; show 4 6; show 5 6; leave 0
+region 2 2 - e/4/3
 is p 1
 uses q
 names e
 does enter 0; descriptor 0 0; invoke 0; leave 0; pass
-region 2 2 - e/4/4
+region 2 2 - e/4/3
 is q 3
 names e
 does enter 0; constant 0 0; word 1 11; word 2 22; signal 0
@@ -218,7 +218,7 @@ is p 1
 uses q
 names e
 does enter 0; descriptor 0 0; invoke 0; leave 0; pass
-region 2 2 - e/4/4
+region 2 2 - e/4/3
 is q 3
 names e
 does enter 0; constant 0 0; word 1 11; word 2 22; signal 0
@@ -241,7 +241,7 @@ is p 7
 names failure
 does enter 0; word 0 0; need 0; leave 0
 does result 4 0; load 4 4 0; show 4 5; leave 0
-region 2 2 - failure/4/4
+region 2 2 - failure/4/3
 ";
 
 /// How many rows `SEARCHES` has.
@@ -256,9 +256,9 @@ pub const SEARCHES: &str = "
 steps 787
 is p 2
 names ee
-does enter 0; 300*word 0 1; constant 0 0; word 1 1; raise 0; take 0 1; leave 0
+does enter 0; 300*word 0 1; constant 0 0; word 1 1; raise 0; take 0; leave 0
 each 1 300
-region 300 303 - ee/304/4
+region 300 303 - ee/304/3
 
 = failure unhandled exception: nnnnnnnnnnnnnnnnnnnnnnnnnnnnnnnnnnnnnnnnnnnnnnnnnnnnnnnnnnnnnnnnnnnnnnnnnnnnnnnnnnnnnnnnnnnnnnnnnnnn\
 nnnnnnnnnnnnnnnnnnnnnnnnnnnnnnnnnnnnnnnnnnnnnnnnnnnnnnnnnnnnnnnnnnnnnnnnnnnnnnnnnnnnnnnnnnnnnnnnnnnn

@@ -4,25 +4,25 @@
 /// How many rows `CALLS` has.
 pub const CALLS_COUNT: usize = 5;
 
-/// Calls, jumps and the end of the stack, which has 512 words. A frame has 5 before its slots.
+/// Calls, jumps and the end of the stack, which has 512 words. A frame has 4 before its slots.
 pub const CALLS: &str = "
 = returned 42 58
 is p 7
 uses both
-does enter 0; descriptor 0 0; word 1 50; word 2 8; invoke 0; take 0 0; load 1 0 0; load 2 0 8
+does enter 0; descriptor 0 0; word 1 50; word 2 8; invoke 0; result 1 0; result 2 1
 does show 1 5; show 2 5; leave 0
 is both 4
-does enter 2; sub 2 0 1; add 3 0 1; leave 2
+does enter 2; sub 2 0 1; add 3 0 1; leave 2 2
 
 = returned 3 2 1
 is p 4
 does enter 0; word 0 3; word 1 1; label 0; branch 0 1; show 0 2; sub 0 0 1; jump 0; label 1; leave 0
 
 = returned
-is p 507
+is p 508
 does enter 0; word 506 1; leave 0
 = stack full
-is p 508
+is p 509
 does enter 0; word 506 1; leave 0
 
 = stack full
@@ -36,48 +36,48 @@ pub const ITERATORS_COUNT: usize = 4;
 
 /// Loops over `down`, which yields the numbers from its argument down to 1. In the second program the inner loop ends
 /// itself at its second turn, the outer one at its third. The stack is that outside the loops in the end: the frame
-/// of `p` has 15 words, so that 497 are left for `wide`, which wouldn't fit above frames that were left. The third
+/// of `p` has 14 words, so that 498 are left for `wide`, which wouldn't fit above frames that were left. The third
 /// has an iterator that yields what another one yields, as a body of its own, and the fourth a loop body with a loop
 /// in it, again and again.
 pub const ITERATORS: &str = "
 = returned 3 2 1 9
 is p 4
 uses down
-does enter 0; descriptor 1 0; word 2 3; invoke 1; jump 0; take 0 1; load 1 1 0; show 1 2; resume 0; label 0
+does enter 0; descriptor 1 0; word 2 3; invoke 1; jump 0; take 0; result 1 0; show 1 2; resume 0; label 0
 does word 1 9; show 1 2; leave 0
 is down 2
-does enter 1; word 1 1; label 0; branch 0 1; yield 0; sub 0 0 1; jump 0; label 1; leave 0
+does enter 1; word 1 1; label 0; branch 0 1; yield 0 1; sub 0 0 1; jump 0; label 1; leave 0
 
 = returned 3 2 9 3 2 8
 is p 10
 uses down wide
 does enter 0; word 8 2; word 9 7
-does descriptor 1 0; word 2 9; invoke 1; jump 0; take 0 1; load 1 1 0
-does equal 6 1 9; branch 6 2; cut 4; jump 0; label 2
-does descriptor 4 0; word 5 3; invoke 4; jump 1; take 3 4; load 4 4 0; show 4 6
-does equal 6 4 8; branch 6 3; cut 5; jump 1; label 3; resume 3; label 1
+does descriptor 1 0; word 2 9; invoke 1; jump 0; take 0; result 1 0
+does equal 6 1 9; branch 6 2; cut 3; jump 0; label 2
+does descriptor 4 0; word 5 3; invoke 4; jump 1; take 3; result 4 0; show 4 6
+does equal 6 4 8; branch 6 3; cut 4; jump 1; label 3; resume 3; label 1
 does show 1 6; resume 0; label 0
 does descriptor 0 1; invoke 0; leave 0
 is down 2
-does enter 1; word 1 1; label 0; branch 0 1; yield 0; sub 0 0 1; jump 0; label 1; leave 0
-is wide 492
+does enter 1; word 1 1; label 0; branch 0 1; yield 0 1; sub 0 0 1; jump 0; label 1; leave 0
+is wide 494
 does enter 0; leave 0
 
 = returned 2 1 5
 is p 4
 uses middle
-does enter 0; descriptor 1 0; word 2 5; invoke 1; jump 0; take 0 1; load 1 1 0; show 1 2; resume 0; label 0; leave 0
+does enter 0; descriptor 1 0; word 2 5; invoke 1; jump 0; take 0; result 1 0; show 1 2; resume 0; label 0; leave 0
 is middle 4
 uses down
-does enter 1; descriptor 2 0; word 3 2; invoke 2; jump 0; take 1 2; load 2 2 0; yield 2; resume 1; label 0
-does yield 0; leave 0
+does enter 1; descriptor 2 0; word 3 2; invoke 2; jump 0; take 1; result 2 0; yield 2 1; resume 1; label 0
+does yield 0 1; leave 0
 is down 2
-does enter 1; word 1 1; label 0; branch 0 1; yield 0; sub 0 0 1; jump 0; label 1; leave 0
+does enter 1; word 1 1; label 0; branch 0 1; yield 0 1; sub 0 0 1; jump 0; label 1; leave 0
 
 = stack full
 is again 3
 uses again
-does enter 1; descriptor 1 0; invoke 1; jump 0; take 1 2; yield 0; label 0; leave 0
+does enter 1; descriptor 1 0; invoke 1; jump 0; take 1; yield 0; label 0; leave 0
 ";
 
 /// How many rows `PRIMITIVES` has.
@@ -116,7 +116,7 @@ does leave 0
 
 = returned 128 32768
 is p 7
-does enter 0; word 0 1; allocate 0; word 1 1; add 1 0 1; move 3 1; word 2 0x180; save_byte 1; load_byte 3; load 4 0 0
+does enter 0; word 0 1; allocate 0; word 1 1; add 1 0 1; move 3 1; word 2 0x180; save_byte 1; byte 3 3; load 4 0 0
 does show 3 5; show 4 5; leave 0
 ";
 

@@ -7,23 +7,21 @@ use clu_base::Sequence;
 use clu_frames::OUTER_MARK;
 use clu_object::{ObjRoutine, Region};
 use clu_wir::{Arm, HoleKind};
-use rv_select::{
-    Part, SelectError, bind_part, regions_table, search_part, start_part, unnamed_part,
-};
+use rv_select::{Part, SelectError, bind_part, regions_table, search_part, start_part, trap_part};
 use std::alloc::Global;
 use std::fmt::Write;
 use std::test::Fail;
 
-/// Enter has 13 words, labels have none, Word and Move two each, and Leave has six. The second region has labels alone.
+/// Enter has 10 words, labels have none, a word and a slot are set in two each, and Leave has five. The second region has
+/// labels alone.
 const REGIONS: &str = "is p 1
 does enter 0; label 0; label 1; word 0 1; move 0 0; leave 0
-region 0 5 - e/5/4
+region 0 5 - e/5/3
 region 1 2 0
 region 3 3 0";
 
-/// Its words, its regions, and its hole for the regions table.
-const IN_WORDS: &str =
-    " 23 words [0 to 22 in None, 'e' at 17 mark 4] [13 to 14 in Some(0)] hole 7 of 6 0";
+/// Its words and its regions.
+const IN_WORDS: &str = " 19 words [0 to 18 in None, 'e' at 14 mark 3] [10 to 11 in Some(0)]";
 
 fn put_layout(text: &mut String, routine: &ObjRoutine) -> Result<(), Fail> {
     let count = routine.code.as_slice().len();
@@ -107,7 +105,7 @@ fn have_tables(alloc: Global, regions: &[Region]) -> bool {
 fn a_table(rt: HostRuntime) -> Result<(), Fail> {
     let mut regions = Vec::new(rt.alloc());
     add_two(rt.alloc(), &mut regions)?;
-    assert!(rt; OUTER_MARK == 4 && have_tables(rt.alloc(), regions.as_slice()));
+    assert!(rt; OUTER_MARK == 3 && have_tables(rt.alloc(), regions.as_slice()));
     Ok(())
 }
 
@@ -120,7 +118,7 @@ fn begin(program: &mut Program, steps: &str) -> Result<(), Fail> {
 }
 
 /// How many rows `STEPS` has.
-const STEPS_COUNT: usize = 26;
+const STEPS_COUNT: usize = 28;
 
 /// Each step where its words are the most: all slots are far.
 const STEPS: &str = "move 900 901\0\
@@ -128,6 +126,7 @@ word 900 0x123456789abcdef0\0\
 descriptor 900 0\0\
 type_cell 900 0\0\
 load 900 901 4096\0\
+byte 900 901\0\
 save 900 4096 901\0\
 equal 900 901 902\0\
 label 0\0\
@@ -135,12 +134,13 @@ jump 1\0\
 branch 900 1\0\
 enter 0\0\
 invoke 900\0\
-yield 900\0\
+yield 900 1\0\
 resume 900\0\
-take 900 901\0\
+take 900\0\
 result 900 4096\0\
 cut 900\0\
-leave 900\0\
+leave 900 1\0\
+leave 900 2\0\
 raise 900\0\
 signal 900\0\
 pass\0\
@@ -177,6 +177,46 @@ fn no_step_takes_more_words_than_are_counted(rt: HostRuntime) -> Result<(), Fail
     counted(rt.alloc(), rows, STEPS_COUNT)
 }
 
+/// How many rows `WIDE` has.
+const WIDE_COUNT: usize = 9;
+
+/// Expressions where their words are the most: all slots are far, and no word is small.
+const WIDE: &str = "\
+900 slot 901\0\
+900 word 0x123456789abcdef0\0\
+900 constant 0; load 4096\0\
+900 slot 901; byte\0\
+900 word 0x123456789abcdef0; word 0x123456789abcdef1; equal\0\
+900 slot 901; word 0x123456789abcdef0; word 0x123456789abcdef1; choose\0\
+900 slot 901; slot 902; check bounds\0\
+900 slot 901; word 0x123456789abcdef0; bound 1; bound 0; bound 1; choose; with 2\0\
+900 slot 901; slot 902; word 0; choose; slot 903; slot 904; choose";
+
+/// Whether a slot is set to an expression in no more words than are counted.
+fn is_within(alloc: Global, line: &str) -> Result<bool, Fail> {
+    let mut program = Program::new(alloc);
+    begin(&mut program, "label 0")?;
+    program.line("names", "e")?;
+    program.line("sets", line)?;
+    let most = program.flat.words();
+    program.select()?;
+    match program.objects.first() {
+        Some(routine) => Ok(routine.code.as_slice().len() as u64 <= most),
+        None => Ok(false),
+    }
+}
+
+#[test]
+fn no_expression_takes_more_words_than_are_counted(rt: HostRuntime) -> Result<(), Fail> {
+    let mut rows = 0usize;
+    for line in WIDE.split('\0') {
+        let is_so = is_within(rt.alloc(), line)?;
+        assert!(rt; is_so, "{line}");
+        rows = rows.saturating_add(1);
+    }
+    counted(rt.alloc(), rows, WIDE_COUNT)
+}
+
 /// How many rows `REFUSED` has.
 const REFUSED_COUNT: usize = 9;
 
@@ -184,8 +224,8 @@ const REFUSED_COUNT: usize = 9;
 const REFUSED: &str = "jump 0\0\
 branch 0 1\0\
 label 1\0\
+prim 5 0\0\
 prim 6 0\0\
-prim 7 0\0\
 word 268435456 0\0\
 load 0 0 2147483647\0\
 constant 0 0\0\
@@ -231,13 +271,13 @@ fn put_ends_of(text: &mut String, code: &[u32]) -> Result<(), Fail> {
 /// How many rows `FAR` has.
 const FAR_COUNT: usize = 3;
 
-/// Jumps reach 2^18 - 1 words on and 2^18 words back. A move has two words, and to enter with 200 arguments takes 13
-/// words and two for each: after the first jump stand 634 * 413 + 150 * 2 = 2^18 - 2 words, and the last one is at
+/// Jumps reach 2^18 - 1 words on and 2^18 words back. A slot is set to itself in two words, and to enter with 200 arguments takes 10
+/// words and two for each: after the first jump stand 639 * 410 + 76 * 2 = 2^18 - 2 words, and the last one is at
 /// word 2^18. Then another word stands before label 0, and another jump back after that one.
 const FAR: &str = "\
-label 1; jump 0; 634*enter 200; 150*move 0 0; label 0; jump 1; jump 1 gives 7fdff06f 8000006f\0\
-label 1; jump 0; 634*enter 200; 150*move 0 0; jump 1; label 0 gives refused\0\
-label 1; jump 0; 634*enter 200; 150*move 0 0; label 0; jump 1; jump 1; jump 1 gives refused";
+label 1; jump 0; 639*enter 200; 76*move 0 0; label 0; jump 1; jump 1 gives 7fdff06f 8000006f\0\
+label 1; jump 0; 639*enter 200; 76*move 0 0; jump 1; label 0 gives refused\0\
+label 1; jump 0; 639*enter 200; 76*move 0 0; label 0; jump 1; jump 1; jump 1 gives refused";
 
 fn keep_ends(alloc: Global, row: &str) -> Result<(), Fail> {
     let (steps, due) = row.split_once(" gives").unwrap_or((row, ""));
@@ -281,7 +321,7 @@ fn have_numbers() -> bool {
     Part::Start.number() == 0
         && Part::Search.number() == 1
         && Part::Bind.number() == 2
-        && Part::Unnamed.number() == 3
+        && Part::Trap.number() == 3
 }
 
 /// The holes of the parts are for the runtime's table, and one is for the search.
@@ -289,8 +329,8 @@ fn have_holes(alloc: Global) -> bool {
     holes(start_part(alloc), HoleKind::Regions) == (1, 0)
         && holes(search_part(alloc), HoleKind::Regions).1 == 0
         && holes(bind_part(alloc), HoleKind::Regions).1 == 0
-        && holes(unnamed_part(alloc), HoleKind::Regions) == (1, 1)
-        && holes(unnamed_part(alloc), HoleKind::Runtime) == (1, 1)
+        && holes(trap_part(alloc), HoleKind::Regions) == (1, 1)
+        && holes(trap_part(alloc), HoleKind::Runtime) == (1, 1)
 }
 
 #[test]

@@ -7,6 +7,8 @@ mod ending;
 #[cfg(test)]
 mod exception_rows;
 #[cfg(test)]
+mod expression_rows;
+#[cfg(test)]
 mod flow_rows;
 #[cfg(test)]
 mod frames_rows;

@@ -3,13 +3,13 @@
 
 use clu_base::{Bytes, Const, ObjConst};
 use clu_object::{Hole, HoleKind, ObjRoutine, Region};
+use clu_wir::{TRAPS, Trap};
 use rv_isa::Image;
 use rv_select::{Part, regions_table};
 use std::alloc::Global;
 use std::test::Fail;
 
-/// How many parts of the runtime stand before the routines: the start, the search and the failure of a variable that
-/// names no object.
+/// How many parts of the runtime stand before the routines: the start, the search and the one that raises traps.
 const PARTS: usize = 3;
 
 /// Where the machine places an image.
@@ -41,7 +41,7 @@ pub fn linked(alloc: Global, objects: &[ObjRoutine]) -> Result<Image, Fail> {
         alloc,
         code: Vec::new(alloc),
         starts: Vec::new(alloc),
-        fixed: vec![in alloc; 0; objects.len().saturating_mul(3).saturating_add(4)]?,
+        fixed: vec![in alloc; 0; objects.len().saturating_mul(3).saturating_add(15)]?,
         base: IMAGE,
         texts: Vec::new(alloc),
     };
@@ -59,7 +59,7 @@ impl Layout {
         Ok(())
     }
 
-    /// The code of all. The fixed part has room for three words for each and four for the runtime's table.
+    /// The code of all. The fixed part has room for three words for each and fifteen for the runtime's table.
     fn place_code(&mut self, objects: &[ObjRoutine]) -> Result<(), Fail> {
         for object in objects {
             let start = self.code_end();
@@ -105,12 +105,27 @@ impl Layout {
     fn place_runtime(&mut self, count: u64) -> Result<(), Fail> {
         let failure = self.text(b"failure")?;
         let unhandled = self.text(b"unhandled exception: ")?;
-        let unnamed = self.text(b"uninitialized variable")?;
         let first = count.wrapping_mul(3);
         self.put(first, failure);
         self.put(first.wrapping_add(1), unhandled);
         self.put(first.wrapping_add(2), self.descriptor(PARTS as u64));
-        self.put(first.wrapping_add(3), unnamed);
+        let mut row = first.wrapping_add(3);
+        for trap in TRAPS {
+            self.place_trap(trap, row)?;
+            row = row.wrapping_add(2);
+        }
+        Ok(())
+    }
+
+    /// The name and the object of a trap.
+    fn place_trap(&mut self, trap: Trap, row: u64) -> Result<(), Fail> {
+        let name = self.text(trap.name())?;
+        let object = match trap.text() {
+            Some(text) => self.text(text)?,
+            None => 0,
+        };
+        self.put(row, name);
+        self.put(row.wrapping_add(1), object);
         Ok(())
     }
 
@@ -156,12 +171,12 @@ impl Layout {
         number: usize,
     ) -> Result<(), Fail> {
         let start = self.start(number);
-        let link_table = self.link_table(objects, object)?;
         let regions = if number < PARTS {
             self.descriptor(objects.len() as u64)
         } else {
             self.regions(object.regions.as_slice(), start)?
         };
+        let link_table = self.link_table(objects, object, regions)?;
         let first = (number as u64).wrapping_mul(3);
         self.put(first, start);
         self.put(first.wrapping_add(2), link_table);
@@ -172,9 +187,15 @@ impl Layout {
         Ok(())
     }
 
-    /// Places the entries and the descriptors of the uses, and the constants.
-    fn link_table(&mut self, objects: &[ObjRoutine], object: &ObjRoutine) -> Result<u64, Fail> {
+    /// Places the address of the regions table, the entries and the descriptors of the uses, and the constants.
+    fn link_table(
+        &mut self,
+        objects: &[ObjRoutine],
+        object: &ObjRoutine,
+        regions: u64,
+    ) -> Result<u64, Fail> {
         let mut cells = Vec::new(self.alloc);
+        cells.push(regions)?;
         self.put_cells(objects, object, &mut cells)?;
         let at = self.here();
         self.fixed.extend_from_slice(cells.as_slice())?;
@@ -235,16 +256,19 @@ impl Layout {
         let uses = object.uses.as_slice().len() as u64;
         let number = u64::from(hole.number);
         if hole.kind == HoleKind::Entry.number() {
-            number.wrapping_mul(8)
+            number.wrapping_add(1).wrapping_mul(8)
         } else if hole.kind == HoleKind::Descriptor.number() {
-            uses.wrapping_add(number).wrapping_mul(8)
+            uses.wrapping_add(number).wrapping_add(1).wrapping_mul(8)
         } else if hole.kind == HoleKind::Constant.number() {
-            uses.wrapping_mul(2).wrapping_add(number).wrapping_mul(8)
+            uses.wrapping_mul(2)
+                .wrapping_add(number)
+                .wrapping_add(1)
+                .wrapping_mul(8)
         } else if hole.kind == HoleKind::Regions.number() {
             regions
         } else if hole.number == Part::Search.number() {
             self.start(1)
-        } else if hole.number == Part::Unnamed.number() {
+        } else if hole.number == Part::Trap.number() {
             self.start(2)
         } else {
             0

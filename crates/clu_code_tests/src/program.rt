@@ -4,18 +4,23 @@
 //! - `uses NAME ..` are the routines that it names, `names TEXT,..` its constants, and `types NAME ..` its types.
 //! - `does STEP; ..` are its next steps. `3*STEP` stands for three, and `show SLOT WORK` for those that write the
 //!   word of a slot, which work in another one and in the next.
+//! - `sets SLOT WORDS` is a step that sets a slot to the expression of word code, `puts DISTANCE WORDS` one that puts the
+//!   second of two expressions behind the first, and `goes LABEL SENSE WORDS` a branch.
+//! - `gives WORDS` makes the routine one without a frame whose result is an expression, and `stores DISTANCE WORDS` one
+//!   that puts the second of two expressions behind the first.
 //! - `region ..` is a region of its steps, and `each FIRST END` a region without arms for each step before `END`.
 //! - `input TEXT` is the input of the run, and `steps COUNT` how many steps it has.
 
 use crate::regions::add_region;
 use crate::steps::step;
-use crate::text::{first_word, number, small_at};
+use crate::text::{first_word, number, number_at, small_at};
+use crate::word_code::Made;
 use clu_base::{Bytes, Const, ObjConst};
 use clu_frames::{Flat, FlatRoutine};
 use clu_handlers::Regions;
-use clu_object::ObjRoutine;
-use clu_wir::{Primitive, RegionBuilder};
-use rv_select::{SelectError, search_part, select, start_part, unnamed_part};
+use clu_object::{ObjRoutine, copy_constant};
+use clu_wir::{Primitive, RegionBuilder, WDeed, WExpr, WLeaf};
+use rv_select::{SelectError, search_part, select, select_leaf, start_part, trap_part};
 use std::alloc::Global;
 use std::test::Fail;
 
@@ -61,7 +66,7 @@ impl Program {
     pub fn read(&mut self, text: &str) -> Result<(), Fail> {
         self.objects.push(start_part(self.alloc)?)?;
         self.objects.push(search_part(self.alloc)?)?;
-        self.objects.push(unnamed_part(self.alloc)?)?;
+        self.objects.push(trap_part(self.alloc)?)?;
         self.lines(text)
     }
 
@@ -82,6 +87,8 @@ impl Program {
             "types" => put_names(self.alloc, &mut self.flat.types, rest),
             "names" => self.names(rest),
             "does" => self.does(rest),
+            "sets" | "puts" | "goes" => self.expression(name, rest),
+            "gives" | "stores" => self.leaf(name, rest),
             "region" => add_region(self.alloc, &mut self.regions, rest),
             "each" => self.each(small_at(rest, 0), small_at(rest, 1)),
             "input" => self.input(rest),
@@ -149,17 +156,56 @@ impl Program {
         if first_word(text) == "show" {
             return self.show(small_at(text, 1), small_at(text, 2));
         }
-        let step = step(text).ok_or("no step")?;
+        let step = step(self.alloc, text)?;
         self.flat.code.push(step)?;
+        Ok(())
+    }
+
+    /// A step over expressions.
+    fn expression(&mut self, name: &str, rest: &str) -> Result<(), Fail> {
+        let (numbers, words) = split_numbers(name, rest);
+        let mut made = Made::new(self.alloc);
+        made.read(words)?;
+        let value = made.one()?;
+        let first = small_at(numbers, 0);
+        let step = match name {
+            "sets" => Flat::Set(first, value),
+            "puts" => Flat::Put(made.one()?, i32::try_from(first).unwrap_or(0), value),
+            _ => Flat::Branch(value, number_at(numbers, 1) == 1, first),
+        };
+        self.flat.code.push(step)?;
+        Ok(())
+    }
+
+    /// A routine without a frame.
+    fn leaf(&mut self, name: &str, rest: &str) -> Result<(), Fail> {
+        let (numbers, words) = split_numbers(name, rest);
+        let mut made = Made::new(self.alloc);
+        made.read(words)?;
+        let value = made.one()?;
+        let deed = match name {
+            "gives" => WDeed::Value(value),
+            _ => WDeed::Put(made.one()?, small_at(numbers, 0), value),
+        };
+        let leaf = WLeaf {
+            name: self.flat.name.copy(self.alloc)?,
+            deed,
+            constants: copied(self.alloc, self.flat.constants.as_slice())?,
+        };
+        match select_leaf(self.alloc, &leaf) {
+            Ok(object) => self.objects.push(object)?,
+            Err(SelectError::NotYet) => self.is_refused = true,
+            Err(SelectError::Memory) => return Err("out of memory")?,
+        }
         Ok(())
     }
 
     fn show(&mut self, slot: u32, work: u32) -> Result<(), Fail> {
         let steps = [
-            Flat::Word(work, 1),
+            Flat::Set(work, WExpr::Word(1)),
             Flat::Prim(Primitive::Allocate.number(), work),
-            Flat::Save(work, 0, slot),
-            Flat::Word(work.saturating_add(1), 8),
+            Flat::Put(WExpr::Slot(work), 0, WExpr::Slot(slot)),
+            Flat::Set(work.saturating_add(1), WExpr::Word(8)),
             Flat::Prim(Primitive::Write.number(), work),
         ];
         for step in steps {
@@ -180,6 +226,26 @@ impl Program {
         }
         Ok(())
     }
+}
+
+/// The numbers of a line with expressions, and these.
+fn split_numbers<'a>(name: &str, rest: &'a str) -> (&'a str, &'a str) {
+    match name {
+        "gives" => ("", rest),
+        "goes" => {
+            let others = rest.split_once(' ').unwrap_or(("", rest)).1;
+            (rest, others.split_once(' ').unwrap_or(("", "")).1)
+        }
+        _ => rest.split_once(' ').unwrap_or(("", rest)),
+    }
+}
+
+fn copied(alloc: Global, constants: &[ObjConst]) -> Result<Vec<ObjConst>, Fail> {
+    let mut copies = Vec::new(alloc);
+    for constant in constants {
+        copies.push(copy_constant(alloc, constant)?)?;
+    }
+    Ok(copies)
 }
 
 /// Appends the names of a text.

@@ -4,6 +4,9 @@ use crate::exception_rows::{
     ARMS, ARMS_COUNT, LOOPS, LOOPS_COUNT, NEEDED, NEEDED_COUNT, PASSED, PASSED_COUNT, SEARCHES,
     SEARCHES_COUNT, SIGNALS, SIGNALS_COUNT, UNHANDLED, UNHANDLED_COUNT,
 };
+use crate::expression_rows::{
+    EXPRESSIONS, EXPRESSIONS_COUNT, LEAVES, LEAVES_COUNT, TRAPS, TRAPS_COUNT,
+};
 use crate::flow_rows::{
     CALLS, CALLS_COUNT, ITERATORS, ITERATORS_COUNT, OPERATIONS, OPERATIONS_COUNT, PRIMITIVES,
     PRIMITIVES_COUNT, VALUES, VALUES_COUNT,
@@ -80,6 +83,16 @@ fn variables_that_name_no_object(rt: HostRuntime) -> Result<(), Fail> {
 }
 
 #[test]
+fn traps(rt: HostRuntime) -> Result<(), Fail> {
+    keep(rt.alloc(), TRAPS, TRAPS_COUNT)
+}
+
+#[test]
+fn routines_without_a_frame(rt: HostRuntime) -> Result<(), Fail> {
+    keep(rt.alloc(), LEAVES, LEAVES_COUNT)
+}
+
+#[test]
 fn searches_within_their_steps(rt: HostRuntime) -> Result<(), Fail> {
     keep(rt.alloc(), SEARCHES, SEARCHES_COUNT)
 }
@@ -114,4 +127,27 @@ fn operations(rt: HostRuntime) -> Result<(), Fail> {
         rows = rows.saturating_add(1);
     }
     counted(rt.alloc(), rows, OPERATIONS_COUNT)
+}
+
+/// What an expression gives is what stands after it.
+fn keep_expression(alloc: Global, row: &str) -> Result<(), Fail> {
+    let (words, due) = row.split_once(" gives").unwrap_or((row, ""));
+    let text = format!(in alloc;
+        "is p 5\ndoes enter 0; word 0 7; word 1 8\nsets 2 {words}\ndoes show 2 3; leave 0"
+    )?;
+    let found = outcome(alloc, text.as_str())?;
+    if found.as_str().strip_prefix(" returned") != Some(due) {
+        return Err(found)?;
+    }
+    Ok(())
+}
+
+#[test]
+fn expressions(rt: HostRuntime) -> Result<(), Fail> {
+    let mut rows = 0usize;
+    for row in EXPRESSIONS.split('\0') {
+        keep_expression(rt.alloc(), row)?;
+        rows = rows.saturating_add(1);
+    }
+    counted(rt.alloc(), rows, EXPRESSIONS_COUNT)
 }

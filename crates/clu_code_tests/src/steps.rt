@@ -2,7 +2,9 @@
 
 use crate::text::{first_word, kind, number_at, operation, small, small_at};
 use clu_frames::Flat;
-use clu_wir::Primitive;
+use clu_wir::{Primitive, Trap, WExpr};
+use std::alloc::Global;
+use std::test::Fail;
 
 /// The numbers of a step.
 #[derive(Clone, Copy)]
@@ -20,6 +22,7 @@ enum Name {
     Move,
     Word,
     Load,
+    Byte,
     Save,
     Take,
     Result,
@@ -40,10 +43,11 @@ enum Name {
     Prim,
 }
 
-const NAMES: [(&str, Name); 21] = [
+const NAMES: [(&str, Name); 22] = [
     ("move", Name::Move),
     ("word", Name::Word),
     ("load", Name::Load),
+    ("byte", Name::Byte),
     ("save", Name::Save),
     ("take", Name::Take),
     ("result", Name::Result),
@@ -74,7 +78,7 @@ fn name_of(word: &str) -> Option<Name> {
 }
 
 /// The step of a text.
-pub fn step(text: &str) -> Option<Flat> {
+pub fn step(alloc: Global, text: &str) -> Result<Flat, Fail> {
     let name = first_word(text);
     let word = number_at(text, 2);
     let numbers = Numbers {
@@ -84,9 +88,34 @@ pub fn step(text: &str) -> Option<Flat> {
         word,
     };
     match name_of(name) {
-        Some(name) => Some(plain(name, numbers)),
-        None => named(name, numbers),
+        Some(Name::Load | Name::Byte | Name::Need) => loading(alloc, name, numbers),
+        Some(name) => Ok(plain(name, numbers)),
+        None => named(alloc, name, numbers),
     }
+}
+
+/// The step that loads by the address in a slot, or tests a slot.
+fn loading(alloc: Global, name: &str, numbers: Numbers) -> Result<Flat, Fail> {
+    let Numbers {
+        first,
+        second,
+        third,
+        ..
+    } = numbers;
+    let value = match name {
+        "load" => WExpr::Load(boxed(alloc, second)?, third),
+        "byte" => WExpr::Byte(boxed(alloc, second)?),
+        _ => WExpr::Check(
+            boxed(alloc, first)?,
+            Trap::Uninitialized,
+            boxed(alloc, first)?,
+        ),
+    };
+    Ok(Flat::Set(first, value))
+}
+
+fn boxed(alloc: Global, slot: u32) -> Result<Box<WExpr>, Fail> {
+    Ok(Box::new(alloc, WExpr::Slot(slot))?)
 }
 
 fn distance(number: u32) -> i32 {
@@ -101,32 +130,32 @@ fn plain(name: Name, numbers: Numbers) -> Flat {
         word,
     } = numbers;
     match name {
-        Name::Move => Flat::Move(first, second),
-        Name::Word => Flat::Word(first, word),
-        Name::Load => Flat::Load(first, second, distance(third)),
-        Name::Save => Flat::Save(first, distance(second), third),
-        Name::Take => Flat::Take(first, second),
-        Name::Result => Flat::Result(first, distance(second)),
+        Name::Word => Flat::Set(first, WExpr::Word(word)),
+        Name::Save => Flat::Put(WExpr::Slot(first), distance(second), WExpr::Slot(third)),
+        Name::Take => Flat::Take(first),
+        Name::Result => Flat::Result(first, second),
         Name::Label => Flat::Label(first),
         Name::Jump => Flat::Jump(first),
-        Name::Branch => Flat::Branch(first, second),
+        Name::Branch => Flat::Branch(WExpr::Slot(first), false, second),
         Name::Enter => Flat::Enter(first),
-        Name::Invoke => Flat::Invoke(first),
-        Name::Yield => Flat::Yield(first),
+        Name::Invoke => Flat::Invoke(WExpr::Slot(first), first.saturating_add(1)),
+        Name::Yield => Flat::Yield(first, second),
         Name::Resume => Flat::Resume(first),
         Name::Cut => Flat::Cut(first),
-        Name::Leave => Flat::Leave(first),
+        Name::Leave => Flat::Leave(first, second),
         Name::Raise => Flat::Raise(first),
         Name::Signal => Flat::Signal(first),
-        Name::Bind => Flat::Bind(first, second, third),
-        Name::Need => Flat::Need(first),
+        Name::Bind => Flat::Bind(WExpr::Slot(first), WExpr::Slot(second), third),
         Name::Pass => Flat::Pass,
         Name::Prim => Flat::Prim(first, second),
+        Name::Move | Name::Load | Name::Byte | Name::Need => {
+            Flat::Set(first, WExpr::Slot(second))
+        }
     }
 }
 
 /// The step whose name is that of an operation, of a kind of hole or of a primitive.
-fn named(name: &str, numbers: Numbers) -> Option<Flat> {
+fn named(alloc: Global, name: &str, numbers: Numbers) -> Result<Flat, Fail> {
     let Numbers {
         first,
         second,
@@ -134,23 +163,23 @@ fn named(name: &str, numbers: Numbers) -> Option<Flat> {
         ..
     } = numbers;
     if let Some(op) = operation(name) {
-        return Some(Flat::Bin(op, first, second, third));
+        let left = boxed(alloc, second)?;
+        return Ok(Flat::Set(first, WExpr::Binary(op, left, boxed(alloc, third)?)));
     }
     if let Some(kind) = kind(name) {
-        return Some(Flat::Hole(first, kind, second));
+        return Ok(Flat::Set(first, WExpr::Hole(kind, second)));
     }
     match primitive(name) {
-        Some(primitive) => Some(Flat::Prim(primitive.number(), first)),
-        None => None,
+        Some(primitive) => Ok(Flat::Prim(primitive.number(), first)),
+        None => Err("no step")?,
     }
 }
 
-const PRIMITIVES: [(&str, Primitive); 6] = [
+const PRIMITIVES: [(&str, Primitive); 5] = [
     ("allocate", Primitive::Allocate),
     ("write", Primitive::Write),
     ("take_byte", Primitive::TakeByte),
     ("peek_byte", Primitive::PeekByte),
-    ("load_byte", Primitive::LoadByte),
     ("save_byte", Primitive::SaveByte),
 ];
 

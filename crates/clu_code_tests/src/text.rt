@@ -1,6 +1,6 @@
 //! Numbers and names in the rows of tests.
 
-use clu_wir::{HoleKind, WOp};
+use clu_wir::{HoleKind, Trap, WOp};
 use std::alloc::Global;
 use std::test::Fail;
 
@@ -97,6 +97,25 @@ pub fn kind(name: &str) -> Option<HoleKind> {
     for (known, kind) in KINDS {
         if known == name {
             return Some(kind);
+        }
+    }
+    None
+}
+
+const NAMES: [(&str, Trap); 6] = [
+    ("overflow", Trap::Overflow),
+    ("zero_divide", Trap::ZeroDivide),
+    ("bounds", Trap::Bounds),
+    ("illegal_char", Trap::IllegalChar),
+    ("wrong_tag", Trap::WrongTag),
+    ("uninitialized", Trap::Uninitialized),
+];
+
+/// The trap of this name.
+pub fn trap(name: &str) -> Option<Trap> {
+    for (known, trap) in NAMES {
+        if known == name {
+            return Some(trap);
         }
     }
     None

@@ -30,16 +30,17 @@ fn has_number(number: u32) -> bool {
 
 #[test]
 fn primitives_have_their_numbers(rt: HostRuntime) {
-    for number in 0..7 {
-        assert_eq!(rt; has_number(number), number < 6, "{number}");
+    for number in 0..6 {
+        assert_eq!(rt; has_number(number), number < 5, "{number}");
     }
 }
 
-/// How many words the expression of a text works with.
-fn scratch(alloc: Global, text: &str) -> Result<u32, Fail> {
+/// How many words of code the expression of a text takes, and how many slots there must be for it.
+fn taken(alloc: Global, text: &str) -> Result<(u64, u64), Fail> {
     let mut made = Made::new(alloc);
     made.read(text)?;
-    Ok(made.values.last().ok_or("no expression")?.scratch())
+    let value = made.one()?;
+    Ok((value.words(), value.slots()))
 }
 
 /// A routine with an argument and this body.
@@ -63,25 +64,40 @@ fn width(alloc: Global, text: &str) -> Result<u32, Fail> {
     Ok(routine(alloc, 2, made.statements).width())
 }
 
-/// Word 1 is kept while the sum beside it is evaluated in two words.
-const SCRATCH: [(&str, u32); 2] = [
-    ("word 1; word 2; word 3; add; add", 3),
-    ("slot 0; word 1; add", 1),
+/// A slot takes 3 words, a known one 1 or 6, a hole 4, what is bound 1.
+const TAKEN: [(&str, u64, u64); 9] = [
+    ("slot 6; word 1; add", 6, 7),
+    ("word 2047; word 2048; add", 9, 0),
+    (
+        "word 0xfffffffffffff800; word 0xfffffffffffff7ff; add",
+        9,
+        0,
+    ),
+    ("word 0xffffffffffffffff", 1, 0),
+    ("constant 0; load 8; byte", 8, 0),
+    ("slot 1; slot 4; slot 2; choose", 14, 5),
+    ("slot 1; slot 0; check bounds", 11, 2),
+    ("slot 3; word 1; bound 0; bound 1; sub; with 2", 8, 4),
+    ("bound 0", 1, 0),
 ];
 
-/// Two slots, one word for the loop, one for the descriptor, one argument, and three for the other.
+#[test]
+fn what_expressions_take(rt: HostRuntime) -> Result<(), Fail> {
+    for (text, words, slots) in TAKEN {
+        let found = taken(rt.alloc(), text)?;
+        assert_eq!(rt; found, (words, slots), "{text}");
+    }
+    Ok(())
+}
+
+/// Two slots, one word for the loop, and two arguments.
 const CALL: &str =
     "slot 0; begin; descriptor 0; slot 0; word 1; word 2; word 3; add; add; call 2 1; iterate 0";
 
 #[test]
 fn a_routine_is_as_wide_as_its_widest_statement(rt: HostRuntime) -> Result<(), Fail> {
-    let alloc = rt.alloc();
-    for (text, due) in SCRATCH {
-        let found = scratch(alloc, text)?;
-        assert_eq!(rt; found, due, "{text}");
-    }
-    let found = width(alloc, CALL)?;
-    assert_eq!(rt; found, 8);
+    let found = width(rt.alloc(), CALL)?;
+    assert_eq!(rt; found, 5);
     Ok(())
 }
 
@@ -92,12 +108,12 @@ fn room(alloc: Global, text: &str) -> Result<Room, Fail> {
     Ok(routine(alloc, 2, made.statements).room())
 }
 
-/// To begin and to end, a routine with one argument has 29 words of code, and a descriptor and an empty table have 48
+/// To begin and to end, a routine with one argument has 26 words of code, and a descriptor, a cell and an empty table have 56
 /// bytes. A region has two cuts and a row, in 56 bytes, and each name a row of 24.
 const ROOMS: [(&str, u64, u64); 3] = [
-    ("slot 0; slot 1; put 0", 29 + 9, 48),
-    ("slot 0; need", 29 + 7, 48),
-    ("begin; resignal e f", 29 + 7, 48 + 56 + 48),
+    ("slot 0; slot 1; put 0", 26 + 9, 56),
+    ("slot 0; slot 0; check uninitialized; set 0", 26 + 14, 56),
+    ("begin; resignal e f", 26 + 7, 56 + 56 + 48),
 ];
 
 #[test]

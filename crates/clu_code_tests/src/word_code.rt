@@ -1,7 +1,7 @@
 //! Word code from text. After what a statement or an expression is made of stands what is made of it: `slot 1; word 5;
 //! add; set 0` is one statement. A list of statements begins at `begin` and ends where a statement takes it.
 
-use crate::text::{first_word, kind, number, number_at, operation, small, small_at};
+use crate::text::{first_word, kind, number, number_at, operation, small, small_at, trap};
 use clu_base::Bytes;
 use clu_wir::{WArm, WExpr, WOp, WStmt};
 use std::alloc::Global;
@@ -47,10 +47,13 @@ impl Made {
         }
         match name {
             "begin" => self.begin(),
-            "load" => self.load(small_at(item, 1)),
+            "load" | "byte" => self.load(name, small_at(item, 1)),
+            "choose" => self.choose(),
+            "check" => self.check(item),
+            "with" => self.bind_values(number_at(item, 1)),
             "arm" => self.arm(item),
             "set" | "put" | "break" | "continue" => self.simple(name, item),
-            "bind" | "need" => self.test(name, small_at(item, 1)),
+            "bind" => self.bind(small_at(item, 1)),
             "call" | "prim" => self.call(name, item),
             "if" | "loop" | "iterate" | "guard" | "resignal" => self.nest(name, item),
             "yield" | "exit" | "return" => self.leave(name, item),
@@ -73,6 +76,7 @@ impl Made {
         let value = match name {
             "slot" => WExpr::Slot(small(number)),
             "word" => WExpr::Word(number),
+            "bound" => WExpr::Bound(small(number)),
             _ => WExpr::Hole(kind(name).ok_or("no value")?, small(number)),
         };
         self.put_value(value)
@@ -84,9 +88,34 @@ impl Made {
         Ok(())
     }
 
-    fn load(&mut self, distance: u32) -> Result<(), Fail> {
+    fn load(&mut self, name: &str, distance: u32) -> Result<(), Fail> {
         let address = self.boxed()?;
+        if name == "byte" {
+            return self.put_value(WExpr::Byte(address));
+        }
         self.put_value(WExpr::Load(address, distance))
+    }
+
+    fn choose(&mut self) -> Result<(), Fail> {
+        let other = self.boxed()?;
+        let then = self.boxed()?;
+        let condition = self.boxed()?;
+        self.put_value(WExpr::If(condition, then, other))
+    }
+
+    /// `check TRAP`
+    fn check(&mut self, item: &str) -> Result<(), Fail> {
+        let trap = trap(item.split(' ').nth(1).unwrap_or("")).ok_or("no trap")?;
+        let value = self.boxed()?;
+        let condition = self.boxed()?;
+        self.put_value(WExpr::Check(condition, trap, value))
+    }
+
+    /// `with VALUES`
+    fn bind_values(&mut self, count: u64) -> Result<(), Fail> {
+        let body = self.boxed()?;
+        let values = self.last(count)?;
+        self.put_value(WExpr::With(values, body))
     }
 
     fn binary(&mut self, op: WOp) -> Result<(), Fail> {
@@ -101,7 +130,7 @@ impl Made {
     }
 
     /// The last value.
-    fn one(&mut self) -> Result<WExpr, Fail> {
+    pub fn one(&mut self) -> Result<WExpr, Fail> {
         match self.values.pop() {
             Some(value) => Ok(value),
             None => Err("no value")?,
@@ -161,11 +190,8 @@ impl Made {
         self.put(WStmt::Put(address, distance, Box::into_inner(value)))
     }
 
-    fn test(&mut self, name: &str, slot: u32) -> Result<(), Fail> {
+    fn bind(&mut self, slot: u32) -> Result<(), Fail> {
         let value = self.one()?;
-        if name == "need" {
-            return self.put(WStmt::Need(value));
-        }
         let number = self.one()?;
         self.put(WStmt::Bind(number, value, slot))
     }

@@ -8,10 +8,9 @@ use clu_wir::WExpr;
 
 impl Steps<'_> {
     /// Goes on at a label, which is the answer, where the condition is 0.
-    pub fn begin_choice(&mut self, condition: &WExpr, work: u32) -> Result<u32, FrameError> {
-        let slot = self.operand(condition, work)?;
+    pub fn begin_choice(&mut self, condition: &WExpr) -> Result<u32, FrameError> {
         let otherwise = self.label()?;
-        self.push(Flat::Branch(slot, otherwise))?;
+        self.branch(condition, false, otherwise)?;
         Ok(otherwise)
     }
 
@@ -42,7 +41,7 @@ impl Steps<'_> {
         let end = above(next, 1)?;
         self.invoke(routine, arguments, work)?;
         self.push(Flat::Jump(end))?;
-        self.push(Flat::Take(top, work))?;
+        self.push(Flat::Take(top))?;
         self.push_results(items)?;
         Ok(Turns {
             next,

@@ -1,59 +1,49 @@
 //! Flat code: one list of simple steps over the words of one frame.
 
 use clu_base::{Bytes, ObjConst};
-use clu_wir::{HoleKind, WOp};
+use clu_wir::WExpr;
 
-/// A step of flat code. Numbers of slots count the frame's words after its foot; a slot holds one word.
+/// A step of flat code. Numbers of slots count the frame's words after its foot; a slot holds one word. What an expression
+/// raises is raised at its step.
 ///
 /// Two words travel with a jump from one routine to another, and `Take`, `Pass` or some `Result` are the first steps where
 /// they arrive: a value, and the address of words side by side, which stay as they are until something is pushed on the
 /// stack.
-#[derive(Debug, Drop, PartialEq, Eq)]
+#[derive(Debug, Drop)]
 pub enum Flat {
-    /// To the first slot the word of the second.
-    Move(u32, u32),
-    /// To a slot a word.
-    Word(u32, u64),
-    /// To a slot what the linker knows: the item of this kind and number.
-    Hole(u32, HoleKind, u32),
-    /// To the first slot the word so many bytes after the address in the second.
-    Load(u32, u32, i32),
-    /// So many bytes after the address in the first slot, the word of the second.
-    Save(u32, i32, u32),
-    /// To the first slot the operation on the words of the other two.
-    Bin(WOp, u32, u32, u32),
+    /// To a slot the word of an expression.
+    Set(u32, WExpr),
+    /// So many bytes after the address that the first expression is, the word of the second, which is evaluated first.
+    Put(WExpr, i32, WExpr),
     /// A place for jumps, with its number.
     Label(u32),
     /// Goes on at a label.
     Jump(u32),
-    /// Goes on at a label where the word of the slot is 0.
-    Branch(u32, u32),
+    /// Goes on at a label if the word isn't 0 where the second is true, and if it is 0 where the second is false.
+    Branch(WExpr, bool, u32),
     /// The first step of a routine: makes its frame, or ends the run where the stack has no room for it, and copies
     /// so many arguments into the first slots.
     Enter(u32),
-    /// To the third slot, as an object of type any, that of which the first holds the number of its type and the second
-    /// the word.
-    Bind(u32, u32, u32),
-    /// Raises here the failure of a variable that names no object, where the word of the slot is 0.
-    Need(u32),
-    /// Calls the routine whose descriptor's address is in the slot, with the arguments in the slots after it. Its
-    /// results are the words that travel back. A call of an iterator has a Jump to the end of its loop after it, and
-    /// after that the loop's body, to which a Yield comes.
-    Invoke(u32),
-    /// Yields the words in the slots from this one on: pushes a record of where to go on, or ends the run where the
+    /// To a slot, as an object of type any, that of which the first is the number of its type and the second the word.
+    Bind(WExpr, WExpr, u32),
+    /// Calls the routine whose descriptor's address is the word, with the arguments in the slots from this one on. Its only
+    /// result is the value that travels back; if it has several, they are the words. A call of an iterator has a Jump to
+    /// the end of its loop after it, and after that the loop's body, to which a Yield comes.
+    Invoke(WExpr, u32),
+    /// Yields so many words in the slots from this one on: pushes a record of where to go on, or ends the run where the
     /// stack has no room for it, and goes to the body of the loop in the caller's frame. There the value that travels is
     /// the top of the stack above the record, and the words are those yielded.
-    Yield(u32),
+    Yield(u32, u32),
     /// Takes off the record below the top of the stack that is in the slot, and goes on in its iterator.
     Resume(u32),
-    /// To the first slot the value that travelled, then to the second the address.
-    Take(u32, u32),
-    /// To a slot the word so many bytes after the address that travelled, which goes on travelling.
-    Result(u32, i32),
+    /// To a slot the value that travelled.
+    Take(u32),
+    /// To a slot the word of this number, from 0, at the address that travelled, which goes on travelling.
+    Result(u32, u32),
     /// Cuts the stack to the top that is in this word of the frame.
     Cut(u32),
-    /// Ends the routine; the words that travel are its results, in the slots from this one on.
-    Leave(u32),
+    /// Ends the routine. Its results are so many words in the slots from this one on.
+    Leave(u32, u32),
     /// Raises here the exception whose name is in the slot, with its objects in the slots after it. At the arm that
     /// takes it the value that travels is the name, and the words are the objects.
     Raise(u32),
@@ -67,14 +57,14 @@ pub enum Flat {
 }
 
 /// The words of a frame before its slots: the return address, the place of the caller's frame, the caller's link
-/// table, the regions table of the routine, and the top of the stack outside all loops.
-pub const FOOT: u32 = 5;
+/// table, and the top of the stack outside all loops.
+pub const FOOT: u32 = 4;
 
 /// The limits on the stack count 16 words for a call beside those of its slots.
 const _: () = prove!(FOOT <= 16);
 
 /// The word of a frame that holds the top of the stack outside all loops.
-pub const OUTER_MARK: u32 = 4;
+pub const OUTER_MARK: u32 = 3;
 
 /// A routine in flat code.
 #[derive(Debug, Drop)]

@@ -2,7 +2,7 @@
 
 use crate::errors::FrameError;
 use crate::flat::Flat;
-use crate::steps::{Steps, above, number};
+use crate::steps::{Steps, number};
 use crate::surroundings::{Guard, Surroundings};
 use clu_base::Bytes;
 use clu_wir::WArm;
@@ -48,12 +48,9 @@ impl Steps<'_> {
         if arm.others {
             self.add_arm(region, None, round.mark)?;
         }
-        if arm.others {
-            let work = round.work;
-            self.push(Flat::Take(work, above(work, 1)?))?;
-            self.push_moves(arm.slots.as_slice(), work)
-        } else {
-            self.push_results(arm.slots.as_slice())
+        match arm.slots.as_slice() {
+            [name] if arm.others => self.push(Flat::Take(*name)),
+            objects => self.push_results(objects),
         }
     }
 }

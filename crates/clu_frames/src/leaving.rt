@@ -2,7 +2,7 @@
 
 use crate::errors::FrameError;
 use crate::flat::Flat;
-use crate::steps::{Steps, above};
+use crate::steps::{Steps, above, number};
 use crate::surroundings::Surroundings;
 use clu_base::Bytes;
 use clu_wir::WExpr;
@@ -62,7 +62,7 @@ impl Steps<'_> {
     }
 
     pub fn leave(&mut self, results: &[WExpr], work: u32) -> Result<(), FrameError> {
-        self.set_row(work, results)?;
-        self.push(Flat::Leave(work))
+        let first = self.row(work, results)?;
+        self.push(Flat::Leave(first, number(results.len())?))
     }
 }

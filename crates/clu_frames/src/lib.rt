@@ -1,5 +1,5 @@
-//! Word code to flat code: expressions become steps over the words of a frame, and the nesting of statements
-//! becomes jumps and regions.
+//! Word code to flat code: the nesting of statements becomes jumps and regions, and what travels from one routine to
+//! another gets words of the frame. Expressions stay as they are.
 #![tactic(auto)]
 
 mod branches;

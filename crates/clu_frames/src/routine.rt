@@ -60,7 +60,7 @@ fn code_of<B: RegionBuilder>(
     let mut steps = Steps::new(alloc, r.constants.as_slice());
     steps.push(Flat::Enter(r.args))?;
     steps.list(r.body.as_slice(), Surroundings::outermost(r.slots))?;
-    steps.push(Flat::Leave(r.slots))?;
+    steps.push(Flat::Leave(r.slots, 0))?;
     steps.finish(regions)
 }
 

@@ -1,36 +1,11 @@
 //! Statements that go on with the next one and have none inside.
 
 use crate::errors::FrameError;
-use crate::expressions::{behind, offset};
 use crate::flat::Flat;
-use crate::steps::{Steps, above};
+use crate::steps::{Steps, number};
 use clu_wir::WExpr;
 
 impl Steps<'_> {
-    pub fn put(
-        &mut self,
-        address: &WExpr,
-        bytes: u32,
-        value: &WExpr,
-        work: u32,
-    ) -> Result<(), FrameError> {
-        let to = self.operand(address, work)?;
-        let from = self.operand(value, behind(address, work)?)?;
-        self.push(Flat::Save(to, offset(bytes)?, from))
-    }
-
-    /// Calls a routine, with its descriptor's address in `work` and its arguments after it.
-    pub fn invoke(
-        &mut self,
-        routine: &WExpr,
-        arguments: &[WExpr],
-        work: u32,
-    ) -> Result<(), FrameError> {
-        self.set(work, routine, work)?;
-        self.set_row(above(work, 1)?, arguments)?;
-        self.push(Flat::Invoke(work))
-    }
-
     pub fn call(
         &mut self,
         routine: &WExpr,
@@ -39,25 +14,11 @@ impl Steps<'_> {
         work: u32,
     ) -> Result<(), FrameError> {
         self.invoke(routine, arguments, work)?;
-        self.push_results(results)
-    }
-
-    /// Puts an object, by the number of its type and its word, into a slot as one of type any.
-    pub fn bind(
-        &mut self,
-        number: &WExpr,
-        value: &WExpr,
-        to: u32,
-        work: u32,
-    ) -> Result<(), FrameError> {
-        let known = self.operand(number, work)?;
-        let word = self.operand(value, behind(number, work)?)?;
-        self.push(Flat::Bind(known, word, to))
-    }
-
-    pub fn need(&mut self, value: &WExpr, work: u32) -> Result<(), FrameError> {
-        let slot = self.operand(value, work)?;
-        self.push(Flat::Need(slot))
+        match results {
+            [] => Ok(()),
+            [only] => self.push(Flat::Take(*only)),
+            _ => self.push_results(results),
+        }
     }
 
     pub fn primitive(
@@ -73,7 +34,7 @@ impl Steps<'_> {
     }
 
     pub fn yield_words(&mut self, words: &[WExpr], work: u32) -> Result<(), FrameError> {
-        self.set_row(work, words)?;
-        self.push(Flat::Yield(work))
+        let first = self.row(work, words)?;
+        self.push(Flat::Yield(first, number(words.len())?))
     }
 }

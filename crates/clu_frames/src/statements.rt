@@ -24,18 +24,26 @@ impl Steps<'_> {
     fn statement(&mut self, statement: &WStmt, round: Surroundings<'_>) -> Result<(), FrameError> {
         let work = round.work;
         match statement {
-            WStmt::Set(slot, value) => self.set(*slot, value, work),
-            WStmt::Put(address, bytes, value) => self.put(address, *bytes, value, work),
+            WStmt::Set(slot, value) => self.set(*slot, value),
+            WStmt::Put(address, bytes, value) => self.put(address, *bytes, value),
             WStmt::Call(routine, arguments, results) => {
                 self.call(routine, arguments.as_slice(), results.as_slice(), work)
             }
             WStmt::Prim(number, arguments, results) => {
                 self.primitive(*number, arguments.as_slice(), results.as_slice(), work)
             }
-            WStmt::Bind(number, value, to) => self.bind(number, value, *to, work),
-            WStmt::Need(value) => self.need(value, work),
+            WStmt::Bind(number, value, to) => self.bind(number, value, *to),
+            WStmt::If(condition, then, other) if then.is_empty() => {
+                if let Some(end) = exit_of(other.as_slice(), round) {
+                    return self.branch(condition, false, end);
+                }
+                let end = self.label()?;
+                self.branch(condition, true, end)?;
+                self.list(other.as_slice(), round)?;
+                self.push(Flat::Label(end))
+            }
             WStmt::If(condition, then, other) => {
-                let otherwise = self.begin_choice(condition, work)?;
+                let otherwise = self.begin_choice(condition)?;
                 self.list(then.as_slice(), round)?;
                 let end = self.begin_other(otherwise, other.is_empty())?;
                 self.list(other.as_slice(), round)?;
@@ -129,7 +137,7 @@ impl Steps<'_> {
                 ..round
             },
         )?;
-        self.close_region(guard.region, Flat::Jump(guard.end))
+        self.close_region(guard.region, guard.end)
     }
 
     /// The list whose exceptions of these names are signalled on, in its region.
@@ -149,7 +157,7 @@ impl Steps<'_> {
                 ..round
             },
         )?;
-        self.close_region(region, Flat::Jump(end))?;
+        self.close_region(region, end)?;
         self.pass_on(names, region, round.mark)?;
         self.push(Flat::Label(end))
     }
@@ -170,5 +178,19 @@ impl Steps<'_> {
             label = above(label, 1)?;
         }
         self.push(Flat::Label(guard.end))
+    }
+}
+
+/// The label at which a list leaves its loop that does nothing else.
+fn exit_of(list: &[WStmt], round: Surroundings<'_>) -> Option<u32> {
+    match list {
+        [WStmt::Break] => {
+            let turns = round.turns?;
+            match turns.cut {
+                None => Some(turns.end),
+                Some(_) => None,
+            }
+        }
+        _ => None,
     }
 }

@@ -3,7 +3,7 @@
 use crate::errors::FrameError;
 use crate::flat::{FOOT, Flat};
 use clu_base::{Bytes, Const, ObjConst};
-use clu_wir::{Arm, RegionBuilder};
+use clu_wir::{Arm, HoleKind, RegionBuilder, WExpr};
 use std::alloc::Global;
 
 /// The flat code of a routine in the making.
@@ -68,15 +68,16 @@ impl<'a> Steps<'a> {
             .iter()
             .position(|constant| is_text(constant, name))
             .ok_or(FrameError::NotYet)?;
-        self.push(Flat::Hole(slot, clu_wir::HoleKind::Constant, number(place)?))
+        let name = WExpr::Hole(HoleKind::Constant, number(place)?);
+        self.push(Flat::Set(slot, name))
     }
 
     /// To the slots the words at the address that travelled.
     pub fn push_results(&mut self, slots: &[u32]) -> Result<(), FrameError> {
-        let mut bytes = 0i32;
+        let mut number = 0u32;
         for slot in slots {
-            self.push(Flat::Result(*slot, bytes))?;
-            bytes = bytes.checked_add(8).ok_or(FrameError::NotYet)?;
+            self.push(Flat::Result(*slot, number))?;
+            number = above(number, 1)?;
         }
         Ok(())
     }
@@ -85,7 +86,7 @@ impl<'a> Steps<'a> {
     pub fn push_moves(&mut self, slots: &[u32], from: u32) -> Result<(), FrameError> {
         let mut from = from;
         for slot in slots {
-            self.push(Flat::Move(*slot, from))?;
+            self.push(Flat::Set(*slot, WExpr::Slot(from)))?;
             from = above(from, 1)?;
         }
         Ok(())
@@ -105,10 +106,10 @@ impl<'a> Steps<'a> {
         Ok(region)
     }
 
-    /// Pushes the last step of a region.
-    pub fn close_region(&mut self, region: u32, step: Flat) -> Result<(), FrameError> {
+    /// Pushes the last step of a region: a jump to its end.
+    pub fn close_region(&mut self, region: u32, end: u32) -> Result<(), FrameError> {
         let last = self.place()?;
-        self.push(step)?;
+        self.push(Flat::Jump(end))?;
         let planned = self
             .regions
             .get_mut(region as usize)

@@ -1,5 +1,13 @@
 pub mod Ascending
+pub mod Bounding
+pub mod Causes
+pub mod Closing
 pub mod Entering
+pub mod Firsts
 pub mod Found
 pub mod Kept
+pub mod Losing
+pub mod Placed
+pub mod Replaced
+pub mod Terms
 pub mod Walking

@@ -1,5 +1,5 @@
 -- A list that is walked by numbers until there is no item more.
-use Rattle.std.proofs.Common.{◌≡◌, ℕ, zero, suc, ◌+◌, ◌≤◌, min, List, [], ◌∷◌, ◌++◌, length, take, slice_get, Option, Some, None, refl, sym, ap, ◌∙◌, append_assoc, arith}
+use Rattle.std.proofs.Common.{◌≡◌, ℕ, zero, suc, ◌+◌, ◌≤◌, min, List, [], ◌∷◌, ◌++◌, length, take, drop, slice_get, Option, Some, None, refl, sym, ap, ◌∙◌, append_assoc, arith}
 use Rattle.std.specs.List.{flat_map}
 use Rattle.std.proofs.lemmas.Option.{none-some}
 use Rattle.std.proofs.lemmas.List.{take_all, append-nil}
@@ -29,3 +29,23 @@ written_more f xs n x before written more e w m =
     let next : n + 1 ≡ suc n = omega arith in
     let one : flat_map f (take n xs ++ x ∷ []) ≡ flat_map f (take n xs) ++ (f x ++ []) = flat_map-append f (take n xs) (x ∷ []) in
     m ∙ rw (w, next, take_more xs n x e, one, append-nil (f x)) (append_assoc before (flat_map f (take n xs)) (f x))
+
+-- what is left of a list where there is no item, and where there is one
+pub none_left : {X : Type 0} (xs : List X) (n : ℕ) → None ≡ slice_get xs n → drop n xs ≡ []
+none_left [] zero e = refl
+none_left [] (suc n) e = refl
+none_left (x ∷ xs) zero e = absurd (none-some x e)
+none_left (x ∷ xs) (suc n) e = none_left xs n e
+
+next_left : {X : Type 0} (xs : List X) (n : ℕ) (x : X) → Some x ≡ slice_get xs n → drop n xs ≡ x ∷ drop (suc n) xs
+next_left [] n x e = absurd (none-some x (sym e))
+next_left (y ∷ xs) zero x e = let same : y ≡ x = cc in rw same refl
+next_left (y ∷ xs) (suc n) x e = next_left xs n x e
+
+pub one_left : {X : Type 0} (xs : List X) (n : ℕ) (x : X) → Some x ≡ slice_get xs n → drop n xs ≡ x ∷ drop (n + 1) xs
+one_left xs n x e = let next : n + 1 ≡ suc n = omega arith in rw next (next_left xs n x e)
+
+pub term_left : {X : Type 0} (xs : List X) (n : ℕ) (x : X) → slice_get xs n ≡ Some x → drop n xs ≡ x ∷ drop (n + 1) xs
+term_left xs n x e = one_left xs n x (sym e)
+
+pub ruleset walks = (none_left, one_left, term_left)

@@ -1,8 +1,11 @@
 //! What is kept of a module beside its specification.
 
+ghost use Rattle.std.specs.Prelude.{◌≡◌, IfOk};
+
 use crate::by_name::Named;
-use clu_base::{Bytes, Sequence};
+use clu_base::{Bytes, Memory, Sequence};
 use clu_object::Object;
+use std::alloc::Global;
 
 /// The text of a module, and what was made of it.
 #[derive(Debug, Drop)]
@@ -43,5 +46,18 @@ impl Named for Change {
 
     fn name(&self) -> &Bytes {
         &self.name
+    }
+}
+
+impl Change {
+    /// An equal change of its own. The only error is that memory runs out.
+    pub fn copy(&self, alloc: Global) -> Result<Change, Memory>
+        ensures { IfOk result (λ copied. copied ≡ self.now) }
+    {
+        let name = self.name.copy(alloc)?;
+        Ok(Change {
+            name,
+            revision: self.revision,
+        })
     }
 }

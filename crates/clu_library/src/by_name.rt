@@ -58,16 +58,10 @@ impl<T: Named> ByName<T> {
 
     /// All of them, ascending.
     pub fn as_slice(&self) -> &[T]
-        ensures { result.now ≡ self.now }
+        ensures all { result.now ≡ self.now }
+        ensures ascending { AreAscending T.name_of self.now }
     {
         self.items.as_slice()
-    }
-
-    /// Makes room for one item more. The only error is that memory runs out.
-    pub fn reserve(&mut self) -> Result<(), Memory>
-        ensures { self.new ≡ self.old }
-    {
-        Ok(self.items.reserve(1)?)
     }
 
     /// The item of this name.

@@ -20,7 +20,7 @@ mod writing;
 
 pub use crate::body::Body;
 pub use crate::errors::EnterError;
-pub use crate::library::Library;
+pub use crate::library::{LIMIT, Library};
 pub use crate::program::Program;
 pub use crate::staleness::StaleBy;
 pub use crate::whole::is_whole;

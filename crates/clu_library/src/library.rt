@@ -1,6 +1,6 @@
 //! The library.
 
-ghost use Rattle.std.specs.Prelude.{◌≡◌, ◌<◌, length, slice_get, IfErr, IfSome, OnOk, OnErr, IsSome};
+ghost use Rattle.std.specs.Prelude.{◌≡◌, ◌<◌, ◌↔◌, length, slice_get, IfErr, IfOk, IfSome, OnOk, OnErr, IsSome, IsTrue};
 ghost use Rattle.std.specs.Option.{option_copied};
 ghost use Rattle.clu_specs.specs.Specifications.{SpecHolds};
 ghost use Rattle.clu_library.specs.Contents.{nothing, spec_of, last_change, limit, changed_of, body_of, program_of, HaveSameText, IsDifference, KeepsFirst, MayEnter, NotAdded, NotEntered, NotKept, HasRoom, with_entered, with_new_spec, with_body, with_program};
@@ -195,18 +195,27 @@ impl Library {
     }
 }
 
-/// Whether the two specifications are the same, by their texts.
-pub fn same_spec(alloc: Global, kept: &Spec, entered: &Spec) -> Result<(), EnterError>
+/// Refuses a specification whose text is another one than that of the kept one.
+fn same_spec(alloc: Global, kept: &Spec, entered: &Spec) -> Result<(), EnterError>
     requires kept_holds { SpecHolds kept.now }
     requires entered_holds { SpecHolds entered.now }
     ensures same { OnOk result (HaveSameText kept.now entered.now) }
     ensures refused { IfErr result (λ e. IsDifference e kept.now entered.now) }
 {
-    let before = spec_text(alloc, kept)?;
-    let after = spec_text(alloc, entered)?;
-    if before == after {
+    if have_same_text(alloc, kept, entered)? {
         Ok(())
     } else {
         Err(EnterError::Differs)
     }
+}
+
+/// Whether the two specifications are the same, by their texts.
+pub fn have_same_text(alloc: Global, kept: &Spec, entered: &Spec) -> Result<bool, Memory>
+    requires kept_holds { SpecHolds kept.now }
+    requires entered_holds { SpecHolds entered.now }
+    ensures { IfOk result (λ same. IsTrue same ↔ HaveSameText kept.now entered.now) }
+{
+    let before = spec_text(alloc, kept)?;
+    let after = spec_text(alloc, entered)?;
+    Ok(before == after)
 }

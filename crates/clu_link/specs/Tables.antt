@@ -26,11 +26,11 @@ own_variables routine = named_by 3 routine.holes
 abbrev pub cluster_variables : ObjRoutine → ℕ
 cluster_variables routine = named_by 4 routine.holes
 
--- the cells of the link table: two for each use, one for each constant, own variable and type
+-- the cells of the link table: one for the regions table, two for each use, one for each constant, own variable and type
 abbrev pub cells : ObjRoutine → ℕ
 cells routine =
-    plus (times (length routine.uses) 2)
-    (plus (plus (plus (length routine.constants) (own_variables routine)) (cluster_variables routine)) (length routine.types))
+    plus (plus (times (length routine.uses) 2)
+    (plus (plus (plus (length routine.constants) (own_variables routine)) (cluster_variables routine)) (length routine.types))) 1
 
 -- how many bytes a constant has that is a string
 abbrev pub length_of : Const → Option ℕ

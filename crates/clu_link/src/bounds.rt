@@ -95,7 +95,7 @@ fn text_nodes(constant: &ObjConst, actuals: &[Actual]) -> u64
     text_length(constant, actuals).unwrap_or(0) / BYTES_PER_STRING_NODE
 }
 
-/// The cells of the routine's link table.
+/// The cells of the routine's link table, of which the first has the address of its regions table.
 pub fn cells(routine: &ObjRoutine) -> u64
     ensures { result ≡ cells routine.now }
 {
@@ -104,7 +104,9 @@ pub fn cells(routine: &ObjRoutine) -> u64
         .saturating_add(own_variables(routine))
         .saturating_add(cluster_variables(routine))
         .saturating_add(routine.types.as_slice().len() as u64);
-    uses.saturating_mul(2).saturating_add(others)
+    uses.saturating_mul(2)
+        .saturating_add(others)
+        .saturating_add(1)
 }
 
 /// How many own variables the routine has: those that its holes name.

@@ -5,7 +5,7 @@ use crate::bounds::RUNTIME_PARTS;
 use crate::errors::LinkError;
 use crate::member::Member;
 use crate::operation_codes::{Chosen, CodeName, Family, choose};
-use crate::operations::{code_of, type_of_force, type_of_operation};
+use crate::operations::{code_of, operation_code, type_of_force, type_of_operation};
 use crate::parameters::types_of;
 use crate::program::{Callable, Code, Program};
 use crate::reach::{Callee, Instance, Reached, RoutineName};
@@ -13,7 +13,7 @@ use crate::runtime::runtime_parts;
 use clu_base::{Bytes, Const};
 use clu_object::ObjRoutine;
 use clu_rt_data::force_code;
-use clu_rt_text::{Operation, routine};
+use clu_rt_text::Operation;
 use clu_types::{Actual, TypeArena, TypeId};
 use indexmap::{IndexMap, IndexSet};
 use std::alloc::Global;
@@ -209,7 +209,7 @@ fn number_of(
     match placed.get(&name).copied() {
         Some(number) => Ok(number),
         None => {
-            let made = code_of(alloc, &routine(alloc, operation)?)?;
+            let made = operation_code(alloc, operation)?;
             add_code(program, placed, name, made)
         }
     }

@@ -65,20 +65,20 @@ fn add_code(
 
 impl Filling {
     fn new(routine: &ObjRoutine, first: u64, regions: u64) -> Filling
-        ensures descriptors { result.descriptors ≡ length routine.now.uses }
-        ensures constants { result.constants ≡ times (length routine.now.uses) 2 }
+        ensures descriptors { result.descriptors ≡ plus (length routine.now.uses) 1 }
+        ensures constants { result.constants ≡ plus (times (length routine.now.uses) 2) 1 }
         ensures own { result.own ≡ plus result.constants (length routine.now.constants) }
         ensures cluster { result.cluster ≡ plus result.own (own_variables routine.now) }
         ensures types { result.types ≡ plus result.cluster (cluster_variables routine.now) }
     {
         let uses = routine.uses.as_slice().len() as u64;
-        let constants = uses.saturating_mul(2);
+        let constants = uses.saturating_mul(2).saturating_add(1);
         let own = constants.saturating_add(routine.constants.as_slice().len() as u64);
         let cluster = own.saturating_add(own_variables(routine));
         Filling {
             first,
             regions,
-            descriptors: uses,
+            descriptors: uses.saturating_add(1),
             constants,
             own,
             cluster,
@@ -90,7 +90,7 @@ impl Filling {
     fn number(&self, hole: &Hole, places: &Places) -> Result<u64, LinkError> {
         let number = hole.number as u64;
         match kind_of(hole.kind) {
-            Some(HoleKind::Entry) => Ok(cell(0, number)),
+            Some(HoleKind::Entry) => Ok(cell(1, number)),
             Some(HoleKind::Descriptor) => Ok(cell(self.descriptors, number)),
             Some(HoleKind::Constant) => Ok(cell(self.constants, number)),
             Some(HoleKind::RoutineOwn) => Ok(cell(self.own, number)),

@@ -8,9 +8,10 @@ use clu_equates::intern;
 use clu_frames::flatten;
 use clu_handlers::Regions;
 use clu_object::ObjRoutine;
+use clu_rt_text::{Operation, code_of as operation_of};
 use clu_types::{Exception, Heading, Term, TypeArena, TypeId};
-use clu_wir::WRoutine;
-use rv_select::select;
+use clu_wir::{WCode, WRoutine};
+use rv_select::{select, select_leaf};
 use std::alloc::Global;
 
 /// The type of an operation of a built-in type as an object.
@@ -65,6 +66,14 @@ fn force_heading(alloc: Global, any: TypeId, of: TypeId) -> Result<Heading, Link
         results: Sequence::from_vec(results),
         signals: Sequence::from_vec(signals),
     })
+}
+
+/// The words of an operation.
+pub fn operation_code(alloc: Global, operation: &Operation) -> Result<ObjRoutine, LinkError> {
+    match operation_of(alloc, operation)? {
+        WCode::Leaf(leaf) => Ok(select_leaf(alloc, &leaf)?),
+        WCode::Routine(routine) => code_of(alloc, &routine),
+    }
 }
 
 /// The words of a routine in word code.

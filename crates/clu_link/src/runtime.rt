@@ -7,12 +7,12 @@ use crate::program::Program;
 use crate::texts::Texts;
 use clu_base::u64_add;
 use clu_object::{ObjRoutine, Region};
-use rv_select::{bind_part, regions_table, search_part, start_part, unnamed_part};
+use rv_select::{bind_part, regions_table, search_part, start_part, trap_part};
 use std::alloc::Global;
 
-/// The bytes of the runtime's table: the addresses of the strings `failure` and `unhandled exception: `, of the start's
-/// descriptor, and of the string `uninitialized variable`.
-pub const RUNTIME_TABLE: u64 = 32;
+/// The bytes of the runtime's table: the addresses of the strings `failure` and `unhandled exception: ` and of the start's
+/// descriptor, and for each of the six traps those of its name and of its object.
+pub const RUNTIME_TABLE: u64 = 120;
 
 /// The parts of the runtime, each at its number.
 pub fn runtime_parts(alloc: Global) -> Result<Vec<ObjRoutine>, LinkError> {
@@ -20,7 +20,7 @@ pub fn runtime_parts(alloc: Global) -> Result<Vec<ObjRoutine>, LinkError> {
     parts.push(start_part(alloc)?)?;
     parts.push(search_part(alloc)?)?;
     parts.push(bind_part(alloc)?)?;
-    parts.push(unnamed_part(alloc)?)?;
+    parts.push(trap_part(alloc)?)?;
     Ok(parts)
 }
 

@@ -6,7 +6,7 @@ use crate::errors::LinkError;
 use crate::places::Places;
 use crate::program::{Callable, Program};
 use crate::runtime::add_regions;
-use crate::texts::{Cell, Texts};
+use crate::texts::{Cell, Texts, TrapTexts};
 use crate::type_words::type_word;
 use clu_base::{Memory, u64_add};
 use clu_object::ObjRoutine;
@@ -77,6 +77,8 @@ fn add_link_tables(
     places: &Places,
 ) -> Result<(), LinkError> {
     for (number, callable) in program.callables.as_slice().iter().enumerate() {
+        let (_, regions) = places.of_code(callable.code)?;
+        u64_add(out, regions)?;
         add_entries(out, program, places, callable)?;
         add_descriptor_cells(out, places, callable)?;
         add_constants(out, texts, places, number)?;
@@ -164,11 +166,23 @@ fn add_types(out: &mut Vec<u8>, program: &Program<'_>, types: &[TypeId]) -> Resu
     Ok(())
 }
 
-/// The runtime's table: the strings that it needs, and the descriptor of the start, which is the first callable.
+/// The runtime's table: the strings that it needs, the descriptor of the start, which is the first callable, and of each
+/// trap the name and the object.
 fn add_runtime_table(out: &mut Vec<u8>, texts: &Texts, places: &Places) -> Result<(), LinkError> {
     u64_add(out, places.string(texts.failure)?)?;
     u64_add(out, places.string(texts.unhandled)?)?;
     u64_add(out, places.descriptor(0))?;
-    u64_add(out, places.string(texts.uninitialized)?)?;
+    for trap in texts.traps.as_slice() {
+        add_trap(out, *trap, places)?;
+    }
     Ok(())
+}
+
+fn add_trap(out: &mut Vec<u8>, trap: TrapTexts, places: &Places) -> Result<(), LinkError> {
+    u64_add(out, places.string(trap.name)?)?;
+    let object = match trap.object {
+        Some(text) => places.string(text)?,
+        None => 0,
+    };
+    Ok(u64_add(out, object)?)
 }

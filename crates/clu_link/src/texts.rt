@@ -6,6 +6,7 @@ use crate::program::Program;
 use clu_base::{Bytes, Const, Memory};
 use clu_object::{ObjRoutine, Region};
 use clu_types::Actual;
+use clu_wir::{TRAPS, Trap};
 use indexmap::IndexSet;
 use std::alloc::Global;
 
@@ -15,9 +16,6 @@ pub const FAILURE: &[u8] = b"failure";
 /// What stands before the name of an exception that was not handled.
 pub const UNHANDLED: &[u8] = b"unhandled exception: ";
 
-/// The text of the failure of a variable that names no object.
-pub const UNINITIALIZED: &[u8] = b"uninitialized variable";
-
 /// The word of a constant.
 #[derive(Clone, Copy, Debug, PartialEq, Eq)]
 pub enum Cell {
@@ -25,6 +23,13 @@ pub enum Cell {
     Word(u64),
     /// The address of the string of this number.
     Text(usize),
+}
+
+/// The strings of a trap, by their numbers.
+#[derive(Clone, Copy, Debug)]
+pub struct TrapTexts {
+    pub name: usize,
+    pub object: Option<usize>,
 }
 
 /// The strings of a program, and the constants of its code.
@@ -38,8 +43,8 @@ pub struct Texts {
     pub failure: usize,
     /// The string `unhandled exception: `.
     pub unhandled: usize,
-    /// The string `uninitialized variable`.
-    pub uninitialized: usize,
+    /// Those of each trap.
+    pub traps: Vec<TrapTexts>,
 }
 
 /// The strings and constants of a program.
@@ -49,7 +54,7 @@ pub fn collect_texts(alloc: Global, program: &Program<'_>) -> Result<Texts, Link
         constants: Vec::new(alloc),
         failure: 0,
         unhandled: 0,
-        uninitialized: 0,
+        traps: Vec::new(alloc),
     };
     match texts.add_all(alloc, program) {
         Ok(()) => Ok(texts),
@@ -61,10 +66,18 @@ impl Texts {
     fn add_all(&mut self, alloc: Global, program: &Program<'_>) -> Result<(), LinkError> {
         self.failure = number(alloc, &mut self.strings, FAILURE)?;
         self.unhandled = number(alloc, &mut self.strings, UNHANDLED)?;
-        self.uninitialized = number(alloc, &mut self.strings, UNINITIALIZED)?;
+        self.add_traps(alloc)?;
         for callable in program.callables.as_slice() {
             let routine = program.routine(callable.code)?;
             self.add(alloc, routine, callable.actuals.as_slice())?;
+        }
+        Ok(())
+    }
+
+    fn add_traps(&mut self, alloc: Global) -> Result<(), LinkError> {
+        for trap in TRAPS {
+            let texts = trap_texts(alloc, &mut self.strings, trap)?;
+            self.traps.push(texts)?;
         }
         Ok(())
     }
@@ -87,6 +100,20 @@ impl Texts {
 fn number(alloc: Global, strings: &mut IndexSet<Bytes>, text: &[u8]) -> Result<usize, Memory> {
     let (number, _) = strings.insert_full(Bytes::from_slice(alloc, text)?)?;
     Ok(number)
+}
+
+/// The strings of a trap.
+fn trap_texts(
+    alloc: Global,
+    strings: &mut IndexSet<Bytes>,
+    trap: Trap,
+) -> Result<TrapTexts, Memory> {
+    let name = number(alloc, strings, trap.name())?;
+    let object = match trap.text() {
+        Some(text) => Some(number(alloc, strings, text)?),
+        None => None,
+    };
+    Ok(TrapTexts { name, object })
 }
 
 fn constants_of(

@@ -323,12 +323,12 @@ fn found(bytes: &[u8], pattern: &[u8]) -> Option<usize> {
     None
 }
 
-/// Whether the code of `p` is the last of the image's. The descriptor of the one use is in the second cell, 8 bytes
+/// Whether the code of `p` is the last of the image's. The descriptor of the one use is in the third cell, 16 bytes
 /// after the first.
 fn has_code(linked: &Linked) -> bool {
     let code = linked.image.code.as_slice();
     let last = code.len().saturating_sub(3);
-    code.split_at(last).1 == [CODE[0], 0x0082_8293, CODE[2]].as_slice()
+    code.split_at(last).1 == [CODE[0], 0x0102_8293, CODE[2]].as_slice()
 }
 
 fn has_text(linked: &Linked) -> bool {

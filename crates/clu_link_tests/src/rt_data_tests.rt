@@ -4,37 +4,37 @@ use crate::word_rows::{put_code, put_name, words_of};
 use clu_base::{Bytes, Const, Memory, Sequence};
 use clu_rt_data::{force_code, scheme, select_operation, word_code};
 use clu_types::{Field, Term, TypeArena, TypeId};
-use clu_wir::WRoutine;
+use clu_wir::{WCode, WRoutine};
 use std::alloc::Global;
 use std::fmt::Write;
 use std::test::Fail;
 
-/// Rows that each end with byte 0: an operation, by its type and name, and how many arguments it takes, or `-` where no
-/// code is kept here; and after commas its constants.
+/// Rows that each end with byte 0: an operation, by its type and name, and whether it is a value or puts one, or how many
+/// arguments it takes in a frame, or `-` where no code is kept here; and after commas its constants.
 const ROWS: &str = "\
 array create 1,bounds out of range,failure\0\
 array new 0\0\
 array predict 2,bounds out of range,failure\0\
 array fill 3,negative_size,bounds out of range,failure\0\
-array size 1\0\
-array high 1\0\
+array size value\0\
+array high value\0\
 array set_low 2,bounds out of range,failure\0\
-array fetch 2,bounds\0\
-array store 3,bounds\0\
-array top 1,bounds\0\
+array fetch value\0\
+array store put\0\
+array top value\0\
 array addh 2,bounds out of range,failure\0\
 array addl 2,bounds out of range,failure\0\
 array remh 1,bounds\0\
 array reml 1,bounds,bounds out of range,failure\0\
 array trim 3,negative_size,bounds\0\
 array copy1 1\0\
-array equal 2\0\
+array equal value\0\
 array elements -\0\
 array similar -\0\
 sequence new 0\0\
 sequence e2s 1\0\
 sequence fill 2,negative_size\0\
-sequence fetch 2,bounds\0\
+sequence fetch value\0\
 sequence replace 3,bounds\0\
 sequence addh 2\0\
 sequence reml 1,bounds\0\
@@ -55,7 +55,7 @@ fn type_named(types: &mut TypeArena, word: &str) -> Result<TypeId, Memory> {
 }
 
 /// The code of the operation that a row begins with.
-fn code(alloc: Global, of: &str, op: &str) -> Result<Option<WRoutine>, Memory> {
+fn code(alloc: Global, of: &str, op: &str) -> Result<Option<WCode>, Memory> {
     let mut types = TypeArena::new(alloc);
     let of = type_named(&mut types, of)?;
     word_code(alloc, &types, of, &Bytes::from_slice(alloc, op.as_bytes())?)

@@ -4,59 +4,59 @@ use crate::word_rows::{put_code, words_of};
 use clu_base::{Bytes, Memory};
 use clu_rt_text::word_code;
 use clu_types::{Term, TypeArena, TypeId};
-use clu_wir::WRoutine;
+use clu_wir::WCode;
 use std::alloc::Global;
 use std::fmt::Write;
 use std::test::Fail;
 
-/// Rows that each end with byte 0: an operation, by its type and name, and how many arguments it takes, or `-` where no
-/// code is kept here; and after commas its constants.
+/// Rows that each end with byte 0: an operation, by its type and name, and whether it is a value, or how many arguments it
+/// takes in a frame, or `-` where no code is kept here; and after commas its constants.
 const ROWS: &str = "\
-null equal 2\0\
-null copy 1\0\
+null equal value\0\
+null copy value\0\
 null lt -\0\
-bool and 2\0\
-bool or 2\0\
-bool not 1\0\
-bool similar 2\0\
+bool and value\0\
+bool or value\0\
+bool not value\0\
+bool similar value\0\
 bool add -\0\
-int add 2,overflow\0\
-int sub 2,overflow\0\
-int mul 2,overflow\0\
-int minus 1,overflow\0\
-int div 2,zero_divide,overflow\0\
-int mod 2,zero_divide\0\
+int add value\0\
+int sub value\0\
+int mul value\0\
+int minus value\0\
+int div value\0\
+int mod value\0\
 int power 2,negative_exponent,overflow\0\
-int lt 2\0\
-int le 2\0\
-int ge 2\0\
-int gt 2\0\
+int lt value\0\
+int le value\0\
+int ge value\0\
+int gt value\0\
 int parse 1,bad_format,overflow\0\
 int unparse 1\0\
 int from_to -\0\
 int from_to_by -\0\
-int copy 1\0\
-char i2c 1,illegal_char\0\
-char c2i 1\0\
-char gt 2\0\
-string size 1\0\
+int copy value\0\
+char i2c value\0\
+char c2i value\0\
+char gt value\0\
+string size value\0\
 string lt 2\0\
 string concat 2\0\
-string fetch 2,bounds\0\
+string fetch value\0\
 string rest 2,bounds\0\
 string substr 3,negative_size,bounds\0\
 string indexs 2\0\
 string indexc 2\0\
 string chars -\0\
 string s2ac -\0\
-stream primary_input 0\0\
-stream primary_output 0\0\
+stream primary_input value\0\
+stream primary_output value\0\
 stream getc 1,cannot read,not_possible,end_of_file\0\
 stream getl 1,cannot read,not_possible,end_of_file\0\
 stream empty 1,cannot read,not_possible\0\
 stream puts 2,cannot write,not_possible\0\
 stream putl 2,cannot write,not_possible,\n\0\
-stream equal 2\0\
+stream equal value\0\
 stream copy -\0\
 any equal -";
 
@@ -73,7 +73,7 @@ fn type_named(types: &mut TypeArena, word: &str) -> Result<TypeId, Memory> {
 }
 
 /// The code of the operation that a row begins with.
-fn code(alloc: Global, of: &str, op: &str) -> Result<Option<WRoutine>, Memory> {
+fn code(alloc: Global, of: &str, op: &str) -> Result<Option<WCode>, Memory> {
     let mut types = TypeArena::new(alloc);
     let of = type_named(&mut types, of)?;
     word_code(alloc, &types, of, &Bytes::from_slice(alloc, op.as_bytes())?)

@@ -1,17 +1,26 @@
 //! Word code as the rows of tests have it: how many arguments it takes, and after commas what it names.
 
 use clu_base::{Bytes, Const, ObjConst};
-use clu_wir::WRoutine;
+use clu_wir::{WCode, WDeed, WLeaf, WRoutine};
 use std::fmt::Write;
 use std::test::Fail;
 
-/// Writes the number of arguments of an operation's code and its constants, or `-` where there is none.
-pub fn put_code(text: &mut String, code: &Option<WRoutine>) -> Result<(), Fail> {
+/// Writes what an operation's code is, or the number of its arguments, and its constants, or `-` where there is none.
+pub fn put_code(text: &mut String, code: &Option<WCode>) -> Result<(), Fail> {
     match code {
         None => text.push_str("-")?,
-        Some(code) => put_routine(text, code)?,
+        Some(WCode::Leaf(leaf)) => put_leaf(text, leaf)?,
+        Some(WCode::Routine(code)) => put_routine(text, code)?,
     }
     Ok(())
+}
+
+fn put_leaf(text: &mut String, leaf: &WLeaf) -> Result<(), Fail> {
+    match leaf.deed {
+        WDeed::Value(_) => text.push_str("value")?,
+        WDeed::Put(_, _, _) => text.push_str("put")?,
+    }
+    put_constants(text, leaf.constants.as_slice())
 }
 
 fn put_routine(text: &mut String, code: &WRoutine) -> Result<(), Fail> {

@@ -4,8 +4,10 @@ use crate::declaring::call_results;
 use clu_base::Bytes;
 use clu_core::Checked;
 use clu_equates::node_at;
-use clu_lower_expr::{LowerError, Lowering, assign_named, lower_expr, results_of, type_of};
-use clu_tree::Node;
+use clu_lower_expr::{
+    LowerError, Lowering, Variable, assign_named, lower_call, lower_expr, results_of, type_of,
+};
+use clu_tree::{Node, NodeKind};
 use clu_types::TypeId;
 use clu_wir::{WExpr, WStmt};
 
@@ -25,9 +27,37 @@ pub fn assign_one(
     name: &Bytes,
     value: u32,
 ) -> Result<(), LowerError> {
+    if node_at(&c.tree, value)?.kind == NodeKind::Call {
+        if let Some(variable) = taker(out, name) {
+            return assign_call(out, c, variable, value);
+        }
+    }
     let free = out.taken();
     let object = lower_expr(out, c, value)?;
     assign_named(out, c, name, object, type_of(c, value)?, free)
+}
+
+/// The variable of this name, if it isn't own and takes objects as they are.
+fn taker(out: &Lowering, name: &Bytes) -> Option<Variable> {
+    if out.body.owns.contains_key(name) {
+        return None;
+    }
+    match out.variable(name) {
+        Ok(variable) if !variable.is_any => Some(variable),
+        _ => None,
+    }
+}
+
+/// The only result of a call goes into the slot of a variable.
+pub fn assign_call(
+    out: &mut Lowering,
+    c: &Checked,
+    variable: Variable,
+    call: u32,
+) -> Result<(), LowerError> {
+    let results = vec![in out.alloc; variable.slot]?;
+    lower_call(out, c, call, results)?;
+    out.note_named(variable)
 }
 
 /// The results of a call go into the variables.

@@ -1,5 +1,6 @@
 //! Declarations of variables: Declare and Init (CLU Reference Manual, section 8).
 
+use crate::assigning::assign_call;
 use clu_base::Bytes;
 use clu_core::Checked;
 use clu_equates::{node_at, only_child};
@@ -88,10 +89,15 @@ fn initialize_one(
     let is_any = denotes_any(out, c, of)?;
     let variable = new_variable(out, is_any)?;
     let taken = out.taken();
-    let given = type_of(c, value)?;
-    let object = lower_expr(out, c, value)?;
-    let object = bind(out, &c.types, object, given, is_any, taken)?;
-    out.assign(variable, object)?;
+    if !is_any && node_at(&c.tree, value)?.kind == NodeKind::Call {
+        assign_call(out, c, variable, value)?;
+    } else {
+        let given = type_of(c, value)?;
+        let object = lower_expr(out, c, value)?;
+        let object = out.taken_back(object, taken);
+        let object = bind(out, &c.types, object, given, is_any, taken)?;
+        out.assign(variable, object)?;
+    }
     out.release(taken);
     out.declare(name, variable)
 }

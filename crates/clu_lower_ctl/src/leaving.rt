@@ -27,7 +27,8 @@ fn bound_values(
     let free = out.taken();
     let expressions = node.children.as_slice();
     let values = values(out, c, expressions)?;
-    bind_all(out, c, values, expressions, any, free)
+    let values = bind_all(out, c, values, expressions, any, free)?;
+    out.taken_back_all(values, free)
 }
 
 /// Copies of what is known of objects.

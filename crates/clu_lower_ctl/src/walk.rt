@@ -171,15 +171,22 @@ fn reach_condition(
     match node.kind {
         NodeKind::If => {
             open_else(out, frame);
-            let condition = lower_expr(out, c, n)?;
+            let condition = condition(out, c, n)?;
             open_branch(out, condition, frame)
         }
         NodeKind::While => {
-            let condition = lower_expr(out, c, n)?;
+            let condition = condition(out, c, n)?;
             leave_unless(out, condition)
         }
         _ => Err(LowerError::NotYet),
     }
+}
+
+/// The value of a condition, which is used at once.
+fn condition(out: &mut Lowering, c: &Checked, n: u32) -> Result<WExpr, LowerError> {
+    let free = out.taken();
+    let value = lower_expr(out, c, n)?;
+    Ok(out.taken_back(value, free))
 }
 
 /// Leaves the loop where the condition is false.

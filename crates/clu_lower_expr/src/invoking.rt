@@ -4,10 +4,13 @@ use crate::binding::{bind_all, which_are_any};
 use crate::calls::split_call;
 use crate::errors::LowerError;
 use crate::headings::{any_formals, heading_of};
+use crate::in_place::{apply, apply_to, perform};
 use crate::lowering::Lowering;
 use crate::seen::Seen;
-use clu_core::Checked;
-use clu_tree::Node;
+use crate::uses::operation_of;
+use clu_core::{Checked, OpRef};
+use clu_equates::node_at;
+use clu_tree::{Node, NodeKind};
 use clu_types::TypeId;
 use clu_wir::{WExpr, WStmt};
 
@@ -21,7 +24,23 @@ pub fn invoke(
     free: u32,
 ) -> Result<(), LowerError> {
     let (routine, args) = bound_call(out, c, node, values, free)?;
-    out.push(WStmt::Call(routine, args, results))
+    let op = invoked(c, node)?;
+    match results.as_slice() {
+        [] => perform(out, c, op, routine, args, free),
+        [slot] => apply_to(out, c, op, routine, args, *slot, free),
+        _ => {
+            let args = out.taken_back_all(args, free)?;
+            out.push(WStmt::Call(routine, args, results))
+        }
+    }
+}
+
+/// The operation of a type that a call invokes by its name.
+fn invoked<'a>(c: &'a Checked, call: &Node) -> Result<Option<&'a OpRef>, LowerError> {
+    match call.children.as_slice().first() {
+        Some(n) if node_at(&c.tree, *n)?.kind == NodeKind::OperOf => Ok(operation_of(c, *n)),
+        _ => Ok(None),
+    }
 }
 
 /// What is invoked at a node whose parts have these values, and its arguments bound to the formals.
@@ -52,13 +71,8 @@ pub fn invoke_for_one(
     values: Vec<WExpr>,
     free: u32,
 ) -> Result<WExpr, LowerError> {
-    let results = vec![in out.alloc; free]?;
-    if out.taken() <= free {
-        let _slot = out.take()?;
-    }
-    invoke(out, c, node, values, results, free)?;
-    out.release(free.saturating_add(1));
-    Ok(WExpr::Slot(free))
+    let (routine, args) = bound_call(out, c, node, values, free)?;
+    apply(out, c, invoked(c, node)?, routine, args, free)
 }
 
 /// The operands of the sugar at a node, bound to the formals of its operation, whose heading is `seen`.

@@ -8,6 +8,7 @@ mod calls;
 mod constructors;
 mod errors;
 mod headings;
+mod in_place;
 mod invoking;
 mod iterating;
 mod literals;

@@ -37,9 +37,9 @@ impl Lowering {
         let slot = self.take()?;
         self.push(WStmt::Set(slot, WExpr::Hole(own.kind, own.number)))?;
         let named = self.word_behind(slot, NAMED)?;
-        self.push(WStmt::Need(named))?;
         let word = self.word_behind(slot, 0)?;
-        self.push(WStmt::Set(slot, word))?;
+        let object = self.needed(named, word)?;
+        self.push(WStmt::Set(slot, object))?;
         Ok(WExpr::Slot(slot))
     }
 
@@ -69,6 +69,7 @@ pub fn assign_named(
     of: TypeId,
     free: u32,
 ) -> Result<(), LowerError> {
+    let value = out.taken_back(value, free);
     match out.body.owns.get(name).copied() {
         Some(own) => {
             let value = bind(out, &c.types, value, of, own.is_any, free)?;

@@ -2,18 +2,20 @@
 
 use crate::binding::{bind, is_any, type_of};
 use crate::calls::call_for_one;
+use crate::constructors::binary;
 use crate::errors::LowerError;
+use crate::in_place::{apply, keep, perform};
 use crate::invoking::bind_operands;
 use crate::lowering::Lowering;
 use crate::seen::{Seen, seen_at, seen_of};
-use crate::uses::{node_operation, type_operation};
+use crate::uses::{node_operation, operation_of, type_operation};
 use crate::walk::lower_expr;
 use clu_base::Bytes;
 use clu_core::Checked;
 use clu_equates::node_at;
 use clu_tree::{Node, NodeKind};
 use clu_types::TypeId;
-use clu_wir::{WExpr, WStmt};
+use clu_wir::{WExpr, WOp};
 
 /// Whether an infix operator evaluates its right side only where it is needed.
 pub fn is_condition(node: &Node) -> bool {
@@ -78,7 +80,7 @@ fn invoked(
 ) -> Result<WExpr, LowerError> {
     let operation = node_operation(out, c, n)?;
     let operands = bind_operands(out, c, n, node, seen, operands, taken)?;
-    call_for_one(out, operation, operands, taken)
+    apply(out, c, operation_of(c, n), operation, operands, taken)
 }
 
 /// Whether an operator negates the result of a comparison.
@@ -97,9 +99,10 @@ fn negated_bool(
     given: WExpr,
     taken: u32,
 ) -> Result<WExpr, LowerError> {
-    let operation = not_operation(out, c, n, None)?;
-    let operand = vec![in out.alloc; given]?;
-    call_for_one(out, operation, operand, taken)
+    let _operation = not_operation(out, c, n, None)?;
+    let given = out.taken_back(given, taken);
+    let opposite = binary(out, WOp::Xor, given, WExpr::Word(1))?;
+    keep(out, opposite, taken)
 }
 
 /// The result of the operation `not` of what a comparison gave, which is in a slot.
@@ -174,8 +177,7 @@ pub fn sugar_statement(out: &mut Lowering, c: &Checked, n: u32) -> Result<(), Lo
     let free = out.taken();
     let node = node_at(&c.tree, n)?;
     let operands = bound_children(out, c, n, node, free)?;
-    let call = WStmt::Call(operation, operands, Vec::new(out.alloc));
-    out.push(call)
+    perform(out, c, operation_of(c, n), operation, operands, free)
 }
 
 /// The values of a node's children, bound to the formals of its operation.

@@ -3,7 +3,8 @@
 use crate::errors::LowerError;
 use crate::lowering::Lowering;
 use clu_base::Bytes;
-use clu_wir::{WExpr, WStmt};
+use clu_wir::{Trap, WExpr, WStmt};
+use std::boxed::Box;
 
 /// Where a variable is.
 #[derive(Clone, Copy, Debug, PartialEq, Eq)]
@@ -57,9 +58,19 @@ impl Lowering {
     pub fn object_of(&mut self, name: &Bytes) -> Result<WExpr, LowerError> {
         let variable = self.variable(name)?;
         if let Some(named) = variable.named {
-            self.push(WStmt::Need(WExpr::Slot(named)))?;
+            let object = self.needed(WExpr::Slot(named), WExpr::Slot(variable.slot))?;
+            let slot = self.take()?;
+            self.push(WStmt::Set(slot, object))?;
+            return Ok(WExpr::Slot(slot));
         }
         Ok(WExpr::Slot(variable.slot))
+    }
+
+    /// A word, where the one before it isn't 0; else the code raises the failure of a variable that names no object.
+    pub fn needed(&self, named: WExpr, word: WExpr) -> Result<WExpr, LowerError> {
+        let named = Box::new(self.alloc, named)?;
+        let word = Box::new(self.alloc, word)?;
+        Ok(WExpr::Check(named, Trap::Uninitialized, word))
     }
 
     /// Raises a failure of this text.

@@ -5,7 +5,7 @@ use crate::constructors::{elements, fields, is_constructor};
 use crate::errors::LowerError;
 use crate::invoking::{invoke, invoke_for_one};
 use crate::literals::literal;
-use crate::lowering::Lowering;
+use crate::lowering::{Lowering, only_word};
 use crate::names::name;
 use crate::sugar::{is_condition, note_operator, sugar};
 use crate::uses::{force_of, node_operation, operation_of};
@@ -13,6 +13,7 @@ use clu_core::{Checked, OpRef};
 use clu_equates::{node_at, only_child};
 use clu_tree::{Node, NodeKind};
 use clu_wir::{WExpr, WStmt};
+use std::boxed::Box;
 
 /// How many levels below a node are walked: no node of a tree is deeper than 200.
 const DEPTH: u32 = 201;
@@ -118,6 +119,7 @@ fn pass(
         frame.values.push(value)?;
         return Ok(());
     }
+    let value = out.taken_back(value, frame.taken.saturating_add(1));
     out.push(WStmt::Set(frame.taken, value))?;
     out.release(frame.taken.saturating_add(1));
     if frame.outer.is_none() {
@@ -171,12 +173,32 @@ fn condition(
     let Some(outer) = outer else {
         return Err(LowerError::NotYet);
     };
-    let right = out.close(outer);
-    let nothing = Vec::new(out.alloc);
-    if node.value.as_slice() == b"cand".as_slice() {
-        out.push(WStmt::If(WExpr::Slot(slot), right, nothing))?;
-    } else {
-        out.push(WStmt::If(WExpr::Slot(slot), nothing, right))?;
+    let mut right = out.close(outer);
+    let is_both = node.value.as_slice() == b"cand".as_slice();
+    match only_word(&mut right, slot) {
+        Some(word) => choose(out, slot, word, is_both)?,
+        None => {
+            let nothing = Vec::new(out.alloc);
+            let value = WExpr::Slot(slot);
+            if is_both {
+                out.push(WStmt::If(value, right, nothing))?;
+            } else {
+                out.push(WStmt::If(value, nothing, right))?;
+            }
+        }
     }
     Ok(WExpr::Slot(slot))
+}
+
+/// The same where the right side is one expression.
+fn choose(out: &mut Lowering, slot: u32, right: WExpr, is_both: bool) -> Result<(), LowerError> {
+    let left = out.taken_back(WExpr::Slot(slot), slot);
+    let left = Box::new(out.alloc, left)?;
+    let right = Box::new(out.alloc, right)?;
+    let value = if is_both {
+        WExpr::If(left, right, Box::new(out.alloc, WExpr::Word(0))?)
+    } else {
+        WExpr::If(left, Box::new(out.alloc, WExpr::Word(1))?, right)
+    };
+    out.push(WStmt::Set(slot, value))
 }

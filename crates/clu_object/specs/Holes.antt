@@ -1,6 +1,5 @@
 -- The holes of a routine's code.
-use Rattle.std.specs.Prelude.{ℕ, Bool, true, false, List, [], ◌∷◌, Option, None, Some, ◌+◌, ◌*◌, ◌/◌, ◌%◌, ◌^◌, ◌&&◌, ◌==◌, nat_le, nat_lt, slice_get, length, if◌then◌else◌}
-use Rattle.clu_base.specs.declared.byte_string.Bytes.{Bytes}
+use Rattle.std.specs.Prelude.{ℕ, Bool, true, false, List, [], ◌∷◌, Option, Some, ◌+◌, ◌*◌, ◌/◌, ◌%◌, ◌^◌, ◌&&◌, ◌==◌, nat_le, nat_lt, slice_get, length, if◌then◌else◌}
 use Rattle.clu_object.specs.declared.object.Hole.{Hole}
 use Rattle.clu_object.specs.declared.object.ObjRoutine.{ObjRoutine}
 
@@ -23,9 +22,9 @@ are_holes code least [] = true
 are_holes code least (h ∷ rest) = nat_le least h.at && is_pair_at code h.at && are_holes code (h.at + 2) rest
 
 -- whether a hole's kind is one of the nine, and the item of that kind that it names is there; of the kinds that are not
--- counted in a routine any number is
+-- counted in a routine any number of four bytes is
 abbrev pub is_named : ℕ → ℕ → ℕ → ℕ → Hole → Bool
-is_named uses constants types words h = if nat_le h.kind 1 then nat_lt h.number uses else (if h.kind == 2 then nat_lt h.number constants else (if h.kind == 5 then nat_lt h.number types else (if h.kind == 8 then nat_lt h.number words else nat_lt h.kind 8)))
+is_named uses constants types words h = if nat_le h.kind 1 then nat_lt h.number uses else (if h.kind == 2 then nat_lt h.number constants else (if h.kind == 5 then nat_lt h.number types else (if h.kind == 8 then nat_lt h.number words else (nat_lt h.kind 8 && nat_le h.number 0xffff_ffff))))
 
 abbrev pub are_named : ℕ → ℕ → ℕ → ℕ → List Hole → Bool
 are_named uses constants types words [] = true

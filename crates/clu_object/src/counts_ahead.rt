@@ -1,7 +1,12 @@
 //! The counts that stand behind the holes of a routine in a file. A hole's number is below the count of what it names, so
 //! these are looked up before the holes are read, as far as they are there.
 
-use clu_format::{byte_field, text64_field, u32_field};
+ghost use Rattle.std.specs.Prelude.{◌≡◌};
+ghost use Rattle.std.specs.Option.{option_map};
+ghost use Rattle.clu_format.specs.Fields.{number_read};
+ghost use Rattle.clu_object.specs.Ahead.{skipped, text_skipped, value_skipped, constant_skipped, items_skipped, count_in, count_at, behind_items, number_of, counts_ahead, is_below, allows};
+
+use byteorder::{ByteOrder, LittleEndian};
 
 /// How many bytes a hole takes.
 const HOLE: usize = 9;
@@ -16,7 +21,10 @@ pub struct CountsAhead {
 
 impl CountsAhead {
     /// The counts behind so many holes, at which these bytes start.
-    pub fn find(holes: u32, bytes: &[u8]) -> CountsAhead {
+    #[tactic(auto, unfolding(crate::specs::Ahead::counts_ahead))]
+    pub fn find(holes: u32, bytes: &[u8]) -> CountsAhead
+        ensures { result ≡ counts_ahead holes bytes.now }
+    {
         let uses = count_at(skip(HOLE * holes as usize, bytes));
         let constants = count_at(behind_texts(uses));
         let types = count_at(behind_constants(constants));
@@ -29,7 +37,9 @@ impl CountsAhead {
 
     /// Whether a hole of a kind may have a number, in a routine of so many code words. Items that are not counted here are
     /// not bounded.
-    pub fn allow(self, kind: u8, number: u32, words: usize) -> bool {
+    pub fn allow(self, kind: u8, number: u32, words: usize) -> bool
+        ensures { result ≡ allows self kind number words }
+    {
         match kind {
             0 | 1 => is_below(number, self.uses),
             2 => is_below(number, self.constants),
@@ -40,14 +50,18 @@ impl CountsAhead {
     }
 }
 
-fn is_below(number: u32, count: Option<u32>) -> bool {
+fn is_below(number: u32, count: Option<u32>) -> bool
+    ensures { result ≡ is_below number count }
+{
     match count {
         Some(count) => number < count,
         None => true,
     }
 }
 
-fn number_of(found: Option<(u32, &[u8])>) -> Option<u32> {
+fn number_of(found: Option<(u32, &[u8])>) -> Option<u32>
+    ensures { result ≡ number_of (option_map (λ x. (x.0, x.1.now)) found.entry) }
+{
     match found {
         Some((count, _)) => Some(count),
         None => None,
@@ -55,44 +69,76 @@ fn number_of(found: Option<(u32, &[u8])>) -> Option<u32> {
 }
 
 /// The count at the front, with what follows it.
-fn count_at(bytes: Option<&[u8]>) -> Option<(u32, &[u8])> {
+fn count_at(bytes: Option<&[u8]>) -> Option<(u32, &[u8])>
+    ensures { option_map (λ x. (x.0, x.1.now)) result ≡ count_at (option_map (λ b. b.now) bytes.entry) }
+{
     match bytes {
-        Some(bytes) => match u32_field(bytes) {
-            Ok(found) => Some(found),
-            Err(_) => None,
-        },
+        Some(bytes) => count_in(bytes),
         None => None,
     }
 }
 
+fn count_in(bytes: &[u8]) -> Option<(u32, &[u8])>
+    ensures { option_map (λ x. (x.0, x.1.now)) result ≡ count_in (number_read 4 bytes.now) }
+{
+    if bytes.len() < 4 {
+        return None;
+    }
+    let (field, rest) = bytes.split_at(4);
+    Some((LittleEndian::read_u32(field), rest))
+}
+
 /// What follows so many texts.
-fn behind_texts(found: Option<(u32, &[u8])>) -> Option<&[u8]> {
+fn behind_texts(found: Option<(u32, &[u8])>) -> Option<&[u8]>
+    ensures { option_map (λ b. b.now) result ≡ behind_items text_skipped (option_map (λ x. (x.0, x.1.now)) found.entry) }
+{
     match found {
         Some((count, bytes)) => skip_texts(count, bytes),
         None => None,
     }
 }
 
-fn skip_texts(count: u32, bytes: &[u8]) -> Option<&[u8]> {
+fn skip_texts(count: u32, bytes: &[u8]) -> Option<&[u8]>
+    ensures { option_map (λ b. b.now) result ≡ items_skipped text_skipped count bytes.now }
+{
     let mut rest = bytes;
     for _ in 0..count {
-        match text64_field(rest) {
-            Ok((_, after)) => rest = after,
-            Err(_) => return None,
+        match skip_text(rest) {
+            Some(after) => rest = after,
+            None => return None,
         }
     }
     Some(rest)
 }
 
+fn skip_text(bytes: &[u8]) -> Option<&[u8]>
+    ensures { option_map (λ b. b.now) result ≡ text_skipped bytes.now }
+{
+    if bytes.len() < 8 {
+        return None;
+    }
+    let (field, rest) = bytes.split_at(8);
+    let size = LittleEndian::read_u64(field);
+    if (rest.len() as u64) < size {
+        None
+    } else {
+        Some(&rest[size as usize..])
+    }
+}
+
 /// What follows so many constants.
-fn behind_constants(found: Option<(u32, &[u8])>) -> Option<&[u8]> {
+fn behind_constants(found: Option<(u32, &[u8])>) -> Option<&[u8]>
+    ensures { option_map (λ b. b.now) result ≡ behind_items constant_skipped (option_map (λ x. (x.0, x.1.now)) found.entry) }
+{
     match found {
         Some((count, bytes)) => skip_constants(count, bytes),
         None => None,
     }
 }
 
-fn skip_constants(count: u32, bytes: &[u8]) -> Option<&[u8]> {
+fn skip_constants(count: u32, bytes: &[u8]) -> Option<&[u8]>
+    ensures { option_map (λ b. b.now) result ≡ items_skipped constant_skipped count bytes.now }
+{
     let mut rest = bytes;
     for _ in 0..count {
         match skip_constant(rest) {
@@ -103,18 +149,33 @@ fn skip_constants(count: u32, bytes: &[u8]) -> Option<&[u8]> {
     Some(rest)
 }
 
-fn skip_constant(bytes: &[u8]) -> Option<&[u8]> {
-    match byte_field(bytes) {
-        Ok((0, rest)) => Some(rest),
-        Ok((1 | 3, rest)) => skip(1, rest),
-        Ok((2, rest)) => skip(8, rest),
-        Ok((4, rest)) => skip_texts(1, rest),
-        Ok((5, rest)) => skip(4, rest),
+fn skip_constant(bytes: &[u8]) -> Option<&[u8]>
+    ensures { option_map (λ b. b.now) result ≡ constant_skipped bytes.now }
+{
+    match bytes {
+        [] => None,
+        [kind, rest @ ..] => skip_value(*kind, rest),
+    }
+}
+
+/// What follows the value of a constant of a kind.
+#[tactic(auto, unfolding(crate::specs::Ahead::value_skipped))]
+fn skip_value(kind: u8, bytes: &[u8]) -> Option<&[u8]>
+    ensures { option_map (λ b. b.now) result ≡ value_skipped kind bytes.now }
+{
+    match kind {
+        0 => Some(bytes),
+        1 | 3 => skip(1, bytes),
+        2 => skip(8, bytes),
+        4 => skip_text(bytes),
+        5 => skip(4, bytes),
         _ => None,
     }
 }
 
-fn skip(size: usize, bytes: &[u8]) -> Option<&[u8]> {
+fn skip(size: usize, bytes: &[u8]) -> Option<&[u8]>
+    ensures { option_map (λ b. b.now) result ≡ skipped size bytes.now }
+{
     if bytes.len() < size {
         None
     } else {

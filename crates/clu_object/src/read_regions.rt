@@ -1,8 +1,10 @@
 //! The regions of a routine, read from a file.
 
-ghost use Rattle.std.specs.Prelude.{◌≡◌};
+ghost use Rattle.std.specs.Prelude.{◌≡◌, ◌+◌, ◌<◌, ◌^◌, ◌++◌, ◌∷◌, [], length, IsTrue, IfOk, OnOk};
 ghost use Rattle.clu_specs.specs.Reading.{Gives};
-ghost use Rattle.clu_object.specs.ObjectReading.{arm_name_read, range_read, target_read, arm_read};
+ghost use Rattle.clu_format.specs.Lists.{counted};
+ghost use Rattle.clu_object.specs.Nesting.{span, range_spans, nests};
+ghost use Rattle.clu_object.specs.ObjectReading.{arm_name_read, range_read, target_read, arm_read, arms_read, parent_of, parent_read, region_read, next_region_read, regions_read};
 
 use crate::names::is_arm_name;
 use crate::object::Region;
@@ -13,14 +15,19 @@ use clu_wir::Arm;
 use std::alloc::Global;
 
 /// Adds a range inside the range `parent`, if it may be added to these. Gives whether it may.
+#[tactic(auto, using(crate::proofs::NestingLaws::nests_is, crate::proofs::NestingLaws::spans_added))]
 pub fn nests(
     alloc: Global,
     ranges: &mut Regions,
     first: u32,
     last: u32,
     parent: Option<u32>,
-) -> Result<bool, Memory> {
-    if !ranges.can_add(first, last, parent) || ranges.len() >= NO_REGION as usize {
+) -> Result<bool, Memory>
+    requires { length ranges.old + 1 < 2 ^ 32 }
+    ensures test { IfOk result (λ b. b ≡ nests (range_spans ranges.old) first last parent) }
+    ensures added { IfOk result (λ b. IsTrue b → range_spans ranges.new ≡ range_spans ranges.old ++ (first, last) ∷ []) }
+{
+    if !ranges.can_add(first, last, parent) {
         return Ok(false);
     }
     ranges.insert(Range {
@@ -37,7 +44,9 @@ pub fn regions_at(
     alloc: Global,
     words: usize,
     bytes: &[u8],
-) -> Result<(Sequence<Region>, &[u8]), FormatError> {
+) -> Result<(Sequence<Region>, &[u8]), FormatError>
+    ensures { Gives (λ x. (x.0, x.1.now)) result (regions_read words bytes.now) }
+{
     let (count, rest) = u32_field(bytes)?;
     let mut ranges = Regions::new(alloc);
     more_regions_at(alloc, &mut ranges, words, count, rest)
@@ -50,7 +59,10 @@ fn more_regions_at<'a>(
     words: usize,
     count: u32,
     bytes: &'a [u8],
-) -> Result<(Sequence<Region>, &'a [u8]), FormatError> {
+) -> Result<(Sequence<Region>, &'a [u8]), FormatError>
+    requires { ranges.old ≡ [] }
+    ensures { Gives (λ x. (x.0, x.1.now)) result (counted (next_region_read words) count [] bytes.now) }
+{
     let mut regions = Vec::new(alloc);
     let mut rest = bytes;
     for _ in 0..count {
@@ -61,12 +73,17 @@ fn more_regions_at<'a>(
     Ok((Sequence::from_vec(regions), rest))
 }
 
+#[tactic(auto, unfolding(crate::specs::ObjectReading::region_read))]
 fn region_at<'a>(
     alloc: Global,
     ranges: &mut Regions,
     words: usize,
     bytes: &'a [u8],
-) -> Result<(Region, &'a [u8]), FormatError> {
+) -> Result<(Region, &'a [u8]), FormatError>
+    requires { length ranges.old + 1 < 2 ^ 32 }
+    ensures reads { Gives (λ x. (x.0, x.1.now)) result (region_read words (range_spans ranges.old) bytes.now) }
+    ensures added { IfOk result (λ x. range_spans ranges.new ≡ range_spans ranges.old ++ span x.0 ∷ []) }
+{
     let ((first, last), rest) = range_at(words, bytes)?;
     let (parent, rest) = parent_at(alloc, ranges, first, last, rest)?;
     let (arms, rest) = arms_at(alloc, words, rest)?;
@@ -104,7 +121,11 @@ fn parent_at<'a>(
     first: u32,
     last: u32,
     bytes: &'a [u8],
-) -> Result<(Option<u32>, &'a [u8]), FormatError> {
+) -> Result<(Option<u32>, &'a [u8]), FormatError>
+    requires { length ranges.old + 1 < 2 ^ 32 }
+    ensures reads { Gives (λ x. (x.0, x.1.now)) result (parent_read (range_spans ranges.old) first last bytes.now) }
+    ensures added { OnOk result (range_spans ranges.new ≡ range_spans ranges.old ++ (first, last) ∷ []) }
+{
     let (number, rest) = u32_field(bytes)?;
     let parent = parent_of(number);
     if !nests(alloc, ranges, first, last, parent)? {
@@ -113,7 +134,9 @@ fn parent_at<'a>(
     Ok((parent, rest))
 }
 
-fn parent_of(number: u32) -> Option<u32> {
+fn parent_of(number: u32) -> Option<u32>
+    ensures { result ≡ parent_of number }
+{
     if number == NO_REGION {
         None
     } else {
@@ -122,14 +145,23 @@ fn parent_of(number: u32) -> Option<u32> {
 }
 
 /// Arms after their count.
-fn arms_at(
+fn arms_at(alloc: Global, words: usize, bytes: &[u8]) -> Result<(Sequence<Arm>, &[u8]), FormatError>
+    ensures { Gives (λ x. (x.0, x.1.now)) result (arms_read words bytes.now) }
+{
+    let (count, rest) = u32_field(bytes)?;
+    more_arms_at(alloc, words, count, rest)
+}
+
+fn more_arms_at(
     alloc: Global,
     words: usize,
+    count: u32,
     bytes: &[u8],
-) -> Result<(Sequence<Arm>, &[u8]), FormatError> {
-    let (count, start) = u32_field(bytes)?;
+) -> Result<(Sequence<Arm>, &[u8]), FormatError>
+    ensures { Gives (λ x. (x.0, x.1.now)) result (counted (λ made. arm_read words) count [] bytes.now) }
+{
     let mut arms = Vec::new(alloc);
-    let mut rest = start;
+    let mut rest = bytes;
     for _ in 0..count {
         let (arm, after) = arm_at(alloc, words, rest)?;
         arms.push(arm)?;

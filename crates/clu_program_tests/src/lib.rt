@@ -21,6 +21,8 @@ mod go_data_rows;
 #[cfg(test)]
 mod go_iter_rows;
 #[cfg(test)]
+mod go_place_rows;
+#[cfg(test)]
 mod go_rows;
 #[cfg(test)]
 mod kept_tests;

@@ -5,6 +5,7 @@ use crate::go_arm_rows::{ARM_COUNT, ARM_FILES};
 use crate::go_bound_rows::{BOUNDED, BOUNDED_COUNT};
 use crate::go_data_rows::{DATA_COUNT, DATA_FILES};
 use crate::go_iter_rows::{ITERATOR_COUNT, ITERATOR_FILES};
+use crate::go_place_rows::{PLACE_COUNT, PLACE_FILES};
 use crate::go_rows::{COUNT, ROWS};
 use crate::outside::Outside;
 use crate::parameter_rows::{PARAMETER_COUNT, PARAMETER_FILES};
@@ -70,6 +71,21 @@ fn files_with_iterators_second(rt: HostRuntime) -> Result<(), Fail> {
 #[test]
 fn files_with_iterators_third(rt: HostRuntime) -> Result<(), Fail> {
     keep(rt.alloc(), ITERATOR_FILES, ITERATOR_COUNT, 2)
+}
+
+#[test]
+fn files_with_operations_first(rt: HostRuntime) -> Result<(), Fail> {
+    keep(rt.alloc(), PLACE_FILES, PLACE_COUNT, 0)
+}
+
+#[test]
+fn files_with_operations_second(rt: HostRuntime) -> Result<(), Fail> {
+    keep(rt.alloc(), PLACE_FILES, PLACE_COUNT, 1)
+}
+
+#[test]
+fn files_with_operations_third(rt: HostRuntime) -> Result<(), Fail> {
+    keep(rt.alloc(), PLACE_FILES, PLACE_COUNT, 2)
 }
 
 #[test]

@@ -1,10 +1,11 @@
-//! The operations of arrays that are defined by texts of CLU. What a text does with operations that are no texts stands
-//! here as word code, where these can't signal; what it does with others is a call.
+//! The operations of arrays that are defined by texts of CLU. What a text does with operations that can't signal there
+//! stands here as word code, and so do its loops over ranges of ints; what it does with others is a call. All of them are
+//! uses of the routine.
 
 ghost use Rattle.std.specs.Prelude.{◌≡◌, IfSome};
 
 use crate::arrays::{ELEMENT, FIND, FROM_FIRST, HIGH, LOW, PLACE, SIZE, TAKE_PLACE, WRAP};
-use clu_rt_text::{Derived, Expr, Operation, Step, X, Y, Z, derived_named};
+use clu_rt_text::{Derived, Expr, Step, X, Y, Z, derived_named};
 use clu_wir::WOp;
 
 const END: Step = Step::Return(&[]);
@@ -13,25 +14,39 @@ const FALSE: Step = Step::Return(&[Expr::Word(0)]);
 
 const TRUE: Step = Step::Return(&[Expr::Word(1)]);
 
-/// The indexes in slot 1.
-const INDEXES: &[Step] = &[Step::Iterate(0, &[LOW, HIGH], 1, &[Step::Yield(&[Y])]), END];
+/// The indexes, as they are at the start, in slot 1, and the last of them in slot 2.
+const FROM_LOW: Step = Step::Set(1, LOW);
 
-/// The indexes in slot 1. It ends where one lies outside the bounds by then.
+const TO_HIGH: Step = Step::Set(2, HIGH);
+
+const NONE: Step = Step::When(Expr::Op(WOp::Slt, &Z, &Y), &[END]);
+
+const AT_LAST: Step = Step::Unless(Expr::Op(WOp::Slt, &Y, &Z), &[END]);
+
+const NEXT: Step = Step::Set(1, Expr::Op(WOp::Add, &Y, &Expr::Word(1)));
+
+const INDEXES: &[Step] = &[
+    FROM_LOW,
+    TO_HIGH,
+    NONE,
+    Step::Loop(&[Step::Yield(&[Y]), AT_LAST, NEXT]),
+];
+
+/// It ends where an index lies outside the bounds by then.
 const ELEMENTS: &[Step] = &[
-    Step::Iterate(
-        0,
-        &[X],
-        1,
-        &[
-            TAKE_PLACE,
-            Step::Unless(Expr::Op(WOp::Sltu, &PLACE, &SIZE), &[END]),
-            FROM_FIRST,
-            WRAP,
-            FIND,
-            Step::Yield(&[ELEMENT]),
-        ],
-    ),
-    END,
+    FROM_LOW,
+    TO_HIGH,
+    NONE,
+    Step::Loop(&[
+        TAKE_PLACE,
+        Step::Unless(Expr::Op(WOp::Sltu, &PLACE, &SIZE), &[END]),
+        FROM_FIRST,
+        WRAP,
+        FIND,
+        Step::Yield(&[ELEMENT]),
+        AT_LAST,
+        NEXT,
+    ]),
 ];
 
 const Y_LOW: Expr = Expr::Load(&Y, 0);
@@ -75,7 +90,7 @@ const COPY: &[Step] = &[
 
 /// The operation of arrays of this name that is a text.
 pub fn derived_of_arrays(name: &[u8]) -> Option<&'static Derived>
-    ensures { IfSome result (λ derived. derived.now.operation.name.now ≡ name.now) }
+    ensures { IfSome result (λ derived. derived.now.name.now ≡ name.now) }
 {
     match derived_named(ITERATORS, name) {
         Some(derived) => Some(derived),
@@ -85,22 +100,18 @@ pub fn derived_of_arrays(name: &[u8]) -> Option<&'static Derived>
 
 const ITERATORS: &[Derived] = &[
     Derived {
-        operation: Operation {
-            name: b"elements",
-            args: 1,
-            slots: 5,
-            steps: ELEMENTS,
-        },
+        name: b"elements",
+        args: 1,
+        slots: 5,
+        steps: ELEMENTS,
         uses: &[b"array[#1]$indexes"],
         nodes: 36,
     },
     Derived {
-        operation: Operation {
-            name: b"indexes",
-            args: 1,
-            slots: 2,
-            steps: INDEXES,
-        },
+        name: b"indexes",
+        args: 1,
+        slots: 3,
+        steps: INDEXES,
         uses: &[b"int$from_to"],
         nodes: 25,
     },
@@ -108,32 +119,26 @@ const ITERATORS: &[Derived] = &[
 
 const PROCEDURES: &[Derived] = &[
     Derived {
-        operation: Operation {
-            name: b"similar",
-            args: 2,
-            slots: 5,
-            steps: SIMILAR,
-        },
+        name: b"similar",
+        args: 2,
+        slots: 5,
+        steps: SIMILAR,
         uses: &[b"array[#1]$indexes", b"#1$similar", b"array[#1]$fetch"],
         nodes: 57,
     },
     Derived {
-        operation: Operation {
-            name: b"similar1",
-            args: 2,
-            slots: 5,
-            steps: SIMILAR,
-        },
+        name: b"similar1",
+        args: 2,
+        slots: 5,
+        steps: SIMILAR,
         uses: &[b"array[#1]$indexes", b"#1$equal", b"array[#1]$fetch"],
         nodes: 57,
     },
     Derived {
-        operation: Operation {
-            name: b"copy",
-            args: 1,
-            slots: 3,
-            steps: COPY,
-        },
+        name: b"copy",
+        args: 1,
+        slots: 3,
+        steps: COPY,
         uses: &[
             b"array[#1]$create",
             b"array[#1]$elements",

@@ -4,8 +4,11 @@
 
 ghost use Rattle.std.specs.Prelude.{◌≡◌, IfSome};
 
-use clu_rt_text::{EQUAL, Expr, Operation, Step, X, Y, Z, named};
-use clu_wir::{Primitive, WOp};
+use crate::rows::{put, steps, value};
+use clu_rt_text::{
+    Deed, EQUAL, Expr, FIRST as FIRST_BOUND, Operation, SECOND, Step, X, Y, Z, named,
+};
+use clu_wir::{Primitive, Trap, WOp};
 
 const BOUNDS: Step = Step::Signal(b"bounds", &[]);
 
@@ -154,44 +157,91 @@ const SET_LOW: &[Step] = &[
 /// An index below the low bound is so far from it that its place, without sign, is no less than the size.
 pub const TAKE_PLACE: Step = Step::Set(3, Expr::Op(WOp::Sub, &Y, &LOW));
 
-const IN_BOUNDS: Step = Step::Unless(Expr::Op(WOp::Sltu, &PLACE, &SIZE), &[BOUNDS]);
-
 const NOT_EMPTY: Step = Step::Unless(SIZE, &[BOUNDS]);
 
-const FETCH: &[Step] = &[
-    TAKE_PLACE,
-    IN_BOUNDS,
-    FROM_FIRST,
-    WRAP,
-    FIND,
-    Step::Return(&[ELEMENT]),
-];
+/// The words of the array that is bound first.
+const ITS_LOW: Expr = Expr::Load(&FIRST_BOUND, 0);
 
-const STORE: &[Step] = &[
-    TAKE_PLACE,
-    IN_BOUNDS,
-    FROM_FIRST,
-    WRAP,
-    FIND,
-    Step::Put(ADDRESS, 0, Z),
-    Step::Return(&[]),
-];
+const ITS_SIZE: Expr = Expr::Load(&FIRST_BOUND, 8);
 
-const BOTTOM: &[Step] = &[
-    NOT_EMPTY,
-    Step::Set(3, FIRST),
-    FIND,
-    Step::Return(&[ELEMENT]),
-];
+const ITS_ROOM: Expr = Expr::Load(&FIRST_BOUND, 16);
 
-const TOP: &[Step] = &[
-    NOT_EMPTY,
-    Step::Set(3, LESS),
-    FROM_FIRST,
-    WRAP,
-    FIND,
-    Step::Return(&[ELEMENT]),
-];
+const ITS_FIRST: Expr = Expr::Load(&FIRST_BOUND, 24);
+
+const ITS_BLOCK: Expr = Expr::Load(&FIRST_BOUND, 32);
+
+/// The address of the word in the room of the array at a place that is bound after it, which may be past the room's end.
+const AT_PLACE: Expr = Expr::Op(
+    WOp::Add,
+    &ITS_BLOCK,
+    &Expr::Op(
+        WOp::Sll,
+        &Expr::If(
+            &Expr::Op(WOp::Sltu, &SECOND, &ITS_ROOM),
+            &SECOND,
+            &Expr::Op(WOp::Sub, &SECOND, &ITS_ROOM),
+        ),
+        &Expr::Word(3),
+    ),
+);
+
+/// The address of the element at a place that is bound after the array, counted from the first.
+const AT_NUMBER: Expr = Expr::With(
+    &[FIRST_BOUND, Expr::Op(WOp::Add, &ITS_FIRST, &SECOND)],
+    &AT_PLACE,
+);
+
+/// The address of the element of this index.
+const AT_INDEX: Expr = Expr::With(
+    &[X, Y],
+    &Expr::With(
+        &[FIRST_BOUND, Expr::Op(WOp::Sub, &SECOND, &ITS_LOW)],
+        &Expr::Check(
+            &Expr::Op(WOp::Sltu, &SECOND, &ITS_SIZE),
+            Trap::Bounds,
+            &AT_NUMBER,
+        ),
+    ),
+);
+
+const FETCH: Expr = Expr::Load(&AT_INDEX, 0);
+
+/// The first element lies where the room says.
+const BOTTOM: Expr = Expr::With(
+    &[X],
+    &Expr::Check(
+        &ITS_SIZE,
+        Trap::Bounds,
+        &Expr::Load(
+            &Expr::Op(
+                WOp::Add,
+                &ITS_BLOCK,
+                &Expr::Op(WOp::Sll, &ITS_FIRST, &Expr::Word(3)),
+            ),
+            0,
+        ),
+    ),
+);
+
+const TOP: Expr = Expr::With(
+    &[X],
+    &Expr::Check(
+        &ITS_SIZE,
+        Trap::Bounds,
+        &Expr::Load(
+            &Expr::With(
+                &[FIRST_BOUND, Expr::Op(WOp::Sub, &ITS_SIZE, &ONE)],
+                &AT_NUMBER,
+            ),
+            0,
+        ),
+    ),
+);
+
+const ITS_HIGH: Expr = Expr::With(
+    &[X],
+    &Expr::Op(WOp::Sub, &Expr::Op(WOp::Add, &ITS_LOW, &ITS_SIZE), &ONE),
+);
 
 /// Where the room is used up it becomes the greater of 4 and twice itself, and the elements begin at its front.
 const GROW: Step = Step::When(
@@ -317,7 +367,10 @@ pub fn array_operation(name: &[u8]) -> Option<&'static Operation>
         Some(operation) => Some(operation),
         None => match named(elements(), name) {
             Some(operation) => Some(operation),
-            None => named(growing(), name),
+            None => match named(removing(), name) {
+                Some(operation) => Some(operation),
+                None => named(growing(), name),
+            },
         },
     }
 }
@@ -328,122 +381,40 @@ fn wholes() -> &'static [Operation] {
 }
 
 const WHOLES: &[Operation] = &[
-    Operation {
-        name: b"create",
-        args: 1,
-        slots: 2,
-        steps: CREATE,
-    },
-    Operation {
-        name: b"new",
-        args: 0,
-        slots: 2,
-        steps: NEW,
-    },
-    Operation {
-        name: b"predict",
-        args: 2,
-        slots: 2,
-        steps: CREATE,
-    },
-    Operation {
-        name: b"fill",
-        args: 3,
-        slots: 6,
-        steps: FILL,
-    },
-    Operation {
-        name: b"size",
-        args: 1,
-        slots: 1,
-        steps: &[Step::Return(&[SIZE])],
-    },
-    Operation {
-        name: b"low",
-        args: 1,
-        slots: 1,
-        steps: &[Step::Return(&[LOW])],
-    },
-    Operation {
-        name: b"high",
-        args: 1,
-        slots: 1,
-        steps: &[Step::Return(&[HIGH])],
-    },
-    Operation {
-        name: b"empty",
-        args: 1,
-        slots: 1,
-        steps: &[Step::Return(&[Expr::Op(WOp::Equal, &SIZE, &ZERO)])],
-    },
-    Operation {
-        name: b"set_low",
-        args: 2,
-        slots: 2,
-        steps: SET_LOW,
-    },
-    Operation {
-        name: b"copy1",
-        args: 1,
-        slots: 9,
-        steps: COPY1,
-    },
-    Operation {
-        name: b"equal",
-        args: 2,
-        slots: 2,
-        steps: EQUAL,
-    },
+    steps!(b"create", 1, 2, CREATE),
+    steps!(b"new", 0, 2, NEW),
+    steps!(b"predict", 2, 2, CREATE),
+    steps!(b"fill", 3, 6, FILL),
+    value!(b"size", 1, SIZE),
+    value!(b"low", 1, LOW),
+    value!(b"high", 1, ITS_HIGH),
+    value!(b"empty", 1, Expr::Op(WOp::Equal, &SIZE, &ZERO)),
+    steps!(b"set_low", 2, 2, SET_LOW),
+    steps!(b"copy1", 1, 9, COPY1),
+    value!(b"equal", 2, EQUAL),
 ];
 
-/// What reads, replaces and removes elements.
+/// What reads and replaces elements.
 fn elements() -> &'static [Operation] {
     ELEMENTS
 }
 
 const ELEMENTS: &[Operation] = &[
-    Operation {
-        name: b"fetch",
-        args: 2,
-        slots: 5,
-        steps: FETCH,
-    },
-    Operation {
-        name: b"store",
-        args: 3,
-        slots: 5,
-        steps: STORE,
-    },
-    Operation {
-        name: b"bottom",
-        args: 1,
-        slots: 5,
-        steps: BOTTOM,
-    },
-    Operation {
-        name: b"top",
-        args: 1,
-        slots: 5,
-        steps: TOP,
-    },
-    Operation {
-        name: b"remh",
-        args: 1,
-        slots: 5,
-        steps: REMH,
-    },
-    Operation {
-        name: b"reml",
-        args: 1,
-        slots: 5,
-        steps: REML,
-    },
-    Operation {
-        name: b"trim",
-        args: 3,
-        slots: 6,
-        steps: TRIM,
-    },
+    value!(b"fetch", 2, FETCH),
+    put!(b"store", 3, AT_INDEX, 0, Z),
+    value!(b"bottom", 1, BOTTOM),
+    value!(b"top", 1, TOP),
+];
+
+/// What removes elements.
+fn removing() -> &'static [Operation] {
+    REMOVING
+}
+
+const REMOVING: &[Operation] = &[
+    steps!(b"remh", 1, 5, REMH),
+    steps!(b"reml", 1, 5, REML),
+    steps!(b"trim", 3, 6, TRIM),
 ];
 
 /// What adds elements.
@@ -451,17 +422,4 @@ fn growing() -> &'static [Operation] {
     GROWING
 }
 
-const GROWING: &[Operation] = &[
-    Operation {
-        name: b"addh",
-        args: 2,
-        slots: 9,
-        steps: ADDH,
-    },
-    Operation {
-        name: b"addl",
-        args: 2,
-        slots: 9,
-        steps: ADDL,
-    },
-];
+const GROWING: &[Operation] = &[steps!(b"addh", 2, 9, ADDH), steps!(b"addl", 2, 9, ADDL)];

@@ -2,7 +2,8 @@
 //! the size, and after it the bytes, eight a word.
 
 use crate::arrays::{ELEMENT, FIND, FROM_FIRST, SIZE as ARRAY_SIZE, WRAP};
-use clu_rt_text::{Expr, Operation, Step, X, Y};
+use crate::rows::steps;
+use clu_rt_text::{Deed, Expr, Operation, Step, X, Y};
 use clu_wir::{Primitive, WOp};
 
 const ZERO: Expr = Expr::Word(0);
@@ -37,7 +38,6 @@ const S2AC: &[Step] = &[
     Step::Set(2, ZERO),
     Step::Loop(&[
         Step::When(Expr::Op(WOp::Equal, &DONE, &SIZE), &[Step::Return(&[Y])]),
-        Step::Get(3, Primitive::LoadByte, &[Expr::Op(WOp::Add, &BYTES, &DONE)]),
         Step::Put(
             Expr::Op(
                 WOp::Add,
@@ -45,7 +45,7 @@ const S2AC: &[Step] = &[
                 &Expr::Op(WOp::Sll, &DONE, &Expr::Word(3)),
             ),
             0,
-            Expr::Slot(3),
+            Expr::Byte(&Expr::Op(WOp::Add, &BYTES, &DONE)),
         ),
         NEXT,
     ]),
@@ -87,17 +87,4 @@ const AC2S: &[Step] = &[
 ];
 
 /// The operations of string over arrays.
-pub const STRING: &[Operation] = &[
-    Operation {
-        name: b"s2ac",
-        args: 1,
-        slots: 5,
-        steps: S2AC,
-    },
-    Operation {
-        name: b"ac2s",
-        args: 1,
-        slots: 5,
-        steps: AC2S,
-    },
-];
+pub const STRING: &[Operation] = &[steps!(b"s2ac", 1, 5, S2AC), steps!(b"ac2s", 1, 5, AC2S)];

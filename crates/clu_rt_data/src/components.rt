@@ -6,8 +6,9 @@
 //! order of their selectors. A oneof is the address of the number of its tag, after which its object lies; a variant
 //! has a word more, which is not used.
 
-use clu_rt_text::{EQUAL, Expr, Operation, Step, X, Y, Z};
-use clu_wir::{Primitive, WOp};
+use crate::rows::{put, steps, value};
+use clu_rt_text::{Deed, EQUAL, Expr, FIRST, Operation, Step, X, Y, Z};
+use clu_wir::{Primitive, Trap, WOp};
 
 /// The constants of the type.
 const DISTANCE: Expr = Expr::Known(1);
@@ -21,9 +22,7 @@ const EIGHT: Expr = Expr::Word(8);
 /// The address of the component in `x`.
 const PLACE: Expr = Expr::Op(WOp::Add, &X, &DISTANCE);
 
-const GET: &[Step] = &[Step::Return(&[Expr::Load(&PLACE, 0)])];
-
-const SET: &[Step] = &[Step::Put(PLACE, 0, Y), Step::Return(&[])];
+const GET: Expr = Expr::Load(&PLACE, 0);
 
 /// In slot 2 the new object, in slots 3 and 5 from where and whereto words are copied, in slot 4 where they end.
 const FROM: Expr = Expr::Slot(3);
@@ -82,12 +81,14 @@ const MAKE_VARIANT: &[Step] = made!(3);
 /// Whether `x` has the tag.
 const HAS_TAG: Expr = Expr::Op(WOp::Equal, &Expr::Load(&X, 0), &TAG);
 
-const IS: &[Step] = &[Step::Return(&[HAS_TAG])];
-
-const VALUE: &[Step] = &[
-    Step::Unless(HAS_TAG, &[Step::Signal(b"wrong_tag", &[])]),
-    Step::Return(&[Expr::Load(&X, 8)]),
-];
+const VALUE: Expr = Expr::With(
+    &[X],
+    &Expr::Check(
+        &Expr::Op(WOp::Equal, &Expr::Load(&FIRST, 0), &TAG),
+        Trap::WrongTag,
+        &Expr::Load(&FIRST, 8),
+    ),
+);
 
 const CHANGE: &[Step] = &[Step::Put(X, 0, TAG), Step::Put(X, 8, Y), Step::Return(&[])];
 
@@ -98,105 +99,32 @@ const COPY1_VARIANT: &[Step] = &[
     Step::Return(&[Y]),
 ];
 
-const GET_COMPONENT: Operation = Operation {
-    name: b"get_",
-    args: 1,
-    slots: 1,
-    steps: GET,
-};
+const GET_COMPONENT: Operation = value!(b"get_", 1, GET);
 
 /// The operations of structs that use no others; those of a selector come before its name.
-pub const STRUCT: &[Operation] = &[
-    GET_COMPONENT,
-    Operation {
-        name: b"replace_",
-        args: 2,
-        slots: 6,
-        steps: REPLACE,
-    },
-];
+pub const STRUCT: &[Operation] = &[GET_COMPONENT, steps!(b"replace_", 2, 6, REPLACE)];
 
 /// The operations of records that use no others.
 pub const RECORD: &[Operation] = &[
     GET_COMPONENT,
-    Operation {
-        name: b"set_",
-        args: 2,
-        slots: 2,
-        steps: SET,
-    },
-    Operation {
-        name: b"equal",
-        args: 2,
-        slots: 2,
-        steps: EQUAL,
-    },
-    Operation {
-        name: b"copy1",
-        args: 1,
-        slots: 6,
-        steps: COPY1,
-    },
+    put!(b"set_", 2, PLACE, 0, Y),
+    value!(b"equal", 2, EQUAL),
+    steps!(b"copy1", 1, 6, COPY1),
 ];
 
 /// The operations of oneofs that use no others.
 pub const ONEOF: &[Operation] = &[
-    Operation {
-        name: b"make_",
-        args: 1,
-        slots: 2,
-        steps: MAKE_ONEOF,
-    },
-    Operation {
-        name: b"is_",
-        args: 1,
-        slots: 1,
-        steps: IS,
-    },
-    Operation {
-        name: b"value_",
-        args: 1,
-        slots: 1,
-        steps: VALUE,
-    },
+    steps!(b"make_", 1, 2, MAKE_ONEOF),
+    value!(b"is_", 1, HAS_TAG),
+    value!(b"value_", 1, VALUE),
 ];
 
 /// The operations of variants that use no others.
 pub const VARIANT: &[Operation] = &[
-    Operation {
-        name: b"make_",
-        args: 1,
-        slots: 2,
-        steps: MAKE_VARIANT,
-    },
-    Operation {
-        name: b"is_",
-        args: 1,
-        slots: 1,
-        steps: IS,
-    },
-    Operation {
-        name: b"value_",
-        args: 1,
-        slots: 1,
-        steps: VALUE,
-    },
-    Operation {
-        name: b"change_",
-        args: 2,
-        slots: 2,
-        steps: CHANGE,
-    },
-    Operation {
-        name: b"equal",
-        args: 2,
-        slots: 2,
-        steps: EQUAL,
-    },
-    Operation {
-        name: b"copy1",
-        args: 1,
-        slots: 2,
-        steps: COPY1_VARIANT,
-    },
+    steps!(b"make_", 1, 2, MAKE_VARIANT),
+    value!(b"is_", 1, HAS_TAG),
+    value!(b"value_", 1, VALUE),
+    steps!(b"change_", 2, 2, CHANGE),
+    value!(b"equal", 2, EQUAL),
+    steps!(b"copy1", 1, 2, COPY1_VARIANT),
 ];

@@ -9,6 +9,7 @@ mod components;
 mod forcing;
 mod making;
 mod operations;
+mod rows;
 mod schemes;
 mod selected;
 mod sequence_texts;

@@ -1,34 +1,35 @@
 //! The word code of an operation, found by its type and its name.
 
 ghost use Rattle.std.specs.Prelude.{◌≡◌, ◌<◌, length, IfOk, IfSome, IsSome};
-ghost use Rattle.clu_rt_text.specs.Operations.{IsCode};
+ghost use Rattle.clu_rt_text.specs.Operations.{IsCodeNamed};
 
 use crate::arrays::array_operation;
 use crate::characters::STRING;
+use crate::rows::value;
 use crate::sequences::sequence_operation;
 use clu_base::{Bytes, Memory};
-use clu_rt_text::{COPY, EQUAL, Operation, named, routine};
+use clu_rt_text::{Deed, EQUAL, Operation, X, code_of, named};
 use clu_types::{Term, TypeArena, TypeId};
-use clu_wir::WRoutine;
+use clu_wir::WCode;
 use std::alloc::Global;
 
 /// The word code of the built-in operation `op` of the type `of`; None where the type has no such operation whose code
-/// is kept here. It is one code for all types of elements. The routine uses no others and names no type but that of a
+/// is kept here. It is one code for all types of elements. A routine uses no others and names no type but that of a
 /// string, and its `nodes` are 0, since limits on programs count no operations. The only error is that memory runs out.
 pub fn word_code(
     alloc: Global,
     types: &TypeArena,
     of: TypeId,
     op: &Bytes,
-) -> Result<Option<WRoutine>, Memory>
-    ensures code { IfOk result (λ found. IfSome found (λ code. IsCode op.now code)) }
+) -> Result<Option<WCode>, Memory>
+    ensures code { IfOk result (λ found. IfSome found (IsCodeNamed op.now)) }
     ensures known { IfOk result (λ found. IsSome found → of.0 < length types.now) }
 {
     if !types.contains(of) {
         return Ok(None);
     }
     match operation_of(types.view(of), op.as_slice()) {
-        Some(operation) => Ok(Some(routine(alloc, operation)?)),
+        Some(operation) => Ok(Some(code_of(alloc, operation)?)),
         None => Ok(None),
     }
 }
@@ -52,22 +53,7 @@ fn routine_operations() -> &'static [Operation] {
 }
 
 const ROUTINE: &[Operation] = &[
-    Operation {
-        name: b"equal",
-        args: 2,
-        slots: 2,
-        steps: EQUAL,
-    },
-    Operation {
-        name: b"similar",
-        args: 2,
-        slots: 2,
-        steps: EQUAL,
-    },
-    Operation {
-        name: b"copy",
-        args: 1,
-        slots: 1,
-        steps: COPY,
-    },
+    value!(b"equal", 2, EQUAL),
+    value!(b"similar", 2, EQUAL),
+    value!(b"copy", 1, X),
 ];

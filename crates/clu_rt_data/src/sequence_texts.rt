@@ -1,10 +1,11 @@
-//! The operations of sequences that are defined by texts of CLU. What a text does with operations that are no texts stands
-//! here as word code, where these can't signal; what it does with others is a call.
+//! The operations of sequences that are defined by texts of CLU. What a text does with operations that can't signal there
+//! stands here as word code, and so do its loops over ranges of ints; what it does with others is a call. All of them are
+//! uses of the routine.
 
 ghost use Rattle.std.specs.Prelude.{◌≡◌, IfSome};
 
 use crate::sequences::{AT_Y, SIZE, Y_SIZE};
-use clu_rt_text::{Derived, Expr, Operation, Step, X, Y, Z, derived_named};
+use clu_rt_text::{Derived, Expr, Step, X, Y, Z, derived_named};
 use clu_wir::WOp;
 
 const END: Step = Step::Return(&[]);
@@ -14,15 +15,17 @@ const FALSE: Step = Step::Return(&[Expr::Word(0)]);
 const TRUE: Step = Step::Return(&[Expr::Word(1)]);
 
 /// The places in slot 1.
-const INDEXES: &[Step] = &[
-    Step::Iterate(0, &[Expr::Word(1), SIZE], 1, &[Step::Yield(&[Y])]),
-    END,
-];
+const FIRST: Step = Step::Set(1, Expr::Word(1));
 
-/// The places in slot 1.
+const PAST_LAST: Step = Step::When(Expr::Op(WOp::Slt, &SIZE, &Y), &[END]);
+
+const NEXT: Step = Step::Set(1, Expr::Op(WOp::Add, &Y, &Expr::Word(1)));
+
+const INDEXES: &[Step] = &[FIRST, Step::Loop(&[PAST_LAST, Step::Yield(&[Y]), NEXT])];
+
 const ELEMENTS: &[Step] = &[
-    Step::Iterate(0, &[X], 1, &[Step::Yield(&[Expr::Load(&AT_Y, 0)])]),
-    END,
+    FIRST,
+    Step::Loop(&[PAST_LAST, Step::Yield(&[Expr::Load(&AT_Y, 0)]), NEXT]),
 ];
 
 /// In slot 2 a place, in slot 3 how far after the size its element is.
@@ -62,7 +65,7 @@ const COPY: &[Step] = &[
 
 /// The operation of sequences of this name that is a text.
 pub fn derived_of_sequences(name: &[u8]) -> Option<&'static Derived>
-    ensures { IfSome result (λ derived. derived.now.operation.name.now ≡ name.now) }
+    ensures { IfSome result (λ derived. derived.now.name.now ≡ name.now) }
 {
     match derived_named(ITERATORS, name) {
         Some(derived) => Some(derived),
@@ -72,22 +75,18 @@ pub fn derived_of_sequences(name: &[u8]) -> Option<&'static Derived>
 
 const ITERATORS: &[Derived] = &[
     Derived {
-        operation: Operation {
-            name: b"elements",
-            args: 1,
-            slots: 2,
-            steps: ELEMENTS,
-        },
+        name: b"elements",
+        args: 1,
+        slots: 2,
+        steps: ELEMENTS,
         uses: &[b"sequence[#1]$indexes"],
         nodes: 19,
     },
     Derived {
-        operation: Operation {
-            name: b"indexes",
-            args: 1,
-            slots: 2,
-            steps: INDEXES,
-        },
+        name: b"indexes",
+        args: 1,
+        slots: 2,
+        steps: INDEXES,
         uses: &[b"int$from_to"],
         nodes: 21,
     },
@@ -95,32 +94,26 @@ const ITERATORS: &[Derived] = &[
 
 const PROCEDURES: &[Derived] = &[
     Derived {
-        operation: Operation {
-            name: b"equal",
-            args: 2,
-            slots: 4,
-            steps: COMPARED,
-        },
+        name: b"equal",
+        args: 2,
+        slots: 4,
+        steps: COMPARED,
         uses: &[b"sequence[#1]$indexes", b"#1$equal"],
         nodes: 45,
     },
     Derived {
-        operation: Operation {
-            name: b"similar",
-            args: 2,
-            slots: 4,
-            steps: COMPARED,
-        },
+        name: b"similar",
+        args: 2,
+        slots: 4,
+        steps: COMPARED,
         uses: &[b"sequence[#1]$indexes", b"#1$similar"],
         nodes: 45,
     },
     Derived {
-        operation: Operation {
-            name: b"copy",
-            args: 1,
-            slots: 3,
-            steps: COPY,
-        },
+        name: b"copy",
+        args: 1,
+        slots: 3,
+        steps: COPY,
         uses: &[
             b"array[#1]$new",
             b"sequence[#1]$elements",

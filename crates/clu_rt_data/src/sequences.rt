@@ -3,8 +3,9 @@
 ghost use Rattle.std.specs.Prelude.{◌≡◌, IfSome};
 
 use crate::arrays::A2S;
-use clu_rt_text::{Expr, Operation, Step, X, Y, Z, named};
-use clu_wir::{Primitive, WOp};
+use crate::rows::{steps, value};
+use clu_rt_text::{Deed, Expr, FIRST, Operation, SECOND, Step, X, Y, Z, named};
+use clu_wir::{Primitive, Trap, WOp};
 
 const BOUNDS: Step = Step::Signal(b"bounds", &[]);
 
@@ -96,13 +97,38 @@ const IN_BOUNDS: Step = Step::Unless(
     &[BOUNDS],
 );
 
+/// The size of the sequence that is bound first.
+const ITS_SIZE: Expr = Expr::Load(&FIRST, 0);
+
 const NOT_EMPTY: Step = Step::Unless(SIZE, &[BOUNDS]);
 
-const FETCH: &[Step] = &[IN_BOUNDS, Step::Return(&[Expr::Load(&AT_Y, 0)])];
+/// The element whose place is bound after the sequence, from 1.
+const ELEMENT: Expr = Expr::Load(
+    &Expr::Op(WOp::Add, &FIRST, &Expr::Op(WOp::Sll, &SECOND, &THREE)),
+    0,
+);
 
-const BOTTOM: &[Step] = &[NOT_EMPTY, Step::Return(&[Expr::Load(&X, 8)])];
+const FETCH: Expr = Expr::With(
+    &[X, Y],
+    &Expr::Check(
+        &Expr::Op(WOp::Sltu, &Expr::Op(WOp::Sub, &SECOND, &ONE), &ITS_SIZE),
+        Trap::Bounds,
+        &ELEMENT,
+    ),
+);
 
-const TOP: &[Step] = &[NOT_EMPTY, Step::Return(&[Expr::Load(&LAST, 0)])];
+const BOTTOM: Expr = Expr::With(
+    &[X],
+    &Expr::Check(&ITS_SIZE, Trap::Bounds, &Expr::Load(&FIRST, 8)),
+);
+
+const TOP: Expr = Expr::With(
+    &[X],
+    &Expr::With(
+        &[FIRST, ITS_SIZE],
+        &Expr::Check(&SECOND, Trap::Bounds, &ELEMENT),
+    ),
+);
 
 const REPLACE: &[Step] = &[
     IN_BOUNDS,
@@ -241,54 +267,14 @@ fn wholes() -> &'static [Operation] {
 }
 
 const WHOLES: &[Operation] = &[
-    Operation {
-        name: b"new",
-        args: 0,
-        slots: 1,
-        steps: NEW,
-    },
-    Operation {
-        name: b"e2s",
-        args: 1,
-        slots: 2,
-        steps: E2S,
-    },
-    Operation {
-        name: b"fill",
-        args: 2,
-        slots: 8,
-        steps: FILL,
-    },
-    Operation {
-        name: b"size",
-        args: 1,
-        slots: 1,
-        steps: &[Step::Return(&[SIZE])],
-    },
-    Operation {
-        name: b"empty",
-        args: 1,
-        slots: 1,
-        steps: &[Step::Return(&[Expr::Op(WOp::Equal, &SIZE, &ZERO)])],
-    },
-    Operation {
-        name: b"concat",
-        args: 2,
-        slots: 8,
-        steps: CONCAT,
-    },
-    Operation {
-        name: b"a2s",
-        args: 1,
-        slots: 9,
-        steps: A2S,
-    },
-    Operation {
-        name: b"s2a",
-        args: 1,
-        slots: 8,
-        steps: S2A,
-    },
+    steps!(b"new", 0, 1, NEW),
+    steps!(b"e2s", 1, 2, E2S),
+    steps!(b"fill", 2, 8, FILL),
+    value!(b"size", 1, SIZE),
+    value!(b"empty", 1, Expr::Op(WOp::Equal, &SIZE, &ZERO)),
+    steps!(b"concat", 2, 8, CONCAT),
+    steps!(b"a2s", 1, 9, A2S),
+    steps!(b"s2a", 1, 8, S2A),
 ];
 
 /// What reads elements and takes parts, or puts an element in the place of another.
@@ -297,36 +283,11 @@ fn elements() -> &'static [Operation] {
 }
 
 const ELEMENTS: &[Operation] = &[
-    Operation {
-        name: b"fetch",
-        args: 2,
-        slots: 2,
-        steps: FETCH,
-    },
-    Operation {
-        name: b"bottom",
-        args: 1,
-        slots: 1,
-        steps: BOTTOM,
-    },
-    Operation {
-        name: b"top",
-        args: 1,
-        slots: 1,
-        steps: TOP,
-    },
-    Operation {
-        name: b"replace",
-        args: 3,
-        slots: 8,
-        steps: REPLACE,
-    },
-    Operation {
-        name: b"subseq",
-        args: 3,
-        slots: 8,
-        steps: SUBSEQ,
-    },
+    value!(b"fetch", 2, FETCH),
+    value!(b"bottom", 1, BOTTOM),
+    value!(b"top", 1, TOP),
+    steps!(b"replace", 3, 8, REPLACE),
+    steps!(b"subseq", 3, 8, SUBSEQ),
 ];
 
 /// What makes a sequence that has an element more or less.
@@ -335,28 +296,8 @@ fn ends() -> &'static [Operation] {
 }
 
 const ENDS: &[Operation] = &[
-    Operation {
-        name: b"addh",
-        args: 2,
-        slots: 8,
-        steps: ADDH,
-    },
-    Operation {
-        name: b"addl",
-        args: 2,
-        slots: 8,
-        steps: ADDL,
-    },
-    Operation {
-        name: b"remh",
-        args: 1,
-        slots: 8,
-        steps: REMH,
-    },
-    Operation {
-        name: b"reml",
-        args: 1,
-        slots: 8,
-        steps: REML,
-    },
+    steps!(b"addh", 2, 8, ADDH),
+    steps!(b"addl", 2, 8, ADDL),
+    steps!(b"remh", 1, 8, REMH),
+    steps!(b"reml", 1, 8, REML),
 ];

@@ -34,7 +34,7 @@ pub fn derived(
 
 /// The operation of this name of a type.
 fn derived_of(term: &Term, name: &[u8]) -> Option<&'static Derived>
-    ensures { IfSome result (λ derived. derived.now.operation.name.now ≡ name.now) }
+    ensures { IfSome result (λ derived. derived.now.name.now ≡ name.now) }
 {
     match term {
         Term::Int => derived_of_int(name),
@@ -47,10 +47,16 @@ fn derived_of(term: &Term, name: &[u8]) -> Option<&'static Derived>
 
 /// The routine of an operation, with the uses and the count of its text.
 fn made(alloc: Global, derived: &Derived) -> Result<WRoutine, Memory>
-    ensures named { IfOk result (λ code. code.name ≡ derived.now.operation.name.now) }
+    ensures named { IfOk result (λ code. code.name ≡ derived.now.name.now) }
     ensures counts { IfOk result (λ code. code.nodes ≡ derived.now.nodes) }
 {
-    let mut made = routine(alloc, &derived.operation)?;
+    let Derived {
+        name,
+        args,
+        slots,
+        ..
+    } = *derived;
+    let mut made = routine(alloc, name, args, slots, derived.steps)?;
     made.nodes = derived.nodes;
     made.uses = texts(alloc, derived.uses)?;
     Ok(made)

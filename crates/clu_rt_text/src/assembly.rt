@@ -1,30 +1,77 @@
-//! Routines from their constant data.
+//! Word code from its constant data.
 
 ghost use Rattle.std.specs.Prelude.{◌≡◌, IfOk};
-ghost use Rattle.clu_rt_text.specs.Operations.{IsCode, NamesStringAtMost};
+ghost use Rattle.clu_rt_text.specs.Operations.{IsCode, IsCodeNamed, NamesStringAtMost};
 
-use crate::code::{Expr, Operation, Step};
+use crate::code::{Deed, Expr, Operation, Step};
 use clu_base::{Bytes, Const, Memory, ObjConst};
-use clu_wir::{HoleKind, Primitive, WExpr, WOp, WRoutine, WStmt};
+use clu_wir::{HoleKind, Primitive, WCode, WDeed, WExpr, WLeaf, WRoutine, WStmt};
 use std::alloc::Global;
 use std::boxed::Box;
 
-/// A routine of an operation. The only error is that memory runs out.
-pub fn routine(alloc: Global, operation: &Operation) -> Result<WRoutine, Memory>
-    ensures code { IfOk result (λ code. IsCode operation.now.name.now code) }
-    ensures args { IfOk result (λ code. code.args ≡ operation.now.args) }
-    ensures slots { IfOk result (λ code. code.slots ≡ operation.now.slots) }
+/// The code of an operation. The only error is that memory runs out.
+pub fn code_of(alloc: Global, operation: &Operation) -> Result<WCode, Memory>
+    ensures { IfOk result (IsCodeNamed operation.now.name.now) }
 {
-    let mut assembly = Assembly {
-        alloc,
-        constants: Vec::new(alloc),
-        signals_text: false,
-    };
-    let body = assembly.steps(operation.steps)?;
+    let name = operation.name;
+    match operation.deed {
+        Deed::Value(value) => {
+            let mut assembly = Assembly::new(alloc);
+            let deed = WDeed::Value(assembly.expression(&value)?);
+            Ok(WCode::Leaf(assembly.leaf(name, deed)?))
+        }
+        Deed::Put(address, by, value) => {
+            let mut assembly = Assembly::new(alloc);
+            let address = assembly.expression(&address)?;
+            let deed = WDeed::Put(address, by, assembly.expression(&value)?);
+            Ok(WCode::Leaf(assembly.leaf(name, deed)?))
+        }
+        Deed::Steps(slots, steps) => {
+            let made = routine(alloc, name, operation.args, slots, steps)?;
+            Ok(WCode::Routine(made))
+        }
+    }
+}
+
+/// What an operation does in the place of its call: with these arguments for its slots, each of which it evaluates once and
+/// from left to right but for a word that is put, and these words for the constants of the type. None if it has steps. The
+/// only error is that memory runs out.
+pub fn in_place(
+    alloc: Global,
+    operation: &Operation,
+    args: &[WExpr],
+    known: &[u64],
+) -> Result<Option<WDeed>, Memory> {
+    let mut assembly = Assembly::with(alloc, args, known);
+    match operation.deed {
+        Deed::Value(value) => Ok(Some(WDeed::Value(assembly.expression(&value)?))),
+        Deed::Put(address, by, value) => {
+            let address = assembly.expression(&address)?;
+            Ok(Some(WDeed::Put(address, by, assembly.expression(&value)?)))
+        }
+        Deed::Steps(_, _) => Ok(None),
+    }
+}
+
+/// A routine of this name that does steps in a frame of so many slots, of which the first are its arguments. The only
+/// error is that memory runs out.
+pub fn routine(
+    alloc: Global,
+    name: &[u8],
+    args: u32,
+    slots: u32,
+    steps: &[Step],
+) -> Result<WRoutine, Memory>
+    ensures code { IfOk result (IsCode name.now) }
+    ensures args { IfOk result (λ code. code.args ≡ args) }
+    ensures slots { IfOk result (λ code. code.slots ≡ slots) }
+{
+    let mut assembly = Assembly::new(alloc);
+    let body = assembly.steps(steps)?;
     Ok(WRoutine {
-        name: Bytes::from_slice(alloc, operation.name)?,
-        args: operation.args,
-        slots: operation.slots,
+        name: Bytes::from_slice(alloc, name)?,
+        args,
+        slots,
         body,
         nodes: 0,
         uses: Vec::new(alloc),
@@ -47,13 +94,46 @@ fn object_types(alloc: Global, signals_text: bool) -> Result<Vec<Bytes>, Memory>
 /// A routine in the making: its constants so far, each once, and whether it signals an exception with an object, which
 /// is a string.
 #[derive(Drop)]
-struct Assembly {
+struct Assembly<'a> {
     alloc: Global,
+    /// What stands for the first slots, and for the constants of the type.
+    args: &'a [WExpr],
+    known: &'a [u64],
     constants: Vec<ObjConst>,
     signals_text: bool,
 }
 
-impl Assembly {
+impl<'a> Assembly<'a> {
+    fn new(alloc: Global) -> Assembly<'a> {
+        Assembly::with(alloc, &[], &[])
+    }
+
+    fn with(alloc: Global, args: &'a [WExpr], known: &'a [u64]) -> Assembly<'a> {
+        Assembly {
+            alloc,
+            args,
+            known,
+            constants: Vec::new(alloc),
+            signals_text: false,
+        }
+    }
+
+    /// A routine without a frame, of this name.
+    fn leaf(self, name: &[u8], deed: WDeed) -> Result<WLeaf, Memory>
+        ensures { IfOk result (λ leaf. leaf.name ≡ name.now) }
+    {
+        let Assembly {
+            alloc,
+            constants,
+            ..
+        } = self;
+        Ok(WLeaf {
+            name: Bytes::from_slice(alloc, name)?,
+            deed,
+            constants,
+        })
+    }
+
     fn steps(&mut self, steps: &[Step]) -> Result<Vec<WStmt>, Memory> {
         let mut made = Vec::new(self.alloc);
         for step in steps {
@@ -141,6 +221,7 @@ impl Assembly {
         Ok(WStmt::Signal(Bytes::from_slice(self.alloc, name)?, objects))
     }
 
+    #[cycle(expressions)]
     fn expressions(&mut self, values: &[Expr]) -> Result<Vec<WExpr>, Memory> {
         let mut made = Vec::new(self.alloc);
         for value in values {
@@ -149,23 +230,56 @@ impl Assembly {
         Ok(made)
     }
 
+    #[cycle(expressions)]
     fn expression(&mut self, value: &Expr) -> Result<WExpr, Memory> {
         match value {
-            Expr::Slot(slot) => Ok(WExpr::Slot(*slot)),
+            Expr::Slot(slot) => self.slot(*slot),
             Expr::Word(word) => Ok(WExpr::Word(*word)),
+            Expr::Bound(number) => Ok(WExpr::Bound(*number)),
             Expr::Text(text) => Ok(WExpr::Hole(HoleKind::Constant, self.text(text)?)),
-            Expr::Known(number) => {
-                let place = self.place(ObjConst::Param(*number))?;
-                Ok(WExpr::Hole(HoleKind::Constant, place))
-            }
-            Expr::Load(address, by) => {
-                let address = self.expression(address)?;
-                Ok(WExpr::Load(Box::new(self.alloc, address)?, *by))
-            }
+            Expr::Known(number) => self.constant(*number),
+            Expr::Load(address, by) => Ok(WExpr::Load(self.boxed(address)?, *by)),
+            Expr::Byte(address) => Ok(WExpr::Byte(self.boxed(address)?)),
             Expr::Op(op, left, right) => {
-                let left = self.expression(left)?;
-                let right = self.expression(right)?;
-                binary(self.alloc, *op, left, right)
+                let left = self.boxed(left)?;
+                Ok(WExpr::Binary(*op, left, self.boxed(right)?))
+            }
+            Expr::If(condition, then, other) => {
+                let condition = self.boxed(condition)?;
+                let then = self.boxed(then)?;
+                Ok(WExpr::If(condition, then, self.boxed(other)?))
+            }
+            Expr::Check(condition, trap, value) => {
+                let condition = self.boxed(condition)?;
+                Ok(WExpr::Check(condition, *trap, self.boxed(value)?))
+            }
+            Expr::With(values, body) => {
+                let values = self.expressions(values)?;
+                Ok(WExpr::With(values, self.boxed(body)?))
+            }
+        }
+    }
+
+    #[cycle(expressions)]
+    fn boxed(&mut self, value: &Expr) -> Result<Box<WExpr>, Memory> {
+        let made = self.expression(value)?;
+        Ok(Box::new(self.alloc, made)?)
+    }
+
+    fn slot(&self, slot: u32) -> Result<WExpr, Memory> {
+        match self.args.get(slot as usize) {
+            Some(argument) => argument.copy(self.alloc),
+            None => Ok(WExpr::Slot(slot)),
+        }
+    }
+
+    /// The constant of the type that has this number, from 1.
+    fn constant(&mut self, number: u32) -> Result<WExpr, Memory> {
+        match self.known.get((number as usize).saturating_sub(1)) {
+            Some(word) => Ok(WExpr::Word(*word)),
+            None => {
+                let place = self.place(ObjConst::Param(number))?;
+                Ok(WExpr::Hole(HoleKind::Constant, place))
             }
         }
     }
@@ -190,10 +304,4 @@ impl Assembly {
 /// The descriptor of the operation of this number among those that are used.
 fn descriptor(used: u32) -> WExpr {
     WExpr::Hole(HoleKind::Descriptor, used)
-}
-
-fn binary(alloc: Global, op: WOp, left: WExpr, right: WExpr) -> Result<WExpr, Memory> {
-    let left = Box::new(alloc, left)?;
-    let right = Box::new(alloc, right)?;
-    Ok(WExpr::Binary(op, left, right))
 }

@@ -1,6 +1,6 @@
 //! The operations of null and of bool. False is 0 and true is 1; nil is 0.
 
-use crate::code::{COPY, EQUAL, Expr, Operation, Step, X, Y};
+use crate::code::{Deed, EQUAL, Expr, Operation, X, Y, value};
 use clu_wir::WOp;
 
 /// The operations of null.
@@ -9,24 +9,9 @@ pub fn null_operations() -> &'static [Operation] {
 }
 
 const NULL: &[Operation] = &[
-    Operation {
-        name: b"equal",
-        args: 2,
-        slots: 2,
-        steps: EQUAL,
-    },
-    Operation {
-        name: b"similar",
-        args: 2,
-        slots: 2,
-        steps: EQUAL,
-    },
-    Operation {
-        name: b"copy",
-        args: 1,
-        slots: 1,
-        steps: COPY,
-    },
+    value!(b"equal", 2, EQUAL),
+    value!(b"similar", 2, EQUAL),
+    value!(b"copy", 1, X),
 ];
 
 /// The operations of bool.
@@ -35,40 +20,10 @@ pub fn bool_operations() -> &'static [Operation] {
 }
 
 const BOOL: &[Operation] = &[
-    Operation {
-        name: b"and",
-        args: 2,
-        slots: 2,
-        steps: &[Step::Return(&[Expr::Op(WOp::And, &X, &Y)])],
-    },
-    Operation {
-        name: b"or",
-        args: 2,
-        slots: 2,
-        steps: &[Step::Return(&[Expr::Op(WOp::Or, &X, &Y)])],
-    },
-    Operation {
-        name: b"not",
-        args: 1,
-        slots: 1,
-        steps: &[Step::Return(&[Expr::Op(WOp::Xor, &X, &Expr::Word(1))])],
-    },
-    Operation {
-        name: b"equal",
-        args: 2,
-        slots: 2,
-        steps: EQUAL,
-    },
-    Operation {
-        name: b"similar",
-        args: 2,
-        slots: 2,
-        steps: EQUAL,
-    },
-    Operation {
-        name: b"copy",
-        args: 1,
-        slots: 1,
-        steps: COPY,
-    },
+    value!(b"and", 2, Expr::Op(WOp::And, &X, &Y)),
+    value!(b"or", 2, Expr::Op(WOp::Or, &X, &Y)),
+    value!(b"not", 1, Expr::Op(WOp::Xor, &X, &Expr::Word(1))),
+    value!(b"equal", 2, EQUAL),
+    value!(b"similar", 2, EQUAL),
+    value!(b"copy", 1, X),
 ];

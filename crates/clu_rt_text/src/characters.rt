@@ -1,16 +1,17 @@
 //! The operations of char, whose objects are words from 0 to 255.
 
-use crate::code::{COPY, EQUAL, Expr, Operation, Step, X};
+use crate::code::{Deed, EQUAL, Expr, FIRST, Operation, X, value};
 use crate::integers::{GE, GT, LE, LT};
-use clu_wir::WOp;
+use clu_wir::{Trap, WOp};
 
-const I2C: &[Step] = &[
-    Step::When(
-        Expr::Op(WOp::Sltu, &Expr::Word(255), &X),
-        &[Step::Signal(b"illegal_char", &[])],
+const I2C: Expr = Expr::With(
+    &[X],
+    &Expr::Check(
+        &Expr::Op(WOp::Sltu, &FIRST, &Expr::Word(256)),
+        Trap::IllegalChar,
+        &FIRST,
     ),
-    Step::Return(&[X]),
-];
+);
 
 /// The operations of char.
 pub fn char_operations() -> &'static [Operation] {
@@ -18,58 +19,13 @@ pub fn char_operations() -> &'static [Operation] {
 }
 
 const CHAR: &[Operation] = &[
-    Operation {
-        name: b"i2c",
-        args: 1,
-        slots: 1,
-        steps: I2C,
-    },
-    Operation {
-        name: b"c2i",
-        args: 1,
-        slots: 1,
-        steps: COPY,
-    },
-    Operation {
-        name: b"lt",
-        args: 2,
-        slots: 2,
-        steps: LT,
-    },
-    Operation {
-        name: b"le",
-        args: 2,
-        slots: 2,
-        steps: LE,
-    },
-    Operation {
-        name: b"ge",
-        args: 2,
-        slots: 2,
-        steps: GE,
-    },
-    Operation {
-        name: b"gt",
-        args: 2,
-        slots: 2,
-        steps: GT,
-    },
-    Operation {
-        name: b"equal",
-        args: 2,
-        slots: 2,
-        steps: EQUAL,
-    },
-    Operation {
-        name: b"similar",
-        args: 2,
-        slots: 2,
-        steps: EQUAL,
-    },
-    Operation {
-        name: b"copy",
-        args: 1,
-        slots: 1,
-        steps: COPY,
-    },
+    value!(b"i2c", 1, I2C),
+    value!(b"c2i", 1, X),
+    value!(b"lt", 2, LT),
+    value!(b"le", 2, LE),
+    value!(b"ge", 2, GE),
+    value!(b"gt", 2, GT),
+    value!(b"equal", 2, EQUAL),
+    value!(b"similar", 2, EQUAL),
+    value!(b"copy", 1, X),
 ];

@@ -1,10 +1,10 @@
-//! The operations of int and string that are defined by texts of CLU: iterators. What a text does with operations that
-//! are no texts stands here as word code; what it does with others is a call.
+//! The operations of int and string that are defined by texts of CLU: iterators. What a text does with other operations
+//! stands here as word code; these are uses of the routine all the same.
 
 ghost use Rattle.std.specs.Prelude.{◌≡◌, IfSome};
 
-use crate::code::{Derived, Expr, Operation, Step, X, Y, Z};
-use clu_wir::{Primitive, WOp};
+use crate::code::{Derived, Expr, Step, X, Y, Z};
+use clu_wir::WOp;
 
 const ZERO: Expr = Expr::Word(0);
 
@@ -44,51 +44,47 @@ const FROM_TO_BY: &[Step] = &[Step::Loop(&[
     Step::Set(0, NEXT),
 ])];
 
-const FROM_TO: &[Step] = &[Step::Iterate(0, &[X, Y, ONE], 2, &[Step::Yield(&[Z])]), END];
+/// From `x` on up to `y`.
+const FROM_TO: &[Step] = &[
+    Step::When(Expr::Op(WOp::Slt, &Y, &X), &[END]),
+    Step::Loop(&[
+        Step::Yield(&[X]),
+        Step::Unless(Expr::Op(WOp::Slt, &X, &Y), &[END]),
+        Step::Set(0, Expr::Op(WOp::Add, &X, &ONE)),
+    ]),
+];
 
-/// The places from 1 in slot 1, the characters in slot 2.
+/// The places from 1 in slot 1.
 const CHARS: &[Step] = &[
-    Step::Iterate(
-        0,
-        &[ONE, Expr::Load(&X, 0)],
-        1,
-        &[
-            Step::Get(
-                2,
-                Primitive::LoadByte,
-                &[Expr::Op(WOp::Add, &Expr::Op(WOp::Add, &X, &SEVEN), &Y)],
-            ),
-            Step::Yield(&[Z]),
-        ],
-    ),
-    END,
+    Step::Set(1, ONE),
+    Step::Loop(&[
+        Step::When(Expr::Op(WOp::Slt, &Expr::Load(&X, 0), &Y), &[END]),
+        Step::Yield(&[Expr::Byte(&Expr::Op(WOp::Add, &Expr::Op(WOp::Add, &X, &SEVEN), &Y))]),
+        Step::Set(1, Expr::Op(WOp::Add, &Y, &ONE)),
+    ]),
 ];
 
 /// The operation of int of this name that is a text.
 pub fn derived_of_int(name: &[u8]) -> Option<&'static Derived>
-    ensures { IfSome result (λ derived. derived.now.operation.name.now ≡ name.now) }
+    ensures { IfSome result (λ derived. derived.now.name.now ≡ name.now) }
 {
     derived_named(INT, name)
 }
 
 const INT: &[Derived] = &[
     Derived {
-        operation: Operation {
-            name: b"from_to",
-            args: 2,
-            slots: 3,
-            steps: FROM_TO,
-        },
+        name: b"from_to",
+        args: 2,
+        slots: 2,
+        steps: FROM_TO,
         uses: &[b"int$from_to_by"],
         nodes: 18,
     },
     Derived {
-        operation: Operation {
-            name: b"from_to_by",
-            args: 3,
-            slots: 4,
-            steps: FROM_TO_BY,
-        },
+        name: b"from_to_by",
+        args: 3,
+        slots: 4,
+        steps: FROM_TO_BY,
         uses: &[],
         nodes: 41,
     },
@@ -96,28 +92,26 @@ const INT: &[Derived] = &[
 
 /// The operation of string of this name that is a text.
 pub fn derived_of_string(name: &[u8]) -> Option<&'static Derived>
-    ensures { IfSome result (λ derived. derived.now.operation.name.now ≡ name.now) }
+    ensures { IfSome result (λ derived. derived.now.name.now ≡ name.now) }
 {
     derived_named(STRING, name)
 }
 
 const STRING: &[Derived] = &[Derived {
-    operation: Operation {
-        name: b"chars",
-        args: 1,
-        slots: 3,
-        steps: CHARS,
-    },
+    name: b"chars",
+    args: 1,
+    slots: 2,
+    steps: CHARS,
     uses: &[b"int$from_to"],
     nodes: 21,
 }];
 
 /// The first of these operations that has this name.
 pub fn derived_named(operations: &'static [Derived], name: &[u8]) -> Option<&'static Derived>
-    ensures { IfSome result (λ derived. derived.now.operation.name.now ≡ name.now) }
+    ensures { IfSome result (λ derived. derived.now.name.now ≡ name.now) }
 {
     for derived in operations {
-        if derived.operation.name == name {
+        if derived.name == name {
             return Some(derived);
         }
     }

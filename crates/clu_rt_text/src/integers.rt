@@ -2,17 +2,12 @@
 
 ghost use Rattle.std.specs.Prelude.{◌≡◌, IfSome};
 
-use crate::code::{COPY, EQUAL, Expr, Operation, Step, X, Y};
+use crate::code::{Deed, EQUAL, Expr, FIRST, Operation, SECOND, Step, THIRD, X, Y, steps, value};
 use crate::finding::named;
 use crate::parsing::PARSE;
-use clu_wir::{Primitive, WOp};
-
-/// The least int.
-const LEAST: u64 = 0x8000_0000_0000_0000;
+use clu_wir::{Primitive, Trap, WOp};
 
 const OVERFLOW: Step = Step::Signal(b"overflow", &[]);
-
-const ZERO_DIVIDE: Step = Step::Signal(b"zero_divide", &[]);
 
 const NEGATIVE_EXPONENT: Step = Step::Signal(b"negative_exponent", &[]);
 
@@ -27,102 +22,132 @@ const R: Expr = Expr::Slot(2);
 
 const S: Expr = Expr::Slot(3);
 
-/// A sum overflows where its sign is that of neither part.
-const ADD: &[Step] = &[
-    Step::Set(2, Expr::Op(WOp::Add, &X, &Y)),
-    Step::When(
-        Expr::Op(
-            WOp::Slt,
-            &Expr::Op(
-                WOp::And,
-                &Expr::Op(WOp::Xor, &X, &R),
-                &Expr::Op(WOp::Xor, &Y, &R),
-            ),
-            &ZERO,
-        ),
-        &[OVERFLOW],
-    ),
-    Step::Return(&[R]),
-];
+/// The words that a sum, a difference, a product or a quotient is made of, and what it is.
+const THIS: Expr = FIRST;
 
-/// A difference overflows where the parts have different signs and its sign isn't the first one's.
-const SUB: &[Step] = &[
-    Step::Set(2, Expr::Op(WOp::Sub, &X, &Y)),
-    Step::When(
-        Expr::Op(
-            WOp::Slt,
-            &Expr::Op(
-                WOp::And,
-                &Expr::Op(WOp::Xor, &X, &Y),
-                &Expr::Op(WOp::Xor, &X, &R),
-            ),
-            &ZERO,
-        ),
-        &[OVERFLOW],
+const THAT: Expr = SECOND;
+
+const RESULT: Expr = THIRD;
+
+const THAT_IS_NEGATIVE: Expr = Expr::Op(WOp::Slt, &THAT, &ZERO);
+
+/// A sum is less than the first part just where the second is negative, unless it overflows.
+const SUM: Expr = Expr::Check(
+    &Expr::Op(
+        WOp::Equal,
+        &THAT_IS_NEGATIVE,
+        &Expr::Op(WOp::Slt, &RESULT, &THIS),
     ),
-    Step::Return(&[R]),
-];
+    Trap::Overflow,
+    &RESULT,
+);
+
+const ADD: Expr = Expr::With(
+    &[X, Y],
+    &Expr::With(&[THIS, THAT, Expr::Op(WOp::Add, &THIS, &THAT)], &SUM),
+);
+
+/// A difference is less than the first part just where the second is positive, unless it overflows.
+const DIFFERENCE: Expr = Expr::Check(
+    &Expr::Op(
+        WOp::Equal,
+        &Expr::Op(WOp::Slt, &ZERO, &THAT),
+        &Expr::Op(WOp::Slt, &RESULT, &THIS),
+    ),
+    Trap::Overflow,
+    &RESULT,
+);
+
+const SUB: Expr = Expr::With(
+    &[X, Y],
+    &Expr::With(&[THIS, THAT, Expr::Op(WOp::Sub, &THIS, &THAT)], &DIFFERENCE),
+);
 
 /// A product overflows where its upper word isn't all sign.
-const MUL: &[Step] = &[
-    Step::Set(2, Expr::Op(WOp::Mul, &X, &Y)),
-    Step::Unless(
-        Expr::Op(
-            WOp::Equal,
-            &Expr::Op(WOp::Mulh, &X, &Y),
-            &Expr::Op(WOp::Sra, &R, &Expr::Word(63)),
-        ),
-        &[OVERFLOW],
+const PRODUCT: Expr = Expr::Check(
+    &Expr::Op(
+        WOp::Equal,
+        &Expr::Op(WOp::Mulh, &THIS, &THAT),
+        &Expr::Op(WOp::Sra, &RESULT, &Expr::Word(63)),
     ),
-    Step::Return(&[R]),
-];
+    Trap::Overflow,
+    &RESULT,
+);
 
-const MINUS: &[Step] = &[
-    Step::When(Expr::Op(WOp::Equal, &X, &Expr::Word(LEAST)), &[OVERFLOW]),
-    Step::Return(&[Expr::Op(WOp::Sub, &ZERO, &X)]),
-];
+const MUL: Expr = Expr::With(
+    &[X, Y],
+    &Expr::With(&[THIS, THAT, Expr::Op(WOp::Mul, &THIS, &THAT)], &PRODUCT),
+);
 
-/// The quotient that leaves no negative rest. Only the least int by -1 overflows.
-const DIV: &[Step] = &[
-    Step::Unless(Y, &[ZERO_DIVIDE]),
-    Step::When(
-        Expr::Op(
-            WOp::And,
-            &Expr::Op(WOp::Equal, &X, &Expr::Word(LEAST)),
-            &Expr::Op(WOp::Equal, &Y, &Expr::Word(u64::MAX)),
-        ),
-        &[OVERFLOW],
-    ),
-    Step::Set(2, Expr::Op(WOp::Div, &X, &Y)),
-    Step::When(
-        Expr::Op(WOp::Slt, &Expr::Op(WOp::Rem, &X, &Y), &ZERO),
-        &[
-            Step::When(
-                Expr::Op(WOp::Slt, &Y, &ZERO),
-                &[Step::Return(&[Expr::Op(WOp::Add, &R, &ONE)])],
+/// Of the least int alone the negative has the same sign.
+const MINUS: Expr = Expr::With(
+    &[X],
+    &Expr::With(
+        &[FIRST, Expr::Op(WOp::Sub, &ZERO, &FIRST)],
+        &Expr::Check(
+            &Expr::Op(
+                WOp::Equal,
+                &Expr::Op(WOp::Slt, &Expr::Op(WOp::And, &FIRST, &SECOND), &ZERO),
+                &ZERO,
             ),
-            Step::Return(&[Expr::Op(WOp::Sub, &R, &ONE)]),
-        ],
+            Trap::Overflow,
+            &SECOND,
+        ),
     ),
-    Step::Return(&[R]),
-];
+);
+
+/// The quotient that leaves no negative rest, from the one that is rounded toward zero. Only the least int by -1 overflows:
+/// all three are negative then.
+const QUOTIENT: Expr = Expr::Check(
+    &Expr::Op(
+        WOp::Equal,
+        &Expr::Op(
+            WOp::Slt,
+            &Expr::Op(WOp::And, &Expr::Op(WOp::And, &THIS, &THAT), &RESULT),
+            &ZERO,
+        ),
+        &ZERO,
+    ),
+    Trap::Overflow,
+    &Expr::If(
+        &Expr::Op(WOp::Slt, &Expr::Op(WOp::Rem, &THIS, &THAT), &ZERO),
+        &Expr::If(
+            &THAT_IS_NEGATIVE,
+            &Expr::Op(WOp::Add, &RESULT, &ONE),
+            &Expr::Op(WOp::Sub, &RESULT, &ONE),
+        ),
+        &RESULT,
+    ),
+);
+
+const DIV: Expr = Expr::With(
+    &[X, Y],
+    &Expr::Check(
+        &THAT,
+        Trap::ZeroDivide,
+        &Expr::With(&[THIS, THAT, Expr::Op(WOp::Div, &THIS, &THAT)], &QUOTIENT),
+    ),
+);
 
 /// The rest, which isn't negative and less than the size of the divisor.
-const MOD: &[Step] = &[
-    Step::Unless(Y, &[ZERO_DIVIDE]),
-    Step::Set(2, Expr::Op(WOp::Rem, &X, &Y)),
-    Step::When(
-        Expr::Op(WOp::Slt, &R, &ZERO),
-        &[
-            Step::When(
-                Expr::Op(WOp::Slt, &Y, &ZERO),
-                &[Step::Return(&[Expr::Op(WOp::Sub, &R, &Y)])],
-            ),
-            Step::Return(&[Expr::Op(WOp::Add, &R, &Y)]),
-        ],
+const REST: Expr = Expr::If(
+    &Expr::Op(WOp::Slt, &RESULT, &ZERO),
+    &Expr::If(
+        &THAT_IS_NEGATIVE,
+        &Expr::Op(WOp::Sub, &RESULT, &THAT),
+        &Expr::Op(WOp::Add, &RESULT, &THAT),
     ),
-    Step::Return(&[R]),
-];
+    &RESULT,
+);
+
+const MOD: Expr = Expr::With(
+    &[X, Y],
+    &Expr::Check(
+        &THAT,
+        Trap::ZeroDivide,
+        &Expr::With(&[THIS, THAT, Expr::Op(WOp::Rem, &THIS, &THAT)], &REST),
+    ),
+);
 
 /// By squaring: the power of what is left of base and exponent, times the product so far, is the result. A square
 /// that overflows is a factor of the result, since the exponent isn't used up.
@@ -213,13 +238,16 @@ const UNPARSE: &[Step] = &[
     ]),
 ];
 
-pub const LT: &[Step] = &[Step::Return(&[Expr::Op(WOp::Slt, &X, &Y)])];
+pub const LT: Expr = Expr::Op(WOp::Slt, &X, &Y);
 
-pub const LE: &[Step] = &[Step::Return(&[Expr::Op(WOp::Xor, &Expr::Op(WOp::Slt, &Y, &X), &ONE)])];
+pub const LE: Expr = Expr::With(
+    &[X, Y],
+    &Expr::Op(WOp::Xor, &Expr::Op(WOp::Slt, &SECOND, &FIRST), &ONE),
+);
 
-pub const GE: &[Step] = &[Step::Return(&[Expr::Op(WOp::Xor, &Expr::Op(WOp::Slt, &X, &Y), &ONE)])];
+pub const GE: Expr = Expr::Op(WOp::Xor, &Expr::Op(WOp::Slt, &X, &Y), &ONE);
 
-pub const GT: &[Step] = &[Step::Return(&[Expr::Op(WOp::Slt, &Y, &X)])];
+pub const GT: Expr = Expr::With(&[X, Y], &Expr::Op(WOp::Slt, &SECOND, &FIRST));
 
 /// The operation of int of this name, if it is no text.
 pub fn int_operation(name: &[u8]) -> Option<&'static Operation>
@@ -240,48 +268,13 @@ fn arithmetic() -> &'static [Operation] {
 }
 
 const ARITHMETIC: &[Operation] = &[
-    Operation {
-        name: b"add",
-        args: 2,
-        slots: 3,
-        steps: ADD,
-    },
-    Operation {
-        name: b"sub",
-        args: 2,
-        slots: 3,
-        steps: SUB,
-    },
-    Operation {
-        name: b"mul",
-        args: 2,
-        slots: 3,
-        steps: MUL,
-    },
-    Operation {
-        name: b"minus",
-        args: 1,
-        slots: 1,
-        steps: MINUS,
-    },
-    Operation {
-        name: b"div",
-        args: 2,
-        slots: 3,
-        steps: DIV,
-    },
-    Operation {
-        name: b"mod",
-        args: 2,
-        slots: 3,
-        steps: MOD,
-    },
-    Operation {
-        name: b"power",
-        args: 2,
-        slots: 4,
-        steps: POWER,
-    },
+    value!(b"add", 2, ADD),
+    value!(b"sub", 2, SUB),
+    value!(b"mul", 2, MUL),
+    value!(b"minus", 1, MINUS),
+    value!(b"div", 2, DIV),
+    value!(b"mod", 2, MOD),
+    steps!(b"power", 2, 4, POWER),
 ];
 
 /// How ints are compared and copied.
@@ -290,48 +283,13 @@ fn comparisons() -> &'static [Operation] {
 }
 
 const COMPARISONS: &[Operation] = &[
-    Operation {
-        name: b"lt",
-        args: 2,
-        slots: 2,
-        steps: LT,
-    },
-    Operation {
-        name: b"le",
-        args: 2,
-        slots: 2,
-        steps: LE,
-    },
-    Operation {
-        name: b"ge",
-        args: 2,
-        slots: 2,
-        steps: GE,
-    },
-    Operation {
-        name: b"gt",
-        args: 2,
-        slots: 2,
-        steps: GT,
-    },
-    Operation {
-        name: b"equal",
-        args: 2,
-        slots: 2,
-        steps: EQUAL,
-    },
-    Operation {
-        name: b"similar",
-        args: 2,
-        slots: 2,
-        steps: EQUAL,
-    },
-    Operation {
-        name: b"copy",
-        args: 1,
-        slots: 1,
-        steps: COPY,
-    },
+    value!(b"lt", 2, LT),
+    value!(b"le", 2, LE),
+    value!(b"ge", 2, GE),
+    value!(b"gt", 2, GT),
+    value!(b"equal", 2, EQUAL),
+    value!(b"similar", 2, EQUAL),
+    value!(b"copy", 1, X),
 ];
 
 /// How ints are read and written in decimal digits.
@@ -340,16 +298,6 @@ fn decimals() -> &'static [Operation] {
 }
 
 const DECIMALS: &[Operation] = &[
-    Operation {
-        name: b"parse",
-        args: 1,
-        slots: 6,
-        steps: PARSE,
-    },
-    Operation {
-        name: b"unparse",
-        args: 1,
-        slots: 5,
-        steps: UNPARSE,
-    },
+    steps!(b"parse", 1, 6, PARSE),
+    steps!(b"unparse", 1, 5, UNPARSE),
 ];

@@ -14,8 +14,8 @@ mod parsing;
 mod streams;
 mod strings;
 
-pub use crate::assembly::routine;
-pub use crate::code::{COPY, Derived, EQUAL, Expr, Operation, Step, X, Y, Z};
+pub use crate::assembly::{code_of, in_place, routine};
+pub use crate::code::{Deed, Derived, EQUAL, Expr, FIRST, Operation, SECOND, Step, THIRD, X, Y, Z};
 pub use crate::derived::{derived_named, derived_of_int, derived_of_string};
 pub use crate::finding::named;
 pub use crate::operations::{operation_of, word_code};

@@ -1,7 +1,7 @@
 //! The operation parse of int.
 
 use crate::code::{Expr, Step, X, Y};
-use clu_wir::{Primitive, WOp};
+use clu_wir::WOp;
 
 const BAD_FORMAT: Step = Step::Signal(b"bad_format", &[]);
 
@@ -39,7 +39,7 @@ const NEXT: Step = Step::Set(1, Expr::Op(WOp::Add, &Y, &ONE));
 const TAKE_SIGN: Step = Step::Unless(
     IS_END,
     &[
-        Step::Get(4, Primitive::LoadByte, &[AT]),
+        Step::Set(4, Expr::Byte(&AT)),
         Step::Set(2, Expr::Op(WOp::Equal, &BYTE, &Expr::Word(b'-' as u64))),
         Step::When(
             Expr::Op(
@@ -74,7 +74,7 @@ pub const PARSE: &[Step] = &[
     Step::When(IS_END, &[BAD_FORMAT]),
     Step::Loop(&[
         Step::When(IS_END, &[Step::Break]),
-        Step::Get(4, Primitive::LoadByte, &[AT]),
+        Step::Set(4, Expr::Byte(&AT)),
         Step::Set(4, Expr::Op(WOp::Sub, &BYTE, &Expr::Word(b'0' as u64))),
         Step::Unless(Expr::Op(WOp::Sltu, &BYTE, &TEN), &[BAD_FORMAT]),
         ASK_TENTH,

@@ -1,11 +1,7 @@
 //! The operations of stream. Its objects are 0, the input, and 1, the output.
 
-use crate::code::{EQUAL, Expr, Operation, Step, X, Y};
+use crate::code::{Deed, EQUAL, Expr, Operation, Step, X, Y, steps, value};
 use clu_wir::{Primitive, WOp};
-
-const PRIMARY_INPUT: &[Step] = &[Step::Return(&[Expr::Word(0)])];
-
-const PRIMARY_OUTPUT: &[Step] = &[Step::Return(&[Expr::Word(1)])];
 
 /// What is read has to be the input.
 const INPUT_ONLY: Step = Step::When(
@@ -138,58 +134,13 @@ pub fn stream_operations() -> &'static [Operation] {
 }
 
 const STREAM: &[Operation] = &[
-    Operation {
-        name: b"primary_input",
-        args: 0,
-        slots: 0,
-        steps: PRIMARY_INPUT,
-    },
-    Operation {
-        name: b"primary_output",
-        args: 0,
-        slots: 0,
-        steps: PRIMARY_OUTPUT,
-    },
-    Operation {
-        name: b"getc",
-        args: 1,
-        slots: 2,
-        steps: GETC,
-    },
-    Operation {
-        name: b"getl",
-        args: 1,
-        slots: 5,
-        steps: GETL,
-    },
-    Operation {
-        name: b"empty",
-        args: 1,
-        slots: 2,
-        steps: EMPTY,
-    },
-    Operation {
-        name: b"putc",
-        args: 2,
-        slots: 2,
-        steps: PUTC,
-    },
-    Operation {
-        name: b"puts",
-        args: 2,
-        slots: 2,
-        steps: PUTS,
-    },
-    Operation {
-        name: b"putl",
-        args: 2,
-        slots: 2,
-        steps: PUTL,
-    },
-    Operation {
-        name: b"equal",
-        args: 2,
-        slots: 2,
-        steps: EQUAL,
-    },
+    value!(b"primary_input", 0, Expr::Word(0)),
+    value!(b"primary_output", 0, Expr::Word(1)),
+    steps!(b"getc", 1, 2, GETC),
+    steps!(b"getl", 1, 5, GETL),
+    steps!(b"empty", 1, 2, EMPTY),
+    steps!(b"putc", 2, 2, PUTC),
+    steps!(b"puts", 2, 2, PUTS),
+    steps!(b"putl", 2, 2, PUTL),
+    value!(b"equal", 2, EQUAL),
 ];

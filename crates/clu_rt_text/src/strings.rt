@@ -3,9 +3,9 @@
 
 ghost use Rattle.std.specs.Prelude.{◌≡◌, IfSome};
 
-use crate::code::{COPY, Expr, Operation, Step, X, Y, Z};
+use crate::code::{Deed, Expr, FIRST, Operation, SECOND, Step, X, Y, Z, steps, value};
 use crate::finding::named;
-use clu_wir::{Primitive, WOp};
+use clu_wir::{Primitive, Trap, WOp};
 
 const BOUNDS: Step = Step::Signal(b"bounds", &[]);
 
@@ -53,23 +53,13 @@ const Y_END: Expr = Expr::Op(WOp::Add, &Y_BYTES, &Y_SIZE);
 const X_AT_Y: Expr = Expr::Op(WOp::Add, &Expr::Op(WOp::Add, &X, &SEVEN), &Y);
 
 /// To slot 4 the byte of `x` at a place from 0, and to slot 5 that of `y`.
-const GET_X: Step = Step::Get(
-    4,
-    Primitive::LoadByte,
-    &[Expr::Op(WOp::Add, &X_BYTES, &PLACE)],
-);
+const GET_X: Step = Step::Set(4, Expr::Byte(&Expr::Op(WOp::Add, &X_BYTES, &PLACE)));
 
-const GET_Y: Step = Step::Get(
-    5,
-    Primitive::LoadByte,
-    &[Expr::Op(WOp::Add, &Y_BYTES, &PLACE)],
-);
+const GET_Y: Step = Step::Set(5, Expr::Byte(&Expr::Op(WOp::Add, &Y_BYTES, &PLACE)));
 
 const NEXT: Step = Step::Set(3, Expr::Op(WOp::Add, &PLACE, &ONE));
 
-const SIZE: &[Step] = &[Step::Return(&[X_SIZE])];
-
-const EMPTY: &[Step] = &[Step::Return(&[Expr::Op(WOp::Equal, &X_SIZE, &ZERO)])];
+const EMPTY: Expr = Expr::Op(WOp::Equal, &X_SIZE, &ZERO);
 
 /// Byte by byte up to the first that differs or the end of one of the strings. What is answered where `x` is less,
 /// where it is greater, and where they are equal.
@@ -163,8 +153,7 @@ const TO_BYTES: Step = Step::Set(7, Expr::Op(WOp::Add, &MADE, &EIGHT));
 /// Copies the bytes from the address in slot 5 up to that in slot 6.
 const COPY_BYTES: Step = Step::Loop(&[
     Step::When(Expr::Op(WOp::Equal, &FROM, &END), &[Step::Break]),
-    Step::Get(8, Primitive::LoadByte, &[FROM]),
-    Step::Do(Primitive::SaveByte, &[TO, Expr::Slot(8)]),
+    Step::Do(Primitive::SaveByte, &[TO, Expr::Byte(&FROM)]),
     Step::Set(5, Expr::Op(WOp::Add, &FROM, &ONE)),
     Step::Set(7, Expr::Op(WOp::Add, &TO, &ONE)),
 ]);
@@ -195,14 +184,18 @@ const APPEND: &[Step] = &[
     Step::Return(&[MADE]),
 ];
 
-const FETCH: &[Step] = &[
-    Step::Unless(
-        Expr::Op(WOp::Sltu, &Expr::Op(WOp::Sub, &Y, &ONE), &X_SIZE),
-        &[BOUNDS],
+const FETCH: Expr = Expr::With(
+    &[X, Y],
+    &Expr::Check(
+        &Expr::Op(
+            WOp::Sltu,
+            &Expr::Op(WOp::Sub, &SECOND, &ONE),
+            &Expr::Load(&FIRST, 0),
+        ),
+        Trap::Bounds,
+        &Expr::Byte(&Expr::Op(WOp::Add, &Expr::Op(WOp::Add, &FIRST, &SEVEN), &SECOND)),
     ),
-    Step::Get(2, Primitive::LoadByte, &[X_AT_Y]),
-    Step::Return(&[Z]),
-];
+);
 
 /// A place at which a part may begin is at most one after the string.
 const IN_BOUNDS: Step = Step::Unless(
@@ -258,10 +251,9 @@ const INDEXS: &[Step] = &[
                 &[Step::Return(&[Expr::Op(WOp::Add, &Z, &ONE)])],
             ),
             GET_X,
-            Step::Get(
+            Step::Set(
                 5,
-                Primitive::LoadByte,
-                &[Expr::Op(WOp::Add, &Expr::Op(WOp::Add, &Y_BYTES, &Z), &PLACE)],
+                Expr::Byte(&Expr::Op(WOp::Add, &Expr::Op(WOp::Add, &Y_BYTES, &Z), &PLACE)),
             ),
             Step::Unless(Expr::Op(WOp::Equal, &BYTE, &OTHER), &[Step::Break]),
             NEXT,
@@ -277,11 +269,7 @@ const INDEXC: &[Step] = &[
             Expr::Op(WOp::Equal, &PLACE, &Y_SIZE),
             &[Step::Return(&[ZERO])],
         ),
-        Step::Get(
-            4,
-            Primitive::LoadByte,
-            &[Expr::Op(WOp::Add, &Y_BYTES, &PLACE)],
-        ),
+        Step::Set(4, Expr::Byte(&Expr::Op(WOp::Add, &Y_BYTES, &PLACE))),
         NEXT,
         Step::When(Expr::Op(WOp::Equal, &BYTE, &X), &[Step::Return(&[PLACE])]),
     ]),
@@ -300,48 +288,16 @@ pub fn string_operation(name: &[u8]) -> Option<&'static Operation>
     }
 }
 
-/// How strings are compared.
+/// Which of two strings comes first.
 fn comparisons() -> &'static [Operation] {
     COMPARISONS
 }
 
 const COMPARISONS: &[Operation] = &[
-    Operation {
-        name: b"lt",
-        args: 2,
-        slots: 6,
-        steps: LT,
-    },
-    Operation {
-        name: b"le",
-        args: 2,
-        slots: 6,
-        steps: LE,
-    },
-    Operation {
-        name: b"ge",
-        args: 2,
-        slots: 6,
-        steps: GE,
-    },
-    Operation {
-        name: b"gt",
-        args: 2,
-        slots: 6,
-        steps: GT,
-    },
-    Operation {
-        name: b"equal",
-        args: 2,
-        slots: 6,
-        steps: EQUAL,
-    },
-    Operation {
-        name: b"similar",
-        args: 2,
-        slots: 6,
-        steps: EQUAL,
-    },
+    steps!(b"lt", 2, 6, LT),
+    steps!(b"le", 2, 6, LE),
+    steps!(b"ge", 2, 6, GE),
+    steps!(b"gt", 2, 6, GT),
 ];
 
 /// What is asked of whole strings and made of them.
@@ -350,42 +306,14 @@ fn wholes() -> &'static [Operation] {
 }
 
 const WHOLES: &[Operation] = &[
-    Operation {
-        name: b"size",
-        args: 1,
-        slots: 1,
-        steps: SIZE,
-    },
-    Operation {
-        name: b"empty",
-        args: 1,
-        slots: 1,
-        steps: EMPTY,
-    },
-    Operation {
-        name: b"c2s",
-        args: 1,
-        slots: 2,
-        steps: C2S,
-    },
-    Operation {
-        name: b"concat",
-        args: 2,
-        slots: 9,
-        steps: CONCAT,
-    },
-    Operation {
-        name: b"append",
-        args: 2,
-        slots: 9,
-        steps: APPEND,
-    },
-    Operation {
-        name: b"copy",
-        args: 1,
-        slots: 1,
-        steps: COPY,
-    },
+    steps!(b"equal", 2, 6, EQUAL),
+    steps!(b"similar", 2, 6, EQUAL),
+    value!(b"size", 1, X_SIZE),
+    value!(b"empty", 1, EMPTY),
+    steps!(b"c2s", 1, 2, C2S),
+    steps!(b"concat", 2, 8, CONCAT),
+    steps!(b"append", 2, 8, APPEND),
+    value!(b"copy", 1, X),
 ];
 
 /// What is found in strings and taken out of them.
@@ -394,34 +322,9 @@ fn parts() -> &'static [Operation] {
 }
 
 const PARTS: &[Operation] = &[
-    Operation {
-        name: b"fetch",
-        args: 2,
-        slots: 3,
-        steps: FETCH,
-    },
-    Operation {
-        name: b"rest",
-        args: 2,
-        slots: 9,
-        steps: REST,
-    },
-    Operation {
-        name: b"substr",
-        args: 3,
-        slots: 9,
-        steps: SUBSTR,
-    },
-    Operation {
-        name: b"indexs",
-        args: 2,
-        slots: 6,
-        steps: INDEXS,
-    },
-    Operation {
-        name: b"indexc",
-        args: 2,
-        slots: 5,
-        steps: INDEXC,
-    },
+    value!(b"fetch", 2, FETCH),
+    steps!(b"rest", 2, 8, REST),
+    steps!(b"substr", 3, 8, SUBSTR),
+    steps!(b"indexs", 2, 6, INDEXS),
+    steps!(b"indexc", 2, 5, INDEXC),
 ];

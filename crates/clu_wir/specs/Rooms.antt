@@ -3,7 +3,10 @@ use Rattle.std.specs.Prelude.{ℕ, ◌+◌, ◌*◌, ◌-◌, ◌^◌, min, List
 use Rattle.clu_base.specs.declared.constants.Const.TheVariants as constant
 use Rattle.clu_base.specs.declared.constants.ObjConst.{ObjConst}
 use Rattle.clu_base.specs.declared.constants.ObjConst.TheVariants as named
-use Rattle.clu_wir.specs.declared.expression.WExpr.{WExpr, Slot, Word, Hole, Load', Binary'}
+use Rattle.clu_wir.specs.Costs.{cost_words, known_words}
+use Rattle.clu_wir.specs.declared.cost.Cost.{Cost}
+use Rattle.clu_wir.specs.declared.cost.Cost.TheVariants as cost
+use Rattle.clu_wir.specs.declared.expression.WExpr.{WExpr, WExpr-F, fold-WExpr}
 use Rattle.clu_wir.specs.declared.statement.WStmt.{WStmt, WStmt-F, fold-WStmt}
 use Rattle.clu_wir.specs.declared.statement.WArm.{WArm, WArm-F, fold-WArm}
 use Rattle.clu_wir.specs.declared.room.Room.{Room}
@@ -24,69 +27,79 @@ code_room code = record { code = code; «data» = 0 }
 abbrev pub data_room : ℕ → Room
 data_room bytes = record { code = 0; «data» = bytes }
 
--- the words of an operand whose evaluation takes so many: a slot takes none
-abbrev pub operand_with : WExpr → ℕ → ℕ
-operand_with (Slot slot) words = 0
-operand_with _ words = words
+abbrev pub all_words_of : List ℕ → ℕ
+all_words_of words = fold plus 0 words
 
--- the words that the steps of an evaluation take at most
+-- the words of an evaluation into a register, with those of each expression inside in its place
+abbrev pub words_step : WExpr-F ℕ → ℕ
+words_step (WExpr-F.Slot slot) = 3
+words_step (WExpr-F.Word word) = known_words word
+words_step (WExpr-F.Hole kind number) = 4
+words_step (WExpr-F.Load address bytes) = plus address.value 3
+words_step (WExpr-F.Byte address) = plus address.value 1
+words_step (WExpr-F.Binary op left right) = plus (plus left.value right.value) 2
+words_step (WExpr-F.If condition then other) = plus (plus (plus condition.value then.value) other.value) 5
+words_step (WExpr-F.Check condition trap value) = plus (plus condition.value value.value) 5
+words_step (WExpr-F.With values body) = plus (all_words_of values.items) body.value
+words_step (WExpr-F.Bound number) = 1
+
 abbrev pub words_of : WExpr → ℕ
-words_of (Slot slot) = 6
-words_of (Word word) = 9
-words_of (Hole kind number) = 7
-words_of (Load' p address bytes) = plus (operand_with address (words_of address)) 9
-words_of (Binary' op p left q right) =
-    plus (plus (operand_with left (words_of left)) (operand_with right (words_of right))) 11
+words_of = fold-WExpr ℕ words_step
 
--- the words of an operand
-abbrev pub operand_words : WExpr → ℕ
-operand_words e = operand_with e (words_of e)
+-- two expressions, and a step over their words
+abbrev pub two_room : WExpr → WExpr → Cost → Room
+two_room first second c = both (both (code_room (words_of first)) (code_room (words_of second))) (code_room (cost_words c))
 
--- two operands, and so many words after them
-abbrev pub operands_room : WExpr → WExpr → ℕ → Room
-operands_room first second code =
-    both (both (code_room (operand_words first)) (code_room (operand_words second))) (code_room code)
-
+-- values that go into slots side by side
 abbrev pub row_room : List WExpr → Room
-row_room values = code_room (fold (λ n e. plus n (words_of e)) 0 values)
+row_room values = both (code_room (all_words_of (map words_of values))) (code_room (times 3 (length values)))
 
 abbrev pub call_room : WExpr → List WExpr → Room
-call_room routine values = both (both (code_room (words_of routine)) (row_room values)) (code_room 10)
+call_room routine values = both (both (row_room values) (code_room (words_of routine))) (code_room (cost_words cost.Invoke))
+
+-- the name of an exception and its objects, in slots side by side
+abbrev pub exception_room : List WExpr → Room
+exception_room objects = both (both (row_room objects) (code_room 4)) (code_room (cost_words cost.Save))
+
+abbrev pub results_room : ℕ → Room
+results_room count = code_room (times (cost_words cost.Result) count)
+
+abbrev pub costs : Cost → Room
+costs c = code_room (cost_words c)
 
 abbrev pub all_of : List Room → Room
 all_of rooms = fold both (code_room 0) rooms
 
 -- what a statement takes, with what each statement and arm inside it takes in its place
 abbrev pub room_step : WStmt-F Room Room → Room
-room_step (WStmt-F.Set slot value) = code_room (words_of value)
-room_step (WStmt-F.Put address bytes value) = operands_room address value 9
-room_step (WStmt-F.Call routine values results) =
-    both (call_room routine values.items) (code_room (times 6 (length results.items)))
+room_step (WStmt-F.Set slot value) = both (code_room (words_of value)) (costs cost.Save)
+room_step (WStmt-F.Put address bytes value) = two_room address value cost.Save
+room_step (WStmt-F.Call routine values results) = both (call_room routine values.items) (results_room (length results.items))
 room_step (WStmt-F.Prim number values results) =
-    both (row_room values.items) (code_room (plus (times 6 (length results.items)) 13))
-room_step (WStmt-F.Bind number value slot) = operands_room number value 12
-room_step (WStmt-F.Need value) = both (code_room (operand_words value)) (code_room 7)
+    both (both (row_room values.items) (costs cost.Primitive)) (results_room (length results.items))
+room_step (WStmt-F.Bind number value slot) = two_room number value cost.Bind
 room_step (WStmt-F.If condition then other) =
-    both (both (both (code_room (operand_words condition)) (code_room 6)) (all_of then.items)) (all_of other.items)
-room_step (WStmt-F.Loop body) = both (code_room 1) (all_of body.items)
-room_step WStmt-F.Break = code_room 4
-room_step WStmt-F.Continue = code_room 1
+    both (both (both (both (code_room (words_of condition)) (costs cost.Branch)) (costs cost.Jump)) (all_of then.items)) (all_of other.items)
+room_step (WStmt-F.Loop body) = both (costs cost.Jump) (all_of body.items)
+room_step WStmt-F.Break = both (costs cost.Cut) (costs cost.Jump)
+room_step WStmt-F.Continue = costs cost.Jump
 room_step (WStmt-F.Iterate routine values items body) =
-    both (both (call_room routine values.items) (code_room (plus (times 6 (length items.items)) 15))) (all_of body.items)
-room_step (WStmt-F.Yield words) = both (row_room words.items) (code_room 18)
-room_step (WStmt-F.Raise name objects) = both (row_room objects.items) (code_room 16)
-room_step (WStmt-F.Signal name objects) = both (row_room objects.items) (code_room 19)
+    both (both (both (both (both (call_room routine values.items) (results_room (length items.items))) (costs cost.Jump)) (costs cost.Take)) (costs cost.Resume)) (all_of body.items)
+room_step (WStmt-F.Yield words) = both (row_room words.items) (costs cost.Yield)
+room_step (WStmt-F.Raise name objects) = both (exception_room objects.items) (costs cost.Raise)
+room_step (WStmt-F.Signal name objects) = both (exception_room objects.items) (costs cost.Signal)
 room_step (WStmt-F.Exit inside arm words) =
-    both (row_room words.items) (code_room (plus (times 6 (length words.items)) 4))
+    both (both (both (row_room words.items) (results_room (length words.items))) (costs cost.Cut)) (costs cost.Jump)
 room_step (WStmt-F.Guard body arms) =
     both (both (record { code = 1; «data» = 56 }) (all_of body.items)) (all_of arms.items)
 room_step (WStmt-F.Resignal body names) =
     both (both (record { code = 7; «data» = 56 }) (all_of body.items)) (data_room (times 24 (length names.items)))
-room_step (WStmt-F.Return results) = both (row_room results.items) (code_room 8)
+room_step (WStmt-F.Return results) = both (row_room results.items) (costs cost.Leave)
 
--- what an arm takes before its statements: a step for each slot, and a row of the table for each name and for all others
+-- what an arm takes besides its statements: a step for each slot, the jump to the end of the guard, and a row of the table
+-- for each name and for all others
 abbrev pub arm_room : ℕ → ℕ → Room
-arm_room slots names = record { code = plus (times 6 slots) 7; «data» = plus (times 24 names) 24 }
+arm_room slots names = record { code = plus (times (cost_words cost.Result) slots) (cost_words cost.Jump); «data» = plus (times 24 names) 24 }
 
 abbrev pub arm_step : WArm-F Room Room → Room
 arm_step arm = both (arm_room (length arm.slots.items) (length arm.names.items)) (all_of arm.body.items)
@@ -105,8 +118,8 @@ constant_bytes _ = 8
 -- the bytes of the tables of a routine
 abbrev pub table_bytes : WRoutine → ℕ
 table_bytes r =
-    fold (λ n c. plus n (constant_bytes c)) (plus (plus 48 (times 40 (length r.uses.items))) (times 8 (length r.types.items))) r.constants.items
+    fold (λ n c. plus n (constant_bytes c)) (plus (plus 56 (times 40 (length r.uses.items))) (times 8 (length r.types.items))) r.constants.items
 
 abbrev pub routine_room : WRoutine → Room
 routine_room r =
-    both (both (all_of (map room_of r.body.items)) (code_room (plus (times 6 r.args) 23))) (data_room (table_bytes r))
+    both (both (both (both (all_of (map room_of r.body.items)) (code_room (times (cost_words cost.Argument) r.args))) (costs cost.Enter)) (costs cost.Leave)) (data_room (table_bytes r))

@@ -1,8 +1,10 @@
 //! Expressions of word code.
 
 use crate::hole::HoleKind;
+use crate::trap::Trap;
 
-/// An expression whose value is one word. Its evaluation changes nothing.
+/// An expression whose value is one word. Its evaluation changes nothing, but it may raise an exception where it stands.
+/// Operands are evaluated from left to right.
 #[derive(Debug, Drop)]
 pub enum WExpr {
     /// The word in a slot of the routine.
@@ -13,8 +15,18 @@ pub enum WExpr {
     Hole(HoleKind, u32),
     /// The word so many bytes after an address. Both are multiples of 8.
     Load(Box<WExpr>, u32),
+    /// The byte at an address.
+    Byte(Box<WExpr>),
     /// An operation on two words.
     Binary(WOp, Box<WExpr>, Box<WExpr>),
+    /// The second where the first isn't 0, else the third. The other one isn't evaluated.
+    If(Box<WExpr>, Box<WExpr>, Box<WExpr>),
+    /// The last one; where the first is 0 the exception is raised before that is evaluated.
+    Check(Box<WExpr>, Trap, Box<WExpr>),
+    /// The last one, in which the words of the others are bound. Of them it sees these alone.
+    With(Vec<WExpr>, Box<WExpr>),
+    /// The word of this number, from 0, among those that the innermost With binds.
+    Bound(u32),
 }
 
 /// The operations on two words: those of RV64IM between registers (RISC-V unprivileged specification,

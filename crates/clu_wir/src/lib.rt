@@ -2,6 +2,8 @@
 //! It knows neither the source nor the stack.
 #![tactic(auto)]
 
+mod copy;
+mod cost;
 mod expression;
 mod hole;
 mod primitive;
@@ -9,12 +11,15 @@ mod region;
 mod room;
 mod routine;
 mod statement;
+mod trap;
 mod width;
 
+pub use crate::cost::Cost;
 pub use crate::expression::{WExpr, WOp};
 pub use crate::hole::HoleKind;
 pub use crate::primitive::Primitive;
 pub use crate::region::{Arm, RegionBuilder, RegionError};
 pub use crate::room::Room;
-pub use crate::routine::WRoutine;
+pub use crate::routine::{WCode, WDeed, WLeaf, WRoutine};
 pub use crate::statement::{WArm, WStmt};
+pub use crate::trap::{TRAPS, Trap};

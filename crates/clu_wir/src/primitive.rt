@@ -1,4 +1,4 @@
-//! What no word code can say: taking store, input and output, and single bytes.
+//! What no word code can say: taking store, input and output, and saving single bytes.
 
 ghost use Rattle.std.specs.Prelude.{◌≡◌, slice_get};
 ghost use Rattle.clu_wir.specs.Numbers.{primitive_number, primitives};
@@ -15,19 +15,16 @@ pub enum Primitive {
     TakeByte,
     /// The next byte of the input, which stays, or -1 at its end.
     PeekByte,
-    /// The byte at an address.
-    LoadByte,
     /// An address and a byte, which is put there. No result.
     SaveByte,
 }
 
 /// All primitives, each at its number.
-const PRIMITIVES: [Primitive; 6] = [
+const PRIMITIVES: [Primitive; 5] = [
     Primitive::Allocate,
     Primitive::Write,
     Primitive::TakeByte,
     Primitive::PeekByte,
-    Primitive::LoadByte,
     Primitive::SaveByte,
 ];
 

@@ -2,8 +2,10 @@
 //! size, and what the tables take that go with them.
 
 ghost use Rattle.std.specs.Prelude.{◌≡◌, length, map};
-ghost use Rattle.clu_wir.specs.Rooms.{all_of, arm_room, arm_room_of, both, call_room, code_room, constant_bytes, data_room, operand_with, operand_words, operands_room, plus, room_of, routine_room, row_room, table_bytes, times as times_of, words_of};
+ghost use Rattle.clu_wir.specs.Costs.{known_words};
+ghost use Rattle.clu_wir.specs.Rooms.{all_of, all_words_of, arm_room, arm_room_of, both, call_room, code_room, constant_bytes, costs as costs_of, data_room, exception_room, room_of, results_room, routine_room, row_room, table_bytes, times as times_of, two_room, words_of};
 
+use crate::cost::Cost;
 use crate::expression::WExpr;
 use crate::routine::WRoutine;
 use crate::statement::{WArm, WStmt};
@@ -18,21 +20,8 @@ pub struct Room {
     pub data: u64,
 }
 
-/// The words that a value takes on its way from one slot to another.
-const MOVE: u64 = 6;
-
-/// The words that a value takes on its way from an address to a slot.
-const LOAD: u64 = 9;
-
-/// The words of a call after its arguments, and of the step that takes the two words that come.
-const CALL: u64 = 10;
-
-const TAKE: u64 = 6;
-
-/// The words of a test that a variable names an object, and of a binding to type any.
-const NEED: u64 = 7;
-
-const BIND: u64 = 12;
+/// The words of a constant, as the name of an exception is.
+const NAME: u64 = 4;
 
 /// The bytes of an arm: a row.
 const ARM: u64 = 24;
@@ -40,7 +29,7 @@ const ARM: u64 = 24;
 /// The jump over the arms of a guard, and its region: two cuts and a row.
 const GUARD: Room = Room { code: 1, data: 56 };
 
-/// The jump over the step that signals on, that step, and its region: two cuts and a row.
+/// The jump over the step that passes on, that step, and its region: two cuts and a row.
 const RESIGNAL: Room = Room { code: 7, data: 56 };
 
 /// The bytes of a use: two cells and a descriptor.
@@ -48,8 +37,8 @@ const USE: u64 = 40;
 
 const CELL: u64 = 8;
 
-/// The bytes of the routine's descriptor, and of a regions table without a region.
-const OWN: u64 = 48;
+/// The bytes of the routine's descriptor, of the first cell of its link table, and of a regions table without a region.
+const OWN: u64 = 56;
 
 impl Room {
     const NONE: Room = Room { code: 0, data: 0 };
@@ -72,37 +61,53 @@ impl Room {
 }
 
 impl WExpr {
-    /// The words that the steps of its evaluation take at most.
-    fn words(&self) -> u64
+    /// The words of code that its evaluation into a register takes at most.
+    #[cycle(words)]
+    pub fn words(&self) -> u64
         ensures { result ≡ words_of self.now }
     {
         match self {
-            WExpr::Slot(_) => MOVE,
-            WExpr::Word(_) => 9,
-            WExpr::Hole(_, _) => 7,
-            WExpr::Load(address, _) => operand(address, address.words()).saturating_add(LOAD),
-            WExpr::Binary(_, left, right) => operand(left, left.words())
-                .saturating_add(operand(right, right.words()))
-                .saturating_add(11),
+            WExpr::Bound(_) => 1,
+            WExpr::Slot(_) => 3,
+            WExpr::Hole(_, _) => 4,
+            WExpr::Word(word) => known(*word),
+            WExpr::Load(address, _) => address.words().saturating_add(3),
+            WExpr::Byte(address) => address.words().saturating_add(1),
+            WExpr::Binary(_, left, right) => left
+                .words()
+                .saturating_add(right.words())
+                .saturating_add(2),
+            WExpr::If(condition, then, other) => condition
+                .words()
+                .saturating_add(then.words())
+                .saturating_add(other.words())
+                .saturating_add(5),
+            WExpr::Check(condition, _, value) => condition
+                .words()
+                .saturating_add(value.words())
+                .saturating_add(5),
+            WExpr::With(values, body) => all_words(values.as_slice()).saturating_add(body.words()),
         }
-    }
-
-    /// The words that it takes at most as an operand. A slot takes none: it is used where it stands.
-    fn operand_words(&self) -> u64
-        ensures { result ≡ operand_words self.now }
-    {
-        operand(self, self.words())
     }
 }
 
-/// The words of an operand whose evaluation takes so many.
-fn operand(expression: &WExpr, words: u64) -> u64
-    ensures { result ≡ operand_with expression.now words }
+/// The words of a known word: one that an immediate holds takes one.
+fn known(word: u64) -> u64
+    ensures { result ≡ known_words word }
 {
-    match expression {
-        WExpr::Slot(_) => 0,
-        _ => words,
+    if word.wrapping_add(2048) < 4096 { 1 } else { 6 }
+}
+
+/// The words of the evaluation of values, each of which stays in its register.
+#[cycle(words)]
+fn all_words(values: &[WExpr]) -> u64
+    ensures { result ≡ all_words_of (map words_of values.now) }
+{
+    let mut code = 0u64;
+    for value in values {
+        code = code.saturating_add(value.words());
     }
+    code
 }
 
 impl WRoutine {
@@ -110,9 +115,11 @@ impl WRoutine {
     pub fn room(&self) -> Room
         ensures { result ≡ routine_room self.now }
     {
-        let enter = MOVE.saturating_mul(u64::from(self.args));
+        let arguments = Cost::Argument.words().saturating_mul(u64::from(self.args));
         list(self.body.as_slice())
-            .and(Room::words(enter.saturating_add(23)))
+            .and(Room::words(arguments))
+            .and(Room::words(Cost::Enter.words()))
+            .and(Room::words(Cost::Leave.words()))
             .and(self.tables())
     }
 
@@ -147,14 +154,12 @@ fn times(each: u64, count: usize) -> u64
     each.saturating_mul(count as u64)
 }
 
+/// Values that go into slots side by side.
 fn row(values: &[WExpr]) -> Room
     ensures { result ≡ row_room values.now }
 {
-    let mut code = 0u64;
-    for value in values {
-        code = code.saturating_add(value.words());
-    }
-    Room::words(code)
+    let moves = times(Cost::Save.words(), values.len());
+    Room::words(all_words(values)).and(Room::words(moves))
 }
 
 #[cycle(rooms)]
@@ -185,7 +190,7 @@ fn before_arm(slots: usize, names: usize) -> Room
     ensures { result ≡ arm_room slots names }
 {
     Room {
-        code: times(MOVE, slots).saturating_add(TAKE + 1),
+        code: times(Cost::Result.words(), slots).saturating_add(Cost::Jump.words()),
         data: times(ARM, names).saturating_add(ARM),
     }
 }
@@ -205,65 +210,77 @@ fn statement(statement: &WStmt) -> Room
     ensures { result ≡ room_of statement.now }
 {
     match statement {
-        WStmt::Set(_, value) => Room::words(value.words()),
-        WStmt::Put(address, _, value) => operands(address, value, 9),
+        WStmt::Set(_, value) => Room::words(value.words()).and(costs(Cost::Save)),
+        WStmt::Put(address, _, value) => two(address, value, Cost::Save),
         WStmt::Call(routine, values, results) => {
-            call(routine, values.as_slice()).and(Room::words(times(MOVE, results.len())))
+            call(routine, values.as_slice()).and(results_of(results.len()))
         }
-        WStmt::Prim(_, values, results) => {
-            values_and(values.as_slice(), moves_and(results.len(), 13))
-        }
-        WStmt::Bind(number, value, _) => operands(number, value, BIND),
-        WStmt::Need(value) => Room::words(value.operand_words()).and(Room::words(NEED)),
-        WStmt::If(condition, then, other) => Room::words(condition.operand_words())
-            .and(Room::words(6))
+        WStmt::Prim(_, values, results) => row(values.as_slice())
+            .and(costs(Cost::Primitive))
+            .and(results_of(results.len())),
+        WStmt::Bind(number, value, _) => two(number, value, Cost::Bind),
+        WStmt::If(condition, then, other) => Room::words(condition.words())
+            .and(costs(Cost::Branch))
+            .and(costs(Cost::Jump))
             .and(list(then.as_slice()))
             .and(list(other.as_slice())),
-        WStmt::Loop(body) => Room::words(1).and(list(body.as_slice())),
-        WStmt::Break => Room::words(4),
-        WStmt::Continue => Room::words(1),
+        WStmt::Loop(body) => costs(Cost::Jump).and(list(body.as_slice())),
+        WStmt::Break => costs(Cost::Cut).and(costs(Cost::Jump)),
+        WStmt::Continue => costs(Cost::Jump),
         WStmt::Iterate(routine, values, items, body) => call(routine, values.as_slice())
-            .and(Room::words(times(MOVE, items.len()).saturating_add(TAKE + 9)))
+            .and(results_of(items.len()))
+            .and(costs(Cost::Jump))
+            .and(costs(Cost::Take))
+            .and(costs(Cost::Resume))
             .and(list(body.as_slice())),
-        WStmt::Yield(words) => values_and(words.as_slice(), 18),
-        WStmt::Raise(_, objects) => values_and(objects.as_slice(), 16),
-        WStmt::Signal(_, objects) => values_and(objects.as_slice(), 19),
-        WStmt::Exit(_, _, words) => values_and(words.as_slice(), moves_and(words.len(), 4)),
+        WStmt::Yield(words) => row(words.as_slice()).and(costs(Cost::Yield)),
+        WStmt::Raise(_, objects) => exception(objects.as_slice()).and(costs(Cost::Raise)),
+        WStmt::Signal(_, objects) => exception(objects.as_slice()).and(costs(Cost::Signal)),
+        WStmt::Exit(_, _, words) => row(words.as_slice())
+            .and(results_of(words.len()))
+            .and(costs(Cost::Cut))
+            .and(costs(Cost::Jump)),
         WStmt::Guard(body, handlers) => GUARD
             .and(list(body.as_slice()))
             .and(arms(handlers.as_slice())),
         WStmt::Resignal(body, names) => RESIGNAL.and(list(body.as_slice())).and(rows(names.len())),
-        WStmt::Return(results) => values_and(results.as_slice(), 8),
+        WStmt::Return(results) => row(results.as_slice()).and(costs(Cost::Leave)),
     }
 }
 
-/// Two operands, and so many words after them.
-fn operands(first: &WExpr, second: &WExpr, code: u64) -> Room
-    ensures { result ≡ operands_room first.now second.now code }
+fn costs(cost: Cost) -> Room
+    ensures { result ≡ costs_of cost }
 {
-    Room::words(first.operand_words())
-        .and(Room::words(second.operand_words()))
-        .and(Room::words(code))
+    Room::words(cost.words())
 }
 
-/// Values side by side, and so many words after them.
-fn values_and(values: &[WExpr], code: u64) -> Room
-    ensures { result ≡ both (row_room values.now) (code_room code) }
+/// Two expressions, and a step over their words.
+fn two(first: &WExpr, second: &WExpr, cost: Cost) -> Room
+    ensures { result ≡ two_room first.now second.now cost }
 {
-    row(values).and(Room::words(code))
+    Room::words(first.words())
+        .and(Room::words(second.words()))
+        .and(costs(cost))
 }
 
-/// The words of so many moves, and so many others.
-fn moves_and(moves: usize, others: u64) -> u64
-    ensures { result ≡ plus (times_of 6 moves) others }
+/// So many words that go into slots.
+fn results_of(count: usize) -> Room
+    ensures { result ≡ results_room count }
 {
-    times(MOVE, moves).saturating_add(others)
+    Room::words(times(Cost::Result.words(), count))
+}
+
+/// The name of an exception and its objects, in slots side by side.
+fn exception(objects: &[WExpr]) -> Room
+    ensures { result ≡ exception_room objects.now }
+{
+    row(objects).and(Room::words(NAME)).and(costs(Cost::Save))
 }
 
 fn call(routine: &WExpr, values: &[WExpr]) -> Room
     ensures { result ≡ call_room routine.now values.now }
 {
-    Room::words(routine.words())
-        .and(row(values))
-        .and(Room::words(CALL))
+    row(values)
+        .and(Room::words(routine.words()))
+        .and(costs(Cost::Invoke))
 }

@@ -1,5 +1,6 @@
 //! Routines in word code.
 
+use crate::expression::WExpr;
 use crate::statement::WStmt;
 use clu_base::{Bytes, ObjConst};
 
@@ -20,4 +21,30 @@ pub struct WRoutine {
     pub constants: Vec<ObjConst>,
     /// Its types, as texts; the first is its own.
     pub types: Vec<Bytes>,
+}
+
+/// A routine without a frame. The slots of its expressions are its arguments, and what it raises is raised where it was
+/// called.
+#[derive(Debug, Drop)]
+pub struct WLeaf {
+    pub name: Bytes,
+    pub deed: WDeed,
+    /// The constants that its holes name.
+    pub constants: Vec<ObjConst>,
+}
+
+/// What a routine without a frame does.
+#[derive(Debug, Drop)]
+pub enum WDeed {
+    /// Its result is the value.
+    Value(WExpr),
+    /// Puts the last word so many bytes after the address that the first one is. The word is evaluated first.
+    Put(WExpr, u32, WExpr),
+}
+
+/// The code of an operation: with a frame of its own, or without.
+#[derive(Debug, Drop)]
+pub enum WCode {
+    Leaf(WLeaf),
+    Routine(WRoutine),
 }

@@ -9,7 +9,7 @@ use clu_base::Bytes;
 pub enum WStmt {
     /// Puts a word into a slot.
     Set(u32, WExpr),
-    /// Puts the last word so many bytes after the address that the first one is.
+    /// Puts the last word so many bytes after the address that the first one is. The word is evaluated first.
     Put(WExpr, u32, WExpr),
     /// Calls the routine whose descriptor is at the address, with arguments; its results go into the slots.
     Call(WExpr, Vec<WExpr>, Vec<u32>),
@@ -18,8 +18,6 @@ pub enum WStmt {
     /// Puts into a slot an object as one of type any: of the number of its type in the program and its word the address
     /// of its own type's number and its word. Of type any itself it is the word that was given.
     Bind(WExpr, WExpr, u32),
-    /// Raises here the failure of a variable that names no object, where the word is 0.
-    Need(WExpr),
     /// The first list where the word isn't 0, else the second.
     If(WExpr, Vec<WStmt>, Vec<WStmt>),
     /// The list again and again, until a Break.

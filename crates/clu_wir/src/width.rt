@@ -1,40 +1,80 @@
-//! How many words of its frame a routine needs: its slots, and after them the words that it works with.
+//! How many words of its frame a routine needs: its slots, and after them those in which words stand side by side for a
+//! call, a primitive or a jump to another routine. Expressions are evaluated in registers.
 
-ghost use Rattle.std.specs.Prelude.{◌≡◌, ◌-◌, ◌^◌, min, map};
-ghost use Rattle.clu_wir.specs.Widths.{arm_width_of, call_of, greatest, operand_of, operand_with, pair as pair_of, placed_of, routine_width, row_of, scratch_of, width_of};
+ghost use Rattle.std.specs.Prelude.{◌≡◌, map};
+ghost use Rattle.clu_wir.specs.Widths.{arm_width_of, count_of, greatest, routine_width, slots_of, width_of};
 
 use crate::expression::WExpr;
 use crate::routine::WRoutine;
 use crate::statement::{WArm, WStmt};
 
 impl WExpr {
-    /// How many words after the slots its evaluation works with, where the value goes elsewhere.
-    pub fn scratch(&self) -> u32
-        ensures { result ≡ scratch_of self.now }
+    /// How many slots there must be for those that it names: one more than the greatest of them.
+    #[cycle(slots)]
+    pub fn slots(&self) -> u64
+        ensures { result ≡ slots_of self.now }
     {
         match self {
-            WExpr::Slot(_) | WExpr::Word(_) | WExpr::Hole(_, _) => 0,
-            WExpr::Load(address, _) => operand(address, address.scratch()),
-            WExpr::Binary(_, left, right) => pair(
-                operand(left, left.scratch()),
-                operand(right, right.scratch()),
-            ),
+            WExpr::Slot(slot) => u64::from(*slot) + 1,
+            WExpr::Word(_) | WExpr::Hole(_, _) | WExpr::Bound(_) => 0,
+            WExpr::Load(address, _) => address.slots(),
+            WExpr::Byte(address) => address.slots(),
+            WExpr::Binary(_, left, right) => left.slots().max(right.slots()),
+            WExpr::If(condition, then, other) => {
+                condition.slots().max(then.slots()).max(other.slots())
+            }
+            WExpr::Check(condition, _, value) => condition.slots().max(value.slots()),
+            WExpr::With(values, body) => all_slots(values.as_slice()).max(body.slots()),
         }
     }
+}
 
-    /// How many words it needs as an operand. A slot needs none: it is used where it stands.
-    pub fn operand(&self) -> u32
-        ensures { result ≡ operand_of self.now }
-    {
-        operand(self, self.scratch())
+impl WExpr {
+    /// How many registers its evaluation needs at most.
+    #[cycle(registers)]
+    pub fn registers(&self) -> u32 {
+        match self {
+            WExpr::Slot(_) | WExpr::Word(_) | WExpr::Hole(_, _) | WExpr::Bound(_) => 1,
+            WExpr::Load(address, _) => address.registers(),
+            WExpr::Byte(address) => address.registers(),
+            WExpr::Binary(_, left, right) => left
+                .registers()
+                .max(right.registers().saturating_add(1)),
+            WExpr::If(condition, then, other) => condition
+                .registers()
+                .max(then.registers())
+                .max(other.registers()),
+            WExpr::Check(condition, _, value) => condition.registers().max(value.registers()),
+            WExpr::With(values, body) => {
+                let bound = count(values.len());
+                all_registers(values.as_slice()).max(bound.saturating_add(body.registers()))
+            }
+        }
     }
+}
 
-    /// How many words it needs where its value goes into the first of them.
-    pub fn placed(&self) -> u32
-        ensures { result ≡ placed_of self.now }
-    {
-        self.scratch().max(1)
+/// How many registers the evaluation of values needs, each of which is kept while the next ones are evaluated.
+#[cycle(registers)]
+fn all_registers(values: &[WExpr]) -> u32 {
+    let mut needed = 0u32;
+    let mut kept = 0u32;
+    for value in values {
+        needed = needed.max(value.registers().saturating_add(kept));
+        kept = kept.saturating_add(1);
     }
+    needed
+}
+
+/// The same for all of these.
+#[cycle(slots)]
+fn all_slots(values: &[WExpr]) -> u64
+    ensures { result ≡ greatest (map slots_of values.now) }
+{
+    let mut needed = 0u64;
+    for value in values {
+        needed = needed.max(value.slots());
+    }
+    needed
 }
 
 impl WRoutine {
@@ -44,36 +84,6 @@ impl WRoutine {
     {
         self.slots.saturating_add(list(self.body.as_slice()))
     }
-}
-
-/// How many words an expression with this scratch needs as an operand.
-fn operand(expression: &WExpr, scratch: u32) -> u32
-    ensures { result ≡ operand_with expression.now scratch }
-{
-    match expression {
-        WExpr::Slot(_) => 0,
-        _ => scratch.max(1),
-    }
-}
-
-/// Two operands, of which the first is kept while the second is evaluated.
-fn pair(left: u32, right: u32) -> u32
-    ensures { result ≡ pair_of left right }
-{
-    left.max(right.saturating_add(left.min(1)))
-}
-
-/// Values that stand side by side, each evaluated after those before it.
-fn row(values: &[WExpr]) -> u32
-    ensures { result ≡ row_of values.now }
-{
-    let mut needed = 0u32;
-    let mut before = 0u32;
-    for value in values {
-        needed = needed.max(before.saturating_add(value.placed()));
-        before = before.saturating_add(1);
-    }
-    needed
 }
 
 /// A list of statements, each of which works with the same words.
@@ -104,43 +114,30 @@ fn width(statement: &WStmt) -> u32
     ensures { result ≡ width_of statement.now }
 {
     match statement {
-        WStmt::Set(_, value) => value.scratch(),
-        WStmt::Put(address, _, value) => pair(address.operand(), value.operand()),
-        WStmt::Call(routine, values, _) => call(routine, values.as_slice()),
-        WStmt::Prim(_, values, results) => row(values.as_slice()).max(count(results.len())),
-        WStmt::Bind(number, value, _) => pair(number.operand(), value.operand()),
-        WStmt::Need(value) => value.operand(),
-        WStmt::If(condition, then, other) => condition
-            .operand()
-            .max(list(then.as_slice()))
-            .max(list(other.as_slice())),
-        WStmt::Loop(body) | WStmt::Resignal(body, _) => list(body.as_slice()),
+        WStmt::Set(_, _) | WStmt::Put(_, _, _) | WStmt::Bind(_, _, _) => 0,
         WStmt::Break | WStmt::Continue => 0,
+        WStmt::Call(_, values, _) => count(values.len()),
+        WStmt::Prim(_, values, results) => count(values.len()).max(count(results.len())),
+        WStmt::If(_, then, other) => list(then.as_slice()).max(list(other.as_slice())),
+        WStmt::Loop(body) | WStmt::Resignal(body, _) => list(body.as_slice()),
         // The first word holds the top of the stack round the body.
-        WStmt::Iterate(routine, values, _, body) => call(routine, values.as_slice())
+        WStmt::Iterate(_, values, _, body) => count(values.len())
             .max(list(body.as_slice()))
             .saturating_add(1),
+        // The first word holds the name.
         WStmt::Raise(_, objects) | WStmt::Signal(_, objects) => {
-            row(objects.as_slice()).saturating_add(1)
+            count(objects.len()).saturating_add(1)
         }
         WStmt::Exit(_, _, values) | WStmt::Yield(values) | WStmt::Return(values) => {
-            row(values.as_slice())
+            count(values.len())
         }
-        // An arm begins with the name and the address of the objects.
-        WStmt::Guard(body, handlers) => list(body.as_slice()).max(arms(handlers.as_slice())).max(2),
+        WStmt::Guard(body, handlers) => list(body.as_slice()).max(arms(handlers.as_slice())),
     }
-}
-
-/// The routine's descriptor and the arguments after it.
-fn call(routine: &WExpr, values: &[WExpr]) -> u32
-    ensures { result ≡ call_of routine.now values.now }
-{
-    routine.placed().max(row(values).saturating_add(1))
 }
 
 /// A number of items in 32 bits.
 fn count(items: usize) -> u32
-    ensures { result ≡ min items (2 ^ 32 - 1) }
+    ensures { result ≡ count_of items }
 {
     match u32::try_from(items) {
         Ok(number) => number,

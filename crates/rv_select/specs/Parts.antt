@@ -8,4 +8,4 @@ abbrev pub part_number : Part → ℕ
 part_number part.Start = 0
 part_number part.Search = 1
 part_number part.Bind = 2
-part_number part.Unnamed = 3
+part_number part.Trap = 3

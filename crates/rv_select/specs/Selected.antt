@@ -1,5 +1,6 @@
 -- What a routine of flat code hands on to its object, and what the parts of the runtime are.
 use Rattle.std.specs.Prelude.{◌≡◌, ◌≤◌, ℕ, List, [], length, IsTrue}
+use Rattle.clu_wir.specs.declared.routine.WLeaf.{WLeaf}
 use Rattle.clu_frames.specs.Steps.{code_words}
 use Rattle.clu_frames.specs.declared.flat.FlatRoutine.{FlatRoutine}
 use Rattle.clu_object.specs.Holes.{has_holes}
@@ -27,6 +28,17 @@ pub record IsPart (name : List ℕ) (object : ObjRoutine) : Type 0 where
   pub nodes : object.nodes ≡ 0
   pub uses : object.uses ≡ []
   pub constants : object.constants ≡ []
+  pub types : object.types ≡ []
+  pub regions : object.regions ≡ []
+  pub instructions : AreInstructions object.code
+  pub holes : IsTrue (has_holes object)
+
+-- a routine without a frame has its name and constants, and the words of instructions with holes, and nothing else
+pub record IsLeaf (leaf : WLeaf) (object : ObjRoutine) : Type 0 where
+  pub named : object.name ≡ leaf.name
+  pub nodes : object.nodes ≡ 0
+  pub uses : object.uses ≡ []
+  pub constants : object.constants ≡ leaf.constants.items
   pub types : object.types ≡ []
   pub regions : object.regions ≡ []
   pub instructions : AreInstructions object.code

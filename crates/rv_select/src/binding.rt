@@ -8,19 +8,21 @@ ghost use Rattle.rv_select.specs.Selected.{IsPart};
 
 use crate::calls::STORE_FULL;
 use crate::error::SelectError;
+use crate::evaluating::value;
+use crate::operand::Scope;
 use crate::parts::{Part, make_part};
 use crate::register::Register::{
     A2, First, Second, Store, StoreEnd, T3, Value, Words as Travelling, Zero,
 };
-use crate::slots::{load_slot, save_slot};
+use crate::slots::save_slot;
 use crate::words::Words;
 use clu_object::ObjRoutine;
-use clu_wir::HoleKind;
+use clu_wir::{HoleKind, WExpr};
 use rv_isa::Op;
 use std::alloc::Global;
 
 /// The labels of the part.
-#[derive(Clone, Copy, Debug)]
+#[derive(Clone, Copy)]
 enum Goal {
     Bound,
     Known,
@@ -32,11 +34,18 @@ const GOALS: usize = 2;
 /// The bytes of an object of type any.
 const PAIR: i32 = 16;
 
-/// Gives the part the number of the static type and the word, which are in slots, and puts the word that it answers into
-/// a third.
-pub(crate) fn bind(words: &mut Words, number: u32, value: u32, to: u32) -> Result<(), SelectError> {
-    load_slot(words, Value, number)?;
-    load_slot(words, Travelling, value)?;
+/// Gives the part the number of the static type and the word, and puts the word that it answers into a slot.
+pub(crate) fn bind(
+    words: &mut Words,
+    number: &WExpr,
+    word: &WExpr,
+    to: u32,
+    scope: Scope,
+) -> Result<(), SelectError> {
+    let number = value(words, number, scope)?;
+    let word = value(words, word, scope.keeping(number))?;
+    number.put(words, Value)?;
+    word.put(words, Travelling)?;
     words.hole(First, HoleKind::Runtime, Part::Bind.number())?;
     words.jalr(Second, First, 0)?;
     save_slot(words, Value, to)
@@ -69,8 +78,7 @@ fn own_type(words: &mut Words) -> Result<(), SelectError> {
 fn pair(words: &mut Words) -> Result<(), SelectError> {
     words.addi(T3, Zero, PAIR)?;
     words.three(Op::Sub, A2, StoreEnd, Store)?;
-    words.skip(Op::Bgeu, A2, T3, 2)?;
-    words.service(STORE_FULL)?;
+    words.service_unless(Op::Bgeu, A2, T3, STORE_FULL)?;
     words.sd(Value, Store, 0)?;
     words.sd(Travelling, Store, 8)?;
     words.copy(Value, Store)?;

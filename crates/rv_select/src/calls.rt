@@ -1,16 +1,20 @@
 //! Calls: frames are made by the routine that is called, and taken away by it.
 //!
-//! A frame is, from its place up: the return address, the place of the caller's frame, the caller's link table, the
-//! regions table of the routine, the top of the stack outside all loops, and the slots. A descriptor is the entry, the
-//! number of the routine's type, and the link table.
+//! A frame is, from its place up: the return address, the place of the caller's frame, the caller's link table, the top
+//! of the stack outside all loops, and the slots. A descriptor is the entry, the number of the routine's type, and the
+//! link table, whose first cell is the address of the routine's regions table.
 
 use crate::error::SelectError;
+use crate::evaluating::value;
+use crate::operand::Scope;
 use crate::register::Register::{
     Back, Caller, First, Frame, Second, StackEnd, Table, Top, Value, Words as Travelling, Zero,
 };
-use crate::slots::{address_at, load_at, load_slot, save_slot, slot_address, slot_distance};
+use crate::slots::{
+    address_at, load_at, load_slot, save_slot, slot_address, slot_distance, word_distance,
+};
 use crate::words::Words;
-use clu_wir::HoleKind;
+use clu_wir::WExpr;
 use rv_isa::Op;
 
 /// The environment's calls that end a run whose store or stack is full.
@@ -20,8 +24,7 @@ pub(crate) const STACK_FULL: i32 = 3;
 
 /// Ends the run where the new top of the stack in `Second` is beyond its end.
 pub(crate) fn test_room(words: &mut Words) -> Result<(), SelectError> {
-    words.skip(Op::Bgeu, StackEnd, Second, 2)?;
-    words.service(STACK_FULL)
+    words.service_unless(Op::Bgeu, StackEnd, Second, STACK_FULL)
 }
 
 /// Makes a frame of so many slots and copies the arguments.
@@ -31,9 +34,7 @@ pub(crate) fn enter(words: &mut Words, arguments: u32, frame: u32) -> Result<(),
     words.sd(Back, Top, 0)?;
     words.sd(Frame, Top, 8)?;
     words.sd(Caller, Top, 16)?;
-    words.hole(First, HoleKind::Regions, 0)?;
-    words.sd(First, Top, 24)?;
-    words.sd(Second, Top, 32)?;
+    words.sd(Second, Top, 24)?;
     words.copy(Frame, Top)?;
     words.copy(Top, Second)?;
     for argument in 0..arguments {
@@ -43,31 +44,40 @@ pub(crate) fn enter(words: &mut Words, arguments: u32, frame: u32) -> Result<(),
 }
 
 fn copy_argument(words: &mut Words, argument: u32) -> Result<(), SelectError> {
-    let distance = crate::slots::word_distance(argument)?;
-    load_at(words, First, Value, distance)?;
+    load_at(words, First, Value, word_distance(argument)?)?;
     save_slot(words, First, argument)
 }
 
-/// Calls the routine whose descriptor is in the slot. The jump is the last word, so that the return address leads to
-/// the next step.
-pub(crate) fn invoke(words: &mut Words, slot: u32) -> Result<(), SelectError> {
-    load_slot(words, First, slot)?;
-    slot_address(words, Value, slot.saturating_add(1))?;
+/// Calls the routine whose descriptor's address is the word, with its arguments from the slot on. The jump is the last
+/// word, so that the return address leads to the next step.
+pub(crate) fn invoke(
+    words: &mut Words,
+    routine: &WExpr,
+    slot: u32,
+    scope: Scope,
+) -> Result<(), SelectError> {
+    let routine = value(words, routine, scope)?;
+    let descriptor = routine.register(words, scope.free()?)?;
+    slot_address(words, Value, slot)?;
     words.copy(Caller, Table)?;
-    words.ld(Table, First, 16)?;
-    words.ld(First, First, 0)?;
+    words.ld(Table, descriptor, 16)?;
+    words.ld(First, descriptor, 0)?;
     words.jalr(Back, First, 0)
 }
 
-/// Takes the word so many bytes after the address that travelled.
-pub(crate) fn result(words: &mut Words, to: u32, distance: i32) -> Result<(), SelectError> {
-    load_at(words, First, Travelling, distance)?;
+/// Takes the word of this number at the address that travelled.
+pub(crate) fn result(words: &mut Words, to: u32, number: u32) -> Result<(), SelectError> {
+    load_at(words, First, Travelling, word_distance(number)?)?;
     save_slot(words, First, to)
 }
 
-/// Goes back with the address of results.
-pub(crate) fn leave(words: &mut Words, slot: u32) -> Result<(), SelectError> {
-    slot_address(words, Travelling, slot)?;
+/// Goes back with the only result, or with the address of several.
+pub(crate) fn leave(words: &mut Words, slot: u32, count: u32) -> Result<(), SelectError> {
+    match count {
+        0 => {}
+        1 => load_slot(words, Value, slot)?,
+        _ => slot_address(words, Travelling, slot)?,
+    }
     words.ld(Back, Frame, 0)?;
     words.copy(Top, Frame)?;
     caller_frame(words)?;

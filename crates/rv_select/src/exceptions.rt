@@ -8,7 +8,6 @@ use crate::register::Register::{Back, First, Frame, Top, Value, Words as Travell
 use crate::slots::{load_at, load_slot, save_slot, slot_address, word_distance};
 use crate::words::Words;
 use clu_wir::HoleKind;
-use rv_isa::Op;
 
 /// The name is in the slot, the objects after it.
 fn exception(words: &mut Words, slot: u32) -> Result<(), SelectError> {
@@ -20,14 +19,6 @@ fn exception(words: &mut Words, slot: u32) -> Result<(), SelectError> {
 pub(crate) fn raise(words: &mut Words, slot: u32) -> Result<(), SelectError> {
     exception(words, slot)?;
     words.hole(First, HoleKind::Runtime, Part::Search.number())?;
-    words.jalr(Back, First, 0)
-}
-
-/// Raises here the failure of a variable that names no object, where the word of the slot is 0. The jump is the last word.
-pub(crate) fn need(words: &mut Words, slot: u32) -> Result<(), SelectError> {
-    load_slot(words, First, slot)?;
-    words.skip(Op::Bne, First, Zero, 3)?;
-    words.hole(First, HoleKind::Runtime, Part::Unnamed.number())?;
     words.jalr(Back, First, 0)
 }
 
@@ -45,10 +36,9 @@ pub(crate) fn pass(words: &mut Words) -> Result<(), SelectError> {
     words.jalr(Zero, First, 0)
 }
 
-/// Takes the two words that travelled.
-pub(crate) fn take(words: &mut Words, value: u32, address: u32) -> Result<(), SelectError> {
-    save_slot(words, Value, value)?;
-    save_slot(words, Travelling, address)
+/// Takes the value that travelled.
+pub(crate) fn take(words: &mut Words, to: u32) -> Result<(), SelectError> {
+    save_slot(words, Value, to)
 }
 
 /// Cuts the stack to the top in this word of the frame.

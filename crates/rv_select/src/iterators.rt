@@ -9,7 +9,6 @@ use crate::register::Register::{
 };
 use crate::slots::{load_slot, slot_address};
 use crate::words::Words;
-use rv_isa::Op;
 
 /// The bytes of a record.
 const RECORD: i32 = 24;
@@ -17,19 +16,18 @@ const RECORD: i32 = 24;
 /// The limits on the stack count 16 words for a suspended loop.
 const _: () = prove!(RECORD <= 16 * 8);
 
-/// The bytes from the AUIPC of a yield to the step after it.
-const BEHIND_YIELD: i32 = 44;
-
 /// The return address of an iterator leads to the one word that ends its loop; the loop's body is after that.
 const BODY: i32 = 4;
 
-/// Yields the words from this slot on.
-pub(crate) fn yield_words(words: &mut Words, slot: u32) -> Result<(), SelectError> {
+/// Yields so many words from this slot on.
+pub(crate) fn yield_words(words: &mut Words, slot: u32, count: u32) -> Result<(), SelectError> {
+    let resumed = words.fresh()?;
     words.addi(Second, Top, RECORD)?;
     test_room(words)?;
-    slot_address(words, Travelling, slot)?;
-    words.upper(Op::Auipc, First, 0)?;
-    words.addi(First, First, BEHIND_YIELD)?;
+    if count > 0 {
+        slot_address(words, Travelling, slot)?;
+    }
+    words.address(First, resumed)?;
     words.sd(First, Top, 0)?;
     words.sd(Frame, Top, 8)?;
     words.sd(Table, Top, 16)?;
@@ -37,7 +35,8 @@ pub(crate) fn yield_words(words: &mut Words, slot: u32) -> Result<(), SelectErro
     words.copy(Top, Second)?;
     words.ld(First, Frame, 0)?;
     caller_frame(words)?;
-    words.jalr(Zero, First, BODY)
+    words.jalr(Zero, First, BODY)?;
+    words.label(resumed)
 }
 
 /// Takes off the record below the top that is in the slot, and goes on in its iterator.

@@ -1,14 +1,21 @@
 //! Flat code to RV64IM words with holes: each step becomes instructions of its own, and nothing is kept in
-//! registers from one step to the next but what `Register` says. Beside them stand the four parts of the runtime that
-//! no flat code can say, and the layout of the tables in which one of them searches.
+//! registers from one step to the next but what `Register` says. Expressions are evaluated in registers, also those of
+//! routines that have no frame. Beside them stand the four parts of the runtime that no flat code can say, and the layout
+//! of the tables in which one of them searches.
 #![tactic(auto)]
 
 mod binding;
 mod calls;
+mod combining;
+mod conditions;
 mod error;
+mod evaluating;
 mod exceptions;
 mod iterators;
+mod knowing;
+mod leaf;
 mod number;
+mod operand;
 mod operation;
 mod parts;
 mod primitives;
@@ -23,7 +30,8 @@ mod words;
 
 pub use crate::binding::bind_part;
 pub use crate::error::SelectError;
-pub use crate::parts::{Part, start_part, unnamed_part};
+pub use crate::leaf::select_leaf;
+pub use crate::parts::{Part, start_part, trap_part};
 pub use crate::searching::search_part;
 pub use crate::selecting::select;
 pub use crate::tables::regions_table;

@@ -1,8 +1,8 @@
 //! The parts of the runtime that no flat code can say, and how a program starts.
 //!
-//! The hole of a part's regions table is the address of the runtime's own table, of four words: the addresses of the
-//! strings `failure` and `unhandled exception: `, the address of the descriptor of the procedure at which the program
-//! starts, and the address of the string `uninitialized variable`.
+//! The hole of a part's regions table is the address of the runtime's own table: the addresses of the strings `failure`
+//! and `unhandled exception: `, the address of the descriptor of the procedure at which the program starts, and for each
+//! trap two words, the address of the string of its name and the word of its object, or 0 if it has none.
 
 ghost use Rattle.std.specs.Prelude.{◌≡◌, IfOk, codes};
 ghost use Rattle.rv_select.specs.Parts.{part_number};
@@ -10,12 +10,13 @@ ghost use Rattle.rv_select.specs.Selected.{IsPart};
 
 use crate::error::SelectError;
 use crate::register::Register::{
-    Back, Caller, First, Frame, Table, Top, Value, Words as Objects, Zero,
+    Back, Caller, First, Frame, Second, Table, Top, Value, Words as Objects, Zero,
 };
 use crate::words::{Finished, Words};
 use clu_base::{Bytes, Sequence};
 use clu_object::ObjRoutine;
-use clu_wir::HoleKind;
+use clu_wir::{HoleKind, TRAPS, Trap};
+use rv_isa::Op;
 use std::alloc::Global;
 
 /// The parts, each at its number.
@@ -27,8 +28,8 @@ pub enum Part {
     Search,
     /// Where an object becomes one of type any.
     Bind,
-    /// Where the failure of a variable that names no object is raised.
-    Unnamed,
+    /// Where traps are raised.
+    Trap,
 }
 
 impl Part {
@@ -47,7 +48,13 @@ pub(crate) const UNHANDLED: i32 = 8;
 
 const START: i32 = 16;
 
-const UNINITIALIZED: i32 = 24;
+/// How many bytes the words of the first trap are from the start of the runtime's table, and those of each trap.
+const TRAP_ROWS: i32 = 24;
+
+const TRAP_ROW: i32 = 16;
+
+/// How many bytes of code the part that raises traps has for each, before all else.
+const TRAP_ENTRY: i32 = 8;
 
 /// The environment's call that ends a run as it should.
 const RETURNED: i32 = 0;
@@ -73,22 +80,47 @@ fn start(words: &mut Words) -> Result<(), SelectError> {
     words.service(RETURNED)
 }
 
-/// The part that raises the failure of a variable that names no object, with the return address after the place of the
-/// variable. The word of the runtime's table is the failure's object.
-pub fn unnamed_part(alloc: Global) -> Result<ObjRoutine, SelectError>
-    ensures { IfOk result (IsPart (codes "unnamed")) }
+/// The part that raises traps, with the return address after the place of the trap. It is entered at the two words that
+/// each trap has.
+pub fn trap_part(alloc: Global) -> Result<ObjRoutine, SelectError>
+    ensures { IfOk result (IsPart (codes "trap")) }
 {
     let mut words = Words::new(alloc, 0)?;
-    unnamed(&mut words)?;
-    make_part(alloc, b"unnamed", words)
+    traps(&mut words)?;
+    make_part(alloc, b"trap", words)
 }
 
-fn unnamed(words: &mut Words) -> Result<(), SelectError> {
-    words.hole(First, HoleKind::Regions, 0)?;
-    words.ld(Value, First, FAILURE)?;
-    words.addi(Objects, First, UNINITIALIZED)?;
+fn traps(words: &mut Words) -> Result<(), SelectError> {
+    let raise = words.fresh()?;
+    for trap in TRAPS {
+        words.addi(First, Zero, place_of(trap, TRAP_ROWS, TRAP_ROW)?)?;
+        words.go(raise)?;
+    }
+    words.label(raise)?;
+    words.hole(Second, HoleKind::Regions, 0)?;
+    words.three(Op::Add, Second, Second, First)?;
+    words.ld(Value, Second, 0)?;
+    words.addi(Objects, Second, 8)?;
     words.hole(First, HoleKind::Runtime, Part::Search.number())?;
     words.jalr(Zero, First, 0)
+}
+
+/// How many bytes the item of a trap is from where the first one is so many, each of so many bytes.
+fn place_of(trap: Trap, first: i32, each: i32) -> Result<i32, SelectError> {
+    match i32::try_from(trap.number()) {
+        Ok(number) => Ok(each.saturating_mul(number).saturating_add(first)),
+        Err(_) => Err(SelectError::NotYet),
+    }
+}
+
+/// Raises a trap here. A routine without a frame gives it to its caller, with the caller's link table.
+pub(crate) fn raise_trap(words: &mut Words, trap: Trap, is_leaf: bool) -> Result<(), SelectError> {
+    if is_leaf {
+        words.copy(Table, Caller)?;
+    }
+    words.hole(First, HoleKind::Runtime, Part::Trap.number())?;
+    let link = if is_leaf { Zero } else { Back };
+    words.jalr(link, First, place_of(trap, 0, TRAP_ENTRY)?)
 }
 
 /// The routine of a part's words. It has no nodes, and names nothing.

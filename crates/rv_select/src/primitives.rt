@@ -1,4 +1,4 @@
-//! What no other step can say: taking store, input and output, and single bytes.
+//! What no other step can say: taking store, input and output, and saving single bytes.
 
 use crate::calls::STORE_FULL;
 use crate::error::SelectError;
@@ -22,7 +22,6 @@ pub(crate) fn primitive(words: &mut Words, number: u32, slot: u32) -> Result<(),
         Some(Primitive::Write) => write(words, slot),
         Some(Primitive::TakeByte) => read(words, TAKE, slot),
         Some(Primitive::PeekByte) => read(words, PEEK, slot),
-        Some(Primitive::LoadByte) => load_byte(words, slot),
         Some(Primitive::SaveByte) => save_byte(words, slot),
         None => Err(SelectError::NotYet),
     }
@@ -33,8 +32,7 @@ fn allocate(words: &mut Words, slot: u32) -> Result<(), SelectError> {
     load_slot(words, First, slot)?;
     words.three(Op::Sub, Second, StoreEnd, Store)?;
     words.imm(Op::Srli, Second, Second, 3)?;
-    words.skip(Op::Bgeu, Second, First, 2)?;
-    words.service(STORE_FULL)?;
+    words.service_unless(Op::Bgeu, Second, First, STORE_FULL)?;
     save_slot(words, Store, slot)?;
     words.imm(Op::Slli, First, First, 3)?;
     words.three(Op::Add, Store, Store, First)
@@ -49,12 +47,6 @@ fn write(words: &mut Words, slot: u32) -> Result<(), SelectError> {
 fn read(words: &mut Words, service: i32, slot: u32) -> Result<(), SelectError> {
     words.service(service)?;
     save_slot(words, Value, slot)
-}
-
-fn load_byte(words: &mut Words, slot: u32) -> Result<(), SelectError> {
-    load_slot(words, First, slot)?;
-    words.lbu(First, First, 0)?;
-    save_slot(words, First, slot)
 }
 
 fn save_byte(words: &mut Words, slot: u32) -> Result<(), SelectError> {

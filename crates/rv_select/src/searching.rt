@@ -1,7 +1,7 @@
 //! The part of the runtime that searches for the arm of what was raised (CLU Reference Manual, section 12).
 //!
-//! It is entered with the return address after the place where the exception was raised, the place of the frame there,
-//! the name and the address of the objects. In the table of the frame's routine, whose layout `regions_table` says, it
+//! It is entered with the return address after the place where the exception was raised, the place of the frame and the
+//! link table there, the name and the address of the objects. In the table of the frame's routine, whose layout `regions_table` says, it
 //! bisects the cuts and goes outward from region to region. At an arm it cuts the stack to the arm's mark. Where no arm
 //! of the routine takes the exception it becomes failure, if it isn't failure, and the search goes on where the routine
 //! was called. Outside all routines the run ends with the text of failure.
@@ -14,8 +14,8 @@ use crate::error::SelectError;
 use crate::parts::{FAILURE, UNHANDLED, make_part};
 use crate::register::Register;
 use crate::register::Register::{
-    A2, A3, A4, A5, Back, First, Frame, Second, StackEnd, Store, StoreEnd, T3, T4, T5, Top, Value,
-    Words as Objects, Zero,
+    A2, A3, A4, A5, Back, First, Frame, Second, StackEnd, Store, StoreEnd, T3, T4, T5, Table, Top,
+    Value, Words as Objects, Zero,
 };
 use crate::words::Words;
 use clu_object::ObjRoutine;
@@ -24,7 +24,7 @@ use rv_isa::Op;
 use std::alloc::Global;
 
 /// The labels of the part.
-#[derive(Clone, Copy, Debug)]
+#[derive(Clone, Copy)]
 enum Goal {
     Search,
     Bisect,
@@ -37,6 +37,7 @@ enum Goal {
     Outward,
     Leave,
     Bottom,
+    Unhandled,
     Halt,
     Text,
     Prefix,
@@ -46,7 +47,7 @@ enum Goal {
 }
 
 /// How many labels there are.
-const GOALS: usize = 17;
+const GOALS: usize = 18;
 
 /// The start of the stack region.
 const STACK: i32 = 0x2000_0000;
@@ -76,7 +77,7 @@ fn bisect(words: &mut Words) -> Result<(), SelectError> {
     words.label(Goal::Search as u32)?;
     words.go_unless(Op::Bne, Frame, Zero, Goal::Bottom as u32)?;
     words.addi(First, Back, -4)?;
-    words.ld(Second, Frame, 24)?;
+    words.ld(Second, Table, 0)?;
     words.ld(T3, Second, 0)?;
     words.addi(Second, Second, 8)?;
     words.addi(A2, Zero, 1)?;
@@ -153,9 +154,10 @@ fn outward(words: &mut Words) -> Result<(), SelectError> {
 fn bottom(words: &mut Words) -> Result<(), SelectError> {
     words.label(Goal::Bottom as u32)?;
     load_failure(words)?;
-    words.skip(Op::Bne, Value, Second, 2)?;
+    words.go_unless(Op::Beq, Value, Second, Goal::Unhandled as u32)?;
     words.ld(A2, Objects, 0)?;
     words.go(Goal::Halt as u32)?;
+    words.label(Goal::Unhandled as u32)?;
     words.upper(Op::Lui, Store, STACK)?;
     words.copy(StoreEnd, StackEnd)?;
     words.jal(T5, Goal::Text as u32)?;
@@ -193,8 +195,7 @@ fn take_store(words: &mut Words) -> Result<(), SelectError> {
     words.addi(A4, A3, 15)?;
     words.imm(Op::Andi, A4, A4, -8)?;
     words.three(Op::Sub, A5, StoreEnd, Store)?;
-    words.skip(Op::Bgeu, A5, A4, 2)?;
-    words.service(STORE_FULL)?;
+    words.service_unless(Op::Bgeu, A5, A4, STORE_FULL)?;
     words.copy(A2, Store)?;
     words.three(Op::Add, Store, Store, A4)
 }

@@ -16,7 +16,7 @@ use std::alloc::Global;
 
 /// The words of each step, one after the other, and the number of the word at which each begins, and after them all
 /// the number of words.
-#[derive(Debug, Drop)]
+#[derive(Drop)]
 struct Selected {
     finished: Finished,
     starts: Vec<u32>,

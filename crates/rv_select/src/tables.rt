@@ -54,7 +54,7 @@ pub fn regions_table(
 }
 
 /// The addresses of the routine's first word and of the first row of a region.
-#[derive(Clone, Copy, Debug)]
+#[derive(Clone, Copy)]
 struct Places {
     code: u64,
     rows: u64,

@@ -12,26 +12,28 @@ use rv_isa::{Instr, Op, encode};
 use std::alloc::Global;
 
 /// The words of a routine so far, with what is still to be filled in.
-#[derive(Debug, Drop)]
+#[derive(Drop)]
 pub(crate) struct Words {
     code: Vec<u32>,
     holes: Vec<Hole>,
-    /// For each label the number of the word at which it stands.
+    /// For each label the number of the word at which it stands. So many have names outside.
     labels: Vec<Option<u32>>,
-    jumps: Vec<Jump>,
+    named: usize,
+    references: Vec<Reference>,
     ghost instructions: { AreInstructions code.items },
 }
 
-/// A jump to a label whose distance is still 0.
-#[derive(Clone, Copy, Debug)]
-struct Jump {
+/// An instruction whose distance to a label is still 0.
+#[derive(Clone, Copy)]
+struct Reference {
+    /// The number of its word.
     at: u32,
-    link: Register,
     label: u32,
+    instr: Instr,
 }
 
 /// Finished words, and the holes in them.
-#[derive(Debug, Drop)]
+#[derive(Drop)]
 pub(crate) struct Finished {
     pub code: Vec<u32>,
     pub holes: Vec<Hole>,
@@ -39,13 +41,14 @@ pub(crate) struct Finished {
 }
 
 impl Words {
-    /// No words yet. Labels are the numbers below `labels`.
+    /// No words yet. Labels are the numbers below `labels`, and those that `fresh` gives.
     pub fn new(alloc: Global, labels: usize) -> Result<Words, Memory> {
         Ok(Words {
             code: Vec::new(alloc),
             holes: Vec::new(alloc),
             labels: vec![in alloc; None; labels]?,
-            jumps: Vec::new(alloc),
+            named: labels,
+            references: Vec::new(alloc),
         })
     }
 
@@ -180,26 +183,24 @@ impl Words {
         })
     }
 
-    /// Leaves out so many words that follow, where the comparison holds.
-    pub fn skip(
-        &mut self,
-        op: Op,
-        left: Register,
-        right: Register,
-        words: i32,
-    ) -> Result<(), SelectError> {
-        self.emit(Instr::Branch {
-            op,
-            rs1: left.reg(),
-            rs2: right.reg(),
-            imm: words.saturating_add(1).saturating_mul(4),
-        })
-    }
-
     /// Calls the environment.
     pub fn service(&mut self, number: i32) -> Result<(), SelectError> {
         self.addi(Register::Service, Register::Zero, number)?;
         self.emit(Instr::Ecall)
+    }
+
+    /// Calls the environment unless the comparison holds.
+    pub fn service_unless(
+        &mut self,
+        op: Op,
+        left: Register,
+        right: Register,
+        number: i32,
+    ) -> Result<(), SelectError> {
+        let over = self.fresh()?;
+        self.branch(op, left, right, over)?;
+        self.service(number)?;
+        self.label(over)
     }
 
     /// A number that the linker gives to a register.
@@ -226,19 +227,66 @@ impl Words {
         }
     }
 
+    /// A label, if it is one that has a name outside.
+    pub fn named(&self, label: u32) -> Result<u32, SelectError> {
+        if (label as usize) < self.named {
+            Ok(label)
+        } else {
+            Err(SelectError::NotYet)
+        }
+    }
+
+    /// A label that stands nowhere yet.
+    pub fn fresh(&mut self) -> Result<u32, SelectError> {
+        match u32::try_from(self.labels.len()) {
+            Ok(number) => {
+                self.labels.push(None)?;
+                Ok(number)
+            }
+            Err(_) => Err(SelectError::NotYet),
+        }
+    }
+
+    /// An instruction that names a label.
+    fn refer(&mut self, instr: Instr, label: u32) -> Result<(), SelectError> {
+        self.note(&instr, label)?;
+        self.emit(instr)
+    }
+
+    /// The next word names a label.
+    fn note(&mut self, instr: &Instr, label: u32) -> Result<(), SelectError> {
+        let at = self.here()?;
+        let instr = *instr;
+        self.references.push(Reference { at, label, instr })?;
+        Ok(())
+    }
+
     /// Jumps to a label; `link` gets the address of the next word.
     pub fn jal(&mut self, link: Register, label: u32) -> Result<(), SelectError> {
-        let at = self.here()?;
-        self.jumps.push(Jump { at, link, label })?;
-        self.emit(Instr::Jal {
-            rd: link.reg(),
-            imm: 0,
-        })
+        let rd = link.reg();
+        self.refer(Instr::Jal { rd, imm: 0 }, label)
     }
 
     /// Goes on at a label.
     pub fn go(&mut self, label: u32) -> Result<(), SelectError> {
         self.jal(Register::Zero, label)
+    }
+
+    /// Goes on at a label that is at most 1,023 words away, where the comparison holds.
+    pub fn branch(
+        &mut self,
+        op: Op,
+        left: Register,
+        right: Register,
+        label: u32,
+    ) -> Result<(), SelectError> {
+        let instr = Instr::Branch {
+            op,
+            rs1: left.reg(),
+            rs2: right.reg(),
+            imm: 0,
+        };
+        self.refer(instr, label)
     }
 
     /// Goes on at a label unless the comparison holds. It is a branch over a jump, which reaches farther.
@@ -249,27 +297,42 @@ impl Words {
         right: Register,
         label: u32,
     ) -> Result<(), SelectError> {
-        self.skip(op, left, right, 1)?;
-        self.go(label)
+        let over = self.fresh()?;
+        self.branch(op, left, right, over)?;
+        self.go(label)?;
+        self.label(over)
     }
 
-    /// The words, each jump with its distance.
+    /// The address of a label that is at most 511 words away.
+    pub fn address(&mut self, to: Register, label: u32) -> Result<(), SelectError> {
+        self.upper(Op::Auipc, to, 0)?;
+        let instr = Instr::Imm {
+            op: Op::Addi,
+            rd: to.reg(),
+            rs1: to.reg(),
+            imm: 0,
+        };
+        self.refer(instr, label)
+    }
+
+    /// The words, each with its distance to the label that it names.
     pub fn finish(self) -> Result<Finished, SelectError> {
         let Words {
             mut code,
             holes,
             labels,
-            jumps,
+            references,
+            named: _,
         } = self;
-        for jump in jumps.as_slice() {
-            jump.land(code.as_mut_slice(), labels.as_slice())?;
+        for reference in references.as_slice() {
+            reference.land(code.as_mut_slice(), labels.as_slice())?;
         }
         Ok(Finished { code, holes })
     }
 }
 
-impl Jump {
-    /// Gives the jump its distance.
+impl Reference {
+    /// Gives the instruction its distance.
     fn land(&self, code: &mut [u32], labels: &[Option<u32>]) -> Result<(), SelectError>
         requires { AreInstructions code.old }
         ensures { AreInstructions code.new }
@@ -277,8 +340,9 @@ impl Jump {
         let Some(Some(place)) = labels.get(self.label as usize) else {
             return Err(SelectError::NotYet);
         };
-        let jump = jump_word(self.link, self.at, *place)?;
-        replace(code, self.at as usize, jump)
+        let bytes = distance(self.at, *place)?;
+        let word = word_of(with_distance(self.instr, bytes))?;
+        replace(code, self.at as usize, word)
     }
 }
 
@@ -295,16 +359,31 @@ fn replace(code: &mut [u32], at: usize, word: u32) -> Result<(), SelectError>
     Ok(())
 }
 
-/// The jump from one word to another.
-fn jump_word(link: Register, from: u32, to: u32) -> Result<u32, SelectError>
-    ensures { IfOk result IsInstruction }
-{
+/// How many bytes it is from one word to another.
+fn distance(from: u32, to: u32) -> Result<i32, SelectError> {
     match i32::try_from((i64::from(to) - i64::from(from)) * 4) {
-        Ok(imm) => word_of(Instr::Jal {
-            rd: link.reg(),
-            imm,
-        }),
+        Ok(bytes) => Ok(bytes),
         Err(_) => Err(SelectError::NotYet),
+    }
+}
+
+/// A jump, a branch, or an ADDI after its AUIPC, with a distance from its own word.
+fn with_distance(instr: Instr, bytes: i32) -> Instr {
+    match instr {
+        Instr::Jal { rd, .. } => Instr::Jal { rd, imm: bytes },
+        Instr::Branch { op, rs1, rs2, .. } => Instr::Branch {
+            op,
+            rs1,
+            rs2,
+            imm: bytes,
+        },
+        Instr::Imm { op, rd, rs1, .. } => Instr::Imm {
+            op,
+            rd,
+            rs1,
+            imm: bytes.saturating_add(4),
+        },
+        other => other,
     }
 }
 

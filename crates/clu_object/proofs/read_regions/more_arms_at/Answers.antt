@@ -1,0 +1,18 @@
+use Rattle.std.proofs.lemmas.Result.{err_from_is_err_and}
+use Rattle.clu_format.proofs.Counting.{turn_on, turn_fails, all_made}
+use Rattle.clu_object.specs.ObjectReading.{arm_read}
+use Rattle.clu_object.proofs.read_regions.more_arms_at.Goals as goal
+
+pub loop-preserved : goal.loop-preserved
+loop-preserved c =
+    rw c.in_ok-push.ensures.items
+    (turn_on (λ made. arm_read c.args.words) c.args.count c.loop.counter c.loop.arms.items c.in_ok-arm.arm c.loop.rest.now c.in_ok-arm.after.now _ c.loop-test.true c.in_ok-arm.ensures c.loop.invariant)
+
+pub returns-in_err-arm : goal.returns-in_err-arm
+returns-in_err-arm c =
+    let p = err_from_is_err_and c.from_residual.result c.from_residual.ensures.1 in
+    rw (p.1, p.2)
+    (turn_fails (λ made. arm_read c.args.words) c.in_err-arm.field-0.0 c.args.count c.loop.counter c.loop.arms.items c.loop.rest.now _ c.loop-test.true c.in_err-arm.ensures c.loop.invariant)
+
+pub returns : goal.returns
+returns c = rw c.from_vec.ensures (all_made (λ made. arm_read c.args.words) c.args.count c.loop.counter c.loop.arms.items c.loop.rest.now _ c.loop-test.false c.loop.invariant)
