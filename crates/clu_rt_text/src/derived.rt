@@ -2,6 +2,7 @@
 //! stands here as word code; these are uses of the routine all the same.
 
 ghost use Rattle.std.specs.Prelude.{◌≡◌, IfSome};
+ghost use Rattle.clu_rt_text.specs.Texts.{int_counts, names_and_counts, string_counts};
 
 use crate::code::{Derived, Expr, Step, X, Y, Z};
 use clu_wir::WOp;
@@ -68,7 +69,13 @@ const CHARS: &[Step] = &[
 pub fn derived_of_int(name: &[u8]) -> Option<&'static Derived>
     ensures { IfSome result (λ derived. derived.now.name.now ≡ name.now) }
 {
-    derived_named(INT, name)
+    derived_named(texts_of_int(), name)
+}
+
+fn texts_of_int() -> &'static [Derived]
+    ensures { names_and_counts result.now ≡ int_counts }
+{
+    INT
 }
 
 const INT: &[Derived] = &[
@@ -94,7 +101,13 @@ const INT: &[Derived] = &[
 pub fn derived_of_string(name: &[u8]) -> Option<&'static Derived>
     ensures { IfSome result (λ derived. derived.now.name.now ≡ name.now) }
 {
-    derived_named(STRING, name)
+    derived_named(texts_of_string(), name)
+}
+
+fn texts_of_string() -> &'static [Derived]
+    ensures { names_and_counts result.now ≡ string_counts }
+{
+    STRING
 }
 
 const STRING: &[Derived] = &[Derived {
