@@ -6,7 +6,7 @@ ghost use Rattle.clu_lower_expr.specs.Bounds.{IsBounded};
 
 use crate::Result;
 use crate::declaring::formals;
-use crate::given::{give_cluster, give_member, own_actuals};
+use crate::given::{Member, give_cluster, give_member, own_actuals};
 use crate::headings::note_heading;
 use crate::nodes::children_of;
 use crate::own_type::note_types;
@@ -27,10 +27,10 @@ const SET_UP: &[u8] = b"own";
 
 /// A cluster in the making.
 #[derive(Clone, Copy)]
-pub struct Cluster<'a> {
-    pub module: &'a Node,
-    pub node: &'a Node,
-    pub spec: &'a Spec,
+struct Cluster<'a> {
+    module: &'a Node,
+    node: &'a Node,
+    spec: &'a Spec,
     /// The type that its `rep` denotes.
     rep: Option<TypeId>,
     owns: &'a [u32],
@@ -139,7 +139,13 @@ impl Cluster<'_> {
 
     /// Adds all that stands in a routine; the answer is how many arguments it takes.
     fn fill(&self, out: &mut Lowering, c: &Checked, node: &Node) -> Result<u32> {
-        give_member(out, c, self, node)?;
+        let member = Member {
+            module: self.module,
+            cluster: self.node,
+            routine: node,
+            spec: self.spec,
+        };
+        give_member(out, c, member)?;
         self.begin(out, c)?;
         note_types(out, self.seen(out.alloc, c, node)?, !is_procedure(node))?;
         let args = formals(out, c, node)?;

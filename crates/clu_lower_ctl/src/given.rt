@@ -1,7 +1,6 @@
 //! What the where clauses round the body of a routine give of type parameters (CLU Reference Manual, section 12.4).
 
 use crate::Result;
-use crate::clusters::Cluster;
 use crate::nodes::child_of;
 use clu_base::Bytes;
 use clu_core::Checked;
@@ -11,14 +10,6 @@ use clu_tree::{Node, NodeKind};
 use clu_types::{Actual, Demand, Form, OpSpec, ParamKind, Spec, Term, TypeArena};
 use std::alloc::Global;
 
-/// Adds what the where clause of a module gives that is a routine.
-pub fn give_routine(out: &mut Lowering, spec: &Spec) -> Result<()> {
-    match &spec.form {
-        Form::Routine(op) => give_demands(out, spec, op.demands.as_slice()),
-        Form::Cluster(_, _) => Err(LowerError::NotYet),
-    }
-}
-
 /// Adds what the where clause of a cluster gives.
 pub fn give_cluster(out: &mut Lowering, spec: &Spec) -> Result<()> {
     match &spec.form {
@@ -27,23 +18,29 @@ pub fn give_cluster(out: &mut Lowering, spec: &Spec) -> Result<()> {
     }
 }
 
-fn give_demands(out: &mut Lowering, spec: &Spec, demands: &[Demand]) -> Result<()> {
+/// Adds what a where clause gives, by the specification in which it stands.
+pub fn give_demands(out: &mut Lowering, spec: &Spec, demands: &[Demand]) -> Result<()> {
     out.body.give(out.alloc, &spec.types, demands, &[])
+}
+
+/// A routine of a cluster, and the nodes round it.
+#[derive(Clone, Copy)]
+pub struct Member<'a> {
+    pub module: &'a Node,
+    pub cluster: &'a Node,
+    pub routine: &'a Node,
+    /// The specification of the cluster.
+    pub spec: &'a Spec,
 }
 
 /// Adds what the where clause of a routine of a cluster gives. One that is exported has it in the specification; of any
 /// other its text is read.
-pub fn give_member(
-    out: &mut Lowering,
-    c: &Checked,
-    cluster: &Cluster<'_>,
-    routine: &Node,
-) -> Result<()> {
-    if let Some(op) = exported(cluster.spec, first_name(routine)?) {
-        return give_demands(out, cluster.spec, op.demands.as_slice());
+pub fn give_member(out: &mut Lowering, c: &Checked, member: Member<'_>) -> Result<()> {
+    if let Some(op) = exported(member.spec, first_name(member.routine)?) {
+        return give_demands(out, member.spec, op.demands.as_slice());
     }
-    match child_of(c, routine, NodeKind::Where)? {
-        Some(clause) => give_clause(out, c, cluster, routine, node_at(&c.tree, clause)?),
+    match child_of(c, member.routine, NodeKind::Where)? {
+        Some(n) => give_written(out, c, member, node_at(&c.tree, n)?),
         None => Ok(()),
     }
 }
@@ -65,15 +62,9 @@ fn operation_named<'a>(ops: &'a [OpSpec], name: &Bytes) -> Option<&'a OpSpec> {
     None
 }
 
-fn give_clause(
-    out: &mut Lowering,
-    c: &Checked,
-    cluster: &Cluster<'_>,
-    routine: &Node,
-    clause: &Node,
-) -> Result<()> {
+fn give_written(out: &mut Lowering, c: &Checked, member: Member<'_>, clause: &Node) -> Result<()> {
     for child in clause.children.as_slice() {
-        give_restrict(out, c, cluster, routine, node_at(&c.tree, *child)?)?;
+        give_restrict(out, c, member, node_at(&c.tree, *child)?)?;
     }
     Ok(())
 }
@@ -81,14 +72,13 @@ fn give_clause(
 fn give_restrict(
     out: &mut Lowering,
     c: &Checked,
-    cluster: &Cluster<'_>,
-    routine: &Node,
+    member: Member<'_>,
     restrict: &Node,
 ) -> Result<()> {
-    let param = parameter_named(c, cluster.node, first_name(restrict)?)?;
-    match set_of(c, cluster, routine, restrict)? {
+    let param = parameter_named(c, member.cluster, first_name(restrict)?)?;
+    match set_of(c, member, restrict)? {
         Some(set) => {
-            let actuals = actuals_of_set(out, cluster.spec, param)?;
+            let actuals = actuals_of_set(out, member.spec, param)?;
             give_opers(out, c, set, param, actuals.as_slice())
         }
         None => give_opers(out, c, restrict, param, &[]),
@@ -160,12 +150,7 @@ fn give_oper(
 }
 
 /// The type set that a Restrict has or names.
-fn set_of<'a>(
-    c: &'a Checked,
-    cluster: &Cluster<'_>,
-    routine: &Node,
-    restrict: &Node,
-) -> Result<Option<&'a Node>> {
+fn set_of<'a>(c: &'a Checked, member: Member<'_>, restrict: &Node) -> Result<Option<&'a Node>> {
     if let Some(child) = restrict.children.as_slice().first() {
         let child = node_at(&c.tree, *child)?;
         return Ok(if child.kind == NodeKind::TypeSet {
@@ -175,23 +160,18 @@ fn set_of<'a>(
         });
     }
     match restrict.names.as_slice() {
-        [_, name] => Ok(Some(set_named(c, cluster, routine, name)?)),
+        [_, name] => Ok(Some(set_named(c, member, name)?)),
         _ => Err(LowerError::NotYet),
     }
 }
 
 /// The type set that a name comes to, through no more equates than there are nodes.
-fn set_named<'a>(
-    c: &'a Checked,
-    cluster: &Cluster<'_>,
-    routine: &Node,
-    name: &Bytes,
-) -> Result<&'a Node> {
-    let mut right = equated(c, cluster, routine, name)?;
+fn set_named<'a>(c: &'a Checked, member: Member<'_>, name: &Bytes) -> Result<&'a Node> {
+    let mut right = equated(c, member, name)?;
     for _ in 0..c.tree.len() {
         match right.kind {
             NodeKind::TypeSet => return Ok(right),
-            NodeKind::Name => right = equated(c, cluster, routine, first_name(right)?)?,
+            NodeKind::Name => right = equated(c, member, first_name(right)?)?,
             _ => return Err(LowerError::NotYet),
         }
     }
@@ -199,13 +179,8 @@ fn set_named<'a>(
 }
 
 /// The right side of the equate of this name in a routine, round it in the cluster, or round that in the module.
-fn equated<'a>(
-    c: &'a Checked,
-    cluster: &Cluster<'_>,
-    routine: &Node,
-    name: &Bytes,
-) -> Result<&'a Node> {
-    for node in [routine, cluster.node, cluster.module] {
+fn equated<'a>(c: &'a Checked, member: Member<'_>, name: &Bytes) -> Result<&'a Node> {
+    for node in [member.routine, member.cluster, member.module] {
         if let Some(right) = equated_in(c, node, name)? {
             return Ok(right);
         }

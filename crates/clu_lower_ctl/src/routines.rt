@@ -6,10 +6,10 @@ ghost use Rattle.clu_lower_expr.specs.Bounds.{IsBounded};
 use crate::Result;
 use crate::clusters::cluster_routines;
 use crate::declaring::formals;
-use crate::given::give_routine;
+use crate::given::give_demands;
 use crate::headings::note_heading;
 use crate::nodes::children_of;
-use crate::own_type::note_routine;
+use crate::own_type::note_operation;
 use crate::own_variables::{declare_owns, set_up_once};
 use crate::walk::statements;
 use clu_base::Bytes;
@@ -17,7 +17,7 @@ use clu_core::Checked;
 use clu_equates::{first_name, node_at};
 use clu_lower_expr::{LowerError, Lowering};
 use clu_tree::{Node, NodeKind};
-use clu_types::Spec;
+use clu_types::{Form, Spec};
 use clu_wir::{HoleKind, WRoutine, WStmt};
 use std::alloc::Global;
 use std::boxed::Box;
@@ -67,8 +67,11 @@ pub fn own_name(alloc: Global, node: &Node) -> Result<Bytes> {
 /// Adds all that stands in a routine; the answer is how many arguments it takes.
 fn fill(out: &mut Lowering, c: &Checked, node: &Node) -> Result<u32> {
     let spec = specification(c, first_name(node)?)?;
-    give_routine(out, spec)?;
-    note_routine(out, spec)?;
+    let Form::Routine(op) = &spec.form else {
+        return Err(LowerError::NotYet);
+    };
+    give_demands(out, spec, op.demands.as_slice())?;
+    note_operation(out, &spec.types, op)?;
     let args = formals(out, c, node)?;
     note_heading(out, c, node)?;
     body(out, c, node)?;
