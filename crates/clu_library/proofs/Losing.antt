@@ -13,7 +13,7 @@ use Rattle.indexmap.specs.IndexSet.{insert_key}
 use Rattle.indexmap.proofs.CallerLemmas.{Contains-list_any, Contains-insert_key}
 use Rattle.clu_types.specs.Specs.{name_order, with_spec}
 use Rattle.clu_types.specs.declared.spec.Spec.{Spec}
-use Rattle.clu_library.specs.Bounds.{AreBounds, at_most}
+use Rattle.clu_library.specs.Bounds.{AreBounds, AreReached, at_most, leads}
 use Rattle.clu_library.specs.ByName.{ComeAfter, AreAscending}
 use Rattle.clu_library.specs.Contents.{Contents}
 use Rattle.clu_library.specs.Replacing.{with_change, with_replaced, IsLost, IsBroken, AreLeft, AreLost, AreLostIfAny, AreStaleOf, has_any, without_any}
@@ -25,6 +25,7 @@ use Rattle.clu_library.specs.declared.program.Program.{Program}
 use Rattle.clu_library.proofs.Bounding.{not_stale}
 use Rattle.clu_library.proofs.Closing.{listed}
 use Rattle.clu_library.proofs.Firsts.{some_same, found_passes, apart}
+use Rattle.clu_library.proofs.Leading.{any_listed, stale_by_rank}
 
 same : (m n : List ℕ) → bytes_eq m n ≡ true → m ≡ n
 same m n = (bytes_eq-Decides m n).0
@@ -39,6 +40,10 @@ is_fresh specs changes own body never = ((λ e. absurd (true≢false (sym e))), 
 pub excluded : (specs : List Spec) (changes : List Change) (bound : List ℕ → ℕ) (own : List ℕ) (body : Body) (are : Bool) → (IsTrue are → AreBounds specs changes bound)
     → IsTrue are × ((names : List (List ℕ)) × (body.names ≡ Some names) × IsTrue (at_most bound body.checked names)) → IsTrue false ↔ IsStaleBody specs changes own body
 excluded specs changes bound own body are bounds h = is_fresh specs changes own body (not_stale specs changes bound own body h.1.0 (bounds h.0) h.1.1 h.1.2)
+
+pub included : (specs : List Spec) (changes : List Change) (bound rank : List ℕ → ℕ) (own : List ℕ) (body : Body) (are : Bool) → (IsTrue are → AreReached specs changes bound rank)
+    → IsTrue are × ((names : List (List ℕ)) × (body.names ≡ Some names) × IsTrue (list_any (leads specs bound rank own (body.checked + 1)) names)) → IsTrue true ↔ IsStaleBody specs changes own body
+included specs changes bound rank own body are reached h = ((λ _. stale_by_rank specs changes bound rank own body h.1.0 (reached h.0) h.1.1 h.1.2), (λ _. refl))
 
 pub ruleset stalenesses = (is_stale_by, is_fresh, excluded)
 
@@ -234,17 +239,6 @@ stale_from_one specs changes bodies old start new copy name empty inserted named
 pub ruleset losings = (lost_if_any, lost_of_none, stale_from_one)
 
 -- the programs that are left
-any_listed : (t : List ℕ → Bool) (xs : List (List ℕ)) → list_any t xs ≡ true → (x : List ℕ) × Contains xs x × (t x ≡ true)
-any_listed t [] e = absurd (true≢false (sym e))
-any_listed t (x ∷ xs) e = by (t x) refl e (any_listed t xs)
-  where
-    further : (y : List ℕ) × Contains xs y × (t y ≡ true) → (y : List ℕ) × Contains (x ∷ xs) y × (t y ≡ true)
-    further h = (h.0, Contains-append_right (x ∷ []) xs h.0 h.1, h.2)
-
-    by : (b : Bool) → t x ≡ b → (b || list_any t xs) ≡ true → (list_any t xs ≡ true → (y : List ℕ) × Contains xs y × (t y ≡ true)) → (y : List ℕ) × Contains (x ∷ xs) y × (t y ≡ true)
-    by true is e behind = (x, (0, omega arith, refl), is)
-    by false is e behind = further (behind e)
-
 module _ (library : Contents) (replaced : List ℕ) (names : List (List ℕ)) (lost : AreLost library replaced names) where
   broken : (p : Program) → has_any names p ≡ true → IsBroken library replaced p
   broken p e =
