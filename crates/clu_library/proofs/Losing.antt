@@ -17,7 +17,7 @@ use Rattle.clu_library.specs.Bounds.{AreBounds, AreReached, at_most, leads}
 use Rattle.clu_library.specs.ByName.{ComeAfter, AreAscending}
 use Rattle.clu_library.specs.Contents.{Contents}
 use Rattle.clu_library.specs.Replacing.{with_change, with_replaced, IsLost, IsBroken, AreLeft, AreLost, AreLostIfAny, AreStaleOf, has_any, without_any}
-use Rattle.clu_library.specs.Staleness.{IsStale, IsStaleIf, IsStaleBody, IsFirstChange}
+use Rattle.clu_library.specs.Staleness.{AreStale, IsStale, IsStaleIf, IsStaleBody, IsFirstChange}
 use Rattle.clu_library.specs.declared.body.Body.{Body}
 use Rattle.clu_library.specs.declared.body.Change.{Change}
 use Rattle.clu_library.specs.declared.body.ModuleBody.{ModuleBody}
@@ -219,6 +219,42 @@ module _ (library : Contents) (s : Spec) (names : List (List ℕ)) (ascending : 
       back : (name : List ℕ) → IsLost (with_replaced library s) s.name name → Contains names name
       back name (inl is) = let P : List ℕ → Type 0 = λ n. Contains names n in subst P (sym is) (stale.kept s.name (0, omega arith, refl))
       back name (inr h) = of_found name (find (λ (b : ModuleBody). bytes_eq b.name name) bodies_left) refl h
+
+-- all whose bodies are stale
+in_list : {X : Type 0} (p : X → Bool) (xs : List X) (y : X) → find p xs ≡ Some y → Contains xs y
+in_list p [] y e = absurd (none-some y e)
+in_list {X} p (x ∷ xs) y e = by (p x) e (λ e. Contains-append_right (x ∷ []) xs y (in_list p xs y e))
+  where
+    by : (b : Bool) → cond b (Some x) (find p xs) ≡ Some y → (find p xs ≡ Some y → Contains (x ∷ xs) y) → Contains (x ∷ xs) y
+    by true e further = (0, omega arith, some_same x y e)
+    by false e further = further e
+
+module _ (library : Contents) (names : List (List ℕ)) (ascending : AreAscending (λ (b : ModuleBody). b.name) library.bodies)
+    (stale : AreStaleOf library.specs library.changes library.bodies [] names) where
+  is_stale : (name : List ℕ) → Contains [] name ⊎ ((b : ModuleBody) × Contains library.bodies b × (b.name ≡ name) × IsStaleBody library.specs library.changes b.name b.body) → IsStale library name
+  is_stale name (inl never) = absurd (omega (arith, never.1))
+  is_stale name (inr h) =
+      let P : Option Body → Type 0 = λ o. IsStaleIf library h.0.name o in
+      let found = found_listed (λ (b : ModuleBody). b.name) library.bodies h.0 ascending h.1 in
+      let Q : List ℕ → Type 0 = λ n. IsStale library n in
+      subst Q h.2 (subst P (sym (ap (option_map (λ (b : ModuleBody). b.body)) found)) h.3)
+
+  is_listed : (name : List ℕ) (o : Option ModuleBody) → find (λ (b : ModuleBody). bytes_eq b.name name) library.bodies ≡ o → IsStaleIf library name (option_map (λ (b : ModuleBody). b.body) o) → Contains names name
+  is_listed name None e h = absurd h
+  is_listed name (Some b) e h =
+      let named : b.name ≡ name = same b.name name (found_passes (λ (b : ModuleBody). bytes_eq b.name name) library.bodies b e) in
+      let P : List ℕ → Type 0 = λ n. Contains names n in
+      let Q : List ℕ → Type 0 = λ n. IsStaleBody library.specs library.changes n b.body in
+      subst P named (stale.all b (in_list (λ (b : ModuleBody). bytes_eq b.name name) library.bodies b e) (subst Q (sym named) h))
+
+  stale_modules : AreStale library names
+  stale_modules = record { stale = λ name h. is_stale name (stale.stale name h); all = λ name h. is_listed name (find (λ (b : ModuleBody). bytes_eq b.name name) library.bodies) refl h }
+
+pub are_stale : (library : Contents) (old names : List (List ℕ)) → AreAscending (λ (b : ModuleBody). b.name) library.bodies → old ≡ []
+    → AreStaleOf library.specs library.changes library.bodies old names → AreStale library names
+are_stale library old names ascending empty stale =
+    let P : List (List ℕ) → Type 0 = λ xs. AreStaleOf library.specs library.changes library.bodies xs names in
+    stale_modules library names ascending (subst P empty stale)
 
 pub lost_if_any : (library : Contents) (s : Spec) (changes : List Change) (names : List (List ℕ)) → AreAscending (λ (b : ModuleBody). b.name) library.bodies → changes ≡ with_change library.changes s.name library.revision
     → AreStaleOf (with_spec library.specs s) changes library.bodies (s.name ∷ []) names → AreLostIfAny library s names

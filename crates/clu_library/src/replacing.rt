@@ -182,9 +182,10 @@ impl Library {
     }
 }
 
-/// Adds the modules of the bodies that will be stale.
+/// Adds the modules of the bodies that are stale, if the specification `changed` stands in the place of the kept one of its
+/// module.
 #[tactic(auto, using(crate::proofs::Losing::steps))]
-fn add_stale(
+pub fn add_stale(
     alloc: Global,
     lost: &mut IndexSet<Bytes>,
     latest: &Latest,
@@ -207,7 +208,7 @@ fn add_stale(
     Ok(())
 }
 
-/// Whether a body will be stale. Of nearly all that list their names the table of revisions tells it.
+/// Whether a body is stale. Of nearly all that list their names the table of revisions tells it.
 #[tactic(auto, using(crate::proofs::Losing::stalenesses))]
 fn is_stale(
     alloc: Global,
