@@ -106,23 +106,11 @@ pub fn if_statement(out: &mut Lowering, c: &Checked, node: &Node, depth: u32) ->
     let choice = choice_of(out.alloc, c, node)?;
     let mut branches = Vec::new(out.alloc);
     for clause in choice.clauses.as_slice() {
-        branch(out, c, clause, &mut branches, depth)?;
+        let condition = condition(out, c, clause.condition)?;
+        open_branch(out, condition, &mut branches)?;
+        body(out, c, clause.items.as_slice(), depth)?;
+        end_branch(out, &mut branches);
     }
     body(out, c, choice.otherwise.as_slice(), depth)?;
     close_branches(out, branches)
-}
-
-#[cycle(statements)]
-fn branch(
-    out: &mut Lowering,
-    c: &Checked,
-    clause: &Clause,
-    branches: &mut Vec<Branch>,
-    depth: u32,
-) -> Result<()> {
-    let condition = condition(out, c, clause.condition)?;
-    open_branch(out, condition, branches)?;
-    body(out, c, clause.items.as_slice(), depth)?;
-    end_branch(out, branches);
-    Ok(())
 }

@@ -23,8 +23,14 @@ const WORD: u32 = 8;
 /// that came with them.
 #[cycle(statements)]
 pub fn resignal(out: &mut Lowering, c: &Checked, node: &Node, depth: u32) -> Result<()> {
-    let names = node.names.as_slice();
-    let body = list_of(out, c, only_child(node)?, depth)?;
+    let outer = out.open();
+    out.body.direct = true;
+    statement(out, c, only_child(node)?, depth)?;
+    let body = out.close(outer);
+    push_resignal(out, body, node.names.as_slice())
+}
+
+fn push_resignal(out: &mut Lowering, body: Vec<WStmt>, names: &[Bytes]) -> Result<()> {
     for name in names {
         out.exception(name)?;
     }
@@ -37,38 +43,30 @@ pub fn except(out: &mut Lowering, c: &Checked, node: &Node, depth: u32) -> Resul
     let Some((n, arms)) = node.children.as_slice().split_first() else {
         return Err(LowerError::NotYet);
     };
-    let body = guarded(out, c, *n, arms, depth)?;
+    let outside = out.body.guards.len();
+    let failure_arm = open_arms(out, c, arms)?;
+    let outer = out.open();
+    out.body.direct = true;
+    statement(out, c, *n, depth)?;
+    let body = out.close(outer);
+    let body = close_arms(out, body, outside, failure_arm)?;
     let arms = handlers(out, c, arms, depth)?;
     out.push(WStmt::Guard(body, arms))
 }
 
-/// The statement of an Except with these arms, as a list. Where one of them binds failures to type any, a guard inside
+/// The list in an Except, where so many guards stand outside. If one of its arms binds failures to type any, a guard inside
 /// takes these first.
-#[cycle(statements)]
-fn guarded(
+fn close_arms(
     out: &mut Lowering,
-    c: &Checked,
-    n: u32,
-    arms: &[u32],
-    depth: u32,
+    body: Vec<WStmt>,
+    outside: usize,
+    failure_arm: Option<u32>,
 ) -> Result<Vec<WStmt>> {
-    let outside = out.body.guards.len();
-    let failure_arm = open_arms(out, c, arms)?;
-    let body = list_of(out, c, n, depth)?;
     out.body.guards.truncate(outside);
     match failure_arm {
         Some(arm) => type_failures(out, body, arm),
         None => Ok(body),
     }
-}
-
-/// A statement that stands directly in one with arms, as a list.
-#[cycle(statements)]
-fn list_of(out: &mut Lowering, c: &Checked, n: u32, depth: u32) -> Result<Vec<WStmt>> {
-    let outer = out.open();
-    out.body.direct = true;
-    statement(out, c, n, depth)?;
-    Ok(out.close(outer))
 }
 
 /// The arms of an Except stand round its statement. Gives the number of that which binds failures to type any.
@@ -164,36 +162,39 @@ fn failure_arm(out: &Lowering, slot: u32, body: Vec<WStmt>) -> Result<WArm> {
     })
 }
 
+/// `when name, .. (declaration, ..): body` and `others (name: type): body`
 #[cycle(statements)]
 fn handlers(out: &mut Lowering, c: &Checked, nodes: &[u32], depth: u32) -> Result<Vec<WArm>> {
     let mut arms = Vec::new(out.alloc);
     for n in nodes {
-        arms.push(handler(out, c, node_at(&c.tree, *n)?, depth)?)?;
+        let node = node_at(&c.tree, *n)?;
+        let (in_scope, taken) = (out.in_scope(), out.taken());
+        let outer = out.open();
+        arms.push(begun_arm(out, c, node)?)?;
+        body(out, c, node.children.as_slice(), depth)?;
+        let done = out.close(outer);
+        if let Some(arm) = arms.last_mut() {
+            arm.body = done;
+        }
+        out.leave(in_scope);
+        out.release(taken);
     }
     Ok(arms)
 }
 
-/// `when name, .. (declaration, ..): body` and `others (name: type): body`
-#[cycle(statements)]
-fn handler(out: &mut Lowering, c: &Checked, arm: &Node, depth: u32) -> Result<WArm> {
-    let (in_scope, taken) = (out.in_scope(), out.taken());
-    let outer = out.open();
+/// An arm without its body. The variables that it declares name what comes with the exception.
+fn begun_arm(out: &mut Lowering, c: &Checked, arm: &Node) -> Result<WArm> {
     let others = arm.kind == NodeKind::Others;
-    let slots = if others {
-        take_name(out, c, arm)?
-    } else {
-        take_objects(out, c, arm)?
-    };
-    body(out, c, arm.children.as_slice(), depth)?;
-    out.leave(in_scope);
-    out.release(taken);
-    let body = out.close(outer);
     let names: &[Bytes] = if others { &[] } else { arm.names.as_slice() };
     Ok(WArm {
         names: copied_names(out.alloc, names)?,
         others,
-        slots,
-        body,
+        slots: if others {
+            take_name(out, c, arm)?
+        } else {
+            take_objects(out, c, arm)?
+        },
+        body: Vec::new(out.alloc),
     })
 }
 

@@ -3,7 +3,6 @@
 use crate::Result;
 use clu_core::Checked;
 use clu_equates::node_at;
-use clu_lower_expr::LowerError;
 use clu_tree::{Node, NodeKind};
 use std::alloc::Global;
 

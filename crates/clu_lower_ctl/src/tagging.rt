@@ -39,7 +39,12 @@ pub fn tagcase(out: &mut Lowering, c: &Checked, node: &Node, depth: u32) -> Resu
     for n in parts {
         let arm = node_at(&c.tree, *n)?;
         if arm.kind == NodeKind::TagArm {
-            tag_arm(out, c, arm, selected, &mut branches, depth)?;
+            let (in_scope, taken) = (out.in_scope(), out.taken());
+            open_arm(out, c, arm, selected, &mut branches)?;
+            body(out, c, arm.children.as_slice(), depth)?;
+            out.leave(in_scope);
+            out.release(taken);
+            end_branch(out, &mut branches);
         }
     }
     body(out, c, parts, depth)?;
@@ -104,25 +109,18 @@ fn declared_type(c: &Checked, arm: &Node) -> Result<Option<u32>> {
     })
 }
 
-#[cycle(statements)]
-fn tag_arm(
+/// Begins the branch of an arm.
+fn open_arm(
     out: &mut Lowering,
     c: &Checked,
     arm: &Node,
     selected: Selected<'_>,
     branches: &mut Vec<Branch>,
-    depth: u32,
 ) -> Result<()> {
     let parts = parts_of(out, c, arm)?;
     let condition = has_tag(out, selected, parts.tags)?;
     open_branch(out, condition, branches)?;
-    let (in_scope, taken) = (out.in_scope(), out.taken());
-    name_object(out, c, selected, parts)?;
-    body(out, c, arm.children.as_slice(), depth)?;
-    out.leave(in_scope);
-    out.release(taken);
-    end_branch(out, branches);
-    Ok(())
+    name_object(out, c, selected, parts)
 }
 
 /// Whether the tag is one of these.

@@ -49,26 +49,22 @@ pub fn statement(out: &mut Lowering, c: &Checked, n: u32, depth: u32) -> Result<
     let direct = out.body.direct;
     out.body.direct = false;
     match node.kind {
-        NodeKind::Declare => declare(out, c, node),
-        NodeKind::Init => initialize(out, c, node, direct),
-        NodeKind::Resignal => resignal(out, c, node, depth),
-        NodeKind::Except => except(out, c, node, depth),
-        _ => closed(out, c, n, node, depth),
+        NodeKind::Declare => return declare(out, c, node),
+        NodeKind::Init => return initialize(out, c, node, direct),
+        NodeKind::Resignal => return resignal(out, c, node, depth),
+        NodeKind::Except => return except(out, c, node, depth),
+        _ => {}
     }
-}
-
-/// A statement that declares nothing for those after it.
-#[cycle(statements)]
-fn closed(out: &mut Lowering, c: &Checked, n: u32, node: &Node, depth: u32) -> Result<()> {
     let (in_scope, taken) = (out.in_scope(), out.taken());
-    by_kind(out, c, n, node, depth)?;
+    closed(out, c, n, node, depth)?;
     out.leave(in_scope);
     out.release(taken);
     Ok(())
 }
 
+/// A statement that declares nothing for those after it.
 #[cycle(statements)]
-fn by_kind(out: &mut Lowering, c: &Checked, n: u32, node: &Node, depth: u32) -> Result<()> {
+fn closed(out: &mut Lowering, c: &Checked, n: u32, node: &Node, depth: u32) -> Result<()> {
     match node.kind {
         NodeKind::Assign => assign(out, c, node),
         NodeKind::SetField | NodeKind::SetIndex => sugar_statement(out, c, n),
