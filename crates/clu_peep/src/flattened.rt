@@ -3,6 +3,8 @@
 ghost use Rattle.std.specs.Prelude.{◌≡◌, ◌↔◌, ◌++◌, IfOk, IsTrue, OnOk, length, nat_lt, not};
 ghost use Rattle.std.specs.List.{list_all};
 ghost use Rattle.std.specs.Option.{option_to_list};
+ghost use Rattle.clu_wir.specs.declared.region.Arm.{Arm};
+ghost use Rattle.clu_frames.specs.declared.flat.Flat.{Flat};
 ghost use Rattle.clu_peep.specs.Flattened.{Flattened, is_flattened, is_known, is_placed, labels_of};
 ghost use Rattle.clu_peep.specs.Lists.{at_last, differ, is_among};
 ghost use Rattle.clu_peep.specs.Steps.{goes_on, label_of};
@@ -134,7 +136,7 @@ fn is_placed(count: usize, region: &Region) -> bool
 }
 
 fn are_targets(count: usize, arms: &[Arm]) -> bool
-    ensures { result ≡ list_all (λ a. nat_lt a.target count) arms.now }
+    ensures { result ≡ list_all (λ (a : Arm). nat_lt a.target count) arms.now }
 {
     for arm in arms {
         if arm.target as usize >= count {
@@ -146,7 +148,7 @@ fn are_targets(count: usize, arms: &[Arm]) -> bool
 
 /// Whether the last place goes on to no next one.
 fn ends(code: &[Flat]) -> bool
-    ensures { result ≡ at_last (λ step. not (goes_on step)) code.now }
+    ensures { result ≡ at_last (λ (step : Flat). not (goes_on step)) code.now }
 {
     match code.split_last() {
         Some((last, _)) => !goes_on(last),

@@ -3,6 +3,7 @@
 
 ghost use Rattle.std.specs.Prelude.{◌≡◌, ◌<◌, ◌^◌, ◌==◌, ◌++◌, ◌∷◌, [], false, length, List, IfOk, IsTrue, OnOk};
 ghost use Rattle.std.specs.List.{list_any};
+ghost use Rattle.clu_wir.specs.declared.region.Arm.{Arm};
 ghost use Rattle.clu_peep.specs.declared.places.Place.{Place};
 ghost use Rattle.clu_peep.specs.Left.{Adds, Leaves, begins, has_target, is_settled, is_undone, marked, places};
 ghost use Rattle.clu_peep.specs.Lists.{at_last};
@@ -57,7 +58,7 @@ fn has_target(region: &Region, place: u32) -> bool
 }
 
 fn is_begun(arms: &[Arm], place: u32) -> bool
-    ensures { result ≡ list_any (λ a. a.target == place) arms.now }
+    ensures { result ≡ list_any (λ (a : Arm). a.target == place) arms.now }
 {
     for arm in arms {
         if arm.target == place {
@@ -94,7 +95,7 @@ fn is_undone(left: &[Place], place: &Place) -> bool
 
 /// Whether the last place is of no use before this one.
 fn is_last_useless(left: &[Place], place: &Place) -> bool
-    ensures { result ≡ at_last (λ x. goes_first x place.now) left.now }
+    ensures { result ≡ at_last (λ (x : Place). goes_first x place.now) left.now }
 {
     match left.split_last() {
         Some((last, _)) => goes_first(last, place),
@@ -108,7 +109,7 @@ fn put(left: &mut Vec<Place>, place: Place) -> Result<(), Memory>
     ensures settled { goes_alone place ≡ false → is_undone left.old.items place ≡ false → IsTrue (is_settled left.old.items) → OnOk result (IsTrue (is_settled left.new.items)) }
 {
     let mut place = place;
-    while is_last_useless(left.as_slice(), &place) {
+    'last: while is_last_useless(left.as_slice(), &place) {
         take_last(left, &mut place);
     }
     Ok(left.push(place)?)
