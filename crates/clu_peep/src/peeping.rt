@@ -24,8 +24,8 @@ pub struct Peeped {
 
 /// Steps and their regions.
 #[derive(Drop)]
-struct Shorter {
-    code: Vec<Flat>,
+struct Code {
+    steps: Vec<Flat>,
     regions: Regions,
 }
 
@@ -48,11 +48,11 @@ pub fn peep(alloc: Global, f: FlatRoutine, r: &Regions) -> Result<Peeped, Memory
         constants,
         types,
     } = f;
-    let Shorter { code, regions } = shorter(alloc, code, r)?;
+    let Code { steps, regions } = shorter(alloc, code, r)?;
     let flat = FlatRoutine {
         name,
         frame,
-        code,
+        code: steps,
         nodes,
         uses,
         constants,
@@ -62,15 +62,15 @@ pub fn peep(alloc: Global, f: FlatRoutine, r: &Regions) -> Result<Peeped, Memory
 }
 
 /// Steps without those that go by a row.
-fn shorter(alloc: Global, code: Vec<Flat>, r: &Regions) -> Result<Shorter, Memory>
+fn shorter(alloc: Global, code: Vec<Flat>, r: &Regions) -> Result<Code, Memory>
     requires { length code.items < 2 ^ 32 }
-    ensures { IfOk result (λ s. IsPeeped code.items r.now s.code.items s.regions) }
+    ensures { IfOk result (λ s. IsPeeped code.items r.now s.steps.items s.regions) }
 {
     let left = settled(alloc, code, r.as_slice())?;
     let places = numbers(alloc, left.as_slice())?;
     let regions = moved(alloc, r, places.as_slice())?;
-    Ok(Shorter {
-        code: steps(alloc, left)?,
+    Ok(Code {
+        steps: steps(alloc, left)?,
         regions,
     })
 }
