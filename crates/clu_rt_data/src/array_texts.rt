@@ -3,10 +3,14 @@
 //! uses of the routine.
 
 ghost use Rattle.std.specs.Prelude.{◌≡◌, IfSome};
+ghost use Rattle.clu_rt_text.specs.Texts.{names_and_counts};
+ghost use Rattle.clu_rt_data.specs.Texts.{array_iterator_counts, array_procedure_counts};
 
-use crate::arrays::{ELEMENT, FIND, FROM_FIRST, HIGH, LOW, PLACE, SIZE, TAKE_PLACE, WRAP};
+use crate::arrays::{
+    ELEMENT, FIND, FROM_FIRST, GREATEST, HIGH, LOW, PLACE, SIZE, TAKE_PLACE, WRAP,
+};
 use clu_rt_text::{Derived, Expr, Step, X, Y, Z, derived_named};
-use clu_wir::WOp;
+use clu_wir::{Trap, WOp};
 
 const END: Step = Step::Return(&[]);
 
@@ -21,7 +25,16 @@ const TO_HIGH: Step = Step::Set(2, HIGH);
 
 const NONE: Step = Step::When(Expr::Op(WOp::Slt, &Z, &Y), &[END]);
 
-const AT_LAST: Step = Step::Unless(Expr::Op(WOp::Slt, &Y, &Z), &[END]);
+const AT_LAST: Step = Step::Unless(Expr::Op(WOp::Slt, &Y, &Z), &[PAST_Y, END]);
+
+/// After the greatest int the loop over `from_to_by`, in whose place this is, overflows and ends by that.
+const PAST_Y: Step = Step::Handle(
+    b"overflow",
+    &[Step::Set(
+        1,
+        Expr::Check(&Expr::Op(WOp::Slt, &Y, &GREATEST), Trap::Overflow, &Y),
+    )],
+);
 
 const NEXT: Step = Step::Set(1, Expr::Op(WOp::Add, &Y, &Expr::Word(1)));
 
@@ -92,10 +105,16 @@ const COPY: &[Step] = &[
 pub fn derived_of_arrays(name: &[u8]) -> Option<&'static Derived>
     ensures { IfSome result (λ derived. derived.now.name.now ≡ name.now) }
 {
-    match derived_named(ITERATORS, name) {
+    match derived_named(iterators(), name) {
         Some(derived) => Some(derived),
-        None => derived_named(PROCEDURES, name),
+        None => derived_named(procedures(), name),
     }
+}
+
+fn iterators() -> &'static [Derived]
+    ensures { names_and_counts result.now ≡ array_iterator_counts }
+{
+    ITERATORS
 }
 
 const ITERATORS: &[Derived] = &[
@@ -116,6 +135,12 @@ const ITERATORS: &[Derived] = &[
         nodes: 25,
     },
 ];
+
+fn procedures() -> &'static [Derived]
+    ensures { names_and_counts result.now ≡ array_procedure_counts }
+{
+    PROCEDURES
+}
 
 const PROCEDURES: &[Derived] = &[
     Derived {

@@ -3,6 +3,8 @@
 //! uses of the routine.
 
 ghost use Rattle.std.specs.Prelude.{◌≡◌, IfSome};
+ghost use Rattle.clu_rt_text.specs.Texts.{names_and_counts};
+ghost use Rattle.clu_rt_data.specs.Texts.{sequence_iterator_counts, sequence_procedure_counts};
 
 use crate::sequences::{AT_Y, SIZE, Y_SIZE};
 use clu_rt_text::{Derived, Expr, Step, X, Y, Z, derived_named};
@@ -67,10 +69,16 @@ const COPY: &[Step] = &[
 pub fn derived_of_sequences(name: &[u8]) -> Option<&'static Derived>
     ensures { IfSome result (λ derived. derived.now.name.now ≡ name.now) }
 {
-    match derived_named(ITERATORS, name) {
+    match derived_named(iterators(), name) {
         Some(derived) => Some(derived),
-        None => derived_named(PROCEDURES, name),
+        None => derived_named(procedures(), name),
     }
+}
+
+fn iterators() -> &'static [Derived]
+    ensures { names_and_counts result.now ≡ sequence_iterator_counts }
+{
+    ITERATORS
 }
 
 const ITERATORS: &[Derived] = &[
@@ -91,6 +99,12 @@ const ITERATORS: &[Derived] = &[
         nodes: 21,
     },
 ];
+
+fn procedures() -> &'static [Derived]
+    ensures { names_and_counts result.now ≡ sequence_procedure_counts }
+{
+    PROCEDURES
+}
 
 const PROCEDURES: &[Derived] = &[
     Derived {

@@ -1,2 +1,3 @@
--- What is known of the code of an operation.
+-- What is known of the code of an operation, and which operations texts define.
 pub mod Operations
+pub mod Texts

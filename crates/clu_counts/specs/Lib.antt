@@ -1,0 +1,2 @@
+-- The counts of the operations that texts define.
+pub mod Counts

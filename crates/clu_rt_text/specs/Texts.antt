@@ -1,0 +1,13 @@
+-- The operations of int and string that texts define, in the order of their tables: the name of each and its count.
+use Rattle.std.specs.Prelude.{ℕ, List, [], ◌∷◌, map, codes}
+use Rattle.clu_rt_text.specs.declared.code.Derived.{Derived}
+
+-- the names and the counts of a table
+abbrev pub names_and_counts : List Derived → List (List ℕ × ℕ)
+names_and_counts table = map (λ operation. (operation.name.now, operation.nodes)) table
+
+abbrev pub int_counts : List (List ℕ × ℕ)
+int_counts = (codes "from_to", 18) ∷ (codes "from_to_by", 41) ∷ []
+
+abbrev pub string_counts : List (List ℕ × ℕ)
+string_counts = (codes "chars", 21) ∷ []
