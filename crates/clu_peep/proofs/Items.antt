@@ -1,7 +1,7 @@
 -- Items of lists, and of loops over vectors by value.
 use Rattle.std.proofs.Common.{◌≡◌, ℕ, zero, suc, ◌+◌, ◌<◌, List, [], ◌∷◌, ◌++◌, length, take, get_or, Bool, true, false, Option, Some, None, is_some, unwrap_or, slice_get, refl, sym, ◌∙◌, ap, subst, arith}
 use Rattle.std.proofs.lemmas.Bool.{false≢true}
-use Rattle.std.proofs.lemmas.List.{nil_from_length}
+use Rattle.std.proofs.lemmas.List.{length_push, nil_from_length}
 use Rattle.std.specs.Vec.Iter.{IntoIter, into_iter_items, into_iter_len, into_iter_steps}
 use Rattle.clu_peep.specs.Lists.{at_last}
 
@@ -51,3 +51,9 @@ next_item {A} {Z} s t r x is steps = (subst (λ (o : Option A). into_iter_steps 
 pub no_item : {A Z : Type 0} (s t : IntoIter A Z) (r : Option A) → r ≡ None → into_iter_steps s r t → into_iter_items s ≡ []
 no_item {A} {Z} s t r is steps =
     nil_from_length (into_iter_items s) (sym s.rest.ok.0 ∙ (subst (λ (o : Option A). into_iter_steps s o t) is steps).0)
+
+pub one_less : {X : Type 0} (xs front after : List X) (x : X) → xs ≡ front ++ x ∷ [] → after ≡ front → length after < length xs
+one_less xs front after x is same =
+    let more = ap {B = ℕ} length is in
+    let here = ap {B = ℕ} length same in
+    omega (arith, more, here, length_push front x)

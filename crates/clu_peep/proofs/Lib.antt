@@ -1,6 +1,6 @@
 pub mod Conditions
 pub mod Items
 pub mod Nesting
+pub mod Passing
 pub mod Placed
-pub mod Settling
 pub mod Shorter

@@ -1,5 +1,5 @@
 use Rattle.std.proofs.Common.{length}
-use Rattle.clu_peep.proofs.Settling.{PutsSoFar}
+use Rattle.clu_peep.proofs.Passing.{PutsSoFar}
 use Rattle.clu_peep.proofs.settling.put.Given as goal
 
 abbrev pub invariant-last : goal.invariant-last

@@ -1,6 +1,6 @@
 use Rattle.std.specs.Vec.Iter.{into_iter_items}
 use Rattle.clu_peep.specs.Left.{begins}
-use Rattle.clu_peep.proofs.Settling.{SettlesSoFar}
+use Rattle.clu_peep.proofs.Passing.{SettlesSoFar}
 use Rattle.clu_peep.proofs.settling.settled.Given as goal
 
 abbrev pub invariant-loop-step : goal.invariant-loop-step
