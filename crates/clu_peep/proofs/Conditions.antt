@@ -1,5 +1,5 @@
 -- The condition as a test.
-use Rattle.std.proofs.Common.{◌≡◌, ◌↔◌, ◌^◌, ◌&&◌, Bool, true, not, nat_lt, IsTrue, List, length, lt-ltb, ltb-true}
+use Rattle.std.proofs.Common.{◌↔◌, ◌^◌, ◌&&◌, Bool, not, nat_lt, IsTrue, List, length, lt-ltb, ltb-true}
 use Rattle.std.specs.List.{list_all}
 use Rattle.std.proofs.lemmas.Bool.{and_from, and_parts}
 use Rattle.clu_frames.specs.declared.flat.Flat.{Flat}

@@ -1,7 +1,7 @@
 -- Regions nest as before after their bounds have moved.
-use Rattle.std.proofs.Common.{◌≡◌, ℕ, zero, suc, ◌+◌, ◌<◌, ◌≤◌, List, [], ◌∷◌, ◌++◌, length, take, drop, map, get_or, Bool, true, false, cond, ◌&&◌, ◌||◌, Option, Some, None, IsTrue, slice_get, option_map, nat_lt, nat_le, refl, sym, ◌∙◌, ap, subst, ⊎_elim, arith, le-leb, leb-true, lt-ltb, ltb-true, append_assoc, append-nil, filter}
+use Rattle.std.proofs.Common.{◌≡◌, ℕ, zero, suc, ◌+◌, ◌<◌, ◌≤◌, List, [], ◌∷◌, ◌++◌, length, take, drop, map, get_or, Bool, true, false, cond, ◌&&◌, Option, Some, None, slice_get, option_map, nat_lt, nat_le, refl, sym, ◌∙◌, ap, subst, ⊎_elim, arith, le-leb, leb-true, lt-ltb, ltb-true, append_assoc, append-nil, filter}
 use Rattle.std.specs.List.{AllZip, list_all}
-use Rattle.std.proofs.lemmas.Bool.{and_from, and_parts, cases_Bool, false≢true, or_cases, or_left, or_right}
+use Rattle.std.proofs.lemmas.Bool.{and_from, and_parts, false≢true, or_cases, or_left, or_right}
 use Rattle.std.proofs.lemmas.List.{take-map, take-take, take_more}
 use Rattle.clu_handlers.specs.declared.region.Region.{Region}
 use Rattle.clu_handlers.specs.Regions.{are_nested, can_add, is_apart, is_in, nests_behind}
@@ -101,9 +101,9 @@ module _ (left : List ℕ) (stays : List Bool) where
   Found old after news n = (new : Region) × (slice_get news n ≡ Some new) × Moves old new × Zips (kept after) (drop (suc n) news)
 
   found_here : (x old : Region) (xs news : List Region) (b : Bool) → b ≡ true → x ≡ old → Zips (cond b (x ∷ kept xs) (kept xs)) news → Found old xs news zero
-  found_here x old xs news false no e zip = absurd (false≢true no)
-  found_here x old xs [] true yes e zip = absurd zip
-  found_here x old xs (y ∷ ys) true yes e zip = (y, refl, subst (λ (o : Region). Moves o y) e zip.0, zip.1)
+  found_here x old xs news false has e zip = absurd (false≢true has)
+  found_here x old xs [] true has e zip = absurd zip
+  found_here x old xs (y ∷ ys) true has e zip = (y, refl, subst (λ (o : Region). Moves o y) e zip.0, zip.1)
 
   found_later : (x old : Region) (xs after news : List Region) (b : Bool) (n : ℕ)
       → ((ns : List Region) → Zips (kept xs) ns → Found old after ns n)
@@ -177,13 +177,13 @@ pub may_add : (left : List ℕ) (regions : List Region) (i : ℕ) (news : List R
 may_add left regions i news r r' so_far nested lt at has mr =
     fits_moved left regions i r r' news mr has so_far.zip (nested_behind regions [] i r nested (get_at regions i r lt at))
 
+filter_head : {X : Type 0} (b : Bool) (x : X) (all front back : List X) → all ≡ front ++ back → cond b (x ∷ all) all ≡ cond b (x ∷ front) front ++ back
+filter_head true x all front back e = ap (λ l. x ∷ l) e
+filter_head false x all front back e = e
+
 filter-append : {X : Type 0} (test : X → Bool) (xs ys : List X) → filter test (xs ++ ys) ≡ filter test xs ++ filter test ys
 filter-append test [] ys = refl
-filter-append test (x ∷ xs) ys = by (test x)
-  where
-    by : (b : Bool) → cond b (x ∷ filter test (xs ++ ys)) (filter test (xs ++ ys)) ≡ cond b (x ∷ filter test xs) (filter test xs) ++ filter test ys
-    by true = ap (λ l. x ∷ l) (filter-append test xs ys)
-    by false = filter-append test xs ys
+filter-append test (x ∷ xs) ys = filter_head (test x) x (filter test (xs ++ ys)) (filter test xs) (filter test ys) (filter-append test xs ys)
 
 taken : (left : List ℕ) (regions : List Region) (i : ℕ) (r : Region) → i < length regions → r ≡ get_or regions i r
     → filter (has_place left) (take (i + 1) regions) ≡ filter (has_place left) (take i regions) ++ filter (has_place left) (r ∷ [])
@@ -216,8 +216,8 @@ moved_more left regions i news r r' so_far lt at has mr =
 pub moved_same : (left : List ℕ) (regions : List Region) (i : ℕ) (news : List Region) (r : Region)
     → MovedSoFar left regions i news → i < length regions → r ≡ get_or regions i r → has_place left r ≡ false
     → MovedSoFar left regions (i + 1) news
-moved_same left regions i news r so_far lt at no =
-    let none : filter (has_place left) (r ∷ []) ≡ [] = ap (λ (b : Bool). cond b (r ∷ []) []) no in
+moved_same left regions i news r so_far lt at off =
+    let none : filter (has_place left) (r ∷ []) ≡ [] = ap (λ (b : Bool). cond b (r ∷ []) []) off in
     record {
       zip = subst (λ (l : List Region). AllZip (IsMoved left (staying left regions)) l news)
           (sym (taken left regions i r lt at ∙ ap (λ (l : List Region). filter (has_place left) (take i regions) ++ l) none ∙ append-nil (filter (has_place left) (take i regions))))

@@ -1,7 +1,7 @@
 -- The pass over the places: what is left comes of them by rows, and no row is left.
-use Rattle.std.proofs.Common.{◌≡◌, ℕ, zero, suc, ◌+◌, ◌≤◌, List, [], ◌∷◌, ◌++◌, length, Bool, true, false, not, ◌&&◌, ◌||◌, IsTrue, Option, Some, None, refl, sym, ◌∙◌, ap, subst, ⊎_elim, arith, append_assoc, append-nil, zero-add}
+use Rattle.std.proofs.Common.{◌≡◌, ℕ, zero, suc, ◌+◌, List, [], ◌∷◌, ◌++◌, length, Bool, true, false, not, ◌&&◌, ◌||◌, IsTrue, Option, None, refl, sym, ◌∙◌, ap, subst, ⊎_elim, arith, append_assoc, append-nil, zero-add}
 use Rattle.std.proofs.lemmas.Bool.{and_from, and_parts, and_right, false≢true, not-true, not_from_false, or_cases, or_from, or_left, or_right}
-use Rattle.clu_wir.specs.declared.expression.WExpr.{WExpr, Slot, Word}
+use Rattle.clu_wir.specs.declared.expression.WExpr.{WExpr, Slot}
 use Rattle.clu_frames.specs.declared.flat.Flat.{Flat}
 use Rattle.clu_frames.specs.declared.flat.Flat.TheVariants as flat
 use Rattle.clu_peep.specs.declared.places.Place.{Place}
@@ -9,8 +9,7 @@ use Rattle.clu_peep.specs.declared.steps.Move.{Move}
 use Rattle.clu_peep.specs.Steps.{from_slot, is_back, jump_of, label_of, move_of, same, with_word, word_slot}
 use Rattle.clu_peep.specs.Rows.{goes_alone, goes_first, goes_second}
 use Rattle.clu_peep.specs.Lists.{at_last}
-use Rattle.clu_peep.specs.Left.{Adds, Leaves, Removal, Removed, goes, is_settled, is_undone, is_useless, marked, next_goes, passed, places}
-use Rattle.clu_peep.proofs.Items.{at_last-push, at_last_of, last_found}
+use Rattle.clu_peep.specs.Left.{Adds, Leaves, Removal, Removed, is_settled, is_undone, is_useless, marked, next_goes, passed, places}
 
 -- Removals, one after the other.
 

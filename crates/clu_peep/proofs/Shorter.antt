@@ -1,5 +1,5 @@
 -- What is left is no more than before, in no more words, and names no other slots.
-use Rattle.std.proofs.Common.{◌≡◌, ℕ, zero, suc, ◌+◌, ◌-◌, ◌^◌, ◌≤◌, min, List, [], ◌∷◌, ◌++◌, length, map, fold, Bool, true, false, ◌&&◌, IsTrue, refl, sym, ◌∙◌, ap, subst, arith, length-append}
+use Rattle.std.proofs.Common.{◌≡◌, ℕ, zero, suc, ◌+◌, ◌-◌, ◌^◌, ◌≤◌, min, List, [], ◌∷◌, ◌++◌, length, map, fold, Bool, true, refl, sym, ◌∙◌, ap, subst, arith, length-append}
 use Rattle.std.proofs.lemmas.Bool.{and_from, and_parts}
 use Rattle.std.proofs.lemmas.List.{map-append}
 use Rattle.clu_wir.specs.Rooms.{plus}
@@ -8,7 +8,7 @@ use Rattle.clu_frames.specs.Within.{are_within, is_within}
 use Rattle.clu_frames.specs.declared.flat.Flat.{Flat}
 use Rattle.clu_handlers.specs.declared.region.Region.{Region}
 use Rattle.clu_peep.specs.declared.places.Place.{Place}
-use Rattle.clu_peep.specs.Left.{Leaves, Removal, Removed, begins, marked, passed, places}
+use Rattle.clu_peep.specs.Left.{Leaves, Removal, Removed, begins, passed, places}
 use Rattle.clu_peep.specs.Peeped.{IsPeeped}
 
 abbrev pub steps_of : List Place → List Flat

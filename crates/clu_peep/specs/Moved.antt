@@ -1,5 +1,5 @@
 -- Where the bounds and targets of regions go, by the numbers of the places that are left.
-use Rattle.std.specs.Prelude.{◌≡◌, ℕ, suc, ◌+◌, Bool, if◌then◌else◌, nat_lt, List, [], ◌∷◌, map, take, Option, option_map}
+use Rattle.std.specs.Prelude.{◌≡◌, ℕ, suc, ◌+◌, Bool, if◌then◌else◌, nat_lt, List, [], ◌∷◌, map, take, option_map}
 use Rattle.std.specs.List.{AllZip, filter}
 use Rattle.clu_wir.specs.declared.region.Arm.{Arm}
 use Rattle.clu_handlers.specs.declared.region.Region.{Region}

@@ -1,6 +1,6 @@
 use Rattle.std.proofs.Common.{◌+◌, Bool, List, sym, subst}
 use Rattle.clu_handlers.specs.declared.region.Region.{Region}
-use Rattle.clu_peep.specs.Moved.{IsMoved, staying}
+use Rattle.clu_peep.specs.Moved.{IsMoved}
 use Rattle.clu_peep.proofs.Nesting.{MovedSoFar, may_add, moved_more}
 use Rattle.clu_peep.proofs.regions.moved_each.Goals as goal
 

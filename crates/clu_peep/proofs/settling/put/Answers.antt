@@ -1,4 +1,4 @@
-use Rattle.std.proofs.Common.{◌≡◌, ◌∙◌, Bool, false, true, IsTrue, List, ap, sym, subst}
+use Rattle.std.proofs.Common.{◌≡◌, ◌∙◌, false, true, IsTrue, List, ap, sym, subst}
 use Rattle.clu_peep.specs.declared.places.Place.{Place}
 use Rattle.clu_peep.specs.Left.{Adds, is_settled}
 use Rattle.clu_peep.specs.Lists.{at_last}

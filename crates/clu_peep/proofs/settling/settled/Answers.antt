@@ -12,7 +12,7 @@ loop-step-preserved c =
     let rest = next_item c.loop-step.step-iterator c.next.new.self c.next.result c.in-Some.step c.in-Some.is c.next.ensures.steps in
     let flag : c.if-is_passed.is_target ≡ (c.loop-step.is_passed || begins c.args.regions.now c.loop-step.number) =
     elim c.if-is_passed.branch [
-      | then-is_passed w ↦ w.is_target-is ∙ sym (ap (λ (b : Bool). b || begins c.args.regions.now c.loop-step.number) w.if-is_passed.true)
+      | then-is_passed w ↦ w.is_target-is ∙ w.if-is_passed.true ∙ sym (ap (λ (b : Bool). b || begins c.args.regions.now c.loop-step.number) w.if-is_passed.true)
       | else-is_passed w ↦ w.is_target-is ∙ w.begins-is_target.ensures ∙ sym (ap (λ (b : Bool). b || begins c.args.regions.now c.loop-step.number) w.if-is_passed.false)
     ] in
     settles_next (begins c.args.regions.now) c.args.code.items c.loop-step.left.items c.loop-step.is_passed c.loop-step.number c.in-Some.step
