@@ -1,7 +1,7 @@
 -- Items of lists, and of loops over vectors by value.
-use Rattle.std.proofs.Common.{◌≡◌, ℕ, zero, suc, ◌<◌, List, [], ◌∷◌, ◌++◌, length, take, get_or, Bool, true, false, Option, Some, None, is_some, unwrap_or, slice_get, refl, sym, ◌∙◌, ap, subst, arith}
+use Rattle.std.proofs.Common.{◌≡◌, ℕ, zero, suc, ◌<◌, List, [], ◌∷◌, ◌++◌, length, take, get_or, Bool, true, Option, Some, None, is_some, unwrap_or, slice_get, refl, sym, ◌∙◌, ap, subst, arith}
 use Rattle.std.proofs.lemmas.Bool.{false≢true}
-use Rattle.std.proofs.lemmas.List.{length_push, nil_from_length}
+use Rattle.std.proofs.lemmas.List.{length_push}
 use Rattle.std.specs.Vec.Iter.{into_iter_items, into_iter_steps}
 use Rattle.std.specs.declared.vec.IntoIter.{IntoIter}
 use Rattle.clu_peep.specs.Lists.{at_last}
@@ -21,9 +21,6 @@ at_last-push test (y ∷ z ∷ front) x = at_last-push test (z ∷ front) x
 
 pub at_last_of : {X : Type 0} (test : X → Bool) (xs front : List X) (x : X) → xs ≡ front ++ x ∷ [] → at_last test xs ≡ test x
 at_last_of test xs front x e = ap (at_last test) e ∙ at_last-push test front x
-
-pub at_last_none : {X : Type 0} (test : X → Bool) (xs : List X) → length xs ≡ 0 → at_last test xs ≡ false
-at_last_none test xs e = ap (at_last test) (nil_from_length xs e)
 
 pub last_found : {X : Type 0} (test : X → Bool) (xs : List X) → at_last test xs ≡ true → (front : List X) × (x : X) × (xs ≡ front ++ x ∷ []) × (test x ≡ true)
 last_found test [] e = absurd (false≢true e)
@@ -48,10 +45,6 @@ taken_below (y ∷ xs) (suc i) (suc p) x e = let lt = taken_below xs i p x e in 
 
 pub next_item : {A Z : Type 0} (s t : IntoIter A Z) (r : Option A) (x : A) → r ≡ Some x → into_iter_steps s r t → into_iter_items s ≡ x ∷ into_iter_items t
 next_item {A} {Z} s t r x is steps = (subst (λ (o : Option A). into_iter_steps s o t) is steps).0
-
-pub no_item : {A Z : Type 0} (s t : IntoIter A Z) (r : Option A) → r ≡ None → into_iter_steps s r t → into_iter_items s ≡ []
-no_item {A} {Z} s t r is steps =
-    nil_from_length (into_iter_items s) (sym s.rest.ok.0 ∙ (subst (λ (o : Option A). into_iter_steps s o t) is steps).0)
 
 pub one_less : {X : Type 0} (xs front after : List X) (x : X) → xs ≡ front ++ x ∷ [] → after ≡ front → length after < length xs
 one_less xs front after x is same =

@@ -1,4 +1,3 @@
-pub mod Conditions
 pub mod Items
 pub mod Nesting
 pub mod Passing

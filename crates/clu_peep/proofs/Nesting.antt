@@ -167,9 +167,6 @@ pub record MovedSoFar (left : List ℕ) (regions : List Region) (i : ℕ) (news 
   pub zip : AllZip (IsMoved left (staying left regions)) (filter (has_place left) (take i regions)) news
   pub count : length news ≤ i
 
-pub moved_none : (left : List ℕ) (regions : List Region) → MovedSoFar left regions 0 []
-moved_none left regions = record { zip = tt; count = omega arith }
-
 -- the region at a place may be added
 pub may_add : (left : List ℕ) (regions : List Region) (i : ℕ) (news : List Region) (r r' : Region)
     → MovedSoFar left regions i news → are_nested regions ≡ true → i < length regions → r ≡ get_or regions i r
@@ -212,15 +209,3 @@ moved_more left regions i news r r' so_far lt at has mr =
     length_with : (xs : List Region) (y : Region) → length (xs ++ y ∷ []) ≡ suc (length xs)
     length_with [] y = refl
     length_with (x ∷ xs) y = ap suc (length_with xs y)
-
-pub moved_same : (left : List ℕ) (regions : List Region) (i : ℕ) (news : List Region) (r : Region)
-    → MovedSoFar left regions i news → i < length regions → r ≡ get_or regions i r → has_place left r ≡ false
-    → MovedSoFar left regions (i + 1) news
-moved_same left regions i news r so_far lt at off =
-    let none : filter (has_place left) (r ∷ []) ≡ [] = ap (λ (b : Bool). cond b (r ∷ []) []) off in
-    record {
-      zip = subst (λ (l : List Region). AllZip (IsMoved left (staying left regions)) l news)
-          (sym (taken left regions i r lt at ∙ ap (λ (l : List Region). filter (has_place left) (take i regions) ++ l) none ∙ append-nil (filter (has_place left) (take i regions))))
-          so_far.zip;
-      count = omega (arith, so_far.count);
-    }

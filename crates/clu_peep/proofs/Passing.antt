@@ -1,6 +1,6 @@
 -- The pass over the places: what is left comes of them by rows, and no row is left.
-use Rattle.std.proofs.Common.{◌≡◌, ℕ, zero, suc, ◌+◌, List, [], ◌∷◌, ◌++◌, length, Bool, true, false, not, ◌&&◌, ◌||◌, IsTrue, Option, None, refl, sym, ◌∙◌, ap, subst, ⊎_elim, arith, append_assoc, append-nil, zero-add}
-use Rattle.std.proofs.lemmas.Bool.{and_from, and_parts, and_right, false≢true, not-true, not_from_false, or_cases, or_from, or_left, or_right}
+use Rattle.std.proofs.Common.{◌≡◌, ℕ, zero, suc, ◌+◌, List, [], ◌∷◌, ◌++◌, length, Bool, true, false, not, ◌&&◌, ◌||◌, IsTrue, Option, None, refl, sym, ◌∙◌, ap, subst, ⊎_elim, arith, append_assoc}
+use Rattle.std.proofs.lemmas.Bool.{and_from, and_parts, and_right, false≢true, not-true, not_from_false, or_cases, or_from, or_right}
 use Rattle.clu_wir.specs.declared.expression.WExpr.{WExpr, Slot}
 use Rattle.clu_frames.specs.declared.flat.Flat.{Flat}
 use Rattle.clu_frames.specs.declared.flat.Flat.TheVariants as flat
@@ -28,23 +28,6 @@ one_goes a b r = (suc zero, (a, refl, r))
 pub passed-false : (ps : List Place) → passed false ps ≡ ps
 passed-false [] = refl
 passed-false (y ∷ ps) = refl
-
--- A place that goes as it comes.
-
-pub adds_alone : (left : List Place) (x : Place) → goes_alone x ≡ true → Adds left x left x.is_target
-adds_alone left x e = λ back. one_goes (left ++ x ∷ back) (left ++ passed x.is_target back)
-    (record { front = left; gone = x; back = back; was = refl; is = refl; row = or_left (goes_alone x) (is_undone left x || is_useless x back) e })
-
-pub adds_undone : (left : List Place) (x : Place) → is_undone left x ≡ true → Adds left x left x.is_target
-adds_undone left x e = λ back. one_goes (left ++ x ∷ back) (left ++ passed x.is_target back)
-    (record {
-      front = left;
-      gone = x;
-      back = back;
-      was = refl;
-      is = refl;
-      row = or_right (goes_alone x) (is_undone left x || is_useless x back) (or_left (is_undone left x) (is_useless x back) e);
-    })
 
 -- What makes the place before it go is no move.
 
@@ -114,12 +97,6 @@ pub record PutsSoFar (before : List Place) (first : Place) (left : List Place) (
   pub leaves : (back : List Place) → Leaves (before ++ first ∷ back) (left ++ y ∷ back)
   pub settled : goes_alone first ≡ false → is_undone before first ≡ false → IsTrue (is_settled before) → (goes_alone y ≡ false) × (is_undone left y ≡ false) × (is_settled left ≡ true)
 
-pub puts_first : (before : List Place) (first : Place) → PutsSoFar before first before first
-puts_first before first = record {
-  leaves = λ back. (zero, refl);
-  settled = λ alone undone s. (alone, undone, s);
-}
-
 -- the last place goes
 pub puts_next : (before : List Place) (first : Place) (left : List Place) (y : Place) (front : List Place) (x : Place) → PutsSoFar before first left y → left ≡ front ++ x ∷ [] → goes_first x y ≡ true → PutsSoFar before first front (marked x.is_target y)
 puts_next before first left y front x so_far is useless = record {
@@ -161,13 +138,6 @@ pub record SettlesSoFar (targets : ℕ → Bool) (code : List Flat) (left : List
   pub settled : IsTrue (is_settled left)
   pub count : number + length rest ≡ length code
 
-pub settles_first : (targets : ℕ → Bool) (code : List Flat) → SettlesSoFar targets code [] false 0 code
-settles_first targets code = record {
-  leaves = (zero, sym (passed-false (places targets 0 code)));
-  settled = refl;
-  count = zero-add (length code);
-}
-
 pub settles_next : (targets : ℕ → Bool) (code : List Flat) (left : List Place) (mark : Bool) (number : ℕ) (step : Flat) (rest : List Flat) (after : List Place) (next : Bool)
     → SettlesSoFar targets code left mark number (step ∷ rest)
     → Adds left (record { step = step; number = number; is_target = mark || targets number }) after next
@@ -178,7 +148,3 @@ settles_next targets code left mark number step rest after next so_far adds keep
   settled = keeps so_far.settled;
   count = omega (arith, so_far.count);
 }
-
-pub settles_end : (targets : ℕ → Bool) (code : List Flat) (left : List Place) (mark : Bool) (number : ℕ) → SettlesSoFar targets code left mark number [] → Leaves (places targets 0 code) left
-settles_end targets code left mark number so_far =
-    subst (λ (l : List Place). Leaves (places targets 0 code) l) (append-nil left) so_far.leaves
