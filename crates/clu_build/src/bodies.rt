@@ -6,11 +6,13 @@ ghost use Rattle.clu_build.specs.Refusals.{IsInner};
 use crate::errors::BuildError;
 use clu_base::{Bytes, Sequence, Token};
 use clu_core::Checked;
-use clu_frames::flatten;
+use clu_frames::{FlatRoutine, flatten};
 use clu_handlers::Regions;
 use clu_library::Body;
 use clu_lower_ctl::lower;
 use clu_object::{ObjRoutine, Object, copy_texts};
+use clu_peep::{Peeped, is_flattened, peep};
+use clu_wir::WRoutine;
 use rv_select::select;
 use std::alloc::Global;
 
@@ -21,7 +23,7 @@ pub struct Text<'a> {
     pub tokens: &'a [Token],
 }
 
-/// The body of a module with this source, which names these other modules.
+/// The body of a module with this source, which names these other modules. Its code is shortened if `peep` is true.
 pub fn body_of(
     alloc: Global,
     c: &Checked,
@@ -29,6 +31,7 @@ pub fn body_of(
     name: &Bytes,
     names: &[Bytes],
     source: &[u8],
+    peep: bool,
 ) -> Result<Body, BuildError>
     ensures refused { IfErr result IsInner }
 {
@@ -36,7 +39,7 @@ pub fn body_of(
         text: Bytes::from_slice(alloc, source)?,
         names: Some(copy_texts(alloc, names)?),
         checked: 0,
-        object: object_of(alloc, c, module, name)?,
+        object: object_of(alloc, c, module, name, peep)?,
     })
 }
 
@@ -66,24 +69,57 @@ fn between(bytes: &[u8], start: usize, end: usize) -> Result<&[u8], BuildError>
 }
 
 /// The code of a module.
-fn object_of(alloc: Global, c: &Checked, module: u32, name: &Bytes) -> Result<Object, BuildError>
+fn object_of(
+    alloc: Global,
+    c: &Checked,
+    module: u32,
+    name: &Bytes,
+    peep: bool,
+) -> Result<Object, BuildError>
     ensures refused { IfErr result IsInner }
 {
     Ok(Object {
         module: name.copy(alloc)?,
-        routines: Sequence::from_vec(routines_of(alloc, c, module)?),
+        routines: Sequence::from_vec(routines_of(alloc, c, module, peep)?),
     })
 }
 
 #[tactic(auto, using(crate::proofs::Refusals::bodies))]
-fn routines_of(alloc: Global, c: &Checked, module: u32) -> Result<Vec<ObjRoutine>, BuildError>
+fn routines_of(
+    alloc: Global,
+    c: &Checked,
+    module: u32,
+    peep: bool,
+) -> Result<Vec<ObjRoutine>, BuildError>
     ensures refused { IfErr result IsInner }
 {
     let mut routines = Vec::new(alloc);
     for routine in lower(alloc, c, module)? {
-        let mut regions = Regions::new(alloc);
-        let flat = flatten(alloc, &routine, &mut regions)?;
-        routines.push(select(alloc, &flat, &regions)?)?;
+        routines.push(routine_of(alloc, &routine, peep)?)?;
     }
     Ok(routines)
+}
+
+#[tactic(auto, using(crate::proofs::Refusals::bodies))]
+fn routine_of(alloc: Global, routine: &WRoutine, peep: bool) -> Result<ObjRoutine, BuildError>
+    ensures refused { IfErr result IsInner }
+{
+    let mut regions = Regions::new(alloc);
+    let flat = flatten(alloc, routine, &mut regions)?;
+    if peep {
+        return shorter(alloc, flat, &regions);
+    }
+    Ok(select(alloc, &flat, &regions)?)
+}
+
+/// The code of a routine in shorter flat code. No contract shows yet that it can be shortened: it is tested.
+#[tactic(auto, using(crate::proofs::Refusals::bodies))]
+fn shorter(alloc: Global, flat: FlatRoutine, regions: &Regions) -> Result<ObjRoutine, BuildError>
+    ensures refused { IfErr result IsInner }
+{
+    if !is_flattened(alloc, flat.code.as_slice(), regions.as_slice())? {
+        return Err(BuildError::NotYet);
+    }
+    let Peeped { flat, regions } = peep(alloc, flat, regions)?;
+    Ok(select(alloc, &flat, &regions)?)
 }

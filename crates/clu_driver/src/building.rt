@@ -20,24 +20,30 @@ use std::alloc::Global;
 /// The module with which a program starts.
 const START: &str = "start_up";
 
-/// The image of an accepted file.
+/// The image of an accepted file, by shorter code if `peep` is true.
 pub fn image_of_modules<'a>(
     alloc: Global,
     text: Text<'_>,
     c: &Checked,
+    peep: bool,
 ) -> Result<Image, Outcome<'a>>
     ensures { IfErr result (λ how. NotBuilt how (take (length (modules c.now.tree)) c.now.specs.items)) }
 {
-    match library_of(alloc, text, c) {
+    match library_of(alloc, text, c, peep) {
         Ok(library) => image_from(alloc, &library, own_specs(c)),
         Err(error) => Err(refusal_of_file(&error)),
     }
 }
 
 /// The library in which nothing is kept but the modules of the file.
-fn library_of(alloc: Global, text: Text<'_>, c: &Checked) -> Result<Box<Library>, BuildError> {
+fn library_of(
+    alloc: Global,
+    text: Text<'_>,
+    c: &Checked,
+    peep: bool,
+) -> Result<Box<Library>, BuildError> {
     let mut library = Box::new(alloc, Library::empty(alloc))?;
-    enter_file(alloc, &mut library, text, c)?;
+    enter_file(alloc, &mut library, text, c, peep)?;
     Ok(library)
 }
 

@@ -27,12 +27,13 @@ use clu_words::RunLimits;
 use rv_isa::Image;
 use std::alloc::Global;
 
-/// Compiles the source `file` into the image file `image` and runs that image.
+/// Compiles the source `file` into the image file `image`, by shorter code if `peep` is true, and runs that image.
 pub fn go<S: Source, K: Sink, E: Sink, F: Store>(
     alloc: Global,
     file: &str,
     image: &str,
     limits: RunLimits,
+    peep: bool,
     input: &mut S,
     output: &mut K,
     errors: &mut E,
@@ -43,7 +44,7 @@ pub fn go<S: Source, K: Sink, E: Sink, F: Store>(
         (world_of (F.files files.new) (F.faults files.new) (streams_of (S.left input.new) (S.faults input.new) (K.written output.new) (K.faults output.new))))
         result (E.written errors.old) (E.written errors.new) (E.faults errors.old) (E.faults errors.new) }
 {
-    match compiled(alloc, file, files) {
+    match compiled(alloc, file, peep, files) {
         Ok(compiled) => put_and_run(
             alloc, image, &compiled, limits, input, output, errors, files,
         ),
@@ -74,14 +75,19 @@ fn put_and_run<S: Source, K: Sink, E: Sink, F: Store>(
 }
 
 // The image of the source file.
-fn compiled<'a, F: Store>(alloc: Global, file: &'a str, files: &mut F) -> Result<Image, Outcome<'a>>
+fn compiled<'a, F: Store>(
+    alloc: Global,
+    file: &'a str,
+    peep: bool,
+    files: &mut F,
+) -> Result<Image, Outcome<'a>>
     ensures counts { F.faults files.old ≤ F.faults files.new }
     ensures kept { F.files files.new ≡ F.files files.old }
     ensures accepted { OnOk result (IsFound (F.files files.old) file.now IsAccepted) }
     ensures refused { IfErr result (λ how. NotCompiled how file.now (F.files files.old) (F.faults files.old) (F.faults files.new)) }
 {
     match parse_file(alloc, file, files) {
-        Ok(source) => match image_of(alloc, file, source) {
+        Ok(source) => match image_of(alloc, file, source, peep) {
             Ok(image) => Ok(image),
             Err(how) => Err(how),
         },
@@ -90,7 +96,12 @@ fn compiled<'a, F: Store>(alloc: Global, file: &'a str, files: &mut F) -> Result
 }
 
 // The image of a source.
-fn image_of<'a>(alloc: Global, name: &'a str, source: Parsed) -> Result<Image, Outcome<'a>>
+fn image_of<'a>(
+    alloc: Global,
+    name: &'a str,
+    source: Parsed,
+    peep: bool,
+) -> Result<Image, Outcome<'a>>
     ensures accepted { OnOk result (All (IsClosedAt source.tree) (modules source.tree)) }
     ensures refused { IfErr result (λ how. NotMade how name.now source.tree) }
 {
@@ -100,7 +111,7 @@ fn image_of<'a>(alloc: Global, name: &'a str, source: Parsed) -> Result<Image, O
         tree,
     } = source;
     match checked(alloc, name, tree, &Specs::new(alloc)) {
-        Ok(checked) => built(alloc, &bytes, &tokens, &checked),
+        Ok(checked) => built(alloc, &bytes, &tokens, &checked, peep),
         Err(how) => Err(how),
     }
 }
@@ -111,10 +122,11 @@ fn built<'a>(
     bytes: &[u8],
     tokens: &[Token],
     c: &Checked,
+    peep: bool,
 ) -> Result<Image, Outcome<'a>>
     ensures { IfErr result (λ how. NotBuilt how (take (length (modules c.now.tree)) c.now.specs.items)) }
 {
-    image_of_modules(alloc, Text { bytes, tokens }, c)
+    image_of_modules(alloc, Text { bytes, tokens }, c, peep)
 }
 
 /// Puts the image under its name. The outcomes are `FileFault` and `Memory`.

@@ -16,11 +16,12 @@ use clu_library::Library;
 use clu_outcome::report;
 use std::alloc::Global;
 
-/// Compiles the source `file` into the library `library`.
+/// Compiles the source `file` into the library `library`, by shorter code if `peep` is true.
 pub fn compile<E: Sink, F: Store>(
     alloc: Global,
     library: &str,
     file: &str,
+    peep: bool,
     errors: &mut E,
     files: &mut F,
 ) -> u8
@@ -28,7 +29,7 @@ pub fn compile<E: Sink, F: Store>(
         result (E.written errors.old) (E.written errors.new) (E.faults errors.old) (E.faults errors.new) }
 {
     match gather(alloc, library, file, files) {
-        Ok(gathered) => compile_source(alloc, library, file, gathered, errors, files),
+        Ok(gathered) => compile_source(alloc, library, file, gathered, peep, errors, files),
         Err(how) => report(errors, &how),
     }
 }
@@ -39,6 +40,7 @@ fn compile_source<E: Sink, F: Store>(
     name: &str,
     file: &str,
     gathered: Gathered,
+    peep: bool,
     errors: &mut E,
     files: &mut F,
 ) -> u8
@@ -59,7 +61,16 @@ fn compile_source<E: Sink, F: Store>(
         tokens: &tokens,
     };
     match checked(alloc, file, tree, library.specs()) {
-        Ok(checked) => enter_and_put(alloc, name, &mut library, text, &checked, errors, files),
+        Ok(checked) => enter_and_put(
+            alloc,
+            name,
+            &mut library,
+            text,
+            &checked,
+            peep,
+            errors,
+            files,
+        ),
         Err(how) => report(errors, &how),
     }
 }
@@ -71,13 +82,14 @@ fn enter_and_put<E: Sink, F: Store>(
     library: &mut Library,
     text: Text<'_>,
     checked: &Checked,
+    peep: bool,
     errors: &mut E,
     files: &mut F,
 ) -> u8
     ensures told { Reported (λ how. EnteredShows how name.now (F.files files.old) (F.faults files.old) (F.files files.new) (F.faults files.new))
         result (E.written errors.old) (E.written errors.new) (E.faults errors.old) (E.faults errors.new) }
 {
-    match enter_file(alloc, library, text, checked) {
+    match enter_file(alloc, library, text, checked, peep) {
         Ok(()) => put_library(alloc, name, library, errors, files),
         Err(error) => report(errors, &refusal_of(&error)),
     }

@@ -90,9 +90,11 @@ fn run_command<S: Source, K: Sink, E: Sink, F: Store>(
             file,
             image,
             limits,
-            peep: _,
+            peep,
             trace: _,
-        } => go(alloc, file, image, limits, input, output, errors, files),
+        } => go(
+            alloc, file, image, limits, peep, input, output, errors, files,
+        ),
         Command::Exec { image, limits } => {
             exec(alloc, image, limits, input, output, errors, files)
         }
@@ -109,8 +111,8 @@ fn run_command<S: Source, K: Sink, E: Sink, F: Store>(
         Command::Compile {
             library,
             file,
-            peep: _,
-        } => compile(alloc, library, file, errors, files),
+            peep,
+        } => compile(alloc, library, file, peep, errors, files),
         Command::Link {
             library,
             program,

@@ -1,7 +1,7 @@
 //! What `go` makes of files with iterators, and what the programs do.
 
 /// How many rows `ITERATOR_FILES` has.
-pub const ITERATOR_COUNT: usize = 17;
+pub const ITERATOR_COUNT: usize = 22;
 
 /// Rows as those of `go_rows`.
 pub const ITERATOR_FILES: &str = "\
@@ -101,4 +101,23 @@ pub const ITERATOR_FILES: &str = "\
     list[int]$some(l, even) do end except when none (n: any): @#force[int](n))) end if l = m then @\"meet\") end \
     list[int]$add(m, 1) i: itertype (list[int]) yields (int) := list[int]$all for x: int in i(m) do @#x)) end if \
     array[list[int]]$similar1(array[list[int]]$[l], array[list[int]]$[m]) then @\"similar\") end end start_up\0\
+    go --peep a b\t\t0\tcaller\n\t\tit = iter (a: array[int]) yields (int) yield (1) except when bounds: @\"iterator\") end \
+    end it start_up = proc () a: array[int] := array[int]$new() for x: int in it(a) do y: int := a[x] end except when \
+    bounds: @\"caller\") end end start_up\0\
+    go --peep a b\t\t0\t300000\n\t\tstart_up = proc () n: int := 0 for i: int in int$from_to(1, 100000) do for j: int in \
+    int$from_to(1, 3) do n := n + j if j = 2 then break end end end @#n)) end start_up\0\
+    go a b --peep\t\t0\t26\n0\n\t\tfind = proc (k: int) returns (int) for i: int in int$from_to(1, 9) do for j: int in \
+    int$from_to(1, 9) do if i * j = k then return (10 * i + j) end end end return (0) end find start_up = proc () \
+    @#find(12))) @#find(11))) end start_up\0\
+    go a --peep b\tthe cat\nthe dog\ncat the\n\t0\tthe 3\ncat 2\ndog 1\n\t\tcounts = cluster [t: type] is create, add, all \
+    where t has equal: proctype (t, t) returns (bool) item = record [key: t, n: int] rep = array[item] create = proc () \
+    returns (cvt) return (rep$new()) end create add = proc (c: cvt, k: t) for i: item in rep$elements(c) do if i.key = k \
+    then i.n := i.n + 1 return end end rep$addh(c, item${key: k, n: 1}) end add all = iter (c: cvt) yields (t, int) for i: \
+    item in rep$elements(c) do yield (i.key, i.n) end end all end counts words = iter (s: stream) yields (string) w: string \
+    := \"\" while true do c: char := stream$getc(s) if c = ' ' | c = '\\n' then if w ~= \"\" then yield (w) end w := \"\" \
+    else w := string$append(w, c) end end except when end_of_file: if w ~= \"\" then yield (w) end end end words start_up = \
+    proc () c: counts[string] := counts[string]$create() for w: string in words(stream$primary_input()) do \
+    counts[string]$add(c, w) end for w: string, n: int in counts[string]$all(c) do @w || \" \" || #n)) end end start_up\0\
+    go --peep a b\t\t0\t1\n2\ne\n\t\tp = proc (i: int) signals (e) if i = 3 then signal e end @#i)) end p start_up = proc \
+    () for i: int in int$from_to(1, 3) do p(i) continue end except when e: @\"e\") end end start_up\0\
 ";

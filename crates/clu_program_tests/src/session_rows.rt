@@ -1,7 +1,7 @@
 //! Sessions of the commands on libraries.
 
 /// How many sessions `SESSIONS` has.
-pub const SESSION_COUNT: usize = 10;
+pub const SESSION_COUNT: usize = 11;
 
 /// Sessions in the form of `sessions`, each ended by byte 0.
 pub const SESSIONS: &str = "\
@@ -256,5 +256,20 @@ $ replace L more.clu\n\
 = 21\n\
 $ replace L one.clu\n\
 $ spec L one.clu\n\
+\0\
+file a.clu\n\
+|^ p = proc () returns (int) n: int := 1 n := 2 n := 3 while true do if n = 3 then break end end return (n) end p start_up = proc () @#p())) end start_up\n\
+$ compile L a.clu\n\
+$ compile --peep M a.clu\n\
+$ link L g start_up\n\
+$ link M g start_up\n\
+$ compile --peep L a.clu\n\
+$ run L g\n\
+> 3\n\
+$ run M g\n\
+> 3\n\
+$ compile M a.clu\n\
+$ run M g\n\
+> 3\n\
 \0\
 ";

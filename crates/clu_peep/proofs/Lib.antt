@@ -1,0 +1,5 @@
+pub mod Items
+pub mod Nesting
+pub mod Passing
+pub mod Placed
+pub mod Shorter

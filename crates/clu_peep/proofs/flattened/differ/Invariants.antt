@@ -1,0 +1,10 @@
+use Rattle.std.proofs.Common.{◌≡◌, length}
+use Rattle.clu_peep.specs.Lists.{differ}
+use Rattle.clu_peep.proofs.flattened.differ.Given as goal
+
+-- the labels that are left decide
+abbrev pub invariant-loop-labels : goal.invariant-loop-labels
+invariant-loop-labels l = differ l.labels ≡ differ l.initial.labels
+
+abbrev pub decreases-loop-labels : goal.decreases-loop-labels
+decreases-loop-labels l = length l.labels

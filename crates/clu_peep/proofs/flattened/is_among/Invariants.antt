@@ -1,0 +1,7 @@
+use Rattle.std.proofs.Common.{◌≡◌, drop}
+use Rattle.clu_peep.specs.Lists.{is_among}
+use Rattle.clu_peep.proofs.flattened.is_among.Given as goal
+
+-- the labels that are left decide
+abbrev pub invariant-loop-each : goal.invariant-loop-each
+invariant-loop-each l = is_among l.label l.labels ≡ is_among l.label (drop l.each-index l.labels)

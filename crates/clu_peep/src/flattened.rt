@@ -1,0 +1,157 @@
+//! Whether flat code and its regions can be shortened.
+
+ghost use Rattle.std.specs.Prelude.{◌≡◌, ◌↔◌, ◌++◌, IfOk, IsTrue, OnOk, length, nat_lt, not};
+ghost use Rattle.std.specs.List.{list_all};
+ghost use Rattle.std.specs.Option.{option_to_list};
+ghost use Rattle.clu_wir.specs.declared.region.Arm.{Arm};
+ghost use Rattle.clu_frames.specs.declared.flat.Flat.{Flat};
+ghost use Rattle.clu_peep.specs.Flattened.{Flattened, is_flattened, is_known, is_placed, labels_of};
+ghost use Rattle.clu_peep.specs.Lists.{at_last, differ, is_among};
+ghost use Rattle.clu_peep.specs.Steps.{goes_on, label_of};
+
+use crate::loops::are_loops;
+use crate::steps::{goes_on, label_of, target_of};
+use clu_base::Memory;
+use clu_frames::Flat;
+use clu_handlers::Region;
+use clu_wir::Arm;
+use std::alloc::Global;
+
+/// How many places 32 bits number.
+const PLACES: u64 = 1 << 32;
+
+/// Whether flat code with these regions can be shortened. The only error is that memory runs out.
+pub fn is_flattened(alloc: Global, code: &[Flat], regions: &[Region]) -> Result<bool, Memory>
+    ensures { IfOk result (λ holds. IsTrue holds ↔ Flattened code.now regions.now) }
+{
+    let labels = labels(alloc, code)?;
+    Ok(holds(code, regions, labels.as_slice()))
+}
+
+/// The same, where the labels of the code are these.
+fn holds(code: &[Flat], regions: &[Region], labels: &[u32]) -> bool
+    requires { labels.now ≡ labels_of code.now }
+    ensures { result ≡ is_flattened code.now regions.now }
+{
+    if code.len() as u64 >= PLACES {
+        return false;
+    }
+    if !differ(labels) {
+        return false;
+    }
+    if !all_known(labels, code) {
+        return false;
+    }
+    if !all_placed(code.len(), regions) {
+        return false;
+    }
+    if !ends(code) {
+        return false;
+    }
+    are_loops(code)
+}
+
+/// The labels of code, in their order.
+fn labels(alloc: Global, code: &[Flat]) -> Result<Vec<u32>, Memory>
+    ensures { IfOk result (λ labels. labels.items ≡ labels_of code.now) }
+{
+    let mut labels = Vec::new(alloc);
+    for step in code {
+        push_label(&mut labels, step)?;
+    }
+    Ok(labels)
+}
+
+fn push_label(labels: &mut Vec<u32>, step: &Flat) -> Result<(), Memory>
+    ensures { OnOk result (labels.new.items ≡ labels.old.items ++ option_to_list (label_of step.now)) }
+{
+    match label_of(step) {
+        Some(label) => Ok(labels.push(label)?),
+        None => Ok(()),
+    }
+}
+
+/// Whether no label stands twice.
+fn differ(mut labels: &[u32]) -> bool
+    ensures { result ≡ differ labels.entry.now }
+{
+    while let [label, rest @ ..] = labels {
+        if is_among(rest, *label) {
+            return false;
+        }
+        labels = rest;
+    }
+    true
+}
+
+fn is_among(labels: &[u32], label: u32) -> bool
+    ensures { result ≡ is_among label labels.now }
+{
+    for each in labels {
+        if *each == label {
+            return true;
+        }
+    }
+    false
+}
+
+/// Whether each label that a step names is among these.
+fn all_known(labels: &[u32], code: &[Flat]) -> bool
+    ensures { result ≡ list_all (is_known labels.now) code.now }
+{
+    for step in code {
+        if !is_known(labels, step) {
+            return false;
+        }
+    }
+    true
+}
+
+fn is_known(labels: &[u32], step: &Flat) -> bool
+    ensures { result ≡ is_known labels.now step.now }
+{
+    match target_of(step) {
+        Some(label) => is_among(labels, label),
+        None => true,
+    }
+}
+
+/// Whether the bounds and targets of regions are among so many places.
+fn all_placed(count: usize, regions: &[Region]) -> bool
+    ensures { result ≡ list_all (is_placed count) regions.now }
+{
+    for region in regions {
+        if !is_placed(count, region) {
+            return false;
+        }
+    }
+    true
+}
+
+fn is_placed(count: usize, region: &Region) -> bool
+    ensures { result ≡ is_placed count region.now }
+{
+    (region.first as usize) < count
+        && ((region.last as usize) < count && are_targets(count, region.arms.as_slice()))
+}
+
+fn are_targets(count: usize, arms: &[Arm]) -> bool
+    ensures { result ≡ list_all (λ (a : Arm). nat_lt a.target count) arms.now }
+{
+    for arm in arms {
+        if arm.target as usize >= count {
+            return false;
+        }
+    }
+    true
+}
+
+/// Whether the last place goes on to no next one.
+fn ends(code: &[Flat]) -> bool
+    ensures { result ≡ at_last (λ (step : Flat). not (goes_on step)) code.now }
+{
+    match code.split_last() {
+        Some((last, _)) => !goes_on(last),
+        None => false,
+    }
+}
