@@ -342,7 +342,7 @@ module _ (program : Program) where
     subseq_fits base os typed suits = suited_three program base (sequence_of t) (sequence_of t) int_type int_type os _ typed suits (λ s b d ts tb td ss sb sd. opened base s _ ts ss (λ xs each.
         fitting_int program base b _ (λ i. fitting_int program base d _ (λ n. fitting_signals_if program base _ _ _ (fitting_or_signals program base _ _ _ (λ rest e.
         fitting_new_sequence program base t (take (count_of n) rest) (taken_held program base t (length xs) (count_of n) rest
-        (if_found (Held program base t (length xs)) _ rest e (left_held program base t (length xs) xs (i -ℤ pos 1) (each, same (length xs))))).0)))))
+        (if_found (Held program base t (length xs)) _ rest e (left_held program base t (length xs) xs (i -ℤ pos 1) (each, same (length xs))))).0))))))
 
     a2s_fits : FitsHeaded (sequence_of t) (operation (sequence_of t) (codes "a2s")) (sequence_a2s t)
     a2s_fits base os typed suits = suited_one program base (sequence_of t) (array_of t) os _ typed suits (λ r tr sr. fitting_array program base r _ tr (λ cells l c a kind is cell.

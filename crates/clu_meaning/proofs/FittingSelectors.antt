@@ -90,8 +90,8 @@ module _ (program : Program) where
       let same : gs ≡ fs = ap fields_in (sym is ∙ argument_is (struct_of fs) (own_type a) (struct_of fs) refl refl refl sa) in
       fitting_needed program base _ _ (λ ys e.
       let parts = if_found (Parts program base gs) _ ys e (replaced_parts program base gs s y xs ty
-          (subst (λ hs. fits_in (type_of_selector hs s) y ≡ true) (sym same) (subst (λ u. fits_in u y ≡ true) (sym type) (suits_fits (struct_of fs) (own_type y) t refl sy)))
-          (parts_from program base gs xs all fit)) in
+      (subst (λ hs. fits_in (type_of_selector hs s) y ≡ true) (sym same) (subst (λ u. fits_in u y ≡ true) (sym type) (suits_fits (struct_of fs) (own_type y) t refl sy)))
+      (parts_from program base gs xs all fit)) in
       fitting_new_struct program base gs ys (parts_typed program base gs ys parts) (parts_fit program base gs ys parts)))))
 
   structs_fit : (fs : Fields) (s : List ℕ) → AllFitting program (struct_of fs) (operation (struct_of fs)) (struct_selected s)
@@ -112,8 +112,8 @@ module _ (program : Program) where
       let same : gs ≡ fs = ap fields_in (sym is ∙ argument_is (record_of fs) (own_type r) (record_of fs) refl refl refl sr) in
       fitting_needed program cells _ _ (λ ys e.
       let parts = if_found (Parts program cells gs) _ ys e (replaced_parts program cells gs s y xs (typed_on program base cells l y ty)
-          (subst (λ hs. fits_in (type_of_selector hs s) y ≡ true) (sym same) (subst (λ u. fits_in u y ≡ true) (sym type) (suits_fits (record_of fs) (own_type y) t refl sy)))
-          (parts_from program cells gs xs cell.0 cell.1)) in
+      (subst (λ hs. fits_in (type_of_selector hs s) y ≡ true) (sym same) (subst (λ u. fits_in u y ≡ true) (sym type) (suits_fits (record_of fs) (own_type y) t refl sy)))
+      (parts_from program cells gs xs cell.0 cell.1)) in
       fitting_changes program cells c (record_cell gs ys) gives_nothing kind (parts_typed program cells gs ys parts, parts_fit program cells gs ys parts) (fitting_gives program cells [] tt)))))
 
   record_copy1_fits : Always program record_copy1

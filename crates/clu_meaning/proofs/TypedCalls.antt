@@ -36,6 +36,18 @@ module _ (program : Program) (outer inner : Round) {A B : Type 0} (P : List Cell
       ((i st.world.cells k.1 e k.2).at turns (record st { frame = g st.frame }) (back st k.0 k.1) (longer_refl st.world.cells))
   left_good f u base back (out_of_turns st) k h i = tt
 
+-- at the inner place, with its frame
+module _ (program : Program) (inner : Round) {A : Type 0} (P : List Cell → A → Type 0) (change : Frame → Frame) (m : Computation A) where
+  entered_good : (i : Instance) (n turns : ℕ) (st : State) → Typed program inner (record st { frame = change st.frame }) → Stays program inner st.world.cells P m →
+      Good program inner st.world.cells P (enters i n (with_frame change m) turns st)
+  unfolding enters with_frame
+  entered_good i n turns st t h = h.at turns _ (record { cells = t.cells; frame = t.frame; owns = t.owns }) (longer_refl st.world.cells)
+
+  deeper_good : (n turns : ℕ) (st : State) → Typed program inner (record st { frame = change st.frame }) → Stays program inner st.world.cells P m →
+      Good program inner st.world.cells P (goes_deeper n (with_frame change m) turns st)
+  unfolding goes_deeper with_frame
+  deeper_good n turns st t h = h.at turns _ (record { cells = t.cells; frame = t.frame; owns = t.owns }) (longer_refl st.world.cells)
+
 -- ---- how a routine ends
 
 module _ (program : Program) (round : Round) (base : List Cell) where
@@ -116,12 +128,14 @@ module _ (program : Program) (low : Level) (lows : LevelStays program low) where
     -- ---- the setting up of own variables, as calls
 
     stays_calls_set_up : (r : Running) → Fine program r → (base : List Cell) → Stays program round base Done (calls_set_up low r)
-    unfolding sees_frame sees_stack either_way enters with_frame
+    unfolding sees_frame sees_stack either_way
     stays_calls_set_up r fine base = stays_spends program round base Done _ (record {
       at = λ turns st t l. good_from program round Done base st.world.cells _ l (left_good program round (in_procedure r) Done Done (λ f. st.frame)
           (λ done. leaves st.stack (gives tt)) (λ e. leaves st.stack (set_up_ending e)) st.world.cells
-          (λ now k longer. record { cells = k.cells; frame = frame_on program st.world.cells now.world.cells longer round st.frame t.frame; owns = k.owns }) _
-          ((lows (in_procedure r) fine r.definition.body st.world.cells).at turns _ (record { cells = t.cells; frame = λ n. tt; owns = t.owns }) (longer_refl st.world.cells))
+          (λ now k longer. record { cells = k.cells; frame = frame_on program st.world.cells now.world.cells longer round st.frame t.frame; owns = k.owns })
+          (enters r.instance (call_words r.definition.count) (with_frame (λ f. new_frame) (low (in_procedure r) r.definition.body)) turns st)
+          (entered_good program (in_procedure r) Done (λ f. new_frame) (low (in_procedure r) r.definition.body) r.instance (call_words r.definition.count) turns st
+          (record { cells = t.cells; frame = λ n. tt; owns = t.owns }) (lows (in_procedure r) fine r.definition.body st.world.cells))
           (λ cells longer done d. stays_leaves program round cells Done _ _ (stays_gives program round cells Done tt (λ more k. tt)))
           (λ cells longer e f. stays_leaves program round cells Done _ _ (stays_set_up_ending program round cells e f)));
     })
@@ -147,13 +161,14 @@ module _ (program : Program) (low : Level) (lows : LevelStays program low) where
 
   pub stays_calls : (round : Round) (r : Running) → Fine program r → (base : List Cell) (os : List Object) → AllTyped program base os →
       Stays program round base (Objects program round) (calls low r os)
-  unfolding sees_frame sees_stack either_way enters with_frame
+  unfolding sees_frame sees_stack either_way
   stays_calls round r fine base os typed = stays_need program round base (Objects program round) _ _ (λ is. stays_spends program round base (Objects program round) _ (record {
     at = λ turns st t l. good_from program round (Objects program round) base st.world.cells _ l (left_good program round (in_procedure r) Done (Objects program round) (λ f. st.frame)
         (λ done. leaves st.stack (without_return r.definition.results)) (λ e. leaves st.stack (procedure_ending e)) st.world.cells
-        (λ now k longer. record { cells = k.cells; frame = frame_on program st.world.cells now.world.cells longer round st.frame t.frame; owns = k.owns }) _
-        ((stays_executes (in_procedure r) fine st.world.cells os (all_on program base st.world.cells l os typed)).at turns _
-        (record { cells = t.cells; frame = λ n. tt; owns = t.owns }) (longer_refl st.world.cells))
+        (λ now k longer. record { cells = k.cells; frame = frame_on program st.world.cells now.world.cells longer round st.frame t.frame; owns = k.owns })
+        (enters r.instance (call_words r.definition.count) (with_frame (λ f. new_frame) (executes low (in_procedure r) os)) turns st)
+        (entered_good program (in_procedure r) Done (λ f. new_frame) (executes low (in_procedure r) os) r.instance (call_words r.definition.count) turns st
+        (record { cells = t.cells; frame = λ n. tt; owns = t.owns }) (stays_executes (in_procedure r) fine st.world.cells os (all_on program base st.world.cells l os typed)))
         (λ cells longer done d. stays_leaves program round cells (Objects program round) _ _ (stays_without_return program round cells r.definition.results))
         (λ cells longer e f. stays_leaves program round cells (Objects program round) _ _ (stays_procedure_ending program round cells e f)));
   }))
@@ -162,13 +177,15 @@ module _ (program : Program) (low : Level) (lows : LevelStays program low) where
 
   pub stays_iterates : (round : Round) → Stands program round → (r : Running) → Fine program r → (base : List Cell) (os : List Object) (body : Statements) (declared : ℕ) (xs : List Variable) →
       AllTyped program base os → Stays program round base Done (iterates low r os body declared xs round)
-  unfolding sees_stack either_way enters with_frame
+  unfolding sees_stack either_way
   stays_iterates round stands r fine base os body declared xs typed = stays_need program round base Done _ _ (λ is. stays_spends program round base Done _ (record {
     at = λ turns st t l. good_from program round Done base st.world.cells _ l (left_good program round (in_iterator r body declared xs round) Done Done caller_of
         (λ done. leaves st.stack (gives tt)) (λ e. leaves st.stack (loop_ending e)) st.world.cells
-        (λ now k longer. record { cells = k.cells; frame = k.frame.1; owns = k.owns }) _
-        ((stays_executes (in_iterator r body declared xs round) (fine, stands) st.world.cells os (all_on program base st.world.cells l os typed)).at turns _
-        (record { cells = t.cells; frame = ((λ n. tt), t.frame); owns = t.owns }) (longer_refl st.world.cells))
+        (λ now k longer. record { cells = k.cells; frame = k.frame.1; owns = k.owns })
+        (enters r.instance (call_words r.definition.count) (with_frame called_from (executes low (in_iterator r body declared xs round) os)) turns st)
+        (entered_good program (in_iterator r body declared xs round) Done called_from (executes low (in_iterator r body declared xs round) os) r.instance (call_words r.definition.count) turns st
+        (record { cells = t.cells; frame = ((λ n. tt), t.frame); owns = t.owns })
+        (stays_executes (in_iterator r body declared xs round) (fine, stands) st.world.cells os (all_on program base st.world.cells l os typed)))
         (λ cells longer done d. stays_leaves program round cells Done _ _ (stays_gives program round cells Done tt (λ more k. tt)))
         (λ cells longer e f. stays_leaves program round cells Done _ _ (stays_loop_ending program round cells e f)));
   }))
@@ -180,19 +197,23 @@ module _ (program : Program) (low : Level) (lows : LevelStays program low) where
       (stays_assigned program caller (fine_here program caller stands).belongs base Done _ (lows caller stands body base) xs os typed)
 
   pub stays_yields : (round : Round) → Stands program round → (base : List Cell) (os : List Object) → AllTyped program base os → Stays program round base Done (yields low round os)
-  unfolding yields sees_frame sees_stack either_way goes_deeper with_frame
+  unfolding yields sees_frame sees_stack either_way
   stays_yields (in_procedure r) stands base os typed = stays_wrong program (in_procedure r) base Done
   stays_yields (in_iterator r body declared xs caller) stands base os typed =
-      stays_handed_out program (in_iterator r body declared xs caller) stands.0.home base Done r.definition.results os _ stands.0.heading.results typed (λ handed all.
-      stays_spends program (in_iterator r body declared xs caller) base Done _ (record {
-        at = λ turns st t l. good_from program (in_iterator r body declared xs caller) Done base st.world.cells _ l
-            (left_good program (in_iterator r body declared xs caller) caller Done Done (back_to st.frame.variables)
+      let round : Round = in_iterator r body declared xs caller in
+      stays_handed_out program round stands.0.home base Done r.definition.results os _ stands.0.heading.results typed (λ handed all.
+      stays_spends program round base Done _ (record {
+        at = λ turns st t l. good_from program round Done base st.world.cells _ l (left_good program round caller Done Done (back_to st.frame.variables)
             (λ done. leaves st.stack (gives tt)) (λ e. leaves st.stack (body_ending e)) st.world.cells
-            (λ now k longer. record { cells = k.cells; frame = (variables_on program st.world.cells now.world.cells longer (local_type r) st.frame.variables t.frame.0, k.frame); owns = k.owns }) _
-            ((stays_runs_body caller stands.1 st.world.cells handed body declared xs (all_on program base st.world.cells l handed all)).at turns _
-            (record { cells = t.cells; frame = t.frame.1; owns = t.owns }) (longer_refl st.world.cells))
-            (λ cells longer done d. stays_leaves program (in_iterator r body declared xs caller) cells Done _ _
-            (stays_gives program (in_iterator r body declared xs caller) cells Done tt (λ more k. tt)))
-            (λ cells longer e f. stays_leaves program (in_iterator r body declared xs caller) cells Done _ _
-            (stays_body_ending program (in_iterator r body declared xs caller) cells e f)));
+            (λ now k longer. record {
+              cells = k.cells;
+              frame = (variables_on program st.world.cells now.world.cells longer (local_type r) st.frame.variables t.frame.0, k.frame);
+              owns = k.owns;
+            })
+            (goes_deeper loop_words (with_frame caller_of (runs_body low body declared xs caller handed)) turns st)
+            (deeper_good program caller Done caller_of (runs_body low body declared xs caller handed) loop_words turns st
+            (record { cells = t.cells; frame = t.frame.1; owns = t.owns })
+            (stays_runs_body caller stands.1 st.world.cells handed body declared xs (all_on program base st.world.cells l handed all)))
+            (λ cells longer done d. stays_leaves program round cells Done _ _ (stays_gives program round cells Done tt (λ more k. tt)))
+            (λ cells longer e f. stays_leaves program round cells Done _ _ (stays_body_ending program round cells e f)));
       }))

@@ -43,9 +43,11 @@ module _ (program : Program) (base : List Cell) where
       IfThere (IsInside cluster given) (cond b (Some o) None)
   unsealed_if cluster c given actuals o true e h =
       let parts = and_parts (bytes_eq c cluster) (same_actuals actuals given) e in
-      let name : c ≡ cluster = (bytes_eq-Decides c cluster).0 parts.0 in
-      (h.0, subst (λ n. fits_in (representation_of given (module_named program n)) o ≡ true) name
-      (subst (λ g. fits_in (representation_of g (module_named program c)) o ≡ true) (actuals_are actuals given parts.1) h.1))
+      let name : c ≡ cluster = (bytes_eq-Decides c cluster).0 parts.0 in (
+        h.0,
+        subst (λ n. fits_in (representation_of given (module_named program n)) o ≡ true) name
+            (subst (λ g. fits_in (representation_of g (module_named program c)) o ≡ true) (actuals_are actuals given parts.1) h.1),
+      )
   unsealed_if cluster c given actuals o false e h = tt
 
   unsealed_inside : (cluster : List ℕ) (given : Actuals) (o : Object) → IsTyped program base o → IfThere (IsInside cluster given) (unsealed cluster given o)
@@ -135,8 +137,8 @@ module _ (program : Program) (round : Round) (home : HomeIs program (here round)
   stays_argued belongs declared s os rest t stays = stays_need program round base P _ _ (λ fit. stays_takes program round base P _ _
       (stays_needed program round base P (opens (here round).given (types_of_formals (here round).definition.formals) os) _ (λ xs e.
       let bound = bodies_bind program base round (here round).definition.formals xs declared
-          (if_found (Bodies program base (here round).given (types_of_formals (here round).definition.formals)) _ xs e
-          (opens_bodies program base (here round).given (here round).home home (types_of_formals (here round).definition.formals) os s t fit)) in
+      (if_found (Bodies program base (here round).given (types_of_formals (here round).definition.formals)) _ xs e
+      (opens_bodies program base (here round).given (here round).home home (types_of_formals (here round).definition.formals) os s t fit)) in
       stays_names_each program round belongs base P rest stays (formal_variables (here round).definition.formals) xs bound.0 bound.1)))
 
 -- ---- up and down
@@ -155,5 +157,8 @@ module _ (program : Program) (round : Round) (base : List Cell) where
   pub stays_opens_here : (o : Object) → IsTyped program base o → Stays program round base (Objects program round) (opens_here (here round) o)
   stays_opens_here o typed = stays_needed program round base (Objects program round) (here round).home _ (λ cluster e.
       stays_needed program round base (Objects program round) (unsealed cluster.name (here round).given o) _ (λ x found.
-      stays_gives program round base (Objects program round) (x ∷ []) (λ cells l. (typed_on program base cells l x
-      (if_found (IsInside program base cluster.name (here round).given) _ x found (unsealed_inside program base cluster.name (here round).given o typed)).0, tt))))
+      stays_gives program round base (Objects program round) (x ∷ []) (λ cells l. (
+        typed_on program base cells l x
+            (if_found (IsInside program base cluster.name (here round).given) _ x found (unsealed_inside program base cluster.name (here round).given o typed)).0,
+        tt,
+      ))))
