@@ -120,7 +120,7 @@ module _ (program : Program) (low : Level) (lows : LevelStays program low) where
   unfolding sees_owns with_owns
   stays_once round base [] i m h = stays_gives program round base Done tt (λ cells l. tt)
   stays_once round base (d ∷ ds) i m h = record {
-    at = λ turns st t l. (stays_either program round base Done (st.owns.is_set_up i) (gives tt) _ (stays_gives program round base Done tt (λ cells k. tt))
+    at = λ turns st t l. (stays_either program round base Done (st.owns.is_set_up i) (gives tt) (with_owns (λ o. with_set_up o i) m) (stays_gives program round base Done tt (λ cells k. tt))
         (record { at = λ turns st t l. h.at turns (record st { owns = with_set_up st.owns i }) (record { cells = t.cells; frame = t.frame; owns = t.owns }) l })).at turns st t l;
   }
 

@@ -1,17 +1,17 @@
 -- What holds of each routine that a program defines, if its headings stand.
 use Rattle.std.proofs.Common.{◌≡◌, refl, sym, ap, subst, ◌∙◌}
 use Rattle.std.proofs.lemmas.Slice.Eq.{bytes_eq-Decides}
-use Rattle.std.specs.Prelude.{ℕ, Bool, true, false, List, [], ◌∷◌, Option, Some, None, cond, bytes_eq}
+use Rattle.std.specs.Prelude.{ℕ, Bool, true, false, List, [], ◌∷◌, Option, Some, None, cond, bytes_eq, codes}
 use Rattle.std.specs.Option.{option_map}
 use Rattle.clu_types.specs.CluType.{CluType, array_of, sequence_of, record_of, struct_of, oneof_of, variant_of, int_type, string_type, cluster_of, Fields, Actuals}
 use Rattle.clu_types.specs.Substituted.{substituted}
 use Rattle.clu_syntax.specs.Syntax as syntax
 use Rattle.clu_layout.specs.Objects.{Routine, module_routine, operation_of, force_of}
 use Rattle.clu_meaning.specs.Lists.{is_among}
-use Rattle.clu_meaning.specs.Programs.{Statements, Variable, RoutineDefinition, ClusterDefinition, Module, routine_module, cluster_module, Program}
+use Rattle.clu_meaning.specs.Programs.{Statements, RoutineDefinition, ClusterDefinition, Module, routine_module, cluster_module, Program}
 use Rattle.clu_meaning.specs.State.{of_routine, own_set_up}
 use Rattle.clu_meaning.specs.Binding.{Running, declared_in, owns_of, put_in, name_of}
-use Rattle.clu_meaning.specs.Schemes.{applied_by, scheme_among, scheme_of, comparing, copying, tags_comparing, tags_copying, by_tag, immutable_comparisons, mutable_comparisons}
+use Rattle.clu_meaning.specs.Schemes.{comparison, copy, scheme_among, immutable_comparisons, mutable_comparisons}
 use Rattle.clu_meaning.specs.Texts.{Texts, int_texts, string_texts, array_texts, sequence_texts, texts_of, text_named, defined_by, text_of, text_given}
 use Rattle.clu_meaning.specs.Operations.{name_of_module, module_named, routine_named, with_definition, of_module, of_cluster, of_type, defined}
 use Rattle.clu_meaning.specs.Calls.{Round, in_procedure, in_iterator, here, setting_up}
@@ -119,14 +119,14 @@ sequences_stand = (
   ),
 )
 
-scheme_chosen : (compares copies : Bool) (comparison copy : Option RoutineDefinition) → IfThere (HeadingStands None) comparison → IfThere (HeadingStands None) copy →
-    IfThere (HeadingStands None) (cond compares comparison (cond copies copy None))
-scheme_chosen true copies comparison copy h k = h
-scheme_chosen false true comparison copy h k = k
-scheme_chosen false false comparison copy h k = tt
+scheme_chosen : (compares copies : Bool) (a b : Option RoutineDefinition) → IfThere (HeadingStands None) a → IfThere (HeadingStands None) b →
+    IfThere (HeadingStands None) (cond compares a (cond copies b None))
+scheme_chosen true copies a b h k = h
+scheme_chosen false true a b h k = k
+scheme_chosen false false a b h k = tt
 
 scheme_stands : (comparisons : List (List ℕ)) (op : List ℕ) (T : CluType) (fs : Fields) (compares copies : Statements) → IfThere (HeadingStands None) (scheme_among comparisons op T fs compares copies)
-scheme_stands comparisons op T fs compares copies = scheme_chosen (is_among comparisons op) (bytes_eq op _) _ _
+scheme_stands comparisons op T fs compares copies = scheme_chosen (is_among comparisons op) (bytes_eq op (codes "copy")) (comparison op T fs compares) (copy T fs copies)
     (record { declared = (refl, (refl, tt)); formals = (tt, (tt, tt)); results = (tt, tt); signals = tt })
     (record { declared = (refl, tt); formals = (tt, tt); results = (tt, tt); signals = tt })
 
