@@ -113,7 +113,7 @@ fn room(alloc: Global, text: &str) -> Result<Room, Fail> {
 const ROOMS: [(&str, u64, u64); 3] = [
     ("slot 0; slot 1; put 0", 26 + 9, 56),
     ("slot 0; slot 0; check uninitialized; set 0", 26 + 14, 56),
-    ("begin; resignal e f", 26 + 7, 56 + 56 + 48),
+    ("begin; resignal e f", 26 + 8, 56 + 56 + 48),
 ];
 
 #[test]

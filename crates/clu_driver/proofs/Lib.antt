@@ -2,5 +2,6 @@ pub mod ByStatus
 pub mod FailureText
 pub mod Found
 pub mod Entered
+pub mod OneMore
 pub mod Repeated
 pub mod Runs

@@ -19,8 +19,10 @@ mod referring;
 mod refusals;
 mod running;
 mod separate;
+mod session;
 mod sources;
 mod specifying;
 mod top;
 
+pub use crate::session::session;
 pub use crate::top::clu;

@@ -6,23 +6,22 @@ use Rattle.std.specs.List.{list_all}
 use Rattle.std.specs.Str.{bytes_eq}
 use Rattle.std.proofs.lemmas.Option.{none-some}
 use Rattle.std.proofs.lemmas.Slice.Eq.{bytes_eq-Decides}
-use Rattle.clu_types.specs.Specs.{with_spec}
 use Rattle.clu_types.specs.declared.spec.Spec.{Spec}
-use Rattle.clu_library.specs.Bounds.{AreBounds, bounds_spec, bounds_change, at_most}
+use Rattle.clu_library.specs.Bounds.{AreBounds, bounds_spec, bounds_change, passes_if, at_most}
 use Rattle.clu_library.specs.Contents.{revision_of}
-use Rattle.clu_library.specs.Resting.{names, names_of, named_by, IsWay, RestsOn}
+use Rattle.clu_library.specs.Resting.{names, names_of, IsWay, RestsOn, with_changed}
 use Rattle.clu_library.specs.Staleness.{changed_in, IsStaleBody}
 use Rattle.clu_library.specs.declared.body.Body.{Body}
 use Rattle.clu_library.specs.declared.body.Change.{Change}
 use Rattle.clu_library.proofs.Firsts.{some_same, found_passes}
 use Rattle.clu_library.proofs.Placed.{named, found_other, found_this}
 
-both : (a b : Bool) → (a && b) ≡ true → (a ≡ true) × (b ≡ true)
+pub both : (a b : Bool) → (a && b) ≡ true → (a ≡ true) × (b ≡ true)
 both true b e = (refl, e)
 both false b e = absurd (true≢false (sym e))
 
 -- what all pass, each passes
-all_found : {X : Type 0} (t p : X → Bool) (xs : List X) (y : X) → list_all t xs ≡ true → find p xs ≡ Some y → t y ≡ true
+pub all_found : {X : Type 0} (t p : X → Bool) (xs : List X) (y : X) → list_all t xs ≡ true → find p xs ≡ Some y → t y ≡ true
 all_found t p [] y all e = absurd (none-some y e)
 all_found {X} t p (x ∷ xs) y all e = by (p x) e (all_found t p xs y (both (t x) (list_all t xs) all).1)
   where
@@ -38,34 +37,40 @@ all_listed {X} t (x ∷ xs) y all h = by h.0 h.1 h.2 (all_listed t xs y (both (t
     by zero lt is further = ap t (sym is) ∙ (both (t x) (list_all t xs) all).0
     by (suc k) lt is further = further (k, omega arith, is)
 
-module _ (specs : List Spec) (changed : Spec) (changes : List Change) (bound : List ℕ → ℕ) where
-  -- the bounds, by the tests
-  pub are_bounds : bounds_spec bound changed ≡ true → list_all (bounds_spec bound) specs ≡ true → list_all (bounds_change bound) changes ≡ true → AreBounds (with_spec specs changed) changes bound
-  are_bounds this all replaced = record { named = λ name m h. of_name name m h; changed = λ name. of_change name (find (λ c. bytes_eq c.name name) changes) refl }
-    where
-      of_spec : (s : Spec) (name m : List ℕ) → bounds_spec bound s ≡ true → s.name ≡ name → Contains (names s) m → bound m ≤ bound name
-      of_spec s name m passes is h =
-          let P : List ℕ → Type 0 = λ n. bound m ≤ bound n in
-          subst P is (leb-true (bound m) (bound s.name) (all_listed (λ m. leb (bound m) (bound s.name)) (names s) m passes h))
+-- a test that all specifications pass, with one in the place of that of its module
+pub each_passes : (test : Spec → Bool) (specs : List Spec) (o : Option Spec) → passes_if test o ≡ true → list_all test specs ≡ true → (name : List ℕ) (s : Spec) → named name (with_changed specs o) ≡ Some s → (test s ≡ true) × (s.name ≡ name)
+each_passes test specs o this all name s found = (by o this found, (bytes_eq-Decides s.name name).0 (found_passes (λ s. bytes_eq s.name name) (with_changed specs o) s found))
+  where
+    kept : named name specs ≡ Some s → test s ≡ true
+    kept there = all_found test (λ s. bytes_eq s.name name) specs s all there
 
-      of_found : (name m : List ℕ) (o : Option Spec) → named name specs ≡ o → Contains (names_of o) m → bound m ≤ bound name
-      of_found name m None e h = absurd (omega (arith, h.1))
-      of_found name m (Some x) e h = of_spec x name m (all_found (bounds_spec bound) (λ s. bytes_eq s.name name) specs x all e) ((bytes_eq-Decides x.name name).0 (found_passes (λ s. bytes_eq s.name name) specs x e)) h
+    by : (o : Option Spec) → passes_if test o ≡ true → named name (with_changed specs o) ≡ Some s → test s ≡ true
+    by None this found = kept found
+    by (Some x) this found = at (bytes_eq x.name name) refl
+      where
+        at : (b : Bool) → bytes_eq x.name name ≡ b → test s ≡ true
+        at true e = ap test (sym (some_same x s (sym (found_this name specs x e) ∙ found))) ∙ this
+        at false e = kept (sym (found_other name specs x e) ∙ found)
 
-      of_name : (name m : List ℕ) → Contains (named_by (with_spec specs changed) name) m → bound m ≤ bound name
-      of_name name m h = by (bytes_eq changed.name name) refl
-        where
-          by : (b : Bool) → bytes_eq changed.name name ≡ b → bound m ≤ bound name
-          by true e = let P : Option Spec → Type 0 = λ o. Contains (names_of o) m in of_spec changed name m this ((bytes_eq-Decides changed.name name).0 e) (subst P (found_this name specs changed e) h)
-          by false e = let P : Option Spec → Type 0 = λ o. Contains (names_of o) m in of_found name m (named name specs) refl (subst P (found_other name specs changed e) h)
+-- the bounds, by the tests
+pub are_bounds : (specs : List Spec) (o : Option Spec) (changes : List Change) (bound : List ℕ → ℕ) → passes_if (bounds_spec bound) o ≡ true → list_all (bounds_spec bound) specs ≡ true
+    → list_all (bounds_change bound) changes ≡ true → AreBounds (with_changed specs o) changes bound
+are_bounds specs o changes bound this all replaced = record { named = λ name m h. of_found name m (named name (with_changed specs o)) refl h; changed = λ name. of_change name (find (λ c. bytes_eq c.name name) changes) refl }
+  where
+    of_found : (name m : List ℕ) (found : Option Spec) → named name (with_changed specs o) ≡ found → Contains (names_of found) m → bound m ≤ bound name
+    of_found name m None e h = absurd (omega (arith, h.1))
+    of_found name m (Some s) e h =
+        let passes = each_passes (bounds_spec bound) specs o this all name s e in
+        let P : List ℕ → Type 0 = λ n. bound m ≤ bound n in
+        subst P passes.1 (leb-true (bound m) (bound s.name) (all_listed (λ m. leb (bound m) (bound s.name)) (names s) m passes.0 h))
 
-      of_change : (name : List ℕ) (o : Option Change) → find (λ c. bytes_eq c.name name) changes ≡ o → revision_of (find (λ c. bytes_eq c.name name) changes) ≤ bound name
-      of_change name None e = omega (arith, ap revision_of e)
-      of_change name (Some c) e =
-          let P : List ℕ → Type 0 = λ n. c.revision ≤ bound n in
-          let passes = all_found (bounds_change bound) (λ c. bytes_eq c.name name) changes c replaced e in
-          let most : c.revision ≤ bound name = subst P ((bytes_eq-Decides c.name name).0 (found_passes (λ c. bytes_eq c.name name) changes c e)) (leb-true c.revision (bound c.name) passes) in
-          omega (arith, ap revision_of e, most)
+    of_change : (name : List ℕ) (o : Option Change) → find (λ c. bytes_eq c.name name) changes ≡ o → revision_of (find (λ c. bytes_eq c.name name) changes) ≤ bound name
+    of_change name None e = omega (arith, ap revision_of e)
+    of_change name (Some c) e =
+        let P : List ℕ → Type 0 = λ n. c.revision ≤ bound n in
+        let passes = all_found (bounds_change bound) (λ c. bytes_eq c.name name) changes c replaced e in
+        let most : c.revision ≤ bound name = subst P ((bytes_eq-Decides c.name name).0 (found_passes (λ c. bytes_eq c.name name) changes c e)) (leb-true c.revision (bound c.name) passes) in
+        omega (arith, ap revision_of e, most)
 
 -- then a body whose names have at most the revision at which it was checked isn't stale
 pub not_stale : (specs : List Spec) (changes : List Change) (bound : List ℕ → ℕ) (own : List ℕ) (body : Body) (names : List (List ℕ)) → AreBounds specs changes bound

@@ -6,6 +6,7 @@ pub mod Entering
 pub mod Firsts
 pub mod Found
 pub mod Kept
+pub mod Leading
 pub mod Losing
 pub mod Placed
 pub mod Replaced

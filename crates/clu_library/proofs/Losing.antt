@@ -13,11 +13,11 @@ use Rattle.indexmap.specs.IndexSet.{insert_key}
 use Rattle.indexmap.proofs.CallerLemmas.{Contains-list_any, Contains-insert_key}
 use Rattle.clu_types.specs.Specs.{name_order, with_spec}
 use Rattle.clu_types.specs.declared.spec.Spec.{Spec}
-use Rattle.clu_library.specs.Bounds.{AreBounds, at_most}
+use Rattle.clu_library.specs.Bounds.{AreBounds, AreReached, at_most, leads}
 use Rattle.clu_library.specs.ByName.{ComeAfter, AreAscending}
 use Rattle.clu_library.specs.Contents.{Contents}
 use Rattle.clu_library.specs.Replacing.{with_change, with_replaced, IsLost, IsBroken, AreLeft, AreLost, AreLostIfAny, AreStaleOf, has_any, without_any}
-use Rattle.clu_library.specs.Staleness.{IsStale, IsStaleIf, IsStaleBody, IsFirstChange}
+use Rattle.clu_library.specs.Staleness.{AreStale, IsStale, IsStaleIf, IsStaleBody, IsFirstChange}
 use Rattle.clu_library.specs.declared.body.Body.{Body}
 use Rattle.clu_library.specs.declared.body.Change.{Change}
 use Rattle.clu_library.specs.declared.body.ModuleBody.{ModuleBody}
@@ -25,6 +25,7 @@ use Rattle.clu_library.specs.declared.program.Program.{Program}
 use Rattle.clu_library.proofs.Bounding.{not_stale}
 use Rattle.clu_library.proofs.Closing.{listed}
 use Rattle.clu_library.proofs.Firsts.{some_same, found_passes, apart}
+use Rattle.clu_library.proofs.Leading.{any_listed, stale_by_rank}
 
 same : (m n : List ℕ) → bytes_eq m n ≡ true → m ≡ n
 same m n = (bytes_eq-Decides m n).0
@@ -39,6 +40,10 @@ is_fresh specs changes own body never = ((λ e. absurd (true≢false (sym e))), 
 pub excluded : (specs : List Spec) (changes : List Change) (bound : List ℕ → ℕ) (own : List ℕ) (body : Body) (are : Bool) → (IsTrue are → AreBounds specs changes bound)
     → IsTrue are × ((names : List (List ℕ)) × (body.names ≡ Some names) × IsTrue (at_most bound body.checked names)) → IsTrue false ↔ IsStaleBody specs changes own body
 excluded specs changes bound own body are bounds h = is_fresh specs changes own body (not_stale specs changes bound own body h.1.0 (bounds h.0) h.1.1 h.1.2)
+
+pub included : (specs : List Spec) (changes : List Change) (bound rank : List ℕ → ℕ) (own : List ℕ) (body : Body) (are : Bool) → (IsTrue are → AreReached specs changes bound rank)
+    → IsTrue are × ((names : List (List ℕ)) × (body.names ≡ Some names) × IsTrue (list_any (leads specs bound rank own (body.checked + 1)) names)) → IsTrue true ↔ IsStaleBody specs changes own body
+included specs changes bound rank own body are reached h = ((λ _. stale_by_rank specs changes bound rank own body h.1.0 (reached h.0) h.1.1 h.1.2), (λ _. refl))
 
 pub ruleset stalenesses = (is_stale_by, is_fresh, excluded)
 
@@ -215,6 +220,42 @@ module _ (library : Contents) (s : Spec) (names : List (List ℕ)) (ascending : 
       back name (inl is) = let P : List ℕ → Type 0 = λ n. Contains names n in subst P (sym is) (stale.kept s.name (0, omega arith, refl))
       back name (inr h) = of_found name (find (λ (b : ModuleBody). bytes_eq b.name name) bodies_left) refl h
 
+-- all whose bodies are stale
+in_list : {X : Type 0} (p : X → Bool) (xs : List X) (y : X) → find p xs ≡ Some y → Contains xs y
+in_list p [] y e = absurd (none-some y e)
+in_list {X} p (x ∷ xs) y e = by (p x) e (λ e. Contains-append_right (x ∷ []) xs y (in_list p xs y e))
+  where
+    by : (b : Bool) → cond b (Some x) (find p xs) ≡ Some y → (find p xs ≡ Some y → Contains (x ∷ xs) y) → Contains (x ∷ xs) y
+    by true e further = (0, omega arith, some_same x y e)
+    by false e further = further e
+
+module _ (library : Contents) (names : List (List ℕ)) (ascending : AreAscending (λ (b : ModuleBody). b.name) library.bodies)
+    (stale : AreStaleOf library.specs library.changes library.bodies [] names) where
+  is_stale : (name : List ℕ) → Contains [] name ⊎ ((b : ModuleBody) × Contains library.bodies b × (b.name ≡ name) × IsStaleBody library.specs library.changes b.name b.body) → IsStale library name
+  is_stale name (inl never) = absurd (omega (arith, never.1))
+  is_stale name (inr h) =
+      let P : Option Body → Type 0 = λ o. IsStaleIf library h.0.name o in
+      let found = found_listed (λ (b : ModuleBody). b.name) library.bodies h.0 ascending h.1 in
+      let Q : List ℕ → Type 0 = λ n. IsStale library n in
+      subst Q h.2 (subst P (sym (ap (option_map (λ (b : ModuleBody). b.body)) found)) h.3)
+
+  is_listed : (name : List ℕ) (o : Option ModuleBody) → find (λ (b : ModuleBody). bytes_eq b.name name) library.bodies ≡ o → IsStaleIf library name (option_map (λ (b : ModuleBody). b.body) o) → Contains names name
+  is_listed name None e h = absurd h
+  is_listed name (Some b) e h =
+      let named : b.name ≡ name = same b.name name (found_passes (λ (b : ModuleBody). bytes_eq b.name name) library.bodies b e) in
+      let P : List ℕ → Type 0 = λ n. Contains names n in
+      let Q : List ℕ → Type 0 = λ n. IsStaleBody library.specs library.changes n b.body in
+      subst P named (stale.all b (in_list (λ (b : ModuleBody). bytes_eq b.name name) library.bodies b e) (subst Q (sym named) h))
+
+  stale_modules : AreStale library names
+  stale_modules = record { stale = λ name h. is_stale name (stale.stale name h); all = λ name h. is_listed name (find (λ (b : ModuleBody). bytes_eq b.name name) library.bodies) refl h }
+
+pub are_stale : (library : Contents) (old names : List (List ℕ)) → AreAscending (λ (b : ModuleBody). b.name) library.bodies → old ≡ []
+    → AreStaleOf library.specs library.changes library.bodies old names → AreStale library names
+are_stale library old names ascending empty stale =
+    let P : List (List ℕ) → Type 0 = λ xs. AreStaleOf library.specs library.changes library.bodies xs names in
+    stale_modules library names ascending (subst P empty stale)
+
 pub lost_if_any : (library : Contents) (s : Spec) (changes : List Change) (names : List (List ℕ)) → AreAscending (λ (b : ModuleBody). b.name) library.bodies → changes ≡ with_change library.changes s.name library.revision
     → AreStaleOf (with_spec library.specs s) changes library.bodies (s.name ∷ []) names → AreLostIfAny library s names
 lost_if_any library s changes names ascending is stale =
@@ -234,17 +275,6 @@ stale_from_one specs changes bodies old start new copy name empty inserted named
 pub ruleset losings = (lost_if_any, lost_of_none, stale_from_one)
 
 -- the programs that are left
-any_listed : (t : List ℕ → Bool) (xs : List (List ℕ)) → list_any t xs ≡ true → (x : List ℕ) × Contains xs x × (t x ≡ true)
-any_listed t [] e = absurd (true≢false (sym e))
-any_listed t (x ∷ xs) e = by (t x) refl e (any_listed t xs)
-  where
-    further : (y : List ℕ) × Contains xs y × (t y ≡ true) → (y : List ℕ) × Contains (x ∷ xs) y × (t y ≡ true)
-    further h = (h.0, Contains-append_right (x ∷ []) xs h.0 h.1, h.2)
-
-    by : (b : Bool) → t x ≡ b → (b || list_any t xs) ≡ true → (list_any t xs ≡ true → (y : List ℕ) × Contains xs y × (t y ≡ true)) → (y : List ℕ) × Contains (x ∷ xs) y × (t y ≡ true)
-    by true is e behind = (x, (0, omega arith, refl), is)
-    by false is e behind = further (behind e)
-
 module _ (library : Contents) (replaced : List ℕ) (names : List (List ℕ)) (lost : AreLost library replaced names) where
   broken : (p : Program) → has_any names p ≡ true → IsBroken library replaced p
   broken p e =

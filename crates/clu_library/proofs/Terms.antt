@@ -1,7 +1,7 @@
 -- The names of the clusters among types, one type after the other.
-use Rattle.std.proofs.Common.{◌≡◌, ◌&&◌, ◌+◌, ◌≤◌, ℕ, List, [], Bool, true, false, fold, drop, length, slice_get, Option, Some, None, sym, ap, ◌∙◌, true≢false}
+use Rattle.std.proofs.Common.{◌≡◌, ◌&&◌, ◌||◌, ◌+◌, ◌≤◌, ℕ, List, [], Bool, true, false, fold, drop, length, slice_get, Option, Some, None, sym, ap, ◌∙◌, true≢false}
 use Rattle.std.proofs.Math.Dec.{leb}
-use Rattle.std.specs.List.{cons_option, filter_map, list_all}
+use Rattle.std.specs.List.{cons_option, filter_map, list_all, list_any}
 use Rattle.std.proofs.lemmas.List.{drop_all}
 use Rattle.clu_types.specs.declared.term.Term.{Term}
 use Rattle.clu_library.specs.Bounds.{at_most}
@@ -57,3 +57,33 @@ module _ (bound : List ℕ → ℕ) (most : ℕ) (types : List Term) (n : ℕ) (
   all_bounded le whole = sym (ap (λ (ts : List Term). at_most bound most (filter_map cluster_name ts)) (drop_all n types le)) ∙ whole
 
 pub ruleset bounded = (term_bounded, term_above, all_bounded)
+
+-- one more passes a test, or doesn't
+module _ (t : List ℕ → Bool) (types : List Term) (n : ℕ) (start : Bool) where
+  pub term_passes : (x : Term) → slice_get types n ≡ Some x → list_any t (cons_option (cluster_name x) []) ≡ true → list_any t (filter_map cluster_name (drop n types)) ≡ start → true ≡ start
+  term_passes x at passes whole = by (cluster_name x) passes (sym (ap (list_any t) (named_left types n x at)) ∙ whole)
+    where
+      further : (a b : Bool) → (a || false) ≡ true → (a || b) ≡ start → true ≡ start
+      further true b e f = f
+      further false b e f = absurd (true≢false (sym e))
+
+      by : (o : Option (List ℕ)) → list_any t (cons_option o []) ≡ true → list_any t (cons_option o (filter_map cluster_name (drop (n + 1) types))) ≡ start → true ≡ start
+      by None e f = absurd (true≢false (sym e))
+      by (Some name) e f = further (t name) (list_any t (filter_map cluster_name (drop (n + 1) types))) e f
+
+  pub term_fails : (x : Term) → slice_get types n ≡ Some x → list_any t (cons_option (cluster_name x) []) ≡ false → list_any t (filter_map cluster_name (drop n types)) ≡ start
+      → list_any t (filter_map cluster_name (drop (n + 1) types)) ≡ start
+  term_fails x at fails whole = by (cluster_name x) fails (sym (ap (list_any t) (named_left types n x at)) ∙ whole)
+    where
+      further : (a b : Bool) → (a || false) ≡ false → (a || b) ≡ start → b ≡ start
+      further true b e f = absurd (true≢false e)
+      further false b e f = f
+
+      by : (o : Option (List ℕ)) → list_any t (cons_option o []) ≡ false → list_any t (cons_option o (filter_map cluster_name (drop (n + 1) types))) ≡ start → list_any t (filter_map cluster_name (drop (n + 1) types)) ≡ start
+      by None e f = f
+      by (Some name) e f = further (t name) (list_any t (filter_map cluster_name (drop (n + 1) types))) e f
+
+  pub none_passes : length types ≤ n → list_any t (filter_map cluster_name (drop n types)) ≡ start → false ≡ start
+  none_passes le whole = sym (ap (λ (ts : List Term). list_any t (filter_map cluster_name ts)) (drop_all n types le)) ∙ whole
+
+pub ruleset passing = (term_passes, term_fails, none_passes)

@@ -1,5 +1,5 @@
 -- Which bodies are stale.
-use Rattle.std.specs.Prelude.{◌≡◌, ◌≢◌, ◌<◌, ◌&&◌, ℕ, Bool, List, Option, Some, None, find, is_some, not, nat_lt, IsSome}
+use Rattle.std.specs.Prelude.{◌≡◌, ◌≢◌, ◌<◌, ◌&&◌, ℕ, Bool, List, Contains, Option, Some, None, find, is_some, not, nat_lt, IsSome}
 use Rattle.std.specs.List.{list_any}
 use Rattle.std.specs.Str.{bytes_eq}
 use Rattle.std.specs.declared.cmp.Ordering.TheVariants.{Less}
@@ -33,6 +33,11 @@ IsStaleIf library name (Some body) = IsStaleBody library.specs library.changes n
 
 abbrev pub IsStale : Contents → List ℕ → Type 0
 IsStale library name = IsStaleIf library name (body_of library name)
+
+-- these are the modules whose bodies are stale
+pub record AreStale (library : Contents) (names : List (List ℕ)) : Type 0 where
+  pub stale : (name : List ℕ) → Contains names name → IsStale library name
+  pub all : (name : List ℕ) → IsStale library name → Contains names name
 
 -- why a body is stale: the least module that makes it so, with both revisions
 pub record IsCause (library : Contents) (own : List ℕ) (body : Body) (cause : StaleBy) : Type 0 where

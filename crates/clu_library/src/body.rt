@@ -1,8 +1,10 @@
 //! What is kept of a module beside its specification.
 
-ghost use Rattle.std.specs.Prelude.{◌≡◌, IfOk};
+ghost use Rattle.std.specs.Prelude.{◌≡◌, IfOk, find};
+ghost use Rattle.std.specs.Str.{bytes_eq};
+ghost use Rattle.clu_library.specs.Contents.{revision_of};
 
-use crate::by_name::Named;
+use crate::by_name::{ByName, Named};
 use clu_base::{Bytes, Memory, Sequence};
 use clu_object::Object;
 use std::alloc::Global;
@@ -59,5 +61,17 @@ impl Change {
             name,
             revision: self.revision,
         })
+    }
+}
+
+impl ByName<Change> {
+    /// The revision at which the specification of a module was replaced last, or 0.
+    pub fn last(&self, name: &Bytes) -> u32
+        ensures { result ≡ revision_of (find (λ c. bytes_eq c.name name.now) self.now) }
+    {
+        match self.get(name) {
+            Some(change) => change.revision,
+            None => 0,
+        }
     }
 }

@@ -108,10 +108,7 @@ impl Library {
     pub(crate) fn last_change(&self, name: &Bytes) -> u32
         ensures { result ≡ last_change self.now name.now }
     {
-        match self.changes.get(name) {
-            Some(change) => change.revision,
-            None => 0,
-        }
+        self.changes.last(name)
     }
 
     /// The kept body of a module.

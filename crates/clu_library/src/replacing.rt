@@ -1,12 +1,14 @@
 //! Specifications, entered in the place of kept ones.
 
 ghost use Rattle.std.specs.Prelude.{◌≡◌, ◌<◌, ◌↔◌, ◌∷◌, [], IfOk, IfErr, OnOk, OnErr, IsTrue, Contains, List, ℕ};
+ghost use Rattle.std.specs.Option.{option_copied};
 ghost use Rattle.clu_specs.specs.Specifications.{SpecHolds};
 ghost use Rattle.clu_library.specs.Contents.{spec_of};
 ghost use Rattle.clu_library.specs.Replacing.{last_revision, with_change, with_replaced, without_any, AreLostIfAny, AreStaleOf, IsKept, IsReplaced, NotChanged, NotReplaced, Replaces};
+ghost use Rattle.clu_library.specs.Resting.{with_changed};
 ghost use Rattle.clu_library.specs.Staleness.{IsStaleBody};
 ghost use Rattle.clu_types.specs.Specs.{with_spec};
-ghost use Rattle.clu_library.specs.Bounds.{in_table, AreBounds};
+ghost use Rattle.clu_library.specs.Bounds.{in_table, rank_in, AreBounds, AreReached};
 ghost use Rattle.clu_library.specs.ByName.{AreAscending, with_item};
 
 use crate::body::{Change, ModuleBody};
@@ -151,7 +153,7 @@ impl Library {
         if self.programs.len() == 0 {
             return Ok(());
         }
-        self.add_bodies(alloc, lost, s, changes.as_slice())
+        self.add_bodies(alloc, lost, s, changes)
     }
 
     #[tactic(auto, using(crate::proofs::Losing::losings))]
@@ -160,41 +162,42 @@ impl Library {
         alloc: Global,
         lost: &mut IndexSet<Bytes>,
         s: &Spec,
-        changes: &[Change],
+        changes: &ByName<Change>,
     ) -> Result<(), Memory>
-        requires ascending { AreAscending (λ (c : Change). c.name) changes.now }
         requires empty { lost.old.keys ≡ [] }
         ensures stale { OnOk result (AreStaleOf (with_spec self.now.specs s.now) changes.now self.now.bodies (s.now.name ∷ []) lost.new.keys) }
         ensures bodies { OnOk result (AreAscending (λ (b : ModuleBody). b.name) self.now.bodies) }
     {
-        let latest = Latest::find(alloc, &self.specs, s, changes)?;
+        let latest = Latest::find(alloc, &self.specs, Some(s), changes)?;
         lost.insert(s.name.copy(alloc)?)?;
         add_stale(
             alloc,
             lost,
             &latest,
             &self.specs,
-            s,
-            changes,
+            Some(s),
+            changes.as_slice(),
             self.bodies.as_slice(),
         )
     }
 }
 
-/// Adds the modules of the bodies that will be stale.
+/// Adds the modules of the bodies that are stale, if the specification `changed` stands in the place of the kept one of its
+/// module.
 #[tactic(auto, using(crate::proofs::Losing::steps))]
-fn add_stale(
+pub fn add_stale(
     alloc: Global,
     lost: &mut IndexSet<Bytes>,
     latest: &Latest,
     specs: &Specs,
-    changed: &Spec,
+    changed: Option<&Spec>,
     changes: &[Change],
     bodies: &[ModuleBody],
 ) -> Result<(), Memory>
     requires ascending { AreAscending (λ (c : Change). c.name) changes.now }
-    requires bounds { IsTrue latest.now.are_bounds → AreBounds (with_spec specs.now changed.now) changes.now (in_table latest.now.table) }
-    ensures { OnOk result (AreStaleOf (with_spec specs.now changed.now) changes.now bodies.now lost.old.keys lost.new.keys) }
+    requires bounds { IsTrue latest.now.are_bounds → AreBounds (with_changed specs.now (option_copied changed.entry)) changes.now (in_table latest.now.table) }
+    requires reached { IsTrue latest.now.are_reached → AreReached (with_changed specs.now (option_copied changed.entry)) changes.now (in_table latest.now.table) (rank_in latest.now.table) }
+    ensures { OnOk result (AreStaleOf (with_changed specs.now (option_copied changed.entry)) changes.now bodies.now lost.old.keys lost.new.keys) }
 {
     for kept in bodies {
         if !is_stale(alloc, latest, specs, changed, changes, kept)? {
@@ -205,24 +208,28 @@ fn add_stale(
     Ok(())
 }
 
-/// Whether a body will be stale. Most bodies rest on nothing that was replaced later, which the table of revisions shows.
+/// Whether a body is stale. Of nearly all that list their names the table of revisions tells it.
 #[tactic(auto, using(crate::proofs::Losing::stalenesses))]
 fn is_stale(
     alloc: Global,
     latest: &Latest,
     specs: &Specs,
-    changed: &Spec,
+    changed: Option<&Spec>,
     changes: &[Change],
     kept: &ModuleBody,
 ) -> Result<bool, Memory>
     requires ascending { AreAscending (λ (c : Change). c.name) changes.now }
-    requires bounds { IsTrue latest.now.are_bounds → AreBounds (with_spec specs.now changed.now) changes.now (in_table latest.now.table) }
-    ensures { IfOk result (λ stale. IsTrue stale ↔ IsStaleBody (with_spec specs.now changed.now) changes.now kept.now.name kept.now.body) }
+    requires bounds { IsTrue latest.now.are_bounds → AreBounds (with_changed specs.now (option_copied changed.entry)) changes.now (in_table latest.now.table) }
+    requires reached { IsTrue latest.now.are_reached → AreReached (with_changed specs.now (option_copied changed.entry)) changes.now (in_table latest.now.table) (rank_in latest.now.table) }
+    ensures { IfOk result (λ stale. IsTrue stale ↔ IsStaleBody (with_changed specs.now (option_copied changed.entry)) changes.now kept.now.name kept.now.body) }
 {
     if latest.excludes(&kept.body) {
         return Ok(false);
     }
-    match later_change(alloc, specs, Some(changed), changes, &kept.name, &kept.body)? {
+    if latest.includes(specs, changed, &kept.name, &kept.body) {
+        return Ok(true);
+    }
+    match later_change(alloc, specs, changed, changes, &kept.name, &kept.body)? {
         Some(_) => Ok(true),
         None => Ok(false),
     }

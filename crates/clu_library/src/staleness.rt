@@ -1,17 +1,19 @@
 //! Bodies that were checked before a specification that they rest on was replaced.
 
-ghost use Rattle.std.specs.Prelude.{◌≡◌, ◌&&◌, IfOk, Some};
+ghost use Rattle.std.specs.Prelude.{◌≡◌, ◌&&◌, [], IfOk, OnOk, Some};
 ghost use Rattle.std.specs.List.{list_any};
 ghost use Rattle.std.specs.Option.{option_copied};
 ghost use Rattle.std.specs.Str.{bytes_eq};
 ghost use Rattle.clu_library.specs.ByName.{AreAscending};
 ghost use Rattle.clu_library.specs.Contents.{body_of};
 ghost use Rattle.clu_library.specs.Resting.{with_changed};
-ghost use Rattle.clu_library.specs.Staleness.{Tells, comes_after, first_other, first_among, IsChangeOf, IsFirstReached};
+ghost use Rattle.clu_library.specs.Staleness.{Tells, AreStale, comes_after, first_other, first_among, IsChangeOf, IsFirstReached};
 
 use crate::body::{Body, Change};
 use crate::closure::{closure, spec_of};
+use crate::latest::Latest;
 use crate::library::Library;
+use crate::replacing::add_stale;
 use clu_base::{Bytes, Memory};
 use clu_types::{Spec, Specs};
 use indexmap::IndexSet;
@@ -40,6 +42,33 @@ impl Library {
             Some(body) => self.cause(alloc, name, body),
             None => Ok(None),
         }
+    }
+
+    /// The modules whose kept bodies are stale: those for which `stale` tells a cause, in one search for all. The only error
+    /// is that memory runs out.
+    pub fn stale_modules(&self, alloc: Global) -> Result<IndexSet<Bytes>, Memory>
+        ensures { IfOk result (λ found. AreStale self.now found.keys) }
+    {
+        let mut found = IndexSet::new(alloc);
+        self.add_stale_modules(alloc, &mut found)?;
+        Ok(found)
+    }
+
+    #[tactic(auto, using(crate::proofs::Losing::are_stale))]
+    fn add_stale_modules(&self, alloc: Global, found: &mut IndexSet<Bytes>) -> Result<(), Memory>
+        requires { found.old.keys ≡ [] }
+        ensures { OnOk result (AreStale self.now found.new.keys) }
+    {
+        let latest = Latest::find(alloc, &self.specs, None, &self.changes)?;
+        add_stale(
+            alloc,
+            found,
+            &latest,
+            &self.specs,
+            None,
+            self.changes.as_slice(),
+            self.bodies.as_slice(),
+        )
     }
 
     /// Why a body of the module `own` is stale.

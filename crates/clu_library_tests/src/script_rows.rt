@@ -1,7 +1,7 @@
 //! Scripts over libraries.
 
 /// How many rows `SCRIPTS` has besides comments.
-pub const SCRIPT_COUNT: usize = 16;
+pub const SCRIPT_COUNT: usize = 17;
 
 /// Rows that each end with byte 0: lines with steps, and after a tab what comes of each. One that begins with `%` is a
 /// comment.
@@ -29,6 +29,11 @@ pub const SCRIPTS: &str = "\
     % In a circle of specifications.\0\
     s a=clusteris;m:proc(b)\tok\ns b=clusteris;m:proc(a)\tok\ns c=clusteris;m:proc(a)\tok\nb a b\tok\nb c b\tok\n\
     p g a\tok\np h c\tok\nr b=clusteris;m:proc(a,int)\ttrue\nt a\tb 1 0\nt c\tb 1 0\nw\t1 a 0 0,b 1,c 0 0,\0\
+    % Along a chain, from where a specification was replaced.\0\
+    s a=clusteris;m:proc()\tok\ns b=clusteris;m:proc(a)\tok\ns c=clusteris;m:proc(b)\tok\ns d=clusteris;m:proc(c)\tok\n\
+    b a\tok\nb b a\tok\nb c b\tok\nb d c\tok\np g b\tok\np h c d\tok\np f a\tok\n\
+    r b=clusteris;m:proc(a,int)\ttrue\nt a\t-\nt c\tb 1 0\nt d\tb 1 0\nw\t1 a 0 0,b 1,c 0 0,d 0 0,f\n\
+    b b a\tok\nb c b\tok\np g b c\tok\nr a=clusteris;m:proc(int)\ttrue\nt d\ta 2 0\nw\t2 a 2,b 1 1,c 0 1,d 0 0,\0\
     % What a file keeps counts as it stands there: a body that was stale before, and a program with it.\0\
     f CLUL w2 w5 w2 w1 'p \"p=proc() w0 b1 \"t w3 b1 w1 'q ( CLUO w2 'p w0 ) 'q \"q=proc() w4 b0 'g 'p w1 'p ( CLUI w2 w0 w1 w0 w0 w115 )\tok\n\
     t p\tq 4 3\ns r=proc()\tok\nw\t5 p 0 3,q 4,r 0,g\nr r=proc(int)\ttrue\nw\t6 p 0 3,q 4,r 6,\0\

@@ -3,7 +3,7 @@
 use crate::errors::LinkError;
 use clu_base::Bytes;
 use clu_library::{Library, StaleBy};
-use indexmap::IndexMap;
+use indexmap::IndexSet;
 use std::alloc::Global;
 
 /// The most that the instances of a program may weigh.
@@ -23,18 +23,18 @@ pub struct Faults {
     stale: Option<StaleModule>,
     misfit: Option<Bytes>,
     weight: u64,
-    /// Of the modules that were asked, whether their bodies are stale.
-    are_stale: IndexMap<Bytes, bool>,
+    /// The modules whose bodies are stale, once it was asked.
+    stale_modules: Option<IndexSet<Bytes>>,
 }
 
 impl Faults {
-    pub fn new(alloc: Global) -> Faults {
+    pub fn new() -> Faults {
         Faults {
             no_body: None,
             stale: None,
             misfit: None,
             weight: 0,
-            are_stale: IndexMap::new(alloc),
+            stale_modules: None,
         }
     }
 
@@ -52,33 +52,40 @@ impl Faults {
         self.weight = self.weight.saturating_add(weight);
     }
 
-    /// Whether the kept body of a module is stale. It is searched for once for each module.
+    /// Whether the kept body of a module is stale. All that are stale are searched for once.
     pub fn is_stale(
         &mut self,
         alloc: Global,
         lib: &Library,
         module: &Bytes,
     ) -> Result<bool, LinkError> {
-        match self.are_stale.get(module) {
-            Some(is_stale) => Ok(*is_stale),
-            None => self.find_stale(alloc, lib, module),
+        if self.stale_modules.is_none() {
+            self.stale_modules = Some(lib.stale_modules(alloc)?);
+        }
+        if !self.is_among_stale(module) {
+            return Ok(false);
+        }
+        self.add_stale(alloc, lib, module)?;
+        Ok(true)
+    }
+
+    fn is_among_stale(&self, module: &Bytes) -> bool {
+        match &self.stale_modules {
+            Some(found) => found.contains(module),
+            None => false,
         }
     }
 
-    fn find_stale(
-        &mut self,
-        alloc: Global,
-        lib: &Library,
-        module: &Bytes,
-    ) -> Result<bool, LinkError> {
-        let found = lib.stale(alloc, module)?;
-        self.are_stale.insert(module.copy(alloc)?, found.is_some())?;
-        let Some(by) = found else {
-            return Ok(false);
-        };
-        let name = module.copy(alloc)?;
-        self.stale.get_or_insert(StaleModule { name, by });
-        Ok(true)
+    /// The module's body is stale; why, is told of the first one.
+    fn add_stale(&mut self, alloc: Global, lib: &Library, module: &Bytes) -> Result<(), LinkError> {
+        if self.stale.is_some() {
+            return Ok(());
+        }
+        if let Some(by) = lib.stale(alloc, module)? {
+            let name = module.copy(alloc)?;
+            self.stale = Some(StaleModule { name, by });
+        }
+        Ok(())
     }
 
     /// What is refused first, if there are not too many instances.
@@ -88,7 +95,7 @@ impl Faults {
             stale,
             misfit,
             weight,
-            are_stale: _,
+            stale_modules: _,
         } = self;
         if let Some(name) = no_body {
             return Some(LinkError::NoBody(name));

@@ -189,7 +189,7 @@ impl<'a> Work<'a> {
         Ok(Work {
             lib,
             reached: Box::new(alloc, Reached::new(alloc))?,
-            faults: Box::new(alloc, Faults::new(alloc))?,
+            faults: Box::new(alloc, Faults::new())?,
         })
     }
 

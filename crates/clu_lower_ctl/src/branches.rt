@@ -1,44 +1,44 @@
-//! The branches of an If: each further condition and the body after `else` stand in the second list of the statement
-//! before.
+//! Branches: what is done where a condition is true. Each further one stands in the second list of the one before, as the
+//! clauses of an If do (CLU Reference Manual, section 11.6).
 
-use crate::walk::Frame;
-use clu_lower_expr::{LowerError, Lowering};
+use crate::Result;
+use crate::nodes::{is_behind_else, is_item};
+use crate::walk::{body, condition};
+use clu_core::Checked;
+use clu_equates::node_at;
+use clu_lower_expr::Lowering;
+use clu_tree::Node;
 use clu_wir::{WExpr, WStmt};
+use std::alloc::Global;
 
-/// A condition with the lists round it.
+/// A condition with the list before it, and what is done where it is true.
 #[derive(Drop)]
 pub struct Branch {
     condition: WExpr,
-    /// The statements before the condition.
     outer: Vec<WStmt>,
-    /// What is done where it is true, once that has ended.
-    body: Option<Vec<WStmt>>,
+    body: Vec<WStmt>,
 }
 
-/// Begins the body after a condition.
-pub fn open_branch(
-    out: &mut Lowering,
-    condition: WExpr,
-    frame: &mut Frame,
-) -> Result<(), LowerError> {
+/// Begins what is done where a condition is true.
+pub fn open_branch(out: &mut Lowering, condition: WExpr, branches: &mut Vec<Branch>) -> Result<()> {
     let outer = out.open();
-    frame.branches.push(Branch {
+    branches.push(Branch {
         condition,
         outer,
-        body: None,
+        body: Vec::new(out.alloc),
     })?;
     Ok(())
 }
 
-/// Ends the body of the last branch, if there is one, and begins what is done where its condition is false.
-pub fn open_else(out: &mut Lowering, frame: &mut Frame) {
-    if let Some(branch) = frame.branches.last_mut() {
-        branch.body = Some(out.open());
+/// Ends the last branch, and begins what is done where its condition is false.
+pub fn end_branch(out: &mut Lowering, branches: &mut Vec<Branch>) {
+    if let Some(branch) = branches.last_mut() {
+        branch.body = out.open();
     }
 }
 
-/// Ends all branches, the last one first.
-pub fn close_branches(out: &mut Lowering, mut branches: Vec<Branch>) -> Result<(), LowerError> {
+/// Ends what is done where no condition is true: that of the last branch first.
+pub fn close_branches(out: &mut Lowering, mut branches: Vec<Branch>) -> Result<()> {
     for _ in 0..branches.len() {
         if let Some(branch) = branches.pop() {
             close_branch(out, branch)?;
@@ -47,15 +47,70 @@ pub fn close_branches(out: &mut Lowering, mut branches: Vec<Branch>) -> Result<(
     Ok(())
 }
 
-fn close_branch(out: &mut Lowering, branch: Branch) -> Result<(), LowerError> {
+fn close_branch(out: &mut Lowering, branch: Branch) -> Result<()> {
     let Branch {
         condition,
         outer,
         body,
     } = branch;
     let last = out.close(outer);
-    match body {
-        Some(body) => out.push(WStmt::If(condition, body, last)),
-        None => out.push(WStmt::If(condition, last, Vec::new(out.alloc))),
+    out.push(WStmt::If(condition, body, last))
+}
+
+/// An If as its clauses and what stands after `else`.
+#[derive(Drop)]
+struct Choice {
+    clauses: Vec<Clause>,
+    otherwise: Vec<u32>,
+}
+
+/// A condition and what stands after it.
+#[derive(Drop)]
+struct Clause {
+    condition: u32,
+    items: Vec<u32>,
+}
+
+fn choice_of(alloc: Global, c: &Checked, node: &Node) -> Result<Choice> {
+    let mut choice = Choice {
+        clauses: Vec::new(alloc),
+        otherwise: Vec::new(alloc),
+    };
+    for n in node.children.as_slice() {
+        let child = node_at(&c.tree, *n)?;
+        if is_behind_else(node, child) {
+            choice.otherwise.push(*n)?;
+        } else if is_item(child.kind) {
+            add_item(&mut choice.clauses, *n)?;
+        } else {
+            choice.clauses.push(Clause {
+                condition: *n,
+                items: Vec::new(alloc),
+            })?;
+        }
     }
+    Ok(choice)
+}
+
+/// Adds an item to the last clause.
+fn add_item(clauses: &mut Vec<Clause>, n: u32) -> Result<()> {
+    if let Some(clause) = clauses.last_mut() {
+        clause.items.push(n)?;
+    }
+    Ok(())
+}
+
+/// `if condition then body elseif condition then body else body end`
+#[cycle(statements)]
+pub fn if_statement(out: &mut Lowering, c: &Checked, node: &Node, depth: u32) -> Result<()> {
+    let choice = choice_of(out.alloc, c, node)?;
+    let mut branches = Vec::new(out.alloc);
+    for clause in choice.clauses.as_slice() {
+        let condition = condition(out, c, clause.condition)?;
+        open_branch(out, condition, &mut branches)?;
+        body(out, c, clause.items.as_slice(), depth)?;
+        end_branch(out, &mut branches);
+    }
+    body(out, c, choice.otherwise.as_slice(), depth)?;
+    close_branches(out, branches)
 }

@@ -4,12 +4,14 @@
 ghost use Rattle.std.specs.Prelude.{All, IfOk};
 ghost use Rattle.clu_lower_expr.specs.Bounds.{IsBounded};
 
+use crate::Result;
 use crate::declaring::formals;
 use crate::given::{Member, give_cluster, give_member, own_actuals};
 use crate::headings::note_heading;
+use crate::nodes::children_of;
 use crate::own_type::note_types;
-use crate::own_variables::{children_of, declare_owns, set_up};
-use crate::routines::{body, count, is_procedure, own_name, specification};
+use crate::own_variables::{declare_owns, set_up};
+use crate::routines::{begun, body, count, is_procedure, own_name, specification};
 use clu_base::{Bytes, Sequence};
 use clu_core::Checked;
 use clu_equates::{first_name, intern, node_at};
@@ -41,7 +43,7 @@ pub fn cluster_routines(
     c: &Checked,
     module: &Node,
     node: &Node,
-) -> Result<Vec<WRoutine>, LowerError>
+) -> Result<Vec<WRoutine>>
     ensures { IfOk result (λ routines. All IsBounded routines.items) }
 {
     let owns = children_of(alloc, c, node, NodeKind::Own)?;
@@ -57,7 +59,7 @@ pub fn cluster_routines(
 }
 
 /// The type that the equate of `rep` denotes, which is the one without a name.
-fn representation(c: &Checked, node: &Node) -> Result<Option<TypeId>, LowerError> {
+fn representation(c: &Checked, node: &Node) -> Result<Option<TypeId>> {
     for child in node.children.as_slice() {
         let equate = node_at(&c.tree, *child)?;
         if equate.kind == NodeKind::Equate && equate.names.as_slice().is_empty() {
@@ -72,19 +74,14 @@ fn representation(c: &Checked, node: &Node) -> Result<Option<TypeId>, LowerError
 
 impl Cluster<'_> {
     /// Adds the cluster's own variables and what its where clause gives to a routine in the making.
-    fn begin(&self, out: &mut Lowering, c: &Checked) -> Result<(), LowerError> {
+    fn begin(&self, out: &mut Lowering, c: &Checked) -> Result<()> {
         out.body.rep = self.rep;
         give_cluster(out, self.spec)?;
         declare_owns(out, c, self.owns, HoleKind::ClusterOwn)
     }
 
     /// The routines of these nodes, after that which sets up the own variables.
-    fn all_routines(
-        &self,
-        alloc: Global,
-        c: &Checked,
-        nodes: &[u32],
-    ) -> Result<Vec<WRoutine>, LowerError>
+    fn all_routines(&self, alloc: Global, c: &Checked, nodes: &[u32]) -> Result<Vec<WRoutine>>
         ensures { IfOk result (λ routines. All IsBounded routines.items) }
     {
         let mut routines = self.set_ups(alloc, c)?;
@@ -96,7 +93,7 @@ impl Cluster<'_> {
     }
 
     /// The routine that sets up the own variables, if there are any.
-    fn set_ups(&self, alloc: Global, c: &Checked) -> Result<Vec<WRoutine>, LowerError>
+    fn set_ups(&self, alloc: Global, c: &Checked) -> Result<Vec<WRoutine>>
         ensures { IfOk result (λ routines. All IsBounded routines.items) }
     {
         if self.owns.is_empty() {
@@ -106,16 +103,16 @@ impl Cluster<'_> {
     }
 
     /// The routine that sets up the own variables. Its nodes are those of their declarations.
-    fn set_up(&self, alloc: Global, c: &Checked) -> Result<WRoutine, LowerError>
+    fn set_up(&self, alloc: Global, c: &Checked) -> Result<WRoutine>
         ensures { IfOk result IsBounded }
     {
         let name = Bytes::from_slice(alloc, SET_UP)?;
-        let mut out = Lowering::new(alloc);
+        let mut out = begun(alloc)?;
         self.fill_set_up(&mut out, c)?;
         out.finish(name, 0, self.own_nodes(c))
     }
 
-    fn fill_set_up(&self, out: &mut Lowering, c: &Checked) -> Result<(), LowerError> {
+    fn fill_set_up(&self, out: &mut Lowering, c: &Checked) -> Result<()> {
         self.begin(out, c)?;
         let _own = out.add_type(Bytes::from_slice(out.alloc, b"proctype()")?)?;
         set_up(out, c, self.owns, HoleKind::ClusterOwn)?;
@@ -131,23 +128,17 @@ impl Cluster<'_> {
         nodes
     }
 
-    fn routine(
-        &self,
-        alloc: Global,
-        c: &Checked,
-        n: u32,
-        node: &Node,
-    ) -> Result<WRoutine, LowerError>
+    fn routine(&self, alloc: Global, c: &Checked, n: u32, node: &Node) -> Result<WRoutine>
         ensures { IfOk result IsBounded }
     {
         let name = own_name(alloc, node)?;
-        let mut out = Lowering::new(alloc);
+        let mut out = begun(alloc)?;
         let args = self.fill(&mut out, c, node)?;
         out.finish(name, args, count(c, n))
     }
 
     /// Adds all that stands in a routine; the answer is how many arguments it takes.
-    fn fill(&self, out: &mut Lowering, c: &Checked, node: &Node) -> Result<u32, LowerError> {
+    fn fill(&self, out: &mut Lowering, c: &Checked, node: &Node) -> Result<u32> {
         let member = Member {
             module: self.module,
             cluster: self.node,
@@ -168,7 +159,7 @@ impl Cluster<'_> {
     }
 
     /// The text of the use of the setting up of the own variables.
-    fn set_up_text(&self, alloc: Global) -> Result<Bytes, LowerError> {
+    fn set_up_text(&self, alloc: Global) -> Result<Bytes> {
         let mut types = TypeArena::new(alloc);
         let own = self.cluster_type(alloc, &mut types)?;
         if !types.contains(own) {
@@ -178,14 +169,14 @@ impl Cluster<'_> {
     }
 
     /// The cluster's type, with its own parameters as actuals.
-    fn cluster_type(&self, alloc: Global, types: &mut TypeArena) -> Result<TypeId, LowerError> {
+    fn cluster_type(&self, alloc: Global, types: &mut TypeArena) -> Result<TypeId> {
         let actuals = own_actuals(alloc, types, self.spec.kinds.as_slice())?;
         let name = self.spec.name.copy(alloc)?;
         Ok(intern(types, Term::Cluster(name, Sequence::from_vec(actuals)))?)
     }
 
     /// The heading of a routine as callers see it.
-    fn seen(&self, alloc: Global, c: &Checked, node: &Node) -> Result<Seen, LowerError> {
+    fn seen(&self, alloc: Global, c: &Checked, node: &Node) -> Result<Seen> {
         let mut types = TypeArena::new(alloc);
         let of = self.cluster_type(alloc, &mut types)?;
         let sealed = Sealed {

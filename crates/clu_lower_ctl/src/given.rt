@@ -1,5 +1,7 @@
 //! What the where clauses round the body of a routine give of type parameters (CLU Reference Manual, section 12.4).
 
+use crate::Result;
+use crate::nodes::child_of;
 use clu_base::Bytes;
 use clu_core::Checked;
 use clu_equates::{first_name, intern, node_at, only_child};
@@ -8,23 +10,16 @@ use clu_tree::{Node, NodeKind};
 use clu_types::{Actual, Demand, Form, OpSpec, ParamKind, Spec, Term, TypeArena};
 use std::alloc::Global;
 
-/// Adds what the where clause of a module gives that is a routine.
-pub fn give_routine(out: &mut Lowering, spec: &Spec) -> Result<(), LowerError> {
-    match &spec.form {
-        Form::Routine(op) => give_demands(out, spec, op.demands.as_slice()),
-        Form::Cluster(_, _) => Err(LowerError::NotYet),
-    }
-}
-
 /// Adds what the where clause of a cluster gives.
-pub fn give_cluster(out: &mut Lowering, spec: &Spec) -> Result<(), LowerError> {
+pub fn give_cluster(out: &mut Lowering, spec: &Spec) -> Result<()> {
     match &spec.form {
         Form::Cluster(demands, _) => give_demands(out, spec, demands.as_slice()),
         Form::Routine(_) => Err(LowerError::NotYet),
     }
 }
 
-fn give_demands(out: &mut Lowering, spec: &Spec, demands: &[Demand]) -> Result<(), LowerError> {
+/// Adds what a where clause gives, by the specification in which it stands.
+pub fn give_demands(out: &mut Lowering, spec: &Spec, demands: &[Demand]) -> Result<()> {
     out.body.give(out.alloc, &spec.types, demands, &[])
 }
 
@@ -40,10 +35,13 @@ pub struct Member<'a> {
 
 /// Adds what the where clause of a routine of a cluster gives. One that is exported has it in the specification; of any
 /// other its text is read.
-pub fn give_member(out: &mut Lowering, c: &Checked, member: Member<'_>) -> Result<(), LowerError> {
-    match exported(member.spec, first_name(member.routine)?) {
-        Some(op) => give_demands(out, member.spec, op.demands.as_slice()),
-        None => give_written(out, c, member),
+pub fn give_member(out: &mut Lowering, c: &Checked, member: Member<'_>) -> Result<()> {
+    if let Some(op) = exported(member.spec, first_name(member.routine)?) {
+        return give_demands(out, member.spec, op.demands.as_slice());
+    }
+    match child_of(c, member.routine, NodeKind::Where)? {
+        Some(n) => give_written(out, c, member, node_at(&c.tree, n)?),
+        None => Ok(()),
     }
 }
 
@@ -64,22 +62,7 @@ fn operation_named<'a>(ops: &'a [OpSpec], name: &Bytes) -> Option<&'a OpSpec> {
     None
 }
 
-fn give_written(out: &mut Lowering, c: &Checked, member: Member<'_>) -> Result<(), LowerError> {
-    for child in member.routine.children.as_slice() {
-        let clause = node_at(&c.tree, *child)?;
-        if clause.kind == NodeKind::Where {
-            give_clause(out, c, member, clause)?;
-        }
-    }
-    Ok(())
-}
-
-fn give_clause(
-    out: &mut Lowering,
-    c: &Checked,
-    member: Member<'_>,
-    clause: &Node,
-) -> Result<(), LowerError> {
+fn give_written(out: &mut Lowering, c: &Checked, member: Member<'_>, clause: &Node) -> Result<()> {
     for child in clause.children.as_slice() {
         give_restrict(out, c, member, node_at(&c.tree, *child)?)?;
     }
@@ -91,7 +74,7 @@ fn give_restrict(
     c: &Checked,
     member: Member<'_>,
     restrict: &Node,
-) -> Result<(), LowerError> {
+) -> Result<()> {
     let param = parameter_named(c, member.cluster, first_name(restrict)?)?;
     match set_of(c, member, restrict)? {
         Some(set) => {
@@ -104,7 +87,7 @@ fn give_restrict(
 
 /// The types in a set name its variable as a parameter after those of the module, which stay as they are. Its actual
 /// is the parameter that is in the set.
-fn actuals_of_set(out: &mut Lowering, spec: &Spec, param: u32) -> Result<Vec<Actual>, LowerError> {
+fn actuals_of_set(out: &mut Lowering, spec: &Spec, param: u32) -> Result<Vec<Actual>> {
     let types = &mut out.body.given_types;
     let mut actuals = own_actuals(out.alloc, types, spec.kinds.as_slice())?;
     actuals.push(Actual::Of(intern(types, Term::Param(param))?))?;
@@ -116,7 +99,7 @@ pub fn own_actuals(
     alloc: Global,
     types: &mut TypeArena,
     kinds: &[ParamKind],
-) -> Result<Vec<Actual>, LowerError> {
+) -> Result<Vec<Actual>> {
     let mut actuals = Vec::new(alloc);
     let mut number = 0u32;
     for kind in kinds {
@@ -136,7 +119,7 @@ fn give_opers(
     node: &Node,
     param: u32,
     actuals: &[Actual],
-) -> Result<(), LowerError> {
+) -> Result<()> {
     for child in node.children.as_slice() {
         let oper = node_at(&c.tree, *child)?;
         if oper.kind == NodeKind::Oper {
@@ -152,7 +135,7 @@ fn give_oper(
     oper: &Node,
     param: u32,
     actuals: &[Actual],
-) -> Result<(), LowerError> {
+) -> Result<()> {
     let wanted = denoted_type(out, c, only_child(oper)?)?;
     let mut demands = Vec::new(out.alloc);
     for name in oper.names.as_slice() {
@@ -167,11 +150,7 @@ fn give_oper(
 }
 
 /// The type set that a Restrict has or names.
-fn set_of<'a>(
-    c: &'a Checked,
-    member: Member<'_>,
-    restrict: &Node,
-) -> Result<Option<&'a Node>, LowerError> {
+fn set_of<'a>(c: &'a Checked, member: Member<'_>, restrict: &Node) -> Result<Option<&'a Node>> {
     if let Some(child) = restrict.children.as_slice().first() {
         let child = node_at(&c.tree, *child)?;
         return Ok(if child.kind == NodeKind::TypeSet {
@@ -187,7 +166,7 @@ fn set_of<'a>(
 }
 
 /// The type set that a name comes to, through no more equates than there are nodes.
-fn set_named<'a>(c: &'a Checked, member: Member<'_>, name: &Bytes) -> Result<&'a Node, LowerError> {
+fn set_named<'a>(c: &'a Checked, member: Member<'_>, name: &Bytes) -> Result<&'a Node> {
     let mut right = equated(c, member, name)?;
     for _ in 0..c.tree.len() {
         match right.kind {
@@ -200,24 +179,16 @@ fn set_named<'a>(c: &'a Checked, member: Member<'_>, name: &Bytes) -> Result<&'a
 }
 
 /// The right side of the equate of this name in a routine, round it in the cluster, or round that in the module.
-fn equated<'a>(c: &'a Checked, member: Member<'_>, name: &Bytes) -> Result<&'a Node, LowerError> {
-    if let Some(right) = equated_in(c, member.routine, name)? {
-        return Ok(right);
+fn equated<'a>(c: &'a Checked, member: Member<'_>, name: &Bytes) -> Result<&'a Node> {
+    for node in [member.routine, member.cluster, member.module] {
+        if let Some(right) = equated_in(c, node, name)? {
+            return Ok(right);
+        }
     }
-    if let Some(right) = equated_in(c, member.cluster, name)? {
-        return Ok(right);
-    }
-    match equated_in(c, member.module, name)? {
-        Some(right) => Ok(right),
-        None => Err(LowerError::NotYet),
-    }
+    Err(LowerError::NotYet)
 }
 
-fn equated_in<'a>(
-    c: &'a Checked,
-    node: &Node,
-    name: &Bytes,
-) -> Result<Option<&'a Node>, LowerError> {
+fn equated_in<'a>(c: &'a Checked, node: &Node, name: &Bytes) -> Result<Option<&'a Node>> {
     for child in node.children.as_slice() {
         let equate = node_at(&c.tree, *child)?;
         if equate.kind == NodeKind::Equate && equate.names.as_slice().first() == Some(name) {
@@ -228,7 +199,7 @@ fn equated_in<'a>(
 }
 
 /// The number of the parameter of this name of a cluster.
-fn parameter_named(c: &Checked, cluster: &Node, name: &Bytes) -> Result<u32, LowerError> {
+fn parameter_named(c: &Checked, cluster: &Node, name: &Bytes) -> Result<u32> {
     let mut before = 0u32;
     for child in cluster.children.as_slice() {
         let parm = node_at(&c.tree, *child)?;

@@ -1,84 +1,99 @@
 //! Except and Resignal (CLU Reference Manual, sections 12.2 to 12.4): a guard round the statement, whose arms stand
 //! outside it.
 
-use crate::declaring::{declare_formals, is_any_decl};
-use crate::nest::Nest;
-use crate::walk::Frame;
+use crate::Result;
+use crate::declaring::{Declared, declare_formal, declare_formals, decls_in};
+use crate::walk::{body, statement};
 use clu_base::Bytes;
 use clu_core::Checked;
-use clu_equates::{first_name, intern, node_at};
+use clu_equates::{intern, node_at, only_child};
 use clu_lower_expr::{LowerError, Lowering, OpenArm, bind, copied_names, denotes_any};
 use clu_tree::{Node, NodeKind};
 use clu_types::{Term, TypeArena};
 use clu_wir::{WArm, WExpr, WStmt};
 use std::boxed::Box;
-use std::mem;
-
-/// Begins the list that an Except or a Resignal stands round.
-pub fn open_guard(
-    out: &mut Lowering,
-    c: &Checked,
-    node: &Node,
-    frame: &mut Frame,
-) -> Result<(), LowerError> {
-    if node.kind == NodeKind::Except {
-        open_arms(out, c, node, frame)?;
-    }
-    frame.nest.outer = Some(out.open());
-    out.body.direct = true;
-    Ok(())
-}
-
-/// The arms of an Except stand round its statement. Where one binds failures to type any, a guard inside takes these first.
-fn open_arms(
-    out: &mut Lowering,
-    c: &Checked,
-    node: &Node,
-    frame: &mut Frame,
-) -> Result<(), LowerError> {
-    let arms = except_arms(out, c, node)?;
-    frame.nest.failure_arm = binding_failures(arms.as_slice());
-    out.body.guards.push(arms)?;
-    if frame.nest.failure_arm.is_some() {
-        let inner = vec![in out.alloc; nameless_arm(out)]?;
-        out.body.guards.push(inner)?;
-    }
-    Ok(())
-}
 
 /// The name of the exception that every routine may signal.
 const FAILURE: &[u8] = b"failure";
 
-fn except_arms(out: &Lowering, c: &Checked, node: &Node) -> Result<Vec<OpenArm>, LowerError> {
+/// The bytes of a word.
+const WORD: u32 = 8;
+
+/// `statement resignal name, ..`: what the statement raises by these names is signalled on, with its objects and the types
+/// that came with them.
+#[cycle(statements)]
+pub fn resignal(out: &mut Lowering, c: &Checked, node: &Node, depth: u32) -> Result<()> {
+    let outer = out.open();
+    out.body.direct = true;
+    statement(out, c, only_child(node)?, depth)?;
+    let body = out.close(outer);
+    push_resignal(out, body, node.names.as_slice())
+}
+
+fn push_resignal(out: &mut Lowering, body: Vec<WStmt>, names: &[Bytes]) -> Result<()> {
+    for name in names {
+        out.exception(name)?;
+    }
+    out.push(WStmt::Resignal(body, copied_names(out.alloc, names)?))
+}
+
+/// `statement except arm .. end`
+#[cycle(statements)]
+pub fn except(out: &mut Lowering, c: &Checked, node: &Node, depth: u32) -> Result<()> {
+    let Some((n, arms)) = node.children.as_slice().split_first() else {
+        return Err(LowerError::NotYet);
+    };
+    let outside = out.body.guards.len();
+    let failure_arm = open_arms(out, c, arms)?;
+    let outer = out.open();
+    out.body.direct = true;
+    statement(out, c, *n, depth)?;
+    let body = out.close(outer);
+    let body = close_arms(out, body, outside, failure_arm)?;
+    let arms = handlers(out, c, arms, depth)?;
+    out.push(WStmt::Guard(body, arms))
+}
+
+/// The list in an Except, where so many guards stand outside. If one of its arms binds failures to type any, a guard inside
+/// takes these first.
+fn close_arms(
+    out: &mut Lowering,
+    body: Vec<WStmt>,
+    outside: usize,
+    failure_arm: Option<u32>,
+) -> Result<Vec<WStmt>> {
+    out.body.guards.truncate(outside);
+    match failure_arm {
+        Some(arm) => type_failures(out, body, arm),
+        None => Ok(body),
+    }
+}
+
+/// The arms of an Except stand round its statement. Gives the number of that which binds failures to type any.
+fn open_arms(out: &mut Lowering, c: &Checked, nodes: &[u32]) -> Result<Option<u32>> {
     let mut arms = Vec::new(out.alloc);
-    for child in node.children.as_slice() {
-        let arm = node_at(&c.tree, *child)?;
-        match arm.kind {
-            NodeKind::When => arms.push(when_arm(out, c, arm)?)?,
-            NodeKind::Others => arms.push(nameless_arm(out))?,
-            _ => {}
-        }
+    for n in nodes {
+        arms.push(open_arm(out, c, node_at(&c.tree, *n)?)?)?;
     }
-    Ok(arms)
+    let failure_arm = binding_failures(arms.as_slice());
+    out.body.guards.push(arms)?;
+    if failure_arm.is_some() {
+        let inner = vec![in out.alloc; nameless_arm(out)]?;
+        out.body.guards.push(inner)?;
+    }
+    Ok(failure_arm)
 }
 
-fn when_arm(out: &Lowering, c: &Checked, when: &Node) -> Result<OpenArm, LowerError> {
+fn open_arm(out: &Lowering, c: &Checked, arm: &Node) -> Result<OpenArm> {
+    if arm.kind != NodeKind::When {
+        return Ok(nameless_arm(out));
+    }
+    let listed = decls_in(out, c, arm.children.as_slice())?;
     Ok(OpenArm {
-        names: copied_names(out.alloc, when.names.as_slice())?,
-        drops: when.value_token.is_some(),
-        binds: binds_any(out, c, when)?,
+        names: copied_names(out.alloc, arm.names.as_slice())?,
+        drops: arm.value_token.is_some(),
+        binds: binds_any(listed.as_slice()),
     })
-}
-
-/// Whether one of the variables of an arm is of type any.
-fn binds_any(out: &Lowering, c: &Checked, arm: &Node) -> Result<bool, LowerError> {
-    for child in arm.children.as_slice() {
-        let decl = node_at(&c.tree, *child)?;
-        if decl.kind == NodeKind::Decl && is_any_decl(out, c, decl)? {
-            return Ok(true);
-        }
-    }
-    Ok(false)
 }
 
 /// An arm to which no exit goes.
@@ -88,6 +103,16 @@ fn nameless_arm(out: &Lowering) -> OpenArm {
         drops: false,
         binds: false,
     }
+}
+
+/// Whether one of these variables is of type any.
+fn binds_any(listed: &[Declared<'_>]) -> bool {
+    for declared in listed {
+        if declared.is_any {
+            return true;
+        }
+    }
+    false
 }
 
 /// The number of the arm that binds failures to a variable of type any.
@@ -112,33 +137,9 @@ fn takes_failures(arm: &OpenArm) -> bool {
     false
 }
 
-/// After the statement: what it declares stays in scope after the whole.
-pub fn keep_declared(out: &Lowering, frame: &mut Frame) {
-    frame.in_scope = out.in_scope();
-    frame.taken = out.taken();
-}
-
-/// Ends the list that is guarded by an Except, if that was not done.
-fn close_guarded(out: &mut Lowering, frame: &mut Frame) -> Result<(), LowerError> {
-    if frame.nest.guarded.is_some() {
-        return Ok(());
-    }
-    let Some(outer) = frame.nest.outer.take() else {
-        return Err(LowerError::NotYet);
-    };
-    let body = out.close(outer);
-    let guarded = match frame.nest.failure_arm {
-        Some(arm) => type_failures(out, body, arm)?,
-        None => body,
-    };
-    let _ = out.body.guards.pop();
-    frame.nest.guarded = Some(guarded);
-    Ok(())
-}
-
-/// Ends the inner guard, whose arm takes the string of a failure and goes with its type to the arm of this number outside.
-fn type_failures(out: &mut Lowering, body: Vec<WStmt>, arm: u32) -> Result<Vec<WStmt>, LowerError> {
-    let _ = out.body.guards.pop();
+/// The inner guard round a list: its arm takes the string of a failure and goes with its type to the arm of this number
+/// outside.
+fn type_failures(out: &mut Lowering, body: Vec<WStmt>, arm: u32) -> Result<Vec<WStmt>> {
     let taken = out.taken();
     let slot = out.take()?;
     out.release(taken);
@@ -151,7 +152,7 @@ fn type_failures(out: &mut Lowering, body: Vec<WStmt>, arm: u32) -> Result<Vec<W
 }
 
 /// An arm that takes failures, whose string goes into the slot.
-fn failure_arm(out: &Lowering, slot: u32, body: Vec<WStmt>) -> Result<WArm, LowerError> {
+fn failure_arm(out: &Lowering, slot: u32, body: Vec<WStmt>) -> Result<WArm> {
     let name = Bytes::from_slice(out.alloc, FAILURE)?;
     Ok(WArm {
         names: vec![in out.alloc; name]?,
@@ -161,158 +162,95 @@ fn failure_arm(out: &Lowering, slot: u32, body: Vec<WStmt>) -> Result<WArm, Lowe
     })
 }
 
-/// The string in a slot as an object of type any, in the same slot.
-fn bind_string(out: &mut Lowering, slot: u32) -> Result<WExpr, LowerError> {
-    let mut types = TypeArena::new(out.alloc);
-    let string = intern(&mut types, Term::Str)?;
-    bind(out, &types, WExpr::Slot(slot), string, true, slot)
-}
-
-/// Begins an arm: its variables come into scope.
-pub fn open_arm(
-    out: &mut Lowering,
-    c: &Checked,
-    arm: &Node,
-    frame: &mut Frame,
-) -> Result<(), LowerError> {
-    close_guarded(out, frame)?;
-    frame.nest.outer = Some(out.open());
-    frame.nest.slots = Vec::new(out.alloc);
-    if arm.kind == NodeKind::Others {
-        open_others(out, c, arm, frame)
-    } else {
-        open_when(out, c, arm, frame)
-    }
-}
-
-/// The variables of a When name the objects that come. Those of type any are bound with the types that come after them.
-fn open_when(
-    out: &mut Lowering,
-    c: &Checked,
-    arm: &Node,
-    frame: &mut Frame,
-) -> Result<(), LowerError> {
-    let mut any = Vec::new(out.alloc);
-    for child in arm.children.as_slice() {
-        let decl = node_at(&c.tree, *child)?;
-        if decl.kind == NodeKind::Decl {
-            let is_any = is_any_decl(out, c, decl)?;
-            for slot in declare_formals(out, c, decl)? {
-                frame.nest.slots.push(slot)?;
-                any.push(is_any)?;
-            }
+/// `when name, .. (declaration, ..): body` and `others (name: type): body`
+#[cycle(statements)]
+fn handlers(out: &mut Lowering, c: &Checked, nodes: &[u32], depth: u32) -> Result<Vec<WArm>> {
+    let mut arms = Vec::new(out.alloc);
+    for n in nodes {
+        let node = node_at(&c.tree, *n)?;
+        let (in_scope, taken) = (out.in_scope(), out.taken());
+        let outer = out.open();
+        arms.push(begun_arm(out, c, node)?)?;
+        body(out, c, node.children.as_slice(), depth)?;
+        let done = out.close(outer);
+        if let Some(arm) = arms.last_mut() {
+            arm.body = done;
         }
+        out.leave(in_scope);
+        out.release(taken);
     }
-    if binds_any(out, c, arm)? {
-        bind_objects(out, any.as_slice(), frame)?;
-    }
-    Ok(())
+    Ok(arms)
 }
 
-/// Binds the objects in an arm's slots to type any where `any` says so. The address of the numbers of their types comes
-/// into one more slot, which is free after this.
-fn bind_objects(out: &mut Lowering, any: &[bool], frame: &mut Frame) -> Result<(), LowerError> {
+/// An arm without its body. The variables that it declares name what comes with the exception.
+fn begun_arm(out: &mut Lowering, c: &Checked, arm: &Node) -> Result<WArm> {
+    let others = arm.kind == NodeKind::Others;
+    let names: &[Bytes] = if others { &[] } else { arm.names.as_slice() };
+    Ok(WArm {
+        names: copied_names(out.alloc, names)?,
+        others,
+        slots: if others {
+            take_name(out, c, arm)?
+        } else {
+            take_objects(out, c, arm)?
+        },
+        body: Vec::new(out.alloc),
+    })
+}
+
+/// The variables of a When name the objects that come; the answer is their slots. Those of type any are bound with the
+/// types that come after them.
+fn take_objects(out: &mut Lowering, c: &Checked, arm: &Node) -> Result<Vec<u32>> {
+    let listed = decls_in(out, c, arm.children.as_slice())?;
+    let mut slots = declare_formals(out, listed.as_slice())?;
+    if binds_any(listed.as_slice()) {
+        bind_objects(out, listed.as_slice(), &mut slots)?;
+    }
+    Ok(slots)
+}
+
+/// Binds the objects in slots to type any where that is the type of their variables. The address of the numbers of their
+/// types comes into one more slot, which is free after this.
+fn bind_objects(out: &mut Lowering, listed: &[Declared<'_>], slots: &mut Vec<u32>) -> Result<()> {
     let types = out.take()?;
     out.release(types);
     let mut distance = 0u32;
-    for (slot, to_any) in frame.nest.slots.as_slice().iter().zip(any) {
-        if *to_any {
+    for (slot, declared) in slots.as_slice().iter().zip(listed) {
+        if declared.is_any {
             bind_object(out, *slot, types, distance)?;
         }
         distance = distance.checked_add(WORD).ok_or(LowerError::NotYet)?;
     }
-    frame.nest.slots.push(types)?;
+    slots.push(types)?;
     Ok(())
 }
 
-/// The bytes of a word.
-const WORD: u32 = 8;
-
 /// Binds the object in a slot, the number of whose type is so many bytes after the address in another, to type any.
-fn bind_object(out: &mut Lowering, slot: u32, types: u32, distance: u32) -> Result<(), LowerError> {
+fn bind_object(out: &mut Lowering, slot: u32, types: u32, distance: u32) -> Result<()> {
     let address = Box::new(out.alloc, WExpr::Slot(types))?;
     let number = WExpr::Load(address, distance);
     out.push(WStmt::Bind(number, WExpr::Slot(slot), slot))
 }
 
-/// The variable of an Others names a string, the name of the exception.
-fn open_others(
-    out: &mut Lowering,
-    c: &Checked,
-    arm: &Node,
-    frame: &mut Frame,
-) -> Result<(), LowerError> {
-    if arm.names.as_slice().is_empty() {
-        return Ok(());
+/// The variable of an Others, if it has one, names a string, the name of the exception; the answer is its slot.
+fn take_name(out: &mut Lowering, c: &Checked, arm: &Node) -> Result<Vec<u32>> {
+    match (arm.names.as_slice(), arm.children.as_slice()) {
+        ([name], [of, ..]) => {
+            let is_any = denotes_any(out, c, *of)?;
+            let slot = declare_formal(out, Declared { name, is_any })?;
+            if is_any {
+                bind_string(out, slot)?;
+            }
+            Ok(vec![in out.alloc; slot]?)
+        }
+        _ => Ok(Vec::new(out.alloc)),
     }
-    let is_any = match arm.children.as_slice().first() {
-        Some(of) => denotes_any(out, c, *of)?,
-        None => return Err(LowerError::NotYet),
-    };
-    let mut variable = out.named_variable()?;
-    variable.is_any = is_any;
-    frame.nest.slots.push(variable.slot)?;
-    if is_any {
-        let _word = bind_string(out, variable.slot)?;
-    }
-    out.declare(first_name(arm)?, variable)
 }
 
-/// Ends an arm.
-pub fn close_arm(out: &mut Lowering, arm: &Node, frame: &mut Frame) -> Result<(), LowerError> {
-    let Some(outer) = frame.nest.outer.take() else {
-        return Err(LowerError::NotYet);
-    };
-    let body = out.close(outer);
-    let slots = mem::replace(&mut frame.nest.slots, Vec::new(out.alloc));
-    let names = if arm.kind == NodeKind::When {
-        copied_names(out.alloc, arm.names.as_slice())?
-    } else {
-        Vec::new(out.alloc)
-    };
-    frame.nest.arms.push(WArm {
-        names,
-        others: arm.kind == NodeKind::Others,
-        slots,
-        body,
-    })?;
-    out.leave(frame.in_scope);
-    out.release(frame.taken);
+/// Binds the string in a slot to type any.
+fn bind_string(out: &mut Lowering, slot: u32) -> Result<()> {
+    let mut types = TypeArena::new(out.alloc);
+    let string = intern(&mut types, Term::Str)?;
+    let _word = bind(out, &types, WExpr::Slot(slot), string, true, slot)?;
     Ok(())
-}
-
-/// Ends an Except or a Resignal.
-pub fn close_guard(out: &mut Lowering, node: &Node, frame: Frame) -> Result<(), LowerError> {
-    if node.kind == NodeKind::Resignal {
-        close_resignal(out, node, frame)
-    } else {
-        close_except(out, frame)
-    }
-}
-
-fn close_except(out: &mut Lowering, mut frame: Frame) -> Result<(), LowerError> {
-    close_guarded(out, &mut frame)?;
-    let Frame { taken, nest, .. } = frame;
-    let Nest { guarded, arms, .. } = nest;
-    out.release(taken);
-    match guarded {
-        Some(body) => out.push(WStmt::Guard(body, arms)),
-        None => Err(LowerError::NotYet),
-    }
-}
-
-/// What the list raises by the names of a Resignal is signalled on, with its objects and the types that came with them.
-fn close_resignal(out: &mut Lowering, node: &Node, frame: Frame) -> Result<(), LowerError> {
-    let Frame { taken, nest, .. } = frame;
-    let Nest { outer, .. } = nest;
-    let Some(outer) = outer else {
-        return Err(LowerError::NotYet);
-    };
-    let body = out.close(outer);
-    out.release(taken);
-    let names = node.names.as_slice();
-    for name in names {
-        out.exception(name)?;
-    }
-    out.push(WStmt::Resignal(body, copied_names(out.alloc, names)?))
 }

@@ -1,12 +1,13 @@
 //! The heading of a routine as its body sees it: which results and objects of exceptions are of type any.
 
+use crate::Result;
 use clu_core::Checked;
 use clu_equates::{first_name, node_at};
-use clu_lower_expr::{LowerError, Lowering, denotes_any};
+use clu_lower_expr::{Lowering, denotes_any};
 use clu_tree::{Node, NodeKind};
 
 /// Notes the results and the exceptions of a routine's heading.
-pub fn note_heading(out: &mut Lowering, c: &Checked, routine: &Node) -> Result<(), LowerError> {
+pub fn note_heading(out: &mut Lowering, c: &Checked, routine: &Node) -> Result<()> {
     for child in routine.children.as_slice() {
         let child = node_at(&c.tree, *child)?;
         match child.kind {
@@ -18,7 +19,7 @@ pub fn note_heading(out: &mut Lowering, c: &Checked, routine: &Node) -> Result<(
     Ok(())
 }
 
-fn note_signals(out: &mut Lowering, c: &Checked, signals: &Node) -> Result<(), LowerError> {
+fn note_signals(out: &mut Lowering, c: &Checked, signals: &Node) -> Result<()> {
     for child in signals.children.as_slice() {
         let exception = node_at(&c.tree, *child)?;
         let name = first_name(exception)?.copy(out.alloc)?;
@@ -29,7 +30,7 @@ fn note_signals(out: &mut Lowering, c: &Checked, signals: &Node) -> Result<(), L
 }
 
 /// For each type that stands directly in a node whether it is any.
-fn which_denote_any(out: &Lowering, c: &Checked, node: &Node) -> Result<Vec<bool>, LowerError> {
+fn which_denote_any(out: &Lowering, c: &Checked, node: &Node) -> Result<Vec<bool>> {
     let mut any = Vec::new(out.alloc);
     for of in node.children.as_slice() {
         any.push(denotes_any(out, c, *of)?)?;

@@ -1,6 +1,7 @@
 //! The statements that leave a routine, for a time or for good, or go to an arm: Yield, Return, Signal and Exit (CLU
 //! Reference Manual, sections 11.3, 11.4 and 12.3).
 
+use crate::Result;
 use clu_base::Bytes;
 use clu_core::Checked;
 use clu_equates::first_name;
@@ -9,7 +10,7 @@ use clu_tree::Node;
 use clu_wir::{HoleKind, WExpr, WStmt};
 
 /// The values of expressions, evaluated from left to right.
-fn values(out: &mut Lowering, c: &Checked, expressions: &[u32]) -> Result<Vec<WExpr>, LowerError> {
+fn values(out: &mut Lowering, c: &Checked, expressions: &[u32]) -> Result<Vec<WExpr>> {
     let mut values = Vec::new(out.alloc);
     for n in expressions {
         values.push(lower_expr(out, c, *n)?)?;
@@ -18,12 +19,7 @@ fn values(out: &mut Lowering, c: &Checked, expressions: &[u32]) -> Result<Vec<WE
 }
 
 /// The values of a node's expressions, bound to any where `any` says so once all of them are evaluated.
-fn bound_values(
-    out: &mut Lowering,
-    c: &Checked,
-    node: &Node,
-    any: &[bool],
-) -> Result<Vec<WExpr>, LowerError> {
+fn bound_values(out: &mut Lowering, c: &Checked, node: &Node, any: &[bool]) -> Result<Vec<WExpr>> {
     let free = out.taken();
     let expressions = node.children.as_slice();
     let values = values(out, c, expressions)?;
@@ -31,29 +27,28 @@ fn bound_values(
     out.taken_back_all(values, free)
 }
 
-/// Copies of what is known of objects.
-fn copied(out: &Lowering, any: &[bool]) -> Result<Vec<bool>, LowerError> {
-    Ok(any.to_vec(out.alloc)?)
+/// The values of a node's expressions, bound to the results of the heading.
+fn bound_results(out: &mut Lowering, c: &Checked, node: &Node) -> Result<Vec<WExpr>> {
+    let any = out.body.results.as_slice().to_vec(out.alloc)?;
+    bound_values(out, c, node, any.as_slice())
 }
 
 /// `yield (a, b)`
-pub fn yield_values(out: &mut Lowering, c: &Checked, node: &Node) -> Result<(), LowerError> {
-    let any = copied(out, out.body.results.as_slice())?;
-    let values = bound_values(out, c, node, any.as_slice())?;
+pub fn yield_values(out: &mut Lowering, c: &Checked, node: &Node) -> Result<()> {
+    let values = bound_results(out, c, node)?;
     out.push(WStmt::Yield(values))
 }
 
 /// `return (a, b)`
-pub fn return_values(out: &mut Lowering, c: &Checked, node: &Node) -> Result<(), LowerError> {
-    let any = copied(out, out.body.results.as_slice())?;
-    let values = bound_values(out, c, node, any.as_slice())?;
+pub fn return_values(out: &mut Lowering, c: &Checked, node: &Node) -> Result<()> {
+    let values = bound_results(out, c, node)?;
     out.push(WStmt::Return(values))
 }
 
 /// `signal e (a, b)`
-pub fn signal(out: &mut Lowering, c: &Checked, node: &Node) -> Result<(), LowerError> {
+pub fn signal(out: &mut Lowering, c: &Checked, node: &Node) -> Result<()> {
     let name = first_name(node)?.copy(out.alloc)?;
-    let any = copied(out, out.body.signal(&name))?;
+    let any = out.body.signal(&name).to_vec(out.alloc)?;
     let objects = bound_values(out, c, node, any.as_slice())?;
     let objects = with_types(out, &name, objects)?;
     out.exception(&name)?;
@@ -62,11 +57,7 @@ pub fn signal(out: &mut Lowering, c: &Checked, node: &Node) -> Result<(), LowerE
 
 /// The objects of an exception of the heading, and after them the address of the numbers of their types. A failure, which
 /// may come from anywhere, has its string alone.
-fn with_types(
-    out: &Lowering,
-    name: &Bytes,
-    mut objects: Vec<WExpr>,
-) -> Result<Vec<WExpr>, LowerError> {
+fn with_types(out: &Lowering, name: &Bytes, mut objects: Vec<WExpr>) -> Result<Vec<WExpr>> {
     match out.body.object_types.get(name) {
         Some(first) => objects.push(WExpr::Hole(HoleKind::TypeCell, *first))?,
         None => {}
@@ -75,7 +66,7 @@ fn with_types(
 }
 
 /// `exit e (a, b)`
-pub fn exit(out: &mut Lowering, c: &Checked, node: &Node) -> Result<(), LowerError> {
+pub fn exit(out: &mut Lowering, c: &Checked, node: &Node) -> Result<()> {
     let place = out.body.exit_target(first_name(node)?)?;
     let (drops, binds) = match out.body.arm(place) {
         Some(arm) => (arm.drops, arm.binds),
@@ -92,7 +83,7 @@ pub fn exit(out: &mut Lowering, c: &Checked, node: &Node) -> Result<(), LowerErr
 }
 
 /// The address of the numbers of the types of expressions.
-fn types_of(out: &mut Lowering, c: &Checked, expressions: &[u32]) -> Result<WExpr, LowerError> {
+fn types_of(out: &mut Lowering, c: &Checked, expressions: &[u32]) -> Result<WExpr> {
     let mut texts = Vec::new(out.alloc);
     for n in expressions {
         texts.push(text_of(out.alloc, &c.types, type_of(c, *n)?)?)?;

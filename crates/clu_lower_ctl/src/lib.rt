@@ -1,7 +1,6 @@
 //! Statements and routines of checked files as word code.
 #![tactic(auto)]
 
-mod arms;
 mod assigning;
 mod branches;
 mod clusters;
@@ -9,16 +8,17 @@ mod declaring;
 mod given;
 mod handlers;
 mod headings;
-mod kinds;
 mod leaving;
 mod looping;
-mod nest;
+mod nodes;
 mod own_type;
 mod own_variables;
 mod routines;
-mod simple;
 mod tagging;
 mod walk;
 
 pub use crate::routines::lower;
 pub use clu_lower_expr::LowerError;
+
+/// What lowering gives, or why it gives nothing.
+pub type Result<T> = std::result::Result<T, LowerError>;

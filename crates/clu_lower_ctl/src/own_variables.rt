@@ -1,107 +1,60 @@
 //! Own variables of routines and clusters: where they are, and the code that sets them up (CLU Reference Manual, section
 //! 8.3). The first word of variable 0 says whether the others were set up.
 
-use crate::assigning::assign_one;
-use crate::declaring::{call_results, is_any_decl};
-use clu_base::Bytes;
+use crate::Result;
+use crate::assigning::{assign_one, call_results};
+use crate::declaring::{Declared, decls_in};
 use clu_core::Checked;
 use clu_equates::node_at;
-use clu_lower_expr::{
-    FLAG, LowerError, Lowering, OwnVariable, assign_named, denotes_any, results_of,
-};
+use clu_lower_expr::{FLAG, Lowering, OwnVariable, assign_named, denotes_any, results_of};
 use clu_tree::{Node, NodeKind};
 use clu_wir::{HoleKind, WExpr, WStmt};
-use std::alloc::Global;
-
-/// The children of a node that are of this kind.
-pub fn children_of(
-    alloc: Global,
-    c: &Checked,
-    node: &Node,
-    kind: NodeKind,
-) -> Result<Vec<u32>, LowerError> {
-    let mut children = Vec::new(alloc);
-    for child in node.children.as_slice() {
-        if node_at(&c.tree, *child)?.kind == kind {
-            children.push(*child)?;
-        }
-    }
-    Ok(children)
-}
 
 /// Brings the variables of Own nodes into scope, numbered from 1 in the order of the text.
-pub fn declare_owns(
-    out: &mut Lowering,
-    c: &Checked,
-    owns: &[u32],
-    kind: HoleKind,
-) -> Result<(), LowerError> {
+pub fn declare_owns(out: &mut Lowering, c: &Checked, owns: &[u32], kind: HoleKind) -> Result<()> {
     let mut number = FLAG;
     for own in owns {
-        let own = node_at(&c.tree, *own)?;
-        match (own.names.as_slice(), own.children.as_slice()) {
-            ([name], [of, _]) => {
-                number = number.saturating_add(1);
-                let is_any = denotes_any(out, c, *of)?;
-                declare_own(
-                    out,
-                    name,
-                    OwnVariable {
-                        kind,
-                        number,
-                        is_any,
-                    },
-                )?;
-            }
-            (_, children) => number = declare_several(out, c, children, kind, number)?,
-        }
+        number = declare_own(out, c, node_at(&c.tree, *own)?, kind, number)?;
     }
     Ok(())
 }
 
-/// Brings the variables of Decls into scope, numbered after `last`; the answer is the last number.
-fn declare_several(
+/// The variables of one Own, numbered after `last`; the answer is the last number.
+fn declare_own(
     out: &mut Lowering,
     c: &Checked,
-    children: &[u32],
+    own: &Node,
     kind: HoleKind,
     last: u32,
-) -> Result<u32, LowerError> {
+) -> Result<u32> {
+    let listed = names_of(out, c, own)?;
     let mut number = last;
-    for child in children {
-        let decl = node_at(&c.tree, *child)?;
-        if decl.kind == NodeKind::Decl {
-            let is_any = is_any_decl(out, c, decl)?;
-            for name in decl.names.as_slice() {
-                number = number.saturating_add(1);
-                declare_own(
-                    out,
-                    name,
-                    OwnVariable {
-                        kind,
-                        number,
-                        is_any,
-                    },
-                )?;
-            }
-        }
+    for declared in listed.as_slice() {
+        number = number.saturating_add(1);
+        let name = declared.name.copy(out.alloc)?;
+        let own = OwnVariable {
+            kind,
+            number,
+            is_any: declared.is_any,
+        };
+        out.body.owns.insert(name, own)?;
     }
     Ok(number)
 }
 
-fn declare_own(out: &mut Lowering, name: &Bytes, own: OwnVariable) -> Result<(), LowerError> {
-    let name = name.copy(out.alloc)?;
-    out.body.owns.insert(name, own)?;
-    Ok(())
+/// The names that an Own declares.
+fn names_of<'a>(out: &Lowering, c: &'a Checked, own: &'a Node) -> Result<Vec<Declared<'a>>> {
+    match (own.names.as_slice(), own.children.as_slice()) {
+        ([name], [of, _]) => {
+            let is_any = denotes_any(out, c, *of)?;
+            Ok(vec![in out.alloc; Declared { name, is_any }]?)
+        }
+        (_, children) => decls_in(out, c, children),
+    }
 }
 
 /// Adds the code that sets up own variables where they were not: first it notes that they are.
-pub fn set_up_once(
-    out: &mut Lowering,
-    c: &Checked,
-    owns: &[u32],
-    kind: HoleKind,
-) -> Result<(), LowerError> {
+pub fn set_up_once(out: &mut Lowering, c: &Checked, owns: &[u32], kind: HoleKind) -> Result<()> {
     let outer = out.open();
     set_up(out, c, owns, kind)?;
     let setting = out.close(outer);
@@ -110,12 +63,7 @@ pub fn set_up_once(
 }
 
 /// Adds the code that sets up own variables.
-pub fn set_up(
-    out: &mut Lowering,
-    c: &Checked,
-    owns: &[u32],
-    kind: HoleKind,
-) -> Result<(), LowerError> {
+pub fn set_up(out: &mut Lowering, c: &Checked, owns: &[u32], kind: HoleKind) -> Result<()> {
     out.push(WStmt::Put(WExpr::Hole(kind, FLAG), 0, WExpr::Word(1)))?;
     for own in owns {
         let taken = out.taken();
@@ -125,49 +73,29 @@ pub fn set_up(
     Ok(())
 }
 
-/// The initial objects of an Own, if it has any.
-fn initialize_own(out: &mut Lowering, c: &Checked, own: &Node) -> Result<(), LowerError> {
+/// The initial objects of an Own, if it has any: of one variable, or the results of a call.
+fn initialize_own(out: &mut Lowering, c: &Checked, own: &Node) -> Result<()> {
     match (own.names.as_slice(), own.children.as_slice()) {
         ([name], [_, value]) => assign_one(out, c, name, *value),
-        (_, children) => initialize_from_call(out, c, children),
+        (_, children) => match children.last() {
+            Some(last) => initialize_several(out, c, children, *last),
+            None => Ok(()),
+        },
     }
 }
 
-/// The initial objects of the Decls before a call, if there is one.
-fn initialize_from_call(
-    out: &mut Lowering,
-    c: &Checked,
-    children: &[u32],
-) -> Result<(), LowerError> {
-    let Some((last, decls)) = children.split_last() else {
+/// If the last of these nodes is a call, its results go to the variables of the Decls among them.
+fn initialize_several(out: &mut Lowering, c: &Checked, nodes: &[u32], last: u32) -> Result<()> {
+    let call = node_at(&c.tree, last)?;
+    if call.kind != NodeKind::Call {
         return Ok(());
-    };
-    if node_at(&c.tree, *last)?.kind == NodeKind::Call {
-        initialize_several(out, c, decls, *last)
-    } else {
-        Ok(())
     }
-}
-
-/// The results of a call go to the variables of Decls.
-fn initialize_several(
-    out: &mut Lowering,
-    c: &Checked,
-    decls: &[u32],
-    call: u32,
-) -> Result<(), LowerError> {
     let free = out.taken();
-    let types = results_of(c, node_at(&c.tree, call)?)?;
-    let slots = call_results(out, c, call)?;
-    let mut place = 0usize;
-    for decl in decls {
-        for name in node_at(&c.tree, *decl)?.names.as_slice() {
-            let (Some(slot), Some(of)) = (slots.get(place), types.get(place)) else {
-                return Err(LowerError::NotYet);
-            };
-            assign_named(out, c, name, WExpr::Slot(*slot), *of, free)?;
-            place = place.saturating_add(1);
-        }
+    let listed = decls_in(out, c, nodes)?;
+    let slots = call_results(out, c, last)?;
+    let types = results_of(c, call)?;
+    for ((declared, slot), of) in listed.as_slice().iter().zip(slots.as_slice()).zip(types) {
+        assign_named(out, c, declared.name, WExpr::Slot(*slot), *of, free)?;
     }
     Ok(())
 }

@@ -3,27 +3,29 @@
 ghost use Rattle.std.specs.Prelude.{All, IfOk};
 ghost use Rattle.clu_lower_expr.specs.Bounds.{IsBounded};
 
+use crate::Result;
 use crate::clusters::cluster_routines;
 use crate::declaring::formals;
-use crate::given::give_routine;
+use crate::given::give_demands;
 use crate::headings::note_heading;
-use crate::kinds::is_statement;
-use crate::own_type::note_routine;
-use crate::own_variables::{children_of, declare_owns, set_up_once};
-use crate::walk::statement;
+use crate::nodes::children_of;
+use crate::own_type::note_operation;
+use crate::own_variables::{declare_owns, set_up_once};
+use crate::walk::statements;
 use clu_base::Bytes;
 use clu_core::Checked;
 use clu_equates::{first_name, node_at};
 use clu_lower_expr::{LowerError, Lowering};
 use clu_tree::{Node, NodeKind};
-use clu_types::Spec;
+use clu_types::{Form, Spec};
 use clu_wir::{HoleKind, WRoutine, WStmt};
 use std::alloc::Global;
+use std::boxed::Box;
 
 /// The routines of a module of a checked file, which is named by its Module node. The first type of each is its own,
 /// and its `nodes` are the count of its node. Memory where it was refused; NotYet where a routine has a statement or an
 /// expression for which no code is made.
-pub fn lower(alloc: Global, c: &Checked, module: u32) -> Result<Vec<WRoutine>, LowerError>
+pub fn lower(alloc: Global, c: &Checked, module: u32) -> Result<Vec<WRoutine>>
     ensures { IfOk result (λ routines. All IsBounded routines.items) }
 {
     let module = node_at(&c.tree, module)?;
@@ -31,15 +33,11 @@ pub fn lower(alloc: Global, c: &Checked, module: u32) -> Result<Vec<WRoutine>, L
         return Err(LowerError::NotYet);
     };
     let node = node_at(&c.tree, *definition)?;
-    if node.kind == NodeKind::Cluster {
-        return cluster_routines(alloc, c, module, node);
+    match node.kind {
+        NodeKind::Cluster => cluster_routines(alloc, c, module, node),
+        NodeKind::Routine => Ok(vec![in alloc; routine(alloc, c, *definition, node)?]?),
+        _ => Err(LowerError::NotYet),
     }
-    if node.kind != NodeKind::Routine {
-        return Err(LowerError::NotYet);
-    }
-    let mut routines = Vec::new(alloc);
-    routines.push(routine(alloc, c, *definition, node)?)?;
-    Ok(routines)
 }
 
 /// Whether a routine is a procedure, and no iterator.
@@ -47,25 +45,33 @@ pub fn is_procedure(routine: &Node) -> bool {
     routine.value.as_slice() == b"proc".as_slice()
 }
 
-fn routine(alloc: Global, c: &Checked, definition: u32, node: &Node) -> Result<WRoutine, LowerError>
+/// A routine without statements.
+pub fn begun(alloc: Global) -> Result<Box<Lowering>> {
+    Ok(Box::new(alloc, Lowering::new(alloc))?)
+}
+
+fn routine(alloc: Global, c: &Checked, definition: u32, node: &Node) -> Result<WRoutine>
     ensures { IfOk result IsBounded }
 {
     let name = own_name(alloc, node)?;
-    let mut out = Lowering::new(alloc);
+    let mut out = begun(alloc)?;
     let args = fill(&mut out, c, node)?;
     out.finish(name, args, count(c, definition))
 }
 
 /// A copy of the name of a routine.
-pub fn own_name(alloc: Global, node: &Node) -> Result<Bytes, LowerError> {
+pub fn own_name(alloc: Global, node: &Node) -> Result<Bytes> {
     Ok(first_name(node)?.copy(alloc)?)
 }
 
 /// Adds all that stands in a routine; the answer is how many arguments it takes.
-fn fill(out: &mut Lowering, c: &Checked, node: &Node) -> Result<u32, LowerError> {
+fn fill(out: &mut Lowering, c: &Checked, node: &Node) -> Result<u32> {
     let spec = specification(c, first_name(node)?)?;
-    give_routine(out, spec)?;
-    note_routine(out, spec)?;
+    let Form::Routine(op) = &spec.form else {
+        return Err(LowerError::NotYet);
+    };
+    give_demands(out, spec, op.demands.as_slice())?;
+    note_operation(out, &spec.types, op)?;
     let args = formals(out, c, node)?;
     note_heading(out, c, node)?;
     body(out, c, node)?;
@@ -73,7 +79,7 @@ fn fill(out: &mut Lowering, c: &Checked, node: &Node) -> Result<u32, LowerError>
 }
 
 /// The specification of this module of the file.
-pub fn specification<'a>(c: &'a Checked, name: &Bytes) -> Result<&'a Spec, LowerError> {
+pub fn specification<'a>(c: &'a Checked, name: &Bytes) -> Result<&'a Spec> {
     for spec in c.specs.as_slice() {
         if spec.name == *name {
             return Ok(spec);
@@ -88,22 +94,14 @@ pub fn count(c: &Checked, n: u32) -> u32 {
 }
 
 /// The setting up of own variables, the statements, and the end: a procedure with results that reaches it fails.
-pub fn body(out: &mut Lowering, c: &Checked, node: &Node) -> Result<(), LowerError> {
-    let mut has_results = false;
+pub fn body(out: &mut Lowering, c: &Checked, node: &Node) -> Result<()> {
     let owns = children_of(out.alloc, c, node, NodeKind::Own)?;
     if !owns.is_empty() {
         declare_owns(out, c, owns.as_slice(), HoleKind::RoutineOwn)?;
         set_up_once(out, c, owns.as_slice(), HoleKind::RoutineOwn)?;
     }
-    for child in node.children.as_slice() {
-        let kind = node_at(&c.tree, *child)?.kind;
-        match kind {
-            NodeKind::Results => has_results = is_procedure(node),
-            _ if is_statement(kind) => statement(out, c, *child)?,
-            _ => {}
-        }
-    }
-    if has_results {
+    statements(out, c, node)?;
+    if is_procedure(node) && !out.body.results.is_empty() {
         out.signal_failure(b"no return values")
     } else {
         let values = Vec::new(out.alloc);

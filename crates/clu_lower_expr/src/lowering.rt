@@ -101,9 +101,9 @@ impl Lowering {
     pub fn taken_back(&mut self, value: WExpr, free: u32) -> WExpr {
         match value {
             WExpr::Slot(slot) if slot >= free && sets(self.statements.last(), slot) => {
-                match self.statements.pop() {
-                    Some(WStmt::Set(_, word)) => self.naming(word),
-                    _ => WExpr::Slot(slot),
+                match last_word(&mut self.statements) {
+                    Some(word) => self.naming(word),
+                    None => WExpr::Slot(slot),
                 }
             }
             other => other,
@@ -260,9 +260,15 @@ fn sets(statement: Option<&WStmt>, slot: u32) -> bool {
 
 /// The expression to which a list sets this slot that does nothing else, and is empty then.
 pub fn only_word(list: &mut Vec<WStmt>, slot: u32) -> Option<WExpr> {
-    if list.len() != 1 || !sets(list.last(), slot) {
-        return None;
+    if list.len() == 1 && sets(list.last(), slot) {
+        last_word(list)
+    } else {
+        None
     }
+}
+
+/// The expression to which the last statement of a list sets a slot; the statement goes.
+fn last_word(list: &mut Vec<WStmt>) -> Option<WExpr> {
     match list.pop() {
         Some(WStmt::Set(_, word)) => Some(word),
         _ => None,

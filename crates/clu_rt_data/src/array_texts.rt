@@ -6,9 +6,11 @@ ghost use Rattle.std.specs.Prelude.{◌≡◌, IfSome};
 ghost use Rattle.clu_rt_text.specs.Texts.{names_and_counts};
 ghost use Rattle.clu_rt_data.specs.Texts.{array_iterator_counts, array_procedure_counts};
 
-use crate::arrays::{ELEMENT, FIND, FROM_FIRST, HIGH, LOW, PLACE, SIZE, TAKE_PLACE, WRAP};
+use crate::arrays::{
+    ELEMENT, FIND, FROM_FIRST, GREATEST, HIGH, LOW, PLACE, SIZE, TAKE_PLACE, WRAP,
+};
 use clu_rt_text::{Derived, Expr, Step, X, Y, Z, derived_named};
-use clu_wir::WOp;
+use clu_wir::{Trap, WOp};
 
 const END: Step = Step::Return(&[]);
 
@@ -23,7 +25,16 @@ const TO_HIGH: Step = Step::Set(2, HIGH);
 
 const NONE: Step = Step::When(Expr::Op(WOp::Slt, &Z, &Y), &[END]);
 
-const AT_LAST: Step = Step::Unless(Expr::Op(WOp::Slt, &Y, &Z), &[END]);
+const AT_LAST: Step = Step::Unless(Expr::Op(WOp::Slt, &Y, &Z), &[PAST_Y, END]);
+
+/// After the greatest int the loop over `from_to_by`, in whose place this is, overflows and ends by that.
+const PAST_Y: Step = Step::Handle(
+    b"overflow",
+    &[Step::Set(
+        1,
+        Expr::Check(&Expr::Op(WOp::Slt, &Y, &GREATEST), Trap::Overflow, &Y),
+    )],
+);
 
 const NEXT: Step = Step::Set(1, Expr::Op(WOp::Add, &Y, &Expr::Word(1)));
 

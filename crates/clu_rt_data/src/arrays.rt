@@ -24,7 +24,7 @@ const HEADER: Expr = Expr::Word(48);
 
 const LEAST: Expr = Expr::Word(0x8000_0000_0000_0000);
 
-const GREATEST: Expr = Expr::Word(0x7FFF_FFFF_FFFF_FFFF);
+pub const GREATEST: Expr = Expr::Word(0x7FFF_FFFF_FFFF_FFFF);
 
 pub const LOW: Expr = Expr::Load(&X, 0);
 

@@ -5,7 +5,7 @@ ghost use Rattle.clu_rt_text.specs.Operations.{IsCode, IsCodeNamed, NamesStringA
 
 use crate::code::{Deed, Expr, Operation, Step};
 use clu_base::{Bytes, Const, Memory, ObjConst};
-use clu_wir::{HoleKind, Primitive, WCode, WDeed, WExpr, WLeaf, WRoutine, WStmt};
+use clu_wir::{HoleKind, Primitive, WArm, WCode, WDeed, WExpr, WLeaf, WRoutine, WStmt};
 use std::alloc::Global;
 use std::boxed::Box;
 
@@ -141,6 +141,7 @@ impl<'a> Assembly<'a> {
                 Step::When(_, inner)
                 | Step::Unless(_, inner)
                 | Step::Loop(inner)
+                | Step::Handle(_, inner)
                 | Step::Iterate(_, _, _, inner) => self.steps(inner)?,
                 _ => Vec::new(self.alloc),
             };
@@ -166,12 +167,25 @@ impl<'a> Assembly<'a> {
             }
             Step::Loop(_) => Ok(WStmt::Loop(inner)),
             Step::Break => Ok(WStmt::Break),
+            Step::Handle(name, _) => self.handle(name, inner),
             Step::Signal(name, objects) => self.signal(name, objects),
             Step::Return(values) => Ok(WStmt::Return(self.expressions(values)?)),
             Step::Call(used, values, results) => self.call(*used, values, results),
             Step::Iterate(used, values, slot, _) => self.iterate(*used, values, *slot, inner),
             Step::Yield(values) => Ok(WStmt::Yield(self.expressions(values)?)),
         }
+    }
+
+    /// An arm that does nothing takes the exceptions of this name.
+    fn handle(&self, name: &[u8], body: Vec<WStmt>) -> Result<WStmt, Memory> {
+        let name = Bytes::from_slice(self.alloc, name)?;
+        let arm = WArm {
+            names: vec![in self.alloc; name]?,
+            others: false,
+            slots: Vec::new(self.alloc),
+            body: Vec::new(self.alloc),
+        };
+        Ok(WStmt::Guard(body, vec![in self.alloc; arm]?))
     }
 
     fn call(&mut self, used: u32, values: &[Expr], results: &[u32]) -> Result<WStmt, Memory> {

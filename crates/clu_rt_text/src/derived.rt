@@ -5,7 +5,8 @@ ghost use Rattle.std.specs.Prelude.{◌≡◌, IfSome};
 ghost use Rattle.clu_rt_text.specs.Texts.{int_counts, names_and_counts, string_counts};
 
 use crate::code::{Derived, Expr, Step, X, Y, Z};
-use clu_wir::WOp;
+use crate::integers::PLUS;
+use clu_wir::{Trap, WOp};
 
 const ZERO: Expr = Expr::Word(0);
 
@@ -13,44 +14,46 @@ const ONE: Expr = Expr::Word(1);
 
 const SEVEN: Expr = Expr::Word(7);
 
-/// The next int, which is past the ints where its sign is that of neither part.
-const NEXT: Expr = Expr::Slot(3);
+/// The greatest int.
+const GREATEST: Expr = Expr::Word(0x7FFF_FFFF_FFFF_FFFF);
 
 const END: Step = Step::Return(&[]);
 
-/// From `x` on by `z`, up to `y` or down to it.
-const FROM_TO_BY: &[Step] = &[Step::Loop(&[
-    Step::When(
-        Expr::Op(WOp::Slt, &ZERO, &Z),
-        &[Step::When(Expr::Op(WOp::Slt, &Y, &X), &[END])],
-    ),
-    Step::When(
-        Expr::Op(WOp::Slt, &Z, &ZERO),
-        &[Step::When(Expr::Op(WOp::Slt, &X, &Y), &[END])],
-    ),
-    Step::Yield(&[X]),
-    Step::Set(3, Expr::Op(WOp::Add, &X, &Z)),
-    Step::When(
-        Expr::Op(
-            WOp::Slt,
-            &Expr::Op(
-                WOp::And,
-                &Expr::Op(WOp::Xor, &X, &NEXT),
-                &Expr::Op(WOp::Xor, &Z, &NEXT),
+/// From `x` on by `z`, up to `y` or down to it. Where the next int would be past the ints, it overflows and this ends it.
+const FROM_TO_BY: &[Step] = &[
+    Step::Handle(
+        b"overflow",
+        &[Step::Loop(&[
+            Step::When(
+                Expr::Op(WOp::Slt, &ZERO, &Z),
+                &[Step::When(Expr::Op(WOp::Slt, &Y, &X), &[END])],
             ),
-            &ZERO,
-        ),
-        &[END],
+            Step::When(
+                Expr::Op(WOp::Slt, &Z, &ZERO),
+                &[Step::When(Expr::Op(WOp::Slt, &X, &Y), &[END])],
+            ),
+            Step::Yield(&[X]),
+            Step::Set(0, Expr::With(&[X, Z], &PLUS)),
+        ])],
     ),
-    Step::Set(0, NEXT),
-])];
+    END,
+];
+
+/// After the greatest int the loop over `from_to_by`, in whose place this is, overflows and ends by that.
+const PAST_X: Step = Step::Handle(
+    b"overflow",
+    &[Step::Set(
+        0,
+        Expr::Check(&Expr::Op(WOp::Slt, &X, &GREATEST), Trap::Overflow, &X),
+    )],
+);
 
 /// From `x` on up to `y`.
 const FROM_TO: &[Step] = &[
     Step::When(Expr::Op(WOp::Slt, &Y, &X), &[END]),
     Step::Loop(&[
         Step::Yield(&[X]),
-        Step::Unless(Expr::Op(WOp::Slt, &X, &Y), &[END]),
+        Step::Unless(Expr::Op(WOp::Slt, &X, &Y), &[PAST_X, END]),
         Step::Set(0, Expr::Op(WOp::Add, &X, &ONE)),
     ]),
 ];
@@ -90,7 +93,7 @@ const INT: &[Derived] = &[
     Derived {
         name: b"from_to_by",
         args: 3,
-        slots: 4,
+        slots: 3,
         steps: FROM_TO_BY,
         uses: &[],
         nodes: 41,

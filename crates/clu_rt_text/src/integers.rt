@@ -42,10 +42,10 @@ const SUM: Expr = Expr::Check(
     &RESULT,
 );
 
-const ADD: Expr = Expr::With(
-    &[X, Y],
-    &Expr::With(&[THIS, THAT, Expr::Op(WOp::Add, &THIS, &THAT)], &SUM),
-);
+/// The sum of the two words that are bound.
+pub const PLUS: Expr = Expr::With(&[THIS, THAT, Expr::Op(WOp::Add, &THIS, &THAT)], &SUM);
+
+const ADD: Expr = Expr::With(&[X, Y], &PLUS);
 
 /// A difference is less than the first part just where the second is positive, unless it overflows.
 const DIFFERENCE: Expr = Expr::Check(

@@ -18,8 +18,8 @@ cost_words cost.Result = 6
 cost_words cost.Cut = 3
 cost_words cost.Leave = 8
 cost_words cost.Raise = 9
-cost_words cost.Signal = 12
-cost_words cost.Pass = 6
+cost_words cost.Signal = 13
+cost_words cost.Pass = 7
 cost_words cost.Primitive = 13
 
 -- the words of a known word: one from -2048 to 2047, which an immediate holds, takes one

@@ -93,7 +93,7 @@ room_step (WStmt-F.Exit inside arm words) =
 room_step (WStmt-F.Guard body arms) =
     both (both (record { code = 1; «data» = 56 }) (all_of body.items)) (all_of arms.items)
 room_step (WStmt-F.Resignal body names) =
-    both (both (record { code = 7; «data» = 56 }) (all_of body.items)) (data_room (times 24 (length names.items)))
+    both (both (record { code = 8; «data» = 56 }) (all_of body.items)) (data_room (times 24 (length names.items)))
 room_step (WStmt-F.Return results) = both (row_room results.items) (costs cost.Leave)
 
 -- what an arm takes besides its statements: a step for each slot, the jump to the end of the guard, and a row of the table

@@ -45,12 +45,12 @@ impl Cost {
             Cost::Jump => 1,
             Cost::Branch => 2,
             Cost::Save | Cost::Take | Cost::Cut => 3,
-            Cost::Argument | Cost::Result | Cost::Pass => 6,
-            Cost::Invoke => 7,
+            Cost::Argument | Cost::Result => 6,
+            Cost::Invoke | Cost::Pass => 7,
             Cost::Bind | Cost::Resume | Cost::Leave => 8,
             Cost::Raise => 9,
-            Cost::Enter | Cost::Signal => 12,
-            Cost::Primitive => 13,
+            Cost::Enter => 12,
+            Cost::Primitive | Cost::Signal => 13,
             Cost::Yield => 18,
         }
     }

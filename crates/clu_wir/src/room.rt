@@ -30,7 +30,7 @@ const ARM: u64 = 24;
 const GUARD: Room = Room { code: 1, data: 56 };
 
 /// The jump over the step that passes on, that step, and its region: two cuts and a row.
-const RESIGNAL: Room = Room { code: 7, data: 56 };
+const RESIGNAL: Room = Room { code: 8, data: 56 };
 
 /// The bytes of a use: two cells and a descriptor.
 const USE: u64 = 40;

@@ -3,7 +3,9 @@
 use crate::combining::{combine, is_small};
 use crate::conditions::{Target, compare};
 use crate::error::SelectError;
-use crate::knowing::{is_comparison, is_known, is_opposite, is_short, is_told, known_of, small_of};
+use crate::knowing::{
+    is_comparison, is_known, is_opposite, is_short, is_told, known_of, ready, small_of,
+};
 use crate::operand::{Operand, Scope};
 use crate::parts::raise_trap;
 use crate::register::Register;
@@ -34,14 +36,7 @@ pub(crate) fn value(
             let right = value(words, right, scope.keeping(left))?;
             combine(words, *op, left, right, scope)
         }
-        WExpr::If(condition, then, other) => {
-            let choice = Choice::new(words, scope)?;
-            branch(words, condition, false, choice.otherwise(), scope)?;
-            let word = value(words, then, scope)?;
-            choice.turn(words, word)?;
-            let word = value(words, other, scope)?;
-            choice.end(words, word)
-        }
+        WExpr::If(condition, then, other) => choose(words, condition, then, other, scope),
         WExpr::Check(condition, trap, word) => {
             check(words, condition, *trap, scope)?;
             value(words, word, scope)
@@ -83,6 +78,50 @@ fn bind_all(words: &mut Words, values: &[WExpr], scope: Scope) -> Result<Scope, 
         number = number.saturating_add(1);
     }
     Ok(kept.with_bound(inner))
+}
+
+/// One of two words. Where one of them is there already, the other takes its place if the condition wants it.
+#[cycle(evaluation)]
+fn choose(
+    words: &mut Words,
+    condition: &WExpr,
+    then: &WExpr,
+    other: &WExpr,
+    scope: Scope,
+) -> Result<Operand, SelectError> {
+    if let Some(word) = ready(then, condition, other, scope) {
+        return replace(words, word, condition, true, other, scope);
+    }
+    if let Some(word) = ready(other, condition, then, scope) {
+        return replace(words, word, condition, false, then, scope);
+    }
+    let choice = Choice::new(words, scope)?;
+    branch(words, condition, false, choice.otherwise(), scope)?;
+    let word = value(words, then, scope)?;
+    choice.turn(words, word)?;
+    let word = value(words, other, scope)?;
+    choice.end(words, word)
+}
+
+/// A word that is there already, where the condition is as `sense` says, and else another one.
+#[cycle(evaluation)]
+fn replace(
+    words: &mut Words,
+    word: Operand,
+    condition: &WExpr,
+    sense: bool,
+    other: &WExpr,
+    scope: Scope,
+) -> Result<Operand, SelectError> {
+    let to = scope.free()?;
+    word.put(words, to)?;
+    let end = words.fresh()?;
+    let kept = scope.keeping(Operand::At(to));
+    branch(words, condition, sense, Target::near(end), kept)?;
+    let word = value(words, other, scope)?;
+    word.put(words, to)?;
+    words.label(end)?;
+    Ok(Operand::At(to))
 }
 
 /// The word so many bytes after an address. A small number that is added last is one of the distance.

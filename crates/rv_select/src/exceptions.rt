@@ -32,6 +32,7 @@ pub(crate) fn signal(words: &mut Words, slot: u32) -> Result<(), SelectError> {
 pub(crate) fn pass(words: &mut Words) -> Result<(), SelectError> {
     words.hole(First, HoleKind::Runtime, Part::Search.number())?;
     words.ld(Back, Frame, 0)?;
+    words.copy(Top, Frame)?;
     caller_frame(words)?;
     words.jalr(Zero, First, 0)
 }

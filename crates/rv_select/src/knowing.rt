@@ -19,6 +19,27 @@ pub(crate) fn known_of(expression: &WExpr, scope: Scope) -> Option<u64> {
     }
 }
 
+/// The most words of a condition and of the choice after it that one branch reaches over: an immediate of it reaches 1,023.
+const REACH: u64 = 1000;
+
+/// The word of one side of a choice, if it is there already, and one branch reaches over the condition and the other side.
+pub(crate) fn ready(
+    side: &WExpr,
+    condition: &WExpr,
+    other: &WExpr,
+    scope: Scope,
+) -> Option<Operand> {
+    let word = match side {
+        WExpr::Word(word) => Operand::Known(*word),
+        WExpr::Bound(number) => scope.bound(*number).ok()?,
+        _ => return None,
+    };
+    if condition.words().saturating_add(other.words()) > REACH {
+        return None;
+    }
+    Some(word)
+}
+
 /// The word of a comparison of two words.
 fn compared(op: WOp, left: u64, right: u64) -> Option<u64> {
     match op {

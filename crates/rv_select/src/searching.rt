@@ -73,6 +73,8 @@ pub fn search_part(alloc: Global) -> Result<ObjRoutine, SelectError>
 
 /// From the return address to the region in which it was raised.
 fn bisect(words: &mut Words) -> Result<(), SelectError> {
+    // The word where the part is entered is one that nothing inside jumps to, so that each raise is seen there.
+    words.copy(Zero, Zero)?;
     // The place is in First, the address of the cut below it in Second, how many cuts are left in T3.
     words.label(Goal::Search as u32)?;
     words.go_unless(Op::Bne, Frame, Zero, Goal::Bottom as u32)?;

@@ -1,0 +1,13 @@
+use Rattle.std.proofs.Common.{◌≡◌, ◌≤◌, length, map, string_bytes, take, vec_capacity, vec_len}
+use Rattle.clu_driver.specs.Sessions.{IsSession, state_of}
+use Rattle.clu_driver.specs.World.{streams_of, world_of}
+use Rattle.clu_driver.proofs.session.session.Given as goal
+
+abbrev pub invariant-loop-words : goal.invariant-loop-words
+invariant-loop-words g l = record {
+  calls : IsSession (map (λ words. map string_bytes words.items) (take l.words-index l.runs)) l.statuses.items
+      (state_of (world_of (g.F.Store.files l.fn.files) (g.F.Store.faults l.fn.files) (streams_of (g.S.Source.left l.fn.input) (g.S.Source.faults l.fn.input) (g.K.Sink.written l.fn.output) (g.K.Sink.faults l.fn.output))) (g.E.Sink.written l.fn.errors) (g.E.Sink.faults l.fn.errors))
+      (state_of (world_of (g.F.Store.files l.files) (g.F.Store.faults l.files) (streams_of (g.S.Source.left l.input) (g.S.Source.faults l.input) (g.K.Sink.written l.output) (g.K.Sink.faults l.output))) (g.E.Sink.written l.errors) (g.E.Sink.faults l.errors));
+  count : vec_len l.statuses ≡ l.words-index;
+  room : length l.runs ≤ vec_capacity l.statuses;
+}
