@@ -15,19 +15,15 @@ use Rattle.clu_meaning.specs.Programs.{Program}
 use Rattle.clu_meaning.specs.Operations.{undefined}
 use Rattle.clu_meaning.specs.Typed.{AllTyped}
 use Rattle.clu_meaning.proofs.FittingLaws.{Fitting, fitting_gives, fitting_signals, fitting_no_case, fitting_either, fitting_need, fitting_needed, fitting_and_then, fitting_counts, fitting_takes, fitting_binds, fitting_one}
-use Rattle.clu_meaning.proofs.FittingOperations.{FitsHeaded, AllFitting, Always, nulls_fit, procs_fit, iters_fit, bools_fit, ints_fit, chars_fit, strings_fit, streams_fit, arrays_fit, sequences_fit}
+use Rattle.clu_meaning.proofs.FittingOperations.{FitsHeaded, AllFitting, Always, joined_fit, nulls_fit, procs_fit, iters_fit, bools_fit, ints_fit, chars_fit, strings_fit, streams_fit, arrays_fit, sequences_fit}
 use Rattle.clu_meaning.proofs.FittingSelectors.{structs_fit, records_fit, record_fits, oneofs_fit, variants_fit, variant_fits}
 
 module _ (program : Program) where
   module _ (T : CluType) (heading : List ℕ → Option Operation) where
-    joined_fit : (ps qs : Primitives) → AllFitting program T heading ps → AllFitting program T heading qs → AllFitting program T heading (ps ++ qs)
-    joined_fit [] qs f g = g
-    joined_fit ((name, p) ∷ ps) qs f g = (f.0, joined_fit ps qs f.1 g)
-
     each_fit : (selected : List ℕ → Primitives) (fs : Fields) (own : Primitives) → ((s : List ℕ) → AllFitting program T heading (selected s)) → AllFitting program T heading own →
         AllFitting program T heading (of_each selected fs own)
     each_fit selected no_fields own f g = g
-    each_fit selected (field_and s t rest) own f g = joined_fit (selected s) (of_each selected rest own) (f s) (each_fit selected rest own f g)
+    each_fit selected (field_and s t rest) own f g = joined_fit program T heading (selected s) (of_each selected rest own) (f s) (each_fit selected rest own f g)
 
   all_fitting : (T : CluType) → AllFitting program T (operation T) (primitives T)
   all_fitting null_type = nulls_fit program

@@ -2,15 +2,15 @@
 -- that have no selectors.
 use Rattle.std.proofs.Common.{◌≡◌, refl, sym, ap, subst, ◌∙◌, arith, length-append, inl, inr}
 use Rattle.std.proofs.lemmas.Bool.{false≢true, and_parts, or_cases, eqb-true, eqb-false}
-use Rattle.std.specs.Prelude.{ℕ, suc, ◌+◌, ◌*◌, ◌≤◌, max, nat_eq, ℤ, pos, ◌+ℤ◌, ◌-ℤ◌, Bool, true, false, ◌&&◌, ◌||◌, List, [], ◌∷◌, ◌++◌, map, length, take, replicate, Option, Some, None, codes}
+use Rattle.std.specs.Prelude.{ℕ, suc, ◌+◌, ◌*◌, ◌≤◌, max, nat_eq, ℤ, pos, ◌+ℤ◌, ◌-ℤ◌, Bool, true, false, ◌&&◌, ◌||◌, List, [], ◌∷◌, ◌++◌, map, length, take, drop, replicate, Option, Some, None, codes}
 use Rattle.clu_types.specs.CluType.{CluType, null_type, bool_type, int_type, char_type, string_type, stream_type, array_of, sequence_of, proc_of, iter_of, CluTypes, Signals}
 use Rattle.clu_builtin.specs.Operation.{Operation}
 use Rattle.clu_builtin.specs.Table.{operation}
-use Rattle.clu_layout.specs.Objects.{Object, char_object, Array, Cell, array_cell, own_type, own_types}
+use Rattle.clu_layout.specs.Objects.{Object, bool_object, char_object, Array, Cell, array_cell, own_type, own_types}
 use Rattle.clu_layout.specs.SameType.{same_type, is_any, is_routine_type, has_more_signals, fits}
 use Rattle.clu_layout.specs.Places.{count_of}
 use Rattle.clu_layout.specs.Actions.{Action, Primitive, gives_nothing, with_sequence, changes_array}
-use Rattle.clu_layout.specs.PlainOperations.{Primitives, null_primitives, routine_primitives, bool_primitives}
+use Rattle.clu_layout.specs.PlainOperations.{Primitives, same_cell, null_primitives, routine_primitives, bool_primitives}
 use Rattle.clu_layout.specs.NumberOperations.{int_primitives, char_primitives}
 use Rattle.clu_layout.specs.StringOperations.{string_s2ac, string_primitives}
 use Rattle.clu_layout.specs.ArrayOperations.{array_create, array_new, array_predict, array_fill, array_size, array_low, array_high, array_empty, array_set_low, array_fetch, array_store, array_bottom, array_top, more_room, grows, array_addh, array_addl, array_remh, array_reml, array_trim, array_copy1, array_equal, array_primitives}
@@ -23,7 +23,7 @@ use Rattle.clu_meaning.specs.Programs.{Program}
 use Rattle.clu_meaning.specs.Typed.{IsTyped, AllTyped, CellFits}
 use Rattle.clu_meaning.proofs.TypedFacts.{typed_on}
 use Rattle.clu_meaning.proofs.TypedElements.{if_found, Is, Each, each_of, each_typed, each_fit, each_append, each_replicate, each_take, item_is, first_is, last_is, Held, stored_held, left_held, taken_held, less_first_held, less_last_held, each_char}
-use Rattle.clu_meaning.proofs.FittingLaws.{Fitting, fitting_gives, fitting_signals_if, fitting_or_signals, fitting_either, fitting_or_fails, fitting_counts, fitting_takes, fitting_changes, fitting_none, fitting_one, fitting_two, fitting_three, suited_one, suited_two, suited_three, fitting_int, fitting_string, fitting_sequence, fitting_array, fitting_new_array, fitting_new_sequence, fitting}
+use Rattle.clu_meaning.proofs.FittingLaws.{Fitting, fitting_gives, fitting_signals_if, fitting_or_signals, fitting_either, fitting_or_fails, fitting_counts, fitting_takes, fitting_changes, fitting_none, fitting_one, fitting_two, fitting_three, suited_one, suited_two, suited_three, fitting_int, fitting_string, fitting_cell, fitting_sequence, fitting_array, fitting_new_array, fitting_new_sequence, fitting}
 
 -- ---- what may be an argument
 
@@ -85,7 +85,21 @@ module _ (program : Program) where
   all_always T heading [] f = tt
   all_always T heading ((name, p) ∷ rest) f = (always_fits T (heading name) p f.0, all_always T heading rest f.1)
 
+  -- ---- tables in parts
+
+  pub joined_fit : (T : CluType) (heading : List ℕ → Option Operation) (ps qs : Primitives) → AllFitting T heading ps → AllFitting T heading qs → AllFitting T heading (ps ++ qs)
+  joined_fit T heading [] qs f g = g
+  joined_fit T heading ((name, p) ∷ ps) qs f g = (f.0, joined_fit T heading ps qs f.1 g)
+
+  joined_always : (ps qs : Primitives) → AllAlways ps → AllAlways qs → AllAlways (ps ++ qs)
+  joined_always [] qs f g = g
+  joined_always ((name, p) ∷ ps) qs f g = (f.0, joined_always ps qs f.1 g)
+
   -- ---- operations without elements
+
+  pub same_cell_fits : Always same_cell
+  same_cell_fits base os t = fitting_two program base os _ t (λ a b ta tb. fitting_cell program base a _ (λ c. fitting_cell program base b _ (λ d.
+      fitting_gives program base (bool_object _ ∷ []) (tt, tt))))
 
   nulls_always : AllAlways null_primitives
   nulls_always = search fitting depth 14
@@ -97,7 +111,8 @@ module _ (program : Program) where
   bools_always = search fitting depth 14
 
   ints_always : AllAlways int_primitives
-  ints_always = search fitting depth 14 fits 4000
+  ints_always = joined_always (take 7 int_primitives) (drop 7 int_primitives) (search fitting depth 14 fits 4000)
+      (joined_always (take 5 (drop 7 int_primitives)) (drop 12 int_primitives) (search fitting depth 14 fits 4000) (search fitting depth 14 fits 4000))
 
   chars_always : AllAlways char_primitives
   chars_always = search fitting depth 14 fits 4000
@@ -106,7 +121,8 @@ module _ (program : Program) where
   s2ac_fits base os t = fitting_one program base os _ t (λ a typed. fitting_string program base a _ (λ s. fitting_new_array program base char_type (pos 1) (map char_object s) (each_char program base s)))
 
   strings_always : AllAlways string_primitives
-  strings_always = search (fitting, s2ac_fits) depth 14 fits 4000
+  strings_always = joined_always (take 7 string_primitives) (drop 7 string_primitives) (search fitting depth 14 fits 4000)
+      (joined_always (take 6 (drop 7 string_primitives)) (drop 13 string_primitives) (search fitting depth 14 fits 4000) (search (fitting, s2ac_fits) depth 14 fits 4000))
 
   streams_always : AllAlways stream_primitives
   streams_always = search fitting depth 14 fits 4000
@@ -221,7 +237,7 @@ module _ (program : Program) where
   empty_fits base os t = search fitting
 
   equal_fits : Always array_equal
-  equal_fits base os t = search fitting
+  equal_fits = same_cell_fits
 
   module _ (t : CluType) where
     create_fits : Always (array_create t)
@@ -265,7 +281,13 @@ module _ (program : Program) where
         (omega arith) refl (held_in cells a cell).1))
 
     pub arrays_fit : AllFitting (array_of t) (operation (array_of t)) (array_primitives t)
-    arrays_fit = search (create_fits, new_fits, predict_fits, fill_fits, size_fits, low_fits, high_fits, empty_fits, set_low_fits, fetch_fits, store_fits, bottom_fits, top_fits, addh_fits, addl_fits, remh_fits, reml_fits, trim_fits, copy1_fits, equal_fits) depth 14 fits 4000
+    arrays_fit = joined_fit (array_of t) (operation (array_of t)) (take 4 (array_primitives t)) (drop 4 (array_primitives t))
+        (search (create_fits, new_fits, predict_fits, fill_fits) depth 14 fits 4000)
+        (joined_fit (array_of t) (operation (array_of t)) (take 6 (drop 4 (array_primitives t))) (drop 10 (array_primitives t))
+        (search (size_fits, low_fits, high_fits, empty_fits, set_low_fits, fetch_fits) depth 14 fits 4000)
+        (joined_fit (array_of t) (operation (array_of t)) (take 5 (drop 10 (array_primitives t))) (drop 15 (array_primitives t))
+        (search (store_fits, bottom_fits, top_fits, addh_fits, addl_fits) depth 14 fits 4000)
+        (search (remh_fits, reml_fits, trim_fits, copy1_fits, equal_fits) depth 14 fits 4000)))
 
   -- ---- sequences
 
@@ -354,4 +376,10 @@ module _ (program : Program) where
         fitting_new_array program base t (pos 1) xs each))
 
     pub sequences_fit : AllFitting (sequence_of t) (operation (sequence_of t)) (sequence_primitives t)
-    sequences_fit = search (sequence_new_fits, e2s_fits, sequence_fill_fits, sequence_size_fits, sequence_empty_fits, sequence_fetch_fits, sequence_bottom_fits, sequence_top_fits, replace_fits, sequence_addh_fits, sequence_addl_fits, sequence_remh_fits, sequence_reml_fits, concat_fits, subseq_fits, a2s_fits, s2a_fits) depth 14 fits 4000
+    sequences_fit = joined_fit (sequence_of t) (operation (sequence_of t)) (take 4 (sequence_primitives t)) (drop 4 (sequence_primitives t))
+        (search (sequence_new_fits, e2s_fits, sequence_fill_fits, sequence_size_fits) depth 14 fits 4000)
+        (joined_fit (sequence_of t) (operation (sequence_of t)) (take 4 (drop 4 (sequence_primitives t))) (drop 8 (sequence_primitives t))
+        (search (sequence_empty_fits, sequence_fetch_fits, sequence_bottom_fits, sequence_top_fits) depth 14 fits 4000)
+        (joined_fit (sequence_of t) (operation (sequence_of t)) (take 4 (drop 8 (sequence_primitives t))) (drop 12 (sequence_primitives t))
+        (search (replace_fits, sequence_addh_fits, sequence_addl_fits, sequence_remh_fits) depth 14 fits 4000)
+        (search (sequence_reml_fits, concat_fits, subseq_fits, a2s_fits, s2a_fits) depth 14 fits 4000)))

@@ -17,7 +17,7 @@ use Rattle.clu_meaning.specs.Typed.{type_of_selector, fits_in, IsTyped, AllTyped
 use Rattle.clu_meaning.proofs.TypedFacts.{typed_on}
 use Rattle.clu_meaning.proofs.TypedElements.{IfThere, if_found, Parts, parts_from, parts_typed, parts_fit, component_typed, replaced_parts}
 use Rattle.clu_meaning.proofs.FittingLaws.{Fitting, fitting_gives, fitting_signals_if, fitting_needed, fitting_changes, fitting_one, suited_one, suited_two, fitting_struct, fitting_oneof, fitting_record, fitting_variant, fitting_new_struct, fitting_new_record, fitting_new_oneof, fitting_new_variant, fitting}
-use Rattle.clu_meaning.proofs.FittingOperations.{suits_fits, argument_is, FitsHeaded, AllFitting, Always, always_fits}
+use Rattle.clu_meaning.proofs.FittingOperations.{suits_fits, argument_is, FitsHeaded, AllFitting, Always, always_fits, same_cell_fits}
 
 -- ---- the heading of an operation of a selector has the selector's type
 
@@ -94,7 +94,7 @@ module _ (program : Program) where
       (parts_from program base gs xs all fit)) in
       fitting_new_struct program base gs ys (parts_typed program base gs ys parts) (parts_fit program base gs ys parts)))))
 
-  structs_fit : (fs : Fields) (s : List ℕ) → AllFitting program (struct_of fs) (operation (struct_of fs)) (struct_selected s)
+  pub structs_fit : (fs : Fields) (s : List ℕ) → AllFitting program (struct_of fs) (operation (struct_of fs)) (struct_selected s)
   structs_fit fs s = (
     always_fits program (struct_of fs) (operation (struct_of fs) (codes "get_" ++ s)) (struct_get s) (struct_get_fits s),
     (struct_replace_fits fs s, tt),
@@ -121,15 +121,15 @@ module _ (program : Program) where
       fitting_new_record program cells fs xs cell.0 cell.1))
 
   record_equal_fits : Always program record_equal
-  record_equal_fits base os typed = search fitting
+  record_equal_fits = same_cell_fits program
 
-  records_fit : (fs : Fields) (s : List ℕ) → AllFitting program (record_of fs) (operation (record_of fs)) (record_selected s)
+  pub records_fit : (fs : Fields) (s : List ℕ) → AllFitting program (record_of fs) (operation (record_of fs)) (record_selected s)
   records_fit fs s = (
     always_fits program (record_of fs) (operation (record_of fs) (codes "get_" ++ s)) (record_get s) (record_get_fits s),
     (record_set_fits fs s, tt),
   )
 
-  record_fits : (T : CluType) (heading : List ℕ → Option Operation) → AllFitting program T heading record_primitives
+  pub record_fits : (T : CluType) (heading : List ℕ → Option Operation) → AllFitting program T heading record_primitives
   record_fits T heading = (
     always_fits program T (heading (codes "equal")) record_equal record_equal_fits,
     (always_fits program T (heading (codes "copy1")) record_copy1 record_copy1_fits, tt),
@@ -149,7 +149,7 @@ module _ (program : Program) where
   oneof_value_fits s base os typed = fitting_one program base os _ typed (λ a ta. fitting_oneof program base a _ ta (λ tag x tx.
       fitting_signals_if program base _ _ _ (fitting_gives program base (x ∷ []) (tx, tt))))
 
-  oneofs_fit : (fs : Fields) (s : List ℕ) → AllFitting program (oneof_of fs) (operation (oneof_of fs)) (oneof_selected fs s)
+  pub oneofs_fit : (fs : Fields) (s : List ℕ) → AllFitting program (oneof_of fs) (operation (oneof_of fs)) (oneof_selected fs s)
   oneofs_fit fs s = (
     oneof_make_fits fs s,
     (
@@ -186,9 +186,9 @@ module _ (program : Program) where
       fitting_new_variant program cells fs tag x cell.0 cell.1))
 
   variant_equal_fits : Always program variant_equal
-  variant_equal_fits base os typed = search fitting
+  variant_equal_fits = same_cell_fits program
 
-  variants_fit : (fs : Fields) (s : List ℕ) → AllFitting program (variant_of fs) (operation (variant_of fs)) (variant_selected fs s)
+  pub variants_fit : (fs : Fields) (s : List ℕ) → AllFitting program (variant_of fs) (operation (variant_of fs)) (variant_selected fs s)
   variants_fit fs s = (
     variant_make_fits fs s,
     (
@@ -200,7 +200,7 @@ module _ (program : Program) where
     ),
   )
 
-  variant_fits : (T : CluType) (heading : List ℕ → Option Operation) → AllFitting program T heading variant_primitives
+  pub variant_fits : (T : CluType) (heading : List ℕ → Option Operation) → AllFitting program T heading variant_primitives
   variant_fits T heading = (
     always_fits program T (heading (codes "equal")) variant_equal variant_equal_fits,
     (always_fits program T (heading (codes "copy1")) variant_copy1 variant_copy1_fits, tt),

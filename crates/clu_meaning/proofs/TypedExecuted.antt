@@ -42,10 +42,10 @@ module _ (program : Program) (cells : List Cell) (each : EachFits program cells 
 
 -- ---- signals
 
-chosen_stands : (home : Option ClusterDefinition) (b : Bool) (types : List HeadingType) (others : Option (List HeadingType)) → TypesStand home types → IfThere (TypesStand home) others →
-    IfThere (TypesStand home) (cond b (Some types) others)
-chosen_stands home true types others h k = h
-chosen_stands home false types others h k = k
+chosen_stands : (home : Option ClusterDefinition) (b : Bool) (types : List HeadingType) (later : Option (List HeadingType)) → TypesStand home types → IfThere (TypesStand home) later →
+    IfThere (TypesStand home) (cond b (Some types) later)
+chosen_stands home true types later h k = h
+chosen_stands home false types later h k = k
 
 signal_stands : (home : Option ClusterDefinition) (es : List Exception) (name : List ℕ) → ExceptionsStand home es → IfThere (TypesStand home) (signal_types es name)
 signal_stands home [] name h = tt

@@ -39,19 +39,19 @@ module _ (program : Program) (base : List Cell) where
       fits (own_type o) (substituted given cluster.representation) ≡ true → IsInside cluster.name given o
   inside_is cluster given o home typed fit = (typed, subst (λ m. fits_in (representation_of given m) o ≡ true) (sym home) fit)
 
-  unsealed_if : (cluster c : List ℕ) (given actuals : Actuals) (o : Object) (b : Bool) → (bytes_eq c cluster && same_actuals actuals given) ≡ b → IsInside c actuals o →
+  unsealed_if : (cluster c : List ℕ) (given put : Actuals) (o : Object) (b : Bool) → (bytes_eq c cluster && same_actuals put given) ≡ b → IsInside c put o →
       IfThere (IsInside cluster given) (cond b (Some o) None)
-  unsealed_if cluster c given actuals o true e h =
-      let parts = and_parts (bytes_eq c cluster) (same_actuals actuals given) e in
+  unsealed_if cluster c given put o true e h =
+      let parts = and_parts (bytes_eq c cluster) (same_actuals put given) e in
       let name : c ≡ cluster = (bytes_eq-Decides c cluster).0 parts.0 in (
         h.0,
         subst (λ n. fits_in (representation_of given (module_named program n)) o ≡ true) name
-            (subst (λ g. fits_in (representation_of g (module_named program c)) o ≡ true) (actuals_are actuals given parts.1) h.1),
+            (subst (λ g. fits_in (representation_of g (module_named program c)) o ≡ true) (actuals_are put given parts.1) h.1),
       )
-  unsealed_if cluster c given actuals o false e h = tt
+  unsealed_if cluster c given put o false e h = tt
 
   unsealed_inside : (cluster : List ℕ) (given : Actuals) (o : Object) → IsTyped program base o → IfThere (IsInside cluster given) (unsealed cluster given o)
-  unsealed_inside cluster given (sealed c actuals o) h = unsealed_if cluster c given actuals o (bytes_eq c cluster && same_actuals actuals given) refl h
+  unsealed_inside cluster given (sealed c put o) h = unsealed_if cluster c given put o (bytes_eq c cluster && same_actuals put given) refl h
   unsealed_inside cluster given _ h = tt
 
   -- what is found inside fits the representation
