@@ -1,16 +1,16 @@
 -- Invocations of primitive operations and force are fitting, whatever the type and the name.
-use Rattle.std.proofs.Common.{◌≡◌, refl, sym, subst}
+use Rattle.std.proofs.Common.{◌≡◌, refl, subst}
 use Rattle.std.proofs.lemmas.Slice.Eq.{bytes_eq-Decides}
-use Rattle.std.specs.Prelude.{ℕ, Bool, true, false, List, [], ◌∷◌, ◌++◌, Option, Some, None, cond, bytes_eq}
-use Rattle.clu_types.specs.CluType.{CluType, null_type, bool_type, int_type, char_type, string_type, any_type, stream_type, array_of, sequence_of, record_of, struct_of, oneof_of, variant_of, proc_of, iter_of, cluster_of, parameter, CluTypes, Fields, no_fields, field_and}
+use Rattle.std.specs.Prelude.{ℕ, Bool, true, false, List, [], ◌∷◌, Option, Some, None, cond, bytes_eq}
+use Rattle.clu_types.specs.CluType.{CluType, null_type, bool_type, int_type, char_type, string_type, any_type, stream_type, array_of, sequence_of, record_of, struct_of, oneof_of, variant_of, proc_of, iter_of, cluster_of, parameter, Fields, no_fields, field_and}
 use Rattle.clu_builtin.specs.Operation.{Operation}
 use Rattle.clu_builtin.specs.Table.{operation}
-use Rattle.clu_layout.specs.Objects.{Routine, module_routine, operation_of, force_of, Object, Cell, own_types}
+use Rattle.clu_layout.specs.Objects.{Routine, module_routine, operation_of, force_of, Object, Cell}
 use Rattle.clu_layout.specs.Actions.{Primitive, gives_all}
 use Rattle.clu_layout.specs.PlainOperations.{Primitives}
 use Rattle.clu_layout.specs.RecordOperations.{struct_selected, record_selected, record_primitives}
 use Rattle.clu_layout.specs.OneofOperations.{oneof_selected, variant_selected, variant_primitives}
-use Rattle.clu_layout.specs.Primitive.{of_each, primitives, named, primitive, may_be_arguments, gives_results, invoked, invocation, forcing, force_heading, force_invocation}
+use Rattle.clu_layout.specs.Primitive.{of_each, primitives, named, primitive, gives_results, invoked, invocation, forcing, force_heading, force_invocation}
 use Rattle.clu_meaning.specs.Programs.{Program}
 use Rattle.clu_meaning.specs.Operations.{undefined}
 use Rattle.clu_meaning.specs.Typed.{AllTyped}

@@ -3,7 +3,7 @@ use Rattle.std.proofs.Common.{◌≡◌, refl, sym, ap, subst, ◌∙◌, arith}
 use Rattle.std.proofs.lemmas.Bool.{and_parts}
 use Rattle.std.specs.Prelude.{ℕ, zero, suc, ◌≤◌, ℤ, Bool, true, false, List, [], ◌∷◌, ◌++◌, length, Option, Some, None, slice_get, slice_set}
 use Rattle.std.specs.Option.{option_map}
-use Rattle.clu_types.specs.CluType.{CluType, null_type, array_of, sequence_of, record_of, struct_of, variant_of, CluTypes, no_types, type_and, Fields}
+use Rattle.clu_types.specs.CluType.{CluType, null_type, array_of, sequence_of, record_of, struct_of, variant_of, CluTypes, Fields}
 use Rattle.clu_builtin.specs.Operation.{one, two, three}
 use Rattle.clu_builtin.specs.Table.{parts_of}
 use Rattle.clu_builtin.specs.declared.names.Signal.{Signal}

@@ -2,7 +2,7 @@
 -- that have no selectors.
 use Rattle.std.proofs.Common.{◌≡◌, refl, sym, ap, subst, ◌∙◌, arith, length-append, inl, inr}
 use Rattle.std.proofs.lemmas.Bool.{false≢true, and_parts, or_cases, eqb-true, eqb-false}
-use Rattle.std.specs.Prelude.{ℕ, suc, ◌+◌, ◌*◌, ◌≤◌, max, nat_eq, ℤ, pos, ◌+ℤ◌, ◌-ℤ◌, Bool, true, false, ◌&&◌, ◌||◌, List, [], ◌∷◌, ◌++◌, map, length, take, drop, replicate, Option, Some, None, codes}
+use Rattle.std.specs.Prelude.{ℕ, ◌+◌, ◌*◌, ◌≤◌, max, nat_eq, pos, ◌+ℤ◌, ◌-ℤ◌, true, false, ◌&&◌, ◌||◌, List, [], ◌∷◌, ◌++◌, map, length, take, drop, replicate, Option, Some, None, codes}
 use Rattle.clu_types.specs.CluType.{CluType, null_type, bool_type, int_type, char_type, string_type, stream_type, array_of, sequence_of, proc_of, iter_of, CluTypes, Signals}
 use Rattle.clu_builtin.specs.Operation.{Operation}
 use Rattle.clu_builtin.specs.Table.{operation}
@@ -22,7 +22,7 @@ use Rattle.clu_layout.proofs.CellLaws.{kind_at, Longer}
 use Rattle.clu_meaning.specs.Programs.{Program}
 use Rattle.clu_meaning.specs.Typed.{IsTyped, AllTyped, CellFits}
 use Rattle.clu_meaning.proofs.TypedFacts.{typed_on}
-use Rattle.clu_meaning.proofs.TypedElements.{if_found, Is, Each, each_of, each_typed, each_fit, each_append, each_replicate, each_take, item_is, first_is, last_is, Held, stored_held, left_held, taken_held, less_first_held, less_last_held, each_char}
+use Rattle.clu_meaning.proofs.TypedElements.{if_found, Is, Each, each_of, each_typed, each_fit, each_append, each_replicate, item_is, first_is, last_is, Held, stored_held, left_held, taken_held, less_first_held, less_last_held, each_char}
 use Rattle.clu_meaning.proofs.FittingLaws.{Fitting, fitting_gives, fitting_signals_if, fitting_or_signals, fitting_either, fitting_or_fails, fitting_counts, fitting_takes, fitting_changes, fitting_none, fitting_one, fitting_two, fitting_three, suited_one, suited_two, suited_three, fitting_int, fitting_string, fitting_cell, fitting_sequence, fitting_array, fitting_new_array, fitting_new_sequence, fitting}
 
 -- ---- what may be an argument

@@ -3,15 +3,12 @@ use Rattle.std.proofs.Common.{◌≡◌, refl, sym, ap, subst, ◌∙◌}
 use Rattle.std.specs.Prelude.{ℕ, Bool, true, false, List, [], ◌∷◌, ◌++◌, Option, Some, None, cond, bytes_eq, codes}
 use Rattle.clu_types.specs.CluType.{CluType, record_of, struct_of, oneof_of, variant_of, CluTypes, Fields, no_fields, field_and}
 use Rattle.clu_builtin.specs.Operation.{Operation, one, two}
-use Rattle.clu_builtin.specs.Table.{Table, SelectorTable, operation, or_else, named as headed, with_selector, of_selectors, struct_selectors, record_selectors, oneof_selectors, variant_selectors, struct_operations, record_operations, parts_of}
+use Rattle.clu_builtin.specs.Table.{SelectorTable, operation, or_else, named as headed, with_selector, of_selectors, struct_selectors, record_selectors, oneof_selectors, variant_selectors}
 use Rattle.clu_layout.specs.Objects.{Object, Cell, variant_cell, record_cell, own_type, own_types}
-use Rattle.clu_layout.specs.SameType.{all_fit}
 use Rattle.clu_layout.specs.Actions.{Primitive, gives_nothing}
-use Rattle.clu_layout.specs.PlainOperations.{Primitives}
 use Rattle.clu_layout.specs.RecordOperations.{struct_get, struct_replace, struct_selected, record_get, record_set, record_copy1, record_equal, record_selected, record_primitives}
 use Rattle.clu_layout.specs.OneofOperations.{oneof_make, oneof_is, oneof_value, oneof_selected, variant_make, variant_is, variant_value, variant_change, variant_copy1, variant_equal, variant_selected, variant_primitives}
-use Rattle.clu_layout.specs.Primitive.{may_be_argument, may_be_arguments}
-use Rattle.clu_layout.proofs.CellLaws.{Longer}
+use Rattle.clu_layout.specs.Primitive.{may_be_arguments}
 use Rattle.clu_meaning.specs.Programs.{Program}
 use Rattle.clu_meaning.specs.Typed.{type_of_selector, fits_in, IsTyped, AllTyped}
 use Rattle.clu_meaning.proofs.TypedFacts.{typed_on}

@@ -5,13 +5,13 @@ use Rattle.clu_layout.specs.Objects.{Object, string_object, Cell}
 use Rattle.clu_layout.proofs.CellLaws.{Longer, longer_refl}
 use Rattle.clu_meaning.specs.Programs.{Variable, Statements, Declaration, HeadingType, ClusterDefinition, Program}
 use Rattle.clu_meaning.specs.State.{Instance, Frame, State, new_frame, called_from, caller_of, back_to, with_set_up}
-use Rattle.clu_meaning.specs.Computations.{Ending, broken, continued, returned, signalled, raised, exited, through, wrong, Result, normal, ended, out_of_turns, Computation, gives, ends, continue_either_way, either_way, spends_a_turn, sees_frame, sees_owns, sees_stack, with_frame, with_owns, enters, goes_deeper, leaves, counts, raise_count, raises}
-use Rattle.clu_meaning.specs.Binding.{Running, types_of_formals, cluster_instance}
-use Rattle.clu_meaning.specs.Unhandled.{failure, failure_objects, unhandled_text, unhandled}
-use Rattle.clu_meaning.specs.Calls.{Round, in_procedure, in_iterator, here, Level, call_words, loop_words, raises_unhandled, without_return, procedure_ending, set_up_ending, loop_ending, body_ending, set_up_definition, setting_up, calls_set_up, once, cluster_set_up, routine_set_up, executes, calls, iterates, runs_body, yields}
-use Rattle.clu_meaning.specs.Typed.{local_type, IsTyped, AllTyped, EndingFits, Typed}
+use Rattle.clu_meaning.specs.Computations.{Ending, broken, continued, returned, signalled, raised, exited, through, wrong, Result, normal, ended, out_of_turns, Computation, gives, ends, continue_either_way, either_way, sees_frame, sees_owns, sees_stack, with_frame, with_owns, enters, goes_deeper, leaves}
+use Rattle.clu_meaning.specs.Binding.{Running, cluster_instance}
+use Rattle.clu_meaning.specs.Unhandled.{failure, failure_objects, unhandled_text}
+use Rattle.clu_meaning.specs.Calls.{Round, in_procedure, in_iterator, here, Level, call_words, loop_words, raises_unhandled, without_return, procedure_ending, set_up_ending, loop_ending, body_ending, setting_up, calls_set_up, once, cluster_set_up, routine_set_up, executes, calls, iterates, runs_body, yields}
+use Rattle.clu_meaning.specs.Typed.{local_type, AllTyped, EndingFits, Typed}
 use Rattle.clu_meaning.proofs.TypedFacts.{all_on, variables_on, frame_on, ending_on}
-use Rattle.clu_meaning.proofs.TypedComputing.{Belongs, Good, Stays, Objects, good_from, stays_gives, stays_ends, stays_wrong, stays_need, stays_either, stays_spends, stays_counts, stays_takes, stays_enters, stays_leaves, stays_raises, stays_fails, stays_and_then, stays_assigned}
+use Rattle.clu_meaning.proofs.TypedComputing.{Good, Stays, Objects, good_from, stays_gives, stays_ends, stays_wrong, stays_need, stays_either, stays_spends, stays_counts, stays_takes, stays_leaves, stays_raises, stays_fails, stays_and_then, stays_assigned}
 use Rattle.clu_meaning.proofs.TypedHeadings.{HomeIs, stays_handed_out, stays_argued}
 use Rattle.clu_meaning.proofs.TypedFine.{Fine, Stands, fine_here, set_up_fine}
 

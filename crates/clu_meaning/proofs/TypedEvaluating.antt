@@ -1,12 +1,12 @@
 -- Expressions give objects that are typed, and leave a state typed.
-use Rattle.std.proofs.Common.{◌≡◌, ℕ, Bool, true, false, List, [], ◌∷◌, ◌++◌, Option, None, Some, refl}
+use Rattle.std.proofs.Common.{ℕ, Bool, true, false, List, [], ◌∷◌, ◌++◌}
 use Rattle.std.specs.Prelude.{codes}
 use Rattle.clu_base.specs.declared.constants.Const.{Const}
 use Rattle.clu_base.specs.declared.constants.Const.TheVariants as constant_of
 use Rattle.clu_types.specs.Substituted.{substituted}
 use Rattle.clu_layout.specs.Objects.{Routine, operation_of, Object, bool_object, routine_object, Cell, own_type, object_of, routine_substituted}
 use Rattle.clu_layout.proofs.CellLaws.{Longer, longer_trans}
-use Rattle.clu_meaning.specs.Programs.{Variable, Expression, constant, constant_parameter, variable, routine, parenthesized, operator, negated, cand, cor, call, fields, elements, elements_from, up, down, besides, Expressions, no_expressions, expression_and, Components, no_components, component_and, Program}
+use Rattle.clu_meaning.specs.Programs.{Expression, constant, constant_parameter, variable, routine, parenthesized, operator, negated, cand, cor, call, fields, elements, elements_from, up, down, besides, Expressions, no_expressions, expression_and, Components, no_components, component_and, Program}
 use Rattle.clu_meaning.specs.Computations.{Computation, gives}
 use Rattle.clu_meaning.specs.Operations.{headed, defined, undefined}
 use Rattle.clu_meaning.specs.Calls.{Round, here, Level}

@@ -5,20 +5,19 @@ use Rattle.clu_layout.specs.Objects.{Object, string_object, oneof_object, refere
 use Rattle.clu_layout.specs.Openers.{variant_in, tagged_in}
 use Rattle.clu_layout.proofs.CellLaws.{Longer, longer_refl, longer_trans}
 use Rattle.clu_meaning.specs.Programs.{Variable, HeadingType, Exception, Taken, named, dropped, Statement, declaration, initialisation, assignment, assignment_of_results, update, call_statement, while_statement, for_statement, if_statement, tagcase_statement, return_statement, yield_statement, signal_statement, exit_statement, break_statement, continue_statement, begin_statement, resignal_statement, except_statement, Statements, no_statements, statement_and, Clauses, no_clauses, clause_and, Otherwise, nothing_else, otherwise, TagArms, no_tag_arms, tag_arm_and, Whens, no_whens, when_and, Others, no_others, others, ClusterDefinition, Expression, Expressions, Program}
-use Rattle.clu_meaning.specs.State.{State}
-use Rattle.clu_meaning.specs.Computations.{Ending, broken, continued, returned, signalled, raised, exited, through, wrong, Computation, gives, ends, goes_wrong, sees_world, needed}
+use Rattle.clu_meaning.specs.Computations.{Ending, broken, continued, returned, signalled, raised, exited, through, wrong, Computation, gives, sees_world, needed}
 use Rattle.clu_meaning.specs.Binding.{assigned, signal_types}
 use Rattle.clu_meaning.specs.Operations.{defined}
 use Rattle.clu_meaning.specs.Calls.{Round, here, Level}
 use Rattle.clu_meaning.specs.Unhandled.{failure}
 use Rattle.clu_meaning.specs.Expressions.{eval, eval_all}
 use Rattle.clu_meaning.specs.Statements.{turn_ending, handled, exits_on, raises_on, types_of_signal, arm, arm_if_named, taken_by, returns, signals, resignals, exec, exec_all, exec_clauses, exec_otherwise, exec_tag_arms, exec_whens, exec_others}
-use Rattle.clu_meaning.specs.Typed.{IsTyped, AllTyped, EachFits, EndingFits, Typed}
+use Rattle.clu_meaning.specs.Typed.{IsTyped, AllTyped, EachFits, EndingFits}
 use Rattle.clu_meaning.specs.Headings.{TypesStand, ExceptionsStand, HeadingsStand}
 use Rattle.clu_meaning.proofs.TypedFacts.{typed_on, all_on}
 use Rattle.clu_meaning.proofs.TypedElements.{IfThere, if_found}
 use Rattle.clu_meaning.proofs.FittingLaws.{cell_found}
-use Rattle.clu_meaning.proofs.TypedComputing.{Good, Stays, Objects, good_from, stays_gives, stays_ends, stays_wrong, stays_need, stays_needed, stays_with_routine, stays_either, stays_spends, stays_counts, stays_and_then, stays_either_way, stays_assigned, stays_forgets}
+use Rattle.clu_meaning.proofs.TypedComputing.{Stays, Objects, good_from, stays_gives, stays_ends, stays_wrong, stays_need, stays_needed, stays_with_routine, stays_either, stays_spends, stays_counts, stays_and_then, stays_either_way, stays_assigned, stays_forgets}
 use Rattle.clu_meaning.proofs.TypedHeadings.{stays_handed_out}
 use Rattle.clu_meaning.proofs.TypedFine.{Stands, fine_here, fine_defined}
 use Rattle.clu_meaning.proofs.TypedCalls.{Done, LevelStays, stays_ends_on, stays_iterates, stays_yields}

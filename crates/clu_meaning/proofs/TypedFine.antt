@@ -1,5 +1,5 @@
 -- What holds of each routine that a program defines, if its headings stand.
-use Rattle.std.proofs.Common.{◌≡◌, refl, sym, ap, subst, ◌∙◌}
+use Rattle.std.proofs.Common.{◌≡◌, refl, ap, subst, ◌∙◌}
 use Rattle.std.proofs.lemmas.Slice.Eq.{bytes_eq-Decides}
 use Rattle.std.specs.Prelude.{ℕ, Bool, true, false, List, [], ◌∷◌, Option, Some, None, cond, bytes_eq, codes}
 use Rattle.std.specs.Option.{option_map}
@@ -12,7 +12,7 @@ use Rattle.clu_meaning.specs.Programs.{Statements, RoutineDefinition, ClusterDef
 use Rattle.clu_meaning.specs.State.{of_routine, own_set_up}
 use Rattle.clu_meaning.specs.Binding.{Running, declared_in, owns_of, put_in, name_of}
 use Rattle.clu_meaning.specs.Schemes.{comparison, copy, scheme_among, immutable_comparisons, mutable_comparisons}
-use Rattle.clu_meaning.specs.Texts.{Texts, int_texts, string_texts, array_texts, sequence_texts, texts_of, text_named, defined_by, text_of, text_given}
+use Rattle.clu_meaning.specs.Texts.{Texts, int_texts, string_texts, array_texts, sequence_texts, text_named, defined_by, text_of, text_given}
 use Rattle.clu_meaning.specs.Operations.{name_of_module, module_named, routine_named, with_definition, of_module, of_cluster, of_type, defined}
 use Rattle.clu_meaning.specs.Calls.{Round, in_procedure, in_iterator, here, setting_up}
 use Rattle.clu_meaning.specs.Typed.{own_of_definition, own_of_module, own_type_of}

@@ -1,24 +1,23 @@
 -- What headings seal and open fits: results, yields and signals, and arguments.
-use Rattle.std.proofs.Common.{◌≡◌, refl, sym, ap, subst, ◌∙◌}
-use Rattle.std.proofs.lemmas.Bool.{false≢true, and_parts}
+use Rattle.std.proofs.Common.{◌≡◌, refl, sym, subst}
+use Rattle.std.proofs.lemmas.Bool.{and_parts}
 use Rattle.std.proofs.lemmas.Slice.Eq.{bytes_eq-Decides}
 use Rattle.std.specs.Prelude.{ℕ, Bool, true, false, ◌&&◌, List, [], ◌∷◌, Option, Some, None, cond, bytes_eq}
-use Rattle.clu_types.specs.CluType.{CluType, cluster_of, Actuals}
+use Rattle.clu_types.specs.CluType.{CluType, Actuals}
 use Rattle.clu_types.specs.Substituted.{substituted}
 use Rattle.clu_layout.specs.Objects.{Object, sealed, Cell, own_type, own_types}
 use Rattle.clu_layout.specs.Openers.{unsealed}
 use Rattle.clu_layout.specs.SameType.{same_actuals, fits, all_fit}
 use Rattle.clu_layout.proofs.SameTypeLaws.{actuals_are}
-use Rattle.clu_layout.proofs.CellLaws.{Longer}
 use Rattle.clu_meaning.specs.Lists.{in_front}
-use Rattle.clu_meaning.specs.Programs.{Variable, HeadingType, plain, cvt, Formal, ClusterDefinition, Module, cluster_module, Program}
-use Rattle.clu_meaning.specs.Computations.{Computation, gives}
-use Rattle.clu_meaning.specs.Binding.{Running, declared_in, put_in, outward, inward, seal, opened, seals, handed_out, opens, types_of_formals, formal_variables, argued}
+use Rattle.clu_meaning.specs.Programs.{HeadingType, plain, cvt, Formal, ClusterDefinition, cluster_module, Program}
+use Rattle.clu_meaning.specs.Computations.{Computation}
+use Rattle.clu_meaning.specs.Binding.{put_in, outward, inward, seal, opened, seals, handed_out, opens, types_of_formals, formal_variables, argued}
 use Rattle.clu_meaning.specs.Operations.{module_named}
 use Rattle.clu_meaning.specs.Calls.{Round, here}
-use Rattle.clu_meaning.specs.Expressions.{sealed_by, opened_by, seals_here, opens_here}
+use Rattle.clu_meaning.specs.Expressions.{sealed_by, seals_here, opens_here}
 use Rattle.clu_meaning.specs.Typed.{representation_of, fits_in, IsTyped, AllTyped}
-use Rattle.clu_meaning.specs.Headings.{body_type, IsOwn, TypeStands, TypesStand, FormalsDeclared}
+use Rattle.clu_meaning.specs.Headings.{body_type, IsOwn, TypesStand, FormalsDeclared}
 use Rattle.clu_meaning.proofs.TypedElements.{IfThere, if_found, Is}
 use Rattle.clu_meaning.proofs.TypedComputing.{Belongs, Stays, AllBind, Objects, stays_gives, stays_need, stays_needed, stays_takes, stays_names_each}
 use Rattle.clu_meaning.proofs.TypedFacts.{typed_on}

@@ -1,5 +1,5 @@
 -- Constructors make objects that fit, and actions that are fitting leave a state typed.
-use Rattle.std.proofs.Common.{◌≡◌, ℕ, Bool, true, false, cond, List, [], ◌∷◌, ◌++◌, length, Option, None, Some, refl, sym, subst, arith, ◌≤◌}
+use Rattle.std.proofs.Common.{◌≡◌, ℕ, Bool, true, false, cond, List, [], ◌∷◌, ◌++◌, length, Option, None, Some, sym, subst, arith, ◌≤◌}
 use Rattle.std.specs.Prelude.{ℤ, pos, nat_eq, bytes_eq}
 use Rattle.clu_types.specs.CluType.{CluType, Fields, no_fields, field_and, array_of, sequence_of, struct_of, record_of}
 use Rattle.clu_builtin.specs.Table.{parts_of}

@@ -1,20 +1,19 @@
 -- A state stays typed at each level, and so does that of a run.
-use Rattle.std.proofs.Common.{◌≡◌, ℕ, zero, suc, List, [], ◌∷◌, Some, refl, sym, subst}
+use Rattle.std.proofs.Common.{◌≡◌, ℕ, zero, suc, List, [], ◌∷◌, Some, sym, subst}
 use Rattle.clu_types.specs.CluType.{no_actuals}
 use Rattle.clu_layout.specs.Objects.{module_routine, Object, string_object, Cell}
-use Rattle.clu_layout.proofs.CellLaws.{Longer, longer_refl}
-use Rattle.clu_meaning.specs.Programs.{Statements, Program}
-use Rattle.clu_meaning.specs.State.{State}
+use Rattle.clu_layout.proofs.CellLaws.{longer_refl}
+use Rattle.clu_meaning.specs.Programs.{Program}
 use Rattle.clu_meaning.specs.Computations.{Ending, returned, signalled, raised, Result, normal, ended, out_of_turns, needed}
 use Rattle.clu_meaning.specs.Binding.{Running}
 use Rattle.clu_meaning.specs.Operations.{defined}
-use Rattle.clu_meaning.specs.Calls.{Round, in_procedure, Level}
+use Rattle.clu_meaning.specs.Calls.{in_procedure, Level}
 use Rattle.clu_meaning.specs.Run.{level, first_state, Progress, returned_normally, failure_with, fails_with, start_ending, starts, result_of_run}
 use Rattle.clu_meaning.specs.Unhandled.{failure_objects}
-use Rattle.clu_meaning.specs.Typed.{Typed, EndsTyped}
+use Rattle.clu_meaning.specs.Typed.{EndsTyped}
 use Rattle.clu_meaning.specs.Headings.{HeadingsStand}
 use Rattle.clu_meaning.proofs.TypedComputing.{Good, Stays, stays_gives, stays_wrong, stays_need, stays_spends, stays_takes, stays_enters, stays_either_way, first_typed}
-use Rattle.clu_meaning.proofs.TypedFine.{Fine, Stands, fine_defined}
+use Rattle.clu_meaning.proofs.TypedFine.{Fine, fine_defined}
 use Rattle.clu_meaning.proofs.TypedCalls.{Done, LevelStays, stays_executes}
 use Rattle.clu_meaning.proofs.TypedExecuted.{stays_exec_all}
 
