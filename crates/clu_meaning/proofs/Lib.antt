@@ -17,7 +17,6 @@ pub mod TypedCalls
 pub mod TypedEvaluating
 pub mod TypedExecuted
 pub mod TypedRun
-mod TextCounts
 mod Running
 mod BasicPrograms
 mod ExpressionPrograms
