@@ -1,5 +1,5 @@
 -- A scheme counts by the number of selectors.
-use Rattle.std.proofs.Common.{◌≡◌, refl, sym, ap, ◌∙◌, arith}
+use Rattle.std.proofs.Common.{◌≡◌, refl, ap, ◌∙◌, arith}
 use Rattle.std.specs.Prelude.{ℕ, suc, ◌+◌, ◌*◌, ◌<◌, ◌^◌, List, [], ◌∷◌, length}
 use Rattle.clu_types.specs.CluType.{CluType}
 use Rattle.clu_types.specs.declared.term.Field.{Field}

@@ -4,9 +4,19 @@ pub mod Evaluating
 pub mod Executed
 pub mod Levels
 pub mod TypedFacts
+pub mod TypedElements
 pub mod TypedComputing
+pub mod FittingLaws
+pub mod FittingOperations
+pub mod FittingSelectors
+pub mod FittingInvoked
 pub mod TypedMaking
-mod TextCounts
+pub mod TypedHeadings
+pub mod TypedFine
+pub mod TypedCalls
+pub mod TypedEvaluating
+pub mod TypedExecuted
+pub mod TypedRun
 mod Running
 mod BasicPrograms
 mod ExpressionPrograms

@@ -79,6 +79,12 @@ module _ (program : Program) (round : Round) where
     stays_with_routine (routine_object r heading) rest h = h r
     stays_with_routine _ rest h = stays_wrong
 
+    pub stays_if_there : {X : Type 0} (found : Option X) (first : X → Computation A) (second : Computation A) → ((x : X) → found ≡ Some x → Stays base P (first x)) → Stays base P second →
+        Stays base P (if_there found first second)
+    unfolding if_there
+    stays_if_there (Some x) first second f g = f x refl
+    stays_if_there None first second f g = g
+
     pub stays_either : (b : Bool) (first second : Computation A) → Stays base P first → Stays base P second → Stays base P (either b first second)
     unfolding either
     stays_either true first second f g = f
@@ -227,7 +233,7 @@ module _ (program : Program) (round : Round) where
   types_in None = no_types
 
   -- each object is included in the type that is declared for the variable at its place
-  abbrev AllBind : List Variable → List Object → Type 0
+  abbrev pub AllBind : List Variable → List Object → Type 0
   AllBind (x ∷ xs) (o ∷ os) = (fits_in (put_in (here round) (term_of (here round) x)) o ≡ true) × AllBind xs os
   AllBind _ _ = Unit {0}
 
@@ -247,7 +253,7 @@ module _ (program : Program) (round : Round) where
   all_bind (x ∷ xs) [] types e h = tt
 
   module _ (belongs : Belongs program (here round)) {A : Type 0} (base : List Cell) (P : List Cell → A → Type 0) (rest : Computation A) (stays : Stays base P rest) where
-    stays_names_each : (xs : List Variable) (os : List Object) → AllTyped program base os → AllBind xs os → Stays base P (names_each (here round) xs os rest)
+    pub stays_names_each : (xs : List Variable) (os : List Object) → AllTyped program base os → AllBind xs os → Stays base P (names_each (here round) xs os rest)
     unfolding names_each
     stays_names_each (x ∷ xs) (o ∷ os) t h =
         stays_names belongs base P (names_each (here round) xs os rest) (stays_names_each xs os t.1 h.1) x o t.0 h.0

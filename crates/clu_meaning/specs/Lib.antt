@@ -20,4 +20,5 @@ pub mod Statements
 pub mod Run
 pub mod Executing
 pub mod Typed
+pub mod Headings
 pub mod More

@@ -11,7 +11,7 @@ use Rattle.clu_layout.specs.Actions.{has_int_bounds}
 use Rattle.clu_layout.specs.Primitive.{same_for_each}
 use Rattle.clu_meaning.specs.Programs.{Module, cluster_module, Program}
 use Rattle.clu_meaning.specs.State.{Instance, of_routine, own_set_up, Variables, Frame, caller_of, Owns, State}
-use Rattle.clu_meaning.specs.Computations.{Ending, returned, signalled, raised, exited, through}
+use Rattle.clu_meaning.specs.Computations.{Ending, returned, signalled, raised, exited, through, Result, normal, ended, out_of_turns}
 use Rattle.clu_meaning.specs.Binding.{Running, declared_in, put_in}
 use Rattle.clu_meaning.specs.Operations.{defined, headed, module_named}
 use Rattle.clu_meaning.specs.Calls.{Round, in_procedure, in_iterator}
@@ -123,3 +123,9 @@ pub record Typed (program : Program) (round : Round) (st : State) : Type 0 where
   pub cells : EachFits program st.world.cells st.world.cells
   pub frame : FrameFits program st.world.cells round st.frame
   pub owns : OwnsFit program st.world.cells st.owns
+
+-- the state at the end of what began in this procedure
+abbrev pub EndsTyped : {A : Type 0} → Program → Running → Result A → Type 0
+EndsTyped program r (normal a turns st) = Typed program (in_procedure r) st
+EndsTyped program r (ended e turns st) = Typed program (in_procedure r) st
+EndsTyped program r (out_of_turns st) = Unit {0}

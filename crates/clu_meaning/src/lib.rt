@@ -3,4 +3,4 @@
 
 mod laws;
 
-pub use laws::{more_levels, more_turns, only_grows};
+pub use laws::{ends_typed, more_levels, more_turns, only_grows};
