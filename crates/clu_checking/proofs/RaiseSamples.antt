@@ -266,3 +266,31 @@ tag_of_another_type_nodes =
 tag_of_another_type : IsRefused tag_of_another_type_nodes rule.AssignType 1 42
 unfolding checking
 tag_of_another_type = refl
+
+-- c = cluster is m rep = string m = proc () signals (failure(cvt)) end m end c
+abbrev failure_of_the_abstract_type_nodes : List Node
+failure_of_the_abstract_type_nodes =
+    (n kind.Simple 1 24 7 7 [] [] (codes "string") (Some 7) ∷ n kind.Equate 1 18 5 7 (0 ∷ []) [] (codes "rep") (Some
+    5) ∷ n kind.Simple 1 60 17 17 [] [] (codes "cvt") (Some 17) ∷ n kind.Exc 1 52 15 18 (2 ∷ []) ((codes "failure") ∷
+    []) [] None ∷ n kind.Signals 1 43 13 19 (3 ∷ []) [] [] None ∷ n kind.Routine 1 31 8 21 (4 ∷ []) ((codes "m") ∷
+    (codes "m") ∷ []) (codes "proc") (Some 10) ∷ n kind.Cluster 1 1 0 23 (1 ∷ 5 ∷ []) ((codes "c") ∷ (codes "m") ∷
+    (codes "c") ∷ []) [] None ∷ n kind.Module 1 1 0 23 (6 ∷ []) [] [] None ∷ n kind.File 1 1 0 23 (7 ∷ []) [] [] None
+    ∷ [])
+
+failure_of_the_abstract_type : IsRefused failure_of_the_abstract_type_nodes rule.SignalTypes 1 52
+unfolding checking
+failure_of_the_abstract_type = refl
+
+-- c = cluster is m rep = string m = proc () signals (failure(rep)) end m end c
+abbrev failure_of_a_string_by_name_nodes : List Node
+failure_of_a_string_by_name_nodes =
+    (n kind.Simple 1 24 7 7 [] [] (codes "string") (Some 7) ∷ n kind.Equate 1 18 5 7 (0 ∷ []) [] (codes "rep") (Some
+    5) ∷ n kind.Simple 1 60 17 17 [] [] (codes "rep") (Some 17) ∷ n kind.Exc 1 52 15 18 (2 ∷ []) ((codes "failure") ∷
+    []) [] None ∷ n kind.Signals 1 43 13 19 (3 ∷ []) [] [] None ∷ n kind.Routine 1 31 8 21 (4 ∷ []) ((codes "m") ∷
+    (codes "m") ∷ []) (codes "proc") (Some 10) ∷ n kind.Cluster 1 1 0 23 (1 ∷ 5 ∷ []) ((codes "c") ∷ (codes "m") ∷
+    (codes "c") ∷ []) [] None ∷ n kind.Module 1 1 0 23 (6 ∷ []) [] [] None ∷ n kind.File 1 1 0 23 (7 ∷ []) [] [] None
+    ∷ [])
+
+failure_of_a_string_by_name : IsFine failure_of_a_string_by_name_nodes
+unfolding checking
+failure_of_a_string_by_name = refl

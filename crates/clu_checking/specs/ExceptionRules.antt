@@ -9,7 +9,7 @@ use Rattle.clu_syntax.specs.Splits.{first_name}
 use Rattle.clu_syntax.specs.Syntax.{Identifier, Taken, objects, any_objects, Statement, a_signal, an_exit, a_resignal, an_except, Whens, no_whens, when_and, Others, others, Exception, Routine}
 use Rattle.clu_syntax.specs.Items.{When}
 use Rattle.clu_checking.specs.Files.{File, numbers, item, kind_in, is_kind, parent, children, names, routine_round, stands_below}
-use Rattle.clu_checking.specs.Headings.{type_inside, results_inside, signals_inside}
+use Rattle.clu_checking.specs.Headings.{type_inside, results_outside, signals_inside}
 use Rattle.clu_checking.specs.Invocations.{types_of}
 use Rattle.clu_checking.specs.NameRules.{stands_before}
 use Rattle.clu_checking.specs.Raising.{Raise, by_statement, is_named}
@@ -140,9 +140,9 @@ module _ (f : File) where
   has_other_types n (a_resignal m s names) = not (list_all (raise_fits n) (filter (is_named names) (by_statement f s)))
   has_other_types n _ = false
 
-  -- failure has one string
+  -- failure has one string, as callers see it
   abbrev pub is_other_failure : Exception → Bool
-  is_other_failure e = is_failure e.name && not (same_types (results_inside f e.node e.types) one_string)
+  is_other_failure e = is_failure e.name && not (same_types (results_outside f e.node e.types) one_string)
 
   abbrev pub v26_in : NodeKind → ℕ → Bool
   v26_in kind.Signal n = has_other_types n (item f n).statement
