@@ -294,3 +294,30 @@ failure_of_a_string_by_name_nodes =
 failure_of_a_string_by_name : IsFine failure_of_a_string_by_name_nodes
 unfolding checking
 failure_of_a_string_by_name = refl
+
+-- p = proc () begin exit e(1) end except when e (n: zork): end end p
+abbrev exit_to_a_bad_declaration_nodes : List Node
+exit_to_a_bad_declaration_nodes =
+    (n kind.Literal 1 26 9 9 [] [] (codes "1") (Some 9) ∷ n kind.Exit 1 19 6 10 (0 ∷ []) ((codes "e") ∷ []) [] None ∷
+    n kind.Begin 1 13 5 11 (1 ∷ []) [] [] None ∷ n kind.NameT 1 51 18 18 [] ((codes "zork") ∷ []) [] None ∷ n
+    kind.Decl 1 48 16 18 (3 ∷ []) ((codes "n") ∷ []) [] None ∷ n kind.When 1 40 13 20 (4 ∷ []) ((codes "e") ∷ []) []
+    None ∷ n kind.Except 1 33 5 21 (2 ∷ 5 ∷ []) [] [] None ∷ n kind.Routine 1 1 0 23 (6 ∷ []) ((codes "p") ∷ (codes
+    "p") ∷ []) (codes "proc") (Some 2) ∷ n kind.Module 1 1 0 23 (7 ∷ []) [] [] None ∷ n kind.File 1 1 0 23 (8 ∷ []) []
+    [] None ∷ [])
+
+exit_to_a_bad_declaration : IsRefused exit_to_a_bad_declaration_nodes rule.UnknownName 1 51
+unfolding checking
+exit_to_a_bad_declaration = refl
+
+-- p = proc () begin exit e end except when e (n: zork): end end p
+abbrev number_for_a_bad_declaration_nodes : List Node
+number_for_a_bad_declaration_nodes =
+    (n kind.Exit 1 19 6 7 [] ((codes "e") ∷ []) [] None ∷ n kind.Begin 1 13 5 8 (0 ∷ []) [] [] None ∷ n kind.NameT 1
+    48 15 15 [] ((codes "zork") ∷ []) [] None ∷ n kind.Decl 1 45 13 15 (2 ∷ []) ((codes "n") ∷ []) [] None ∷ n
+    kind.When 1 37 10 17 (3 ∷ []) ((codes "e") ∷ []) [] None ∷ n kind.Except 1 30 5 18 (1 ∷ 4 ∷ []) [] [] None ∷ n
+    kind.Routine 1 1 0 20 (5 ∷ []) ((codes "p") ∷ (codes "p") ∷ []) (codes "proc") (Some 2) ∷ n kind.Module 1 1 0 20
+    (6 ∷ []) [] [] None ∷ n kind.File 1 1 0 20 (7 ∷ []) [] [] None ∷ [])
+
+number_for_a_bad_declaration : IsRefused number_for_a_bad_declaration_nodes rule.SignalTypes 1 19
+unfolding checking
+number_for_a_bad_declaration = refl
