@@ -160,3 +160,59 @@ cvt_place_accepted_nodes =
 cvt_place_accepted : IsFine cvt_place_accepted_nodes
 unfolding checking
 cvt_place_accepted = refl
+
+-- p = proc () s = "abc" x = s[1] || "d" end p
+abbrev index_in_an_operator_nodes : List Node
+index_in_an_operator_nodes =
+    (n kind.Literal 1 17 7 7 [] [] (34 ∷ 97 ∷ 98 ∷ 99 ∷ 34 ∷ []) (Some 7) ∷ n kind.Equate 1 13 5 7 (0 ∷ []) ((codes
+    "s") ∷ []) [] None ∷ n kind.Name 1 27 10 10 [] ((codes "s") ∷ []) [] None ∷ n kind.Literal 1 29 12 12 [] [] (codes
+    "1") (Some 12) ∷ n kind.Index 1 28 10 13 (2 ∷ 3 ∷ []) [] [] None ∷ n kind.Literal 1 35 15 15 [] [] (34 ∷ 100 ∷ 34
+    ∷ []) (Some 15) ∷ n kind.Infix 1 32 10 15 (4 ∷ 5 ∷ []) [] (codes "||") (Some 14) ∷ n kind.Equate 1 23 8 15 (6 ∷
+    []) ((codes "x") ∷ []) [] None ∷ n kind.Routine 1 1 0 17 (1 ∷ 7 ∷ []) ((codes "p") ∷ (codes "p") ∷ []) (codes
+    "proc") (Some 2) ∷ n kind.Module 1 1 0 17 (8 ∷ []) [] [] None ∷ n kind.File 1 1 0 17 (9 ∷ []) [] [] None ∷ [])
+
+index_in_an_operator : IsRefused index_in_an_operator_nodes rule.NotConstant 1 32
+unfolding checking
+index_in_an_operator = refl
+
+-- p = proc () s = "abc" x = (s[1]) end p
+abbrev index_in_parentheses_nodes : List Node
+index_in_parentheses_nodes =
+    (n kind.Literal 1 17 7 7 [] [] (34 ∷ 97 ∷ 98 ∷ 99 ∷ 34 ∷ []) (Some 7) ∷ n kind.Equate 1 13 5 7 (0 ∷ []) ((codes
+    "s") ∷ []) [] None ∷ n kind.Name 1 28 11 11 [] ((codes "s") ∷ []) [] None ∷ n kind.Literal 1 30 13 13 [] [] (codes
+    "1") (Some 13) ∷ n kind.Index 1 29 11 14 (2 ∷ 3 ∷ []) [] [] None ∷ n kind.Paren 1 27 10 15 (4 ∷ []) [] [] None ∷ n
+    kind.Equate 1 23 8 15 (5 ∷ []) ((codes "x") ∷ []) [] None ∷ n kind.Routine 1 1 0 17 (1 ∷ 6 ∷ []) ((codes "p") ∷
+    (codes "p") ∷ []) (codes "proc") (Some 2) ∷ n kind.Module 1 1 0 17 (7 ∷ []) [] [] None ∷ n kind.File 1 1 0 17 (8 ∷
+    []) [] [] None ∷ [])
+
+index_in_parentheses : IsRefused index_in_parentheses_nodes rule.NotConstant 1 27
+unfolding checking
+index_in_parentheses = refl
+
+-- p = proc [k: string] () x = (k[1]) end p
+abbrev index_of_a_parameter_nodes : List Node
+index_of_a_parameter_nodes =
+    (n kind.Simple 1 14 6 6 [] [] (codes "string") (Some 6) ∷ n kind.Parm 1 11 4 6 (0 ∷ []) ((codes "k") ∷ []) [] None
+    ∷ n kind.Name 1 30 13 13 [] ((codes "k") ∷ []) [] None ∷ n kind.Literal 1 32 15 15 [] [] (codes "1") (Some 15) ∷ n
+    kind.Index 1 31 13 16 (2 ∷ 3 ∷ []) [] [] None ∷ n kind.Paren 1 29 12 17 (4 ∷ []) [] [] None ∷ n kind.Equate 1 25
+    10 17 (5 ∷ []) ((codes "x") ∷ []) [] None ∷ n kind.Routine 1 1 0 19 (1 ∷ 6 ∷ []) ((codes "p") ∷ (codes "p") ∷ [])
+    (codes "proc") (Some 2) ∷ n kind.Module 1 1 0 19 (7 ∷ []) [] [] None ∷ n kind.File 1 1 0 19 (8 ∷ []) [] [] None ∷
+    [])
+
+index_of_a_parameter : IsRefused index_of_a_parameter_nodes rule.NotConstant 1 29
+unfolding checking
+index_of_a_parameter = refl
+
+-- p = proc () s = "abc" x: char := s[1] end p
+abbrev index_of_a_constant_nodes : List Node
+index_of_a_constant_nodes =
+    (n kind.Literal 1 17 7 7 [] [] (34 ∷ 97 ∷ 98 ∷ 99 ∷ 34 ∷ []) (Some 7) ∷ n kind.Equate 1 13 5 7 (0 ∷ []) ((codes
+    "s") ∷ []) [] None ∷ n kind.Simple 1 26 10 10 [] [] (codes "char") (Some 10) ∷ n kind.Name 1 34 12 12 [] ((codes
+    "s") ∷ []) [] None ∷ n kind.Literal 1 36 14 14 [] [] (codes "1") (Some 14) ∷ n kind.Index 1 35 12 15 (3 ∷ 4 ∷ [])
+    [] [] None ∷ n kind.Init 1 23 8 15 (2 ∷ 5 ∷ []) ((codes "x") ∷ []) [] None ∷ n kind.Routine 1 1 0 17 (1 ∷ 6 ∷ [])
+    ((codes "p") ∷ (codes "p") ∷ []) (codes "proc") (Some 2) ∷ n kind.Module 1 1 0 17 (7 ∷ []) [] [] None ∷ n
+    kind.File 1 1 0 17 (8 ∷ []) [] [] None ∷ [])
+
+index_of_a_constant : IsFine index_of_a_constant_nodes
+unfolding checking
+index_of_a_constant = refl

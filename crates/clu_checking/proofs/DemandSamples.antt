@@ -203,3 +203,30 @@ iterator_use_accepted_nodes =
 iterator_use_accepted : IsFine iterator_use_accepted_nodes
 unfolding checking
 iterator_use_accepted = refl
+
+-- c = cluster is m m = proc (x: c) y: int := down(x) end m end c
+abbrev down_without_rep_nodes : List Node
+down_without_rep_nodes =
+    (n kind.NameT 1 31 11 11 [] ((codes "c") ∷ []) [] None ∷ n kind.Decl 1 28 9 11 (0 ∷ []) ((codes "x") ∷ []) [] None
+    ∷ n kind.Simple 1 37 15 15 [] [] (codes "int") (Some 15) ∷ n kind.Name 1 49 19 19 [] ((codes "x") ∷ []) [] None ∷
+    n kind.Down 1 44 17 20 (3 ∷ []) [] [] None ∷ n kind.Init 1 34 13 20 (2 ∷ 4 ∷ []) ((codes "y") ∷ []) [] None ∷ n
+    kind.Routine 1 18 5 22 (1 ∷ 5 ∷ []) ((codes "m") ∷ (codes "m") ∷ []) (codes "proc") (Some 7) ∷ n kind.Cluster 1 1
+    0 24 (6 ∷ []) ((codes "c") ∷ (codes "m") ∷ (codes "c") ∷ []) [] None ∷ n kind.Module 1 1 0 24 (7 ∷ []) [] [] None
+    ∷ n kind.File 1 1 0 24 (8 ∷ []) [] [] None ∷ [])
+
+down_without_rep : IsRefused down_without_rep_nodes rule.UpDown 1 44
+unfolding checking
+down_without_rep = refl
+
+-- c = cluster is m m = proc () y: c := up(1) end m end c
+abbrev up_without_rep_nodes : List Node
+up_without_rep_nodes =
+    (n kind.NameT 1 33 12 12 [] ((codes "c") ∷ []) [] None ∷ n kind.Literal 1 41 16 16 [] [] (codes "1") (Some 16) ∷ n
+    kind.Up 1 38 14 17 (1 ∷ []) [] [] None ∷ n kind.Init 1 30 10 17 (0 ∷ 2 ∷ []) ((codes "y") ∷ []) [] None ∷ n
+    kind.Routine 1 18 5 19 (3 ∷ []) ((codes "m") ∷ (codes "m") ∷ []) (codes "proc") (Some 7) ∷ n kind.Cluster 1 1 0 21
+    (4 ∷ []) ((codes "c") ∷ (codes "m") ∷ (codes "c") ∷ []) [] None ∷ n kind.Module 1 1 0 21 (5 ∷ []) [] [] None ∷ n
+    kind.File 1 1 0 21 (6 ∷ []) [] [] None ∷ [])
+
+up_without_rep : IsRefused up_without_rep_nodes rule.UpDown 1 38
+unfolding checking
+up_without_rep = refl

@@ -266,3 +266,58 @@ tag_of_another_type_nodes =
 tag_of_another_type : IsRefused tag_of_another_type_nodes rule.AssignType 1 42
 unfolding checking
 tag_of_another_type = refl
+
+-- c = cluster is m rep = string m = proc () signals (failure(cvt)) end m end c
+abbrev failure_of_the_abstract_type_nodes : List Node
+failure_of_the_abstract_type_nodes =
+    (n kind.Simple 1 24 7 7 [] [] (codes "string") (Some 7) ∷ n kind.Equate 1 18 5 7 (0 ∷ []) [] (codes "rep") (Some
+    5) ∷ n kind.Simple 1 60 17 17 [] [] (codes "cvt") (Some 17) ∷ n kind.Exc 1 52 15 18 (2 ∷ []) ((codes "failure") ∷
+    []) [] None ∷ n kind.Signals 1 43 13 19 (3 ∷ []) [] [] None ∷ n kind.Routine 1 31 8 21 (4 ∷ []) ((codes "m") ∷
+    (codes "m") ∷ []) (codes "proc") (Some 10) ∷ n kind.Cluster 1 1 0 23 (1 ∷ 5 ∷ []) ((codes "c") ∷ (codes "m") ∷
+    (codes "c") ∷ []) [] None ∷ n kind.Module 1 1 0 23 (6 ∷ []) [] [] None ∷ n kind.File 1 1 0 23 (7 ∷ []) [] [] None
+    ∷ [])
+
+failure_of_the_abstract_type : IsRefused failure_of_the_abstract_type_nodes rule.SignalTypes 1 52
+unfolding checking
+failure_of_the_abstract_type = refl
+
+-- c = cluster is m rep = string m = proc () signals (failure(rep)) end m end c
+abbrev failure_of_a_string_by_name_nodes : List Node
+failure_of_a_string_by_name_nodes =
+    (n kind.Simple 1 24 7 7 [] [] (codes "string") (Some 7) ∷ n kind.Equate 1 18 5 7 (0 ∷ []) [] (codes "rep") (Some
+    5) ∷ n kind.Simple 1 60 17 17 [] [] (codes "rep") (Some 17) ∷ n kind.Exc 1 52 15 18 (2 ∷ []) ((codes "failure") ∷
+    []) [] None ∷ n kind.Signals 1 43 13 19 (3 ∷ []) [] [] None ∷ n kind.Routine 1 31 8 21 (4 ∷ []) ((codes "m") ∷
+    (codes "m") ∷ []) (codes "proc") (Some 10) ∷ n kind.Cluster 1 1 0 23 (1 ∷ 5 ∷ []) ((codes "c") ∷ (codes "m") ∷
+    (codes "c") ∷ []) [] None ∷ n kind.Module 1 1 0 23 (6 ∷ []) [] [] None ∷ n kind.File 1 1 0 23 (7 ∷ []) [] [] None
+    ∷ [])
+
+failure_of_a_string_by_name : IsFine failure_of_a_string_by_name_nodes
+unfolding checking
+failure_of_a_string_by_name = refl
+
+-- p = proc () begin exit e(1) end except when e (n: zork): end end p
+abbrev exit_to_a_bad_declaration_nodes : List Node
+exit_to_a_bad_declaration_nodes =
+    (n kind.Literal 1 26 9 9 [] [] (codes "1") (Some 9) ∷ n kind.Exit 1 19 6 10 (0 ∷ []) ((codes "e") ∷ []) [] None ∷
+    n kind.Begin 1 13 5 11 (1 ∷ []) [] [] None ∷ n kind.NameT 1 51 18 18 [] ((codes "zork") ∷ []) [] None ∷ n
+    kind.Decl 1 48 16 18 (3 ∷ []) ((codes "n") ∷ []) [] None ∷ n kind.When 1 40 13 20 (4 ∷ []) ((codes "e") ∷ []) []
+    None ∷ n kind.Except 1 33 5 21 (2 ∷ 5 ∷ []) [] [] None ∷ n kind.Routine 1 1 0 23 (6 ∷ []) ((codes "p") ∷ (codes
+    "p") ∷ []) (codes "proc") (Some 2) ∷ n kind.Module 1 1 0 23 (7 ∷ []) [] [] None ∷ n kind.File 1 1 0 23 (8 ∷ []) []
+    [] None ∷ [])
+
+exit_to_a_bad_declaration : IsRefused exit_to_a_bad_declaration_nodes rule.UnknownName 1 51
+unfolding checking
+exit_to_a_bad_declaration = refl
+
+-- p = proc () begin exit e end except when e (n: zork): end end p
+abbrev number_for_a_bad_declaration_nodes : List Node
+number_for_a_bad_declaration_nodes =
+    (n kind.Exit 1 19 6 7 [] ((codes "e") ∷ []) [] None ∷ n kind.Begin 1 13 5 8 (0 ∷ []) [] [] None ∷ n kind.NameT 1
+    48 15 15 [] ((codes "zork") ∷ []) [] None ∷ n kind.Decl 1 45 13 15 (2 ∷ []) ((codes "n") ∷ []) [] None ∷ n
+    kind.When 1 37 10 17 (3 ∷ []) ((codes "e") ∷ []) [] None ∷ n kind.Except 1 30 5 18 (1 ∷ 4 ∷ []) [] [] None ∷ n
+    kind.Routine 1 1 0 20 (5 ∷ []) ((codes "p") ∷ (codes "p") ∷ []) (codes "proc") (Some 2) ∷ n kind.Module 1 1 0 20
+    (6 ∷ []) [] [] None ∷ n kind.File 1 1 0 20 (7 ∷ []) [] [] None ∷ [])
+
+number_for_a_bad_declaration : IsRefused number_for_a_bad_declaration_nodes rule.SignalTypes 1 19
+unfolding checking
+number_for_a_bad_declaration = refl

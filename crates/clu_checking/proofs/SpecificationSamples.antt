@@ -8,6 +8,7 @@ use Rattle.clu_tree.specs.declared.node.NodeKind.TheVariants as kind
 use Rattle.clu_checking.specs.Specifications.{of_routine, of_cluster, Specification}
 use Rattle.clu_checking.specs.Files.{checked_file}
 use Rattle.clu_checking.specs.Headings.{own_specifications}
+use Rattle.clu_checking.specs.Refusals.{heading_refusal, heading_refusal_of}
 use Rattle.clu_checking.proofs.Checking.{n, surroundings, IsRefusedUnder, IsFineUnder, checking}
 
 -- signals and demands ascend, and failure is left out
@@ -162,3 +163,27 @@ hidden_nodes =
 library_hidden : IsRefusedUnder kept hidden_nodes rule.ParameterKind 2 25
 unfolding checking
 library_hidden = refl
+
+-- ---- the headings of a file, and of each module
+
+-- p = proc (x: zork) end p
+-- q = proc (y: int) end q
+abbrev headings_nodes : List Node
+headings_nodes =
+    (n kind.NameT 1 14 6 6 [] ((codes "zork") ∷ []) [] None ∷ n kind.Decl 1 11 4 6 (0 ∷ []) ((codes "x") ∷ []) [] None
+    ∷ n kind.Routine 1 1 0 9 (1 ∷ []) ((codes "p") ∷ (codes "p") ∷ []) (codes "proc") (Some 2) ∷ n kind.Module 1 1 0 9
+    (2 ∷ []) [] [] None ∷ n kind.Simple 2 14 16 16 [] [] (codes "int") (Some 16) ∷ n kind.Decl 2 11 14 16 (4 ∷ [])
+    ((codes "y") ∷ []) [] None ∷ n kind.Routine 2 1 10 19 (5 ∷ []) ((codes "q") ∷ (codes "q") ∷ []) (codes "proc")
+    (Some 12) ∷ n kind.Module 2 1 10 19 (6 ∷ []) [] [] None ∷ n kind.File 1 1 0 19 (3 ∷ 7 ∷ []) [] [] None ∷ [])
+
+headings_refused : heading_refusal (checked_file headings_nodes (surroundings headings_nodes) []) ≡ Some (record { rule = rule.UnknownName; place = record { line = 1; col = 14 } })
+unfolding checking
+headings_refused = refl
+
+first_heading_refused : heading_refusal_of (checked_file headings_nodes (surroundings headings_nodes) []) 3 ≡ Some (record { rule = rule.UnknownName; place = record { line = 1; col = 14 } })
+unfolding checking
+first_heading_refused = refl
+
+second_heading_accepted : heading_refusal_of (checked_file headings_nodes (surroundings headings_nodes) []) 7 ≡ None
+unfolding checking
+second_heading_accepted = refl

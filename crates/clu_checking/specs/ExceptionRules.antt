@@ -1,17 +1,18 @@
 -- The rules on exceptions: V23 ArmTypes, V24 ArmTwice, V25 SignalNotListed, V26 SignalTypes, V27 ExitNoArm.
-use Rattle.std.specs.Prelude.{ℕ, ◌&&◌, not, Bool, true, false, List, [], ◌∷◌, flat_map, filter, find, is_none, is_some, codes, bytes_eq, if◌then◌else◌, Option, Some, None}
+use Rattle.std.specs.Prelude.{ℕ, ◌&&◌, not, Bool, true, false, List, [], ◌∷◌, map, flat_map, filter, find, is_none, is_some, codes, bytes_eq, if◌then◌else◌, Option, Some, None}
 use Rattle.std.specs.List.{list_any, list_all}
 use Rattle.clu_types.specs.CluType.{CluType, string_type, CluTypes, no_types, type_and, Signals, no_signals, signal_and}
 use Rattle.clu_layout.specs.SameType.{fits, same_types}
 use Rattle.clu_tree.specs.declared.node.NodeKind.{NodeKind}
 use Rattle.clu_tree.specs.declared.node.NodeKind.TheVariants as kind
 use Rattle.clu_syntax.specs.Splits.{first_name}
-use Rattle.clu_syntax.specs.Syntax.{Identifier, Taken, objects, any_objects, Statement, a_signal, an_exit, a_resignal, an_except, Whens, no_whens, when_and, Others, others, Exception, Routine}
+use Rattle.clu_syntax.specs.Syntax.{Identifier, Typed, Taken, objects, any_objects, Statement, a_signal, an_exit, a_resignal, an_except, Whens, no_whens, when_and, Others, others, Exception, Routine}
 use Rattle.clu_syntax.specs.Items.{When}
 use Rattle.clu_checking.specs.Files.{File, numbers, item, kind_in, is_kind, parent, children, names, routine_round, stands_below}
-use Rattle.clu_checking.specs.Headings.{type_inside, results_inside, signals_inside}
+use Rattle.clu_checking.specs.Headings.{type_inside, results_outside, signals_inside}
 use Rattle.clu_checking.specs.Invocations.{types_of}
 use Rattle.clu_checking.specs.NameRules.{stands_before}
+use Rattle.clu_checking.specs.ExpressionRules.{may_be}
 use Rattle.clu_checking.specs.Raising.{Raise, by_statement, is_named}
 use Rattle.clu_checking.specs.StatementRules.{as_list, in_order, known, fit, declared_types}
 
@@ -33,6 +34,17 @@ arms_of (when_and n names taken body ws) = (names, taken) ∷ arms_of ws
 
 abbrev pub takes_name : Identifier → List Identifier × Taken → Bool
 takes_name name arm = list_any (bytes_eq name) arm.0
+
+-- the type of a declaration, unless a rule is violated in it: then it takes every object, and is refused later in the text
+abbrev pub type_unless : Bool → CluType → Option CluType
+type_unless true t = None
+type_unless false t = Some t
+
+-- as many types as are wanted, each included as far as both are known
+abbrev pub each_may_be : List (Option CluType) → List (Option CluType) → Bool
+each_may_be [] [] = true
+each_may_be (given ∷ givens) (wanted ∷ rest) = may_be given wanted && each_may_be givens rest
+each_may_be _ _ = false
 
 module _ (f : File) where
   -- ---- what the routine round a node may signal; failure belongs to every routine
@@ -120,11 +132,20 @@ module _ (f : File) where
   abbrev pub arm_for : ℕ → Identifier → Option (List Identifier × Taken)
   arm_for n name = find (takes_name name) (arms_round n)
 
+  -- V27: no when arm of that name is round the exit in the routine
+  abbrev pub v27 : ℕ → Bool
+  v27 n = is_kind f kind.Exit n && is_none (arm_for n (first_name (names f n)))
+
+module _ (f : File) (bad : ℕ → Bool) where
   -- ---- V26: number or types of a signal, an exit or a raise that is resignalled don't fit; failure is listed with other
   -- than one string
 
+  -- the types of an arm's variables, one for each name
+  abbrev pub arm_types : List Typed → List (Option CluType)
+  arm_types ds = flat_map (λ d. map (λ name. type_unless (bad d.node) (type_inside f d.node d.type)) d.names) ds
+
   abbrev pub takes_given : List (Option CluType) → Taken → Bool
-  takes_given given (objects ds) = fit given (in_order (declared_types f ds))
+  takes_given given (objects ds) = each_may_be given (arm_types ds)
   takes_given given any_objects = true
 
   abbrev pub arm_takes : List (Option CluType) → Option (List Identifier × Taken) → Bool
@@ -132,17 +153,17 @@ module _ (f : File) where
   arm_takes given None = true
 
   abbrev pub raise_fits : ℕ → Raise → Bool
-  raise_fits n raise = fits_heading n raise.0 (known (as_list raise.1))
+  raise_fits n raise = fits_heading f n raise.0 (known (as_list raise.1))
 
   abbrev pub has_other_types : ℕ → Statement → Bool
-  has_other_types n (a_signal m name es) = not (fits_heading n name (types_of f es))
-  has_other_types n (an_exit m name es) = not (arm_takes (types_of f es) (arm_for n name))
+  has_other_types n (a_signal m name es) = not (fits_heading f n name (types_of f es))
+  has_other_types n (an_exit m name es) = not (arm_takes (types_of f es) (arm_for f n name))
   has_other_types n (a_resignal m s names) = not (list_all (raise_fits n) (filter (is_named names) (by_statement f s)))
   has_other_types n _ = false
 
-  -- failure has one string
+  -- failure has one string, as callers see it
   abbrev pub is_other_failure : Exception → Bool
-  is_other_failure e = is_failure e.name && not (same_types (results_inside f e.node e.types) one_string)
+  is_other_failure e = is_failure e.name && not (same_types (results_outside f e.node e.types) one_string)
 
   abbrev pub v26_in : NodeKind → ℕ → Bool
   v26_in kind.Signal n = has_other_types n (item f n).statement
@@ -153,7 +174,3 @@ module _ (f : File) where
 
   abbrev pub v26 : ℕ → Bool
   v26 n = v26_in (kind_in f n) n
-
-  -- V27: no when arm of that name is round the exit in the routine
-  abbrev pub v27 : ℕ → Bool
-  v27 n = is_kind f kind.Exit n && is_none (arm_for n (first_name (names f n)))

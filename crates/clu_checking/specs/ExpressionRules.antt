@@ -247,11 +247,12 @@ module _ (f : File) where
   abbrev pub v20 : ℕ → Bool
   v20 n = list_any (λ a. a.in_set && is_broken n a) (asks_at f n)
 
-  -- ---- V32: up takes an object of exactly `rep`, down one of the cluster's type with its own parameters
+  -- ---- V32: up takes an object of exactly `rep`, down one of the cluster's type with its own parameters; without `rep`
+  -- neither takes one
 
   abbrev pub is_misplaced : Expression → Bool
   is_misplaced (an_up n e) = is_none (own_type f n) || is_not_of (representation f n) (type_of f e)
-  is_misplaced (a_down n e) = is_none (own_type f n) || is_not_of (own_type f n) (type_of f e)
+  is_misplaced (a_down n e) = is_none (representation f n) || is_not_of (own_type f n) (type_of f e)
   is_misplaced _ = false
 
   abbrev pub v32_at : NodeKind → ℕ → Bool

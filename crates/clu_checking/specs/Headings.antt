@@ -120,6 +120,10 @@ module _ (f : File) where
   abbrev pub results_inside : ℕ → TypeExpressions → CluTypes
   results_inside n ts = types_by (for_body (is_represented n)) (heading_types (place_at n) ts)
 
+  -- the types of results and signals at the node n, as callers see them
+  abbrev pub results_outside : ℕ → TypeExpressions → CluTypes
+  results_outside n ts = types_by for_callers (heading_types (place_at n) ts)
+
   -- in ascending order, without failure
   abbrev pub signals_inside : ℕ → Exceptions → Signals
   signals_inside n es = signals_by (for_body (is_represented n)) (exceptions_of (place_at n) es)

@@ -8,7 +8,7 @@ use Rattle.clu_base.specs.declared.rules.Refused.{Refused}
 use Rattle.clu_tree.specs.declared.node.Node.{Node}
 use Rattle.clu_tree.specs.declared.node.NodeKind.{NodeKind}
 use Rattle.clu_tree.specs.declared.node.NodeKind.TheVariants as kind
-use Rattle.clu_checking.specs.Files.{File, numbers, kind_in, round}
+use Rattle.clu_checking.specs.Files.{File, numbers, kind_in, round, below}
 use Rattle.clu_checking.specs.Rules.{violates, all_rules, least}
 
 -- the walk over the headings, and the walk over the rest
@@ -97,3 +97,7 @@ module _ (f : File) where
   -- the same of the headings alone, by which specifications are entered
   abbrev pub heading_refusal : Option Refused
   heading_refusal = refused_at (first_on headings)
+
+  -- and of the heading of one module alone, which is this node
+  abbrev pub heading_refusal_of : ℕ → Option Refused
+  heading_refusal_of n = refused_at (first_among (fault_at headings) (below f n))

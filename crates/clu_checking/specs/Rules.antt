@@ -1,5 +1,5 @@
 -- The table of rules: when a node violates each of them. V1 to V3 are asked before there is a tree. `bad` says of an Equate
--- whether a rule is violated in it, or in one that it leads to.
+-- or a declaration whether a rule is violated in it, or in an Equate that it leads to.
 use Rattle.std.specs.Prelude.{ℕ, Bool, true, false, List, [], ◌∷◌, Option, Some, None}
 use Rattle.clu_base.specs.declared.rules.Rule.{Rule}
 use Rattle.clu_base.specs.declared.rules.Rule.TheVariants as rule
@@ -58,7 +58,7 @@ module _ (f : File) (bad : ℕ → Bool) where
   -- signal or resignal of a name that is neither in the heading nor `failure`
   violates n rule.SignalNotListed = v25 f n
   -- number or types of a signal, exit or resignalled raise don't fit
-  violates n rule.SignalTypes = v26 f n
+  violates n rule.SignalTypes = v26 f bad n
   -- no enclosing `when` arm of that name in the routine
   violates n rule.ExitNoArm = v27 f n
   -- break or continue outside a loop of the routine

@@ -48,6 +48,11 @@ abbrev pub infix_value : Operator → Option Const → Option Const → Value
 infix_value op (Some a) (Some b) = constant_value (folded (sugar op) a b)
 infix_value op _ _ = unsettled
 
+-- a name with brackets is a type with actuals; what is no type makes no constant with them
+abbrev pub with_brackets : Value → Value
+with_brackets (settled_type t) = settled_type t
+with_brackets _ = unsettled
+
 -- ---- in ascending order
 
 abbrev pub comes_after : Identifier → Identifier → Bool
@@ -134,7 +139,7 @@ module _ (scope : Scope) (unfolded : Constant → Value) where
     value_of_expression (a_paren n e) = value_of_expression e
     value_of_expression (a_literal n literal) = constant_value (denoted literal)
     value_of_expression (a_name n name) = value_of_name n name no_actuals
-    value_of_expression (an_index n (a_name m name) cs) = value_of_name m name (actuals cs)
+    value_of_expression (an_index n (a_name m name) cs) = with_brackets (value_of_name m name (actuals cs))
     value_of_expression _ = unsettled
 
     pub value_of_constant : Constant → Value
