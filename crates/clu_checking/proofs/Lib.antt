@@ -9,6 +9,7 @@ mod ModuleSamples
 mod NameSamples
 mod OperationSamples
 mod OrderSamples
+mod PlaceSamples
 mod RaiseSamples
 mod ScopeSamples
 mod SpecificationSamples
