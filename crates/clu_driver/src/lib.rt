@@ -19,10 +19,10 @@ mod referring;
 mod refusals;
 mod running;
 mod separate;
-mod session;
+mod sessions;
 mod sources;
 mod specifying;
 mod top;
 
-pub use crate::session::session;
+pub use crate::sessions::session;
 pub use crate::top::clu;

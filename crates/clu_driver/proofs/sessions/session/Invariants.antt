@@ -1,7 +1,7 @@
 use Rattle.std.proofs.Common.{◌≡◌, ◌≤◌, length, map, string_bytes, take, vec_capacity, vec_len}
 use Rattle.clu_driver.specs.Sessions.{IsSession, state_of}
 use Rattle.clu_driver.specs.World.{streams_of, world_of}
-use Rattle.clu_driver.proofs.session.session.Given as goal
+use Rattle.clu_driver.proofs.sessions.session.Given as goal
 
 abbrev pub invariant-loop-words : goal.invariant-loop-words
 invariant-loop-words g l = record {
