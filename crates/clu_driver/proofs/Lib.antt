@@ -2,6 +2,5 @@ pub mod ByStatus
 pub mod FailureText
 pub mod Found
 pub mod Entered
-pub mod OneMore
 pub mod Repeated
 pub mod Runs

@@ -4,7 +4,6 @@ pub mod Generated
 pub mod Libraries
 pub mod Puts
 pub mod Refusals
-pub mod Sessions
 pub mod Shows
 pub mod Sources
 pub mod World

@@ -1,7 +1,7 @@
 //! The outside of a call, in memory.
 
 use clu_base::{Bytes, MemSink, MemSource, MemStore, Memory, Store};
-use clu_driver::{clu, session};
+use clu_driver::clu;
 use std::alloc::Global;
 use std::test::Fail;
 
@@ -95,31 +95,18 @@ impl Outside {
 
     /// The status of a call with these words, which have blanks between them.
     pub fn call(&mut self, alloc: Global, words: &str) -> Result<u8, Fail> {
-        let words = listed(alloc, words)?;
+        let mut list = Vec::new(alloc);
+        for word in words.split(' ') {
+            list.push(String::from_str(alloc, word)?)?;
+        }
         Ok(clu(
             alloc,
-            &words,
+            &list,
             &mut self.input,
             &mut self.output,
             &mut self.errors,
             &mut self.files,
         ))
-    }
-
-    /// The statuses of calls with the words of these lines.
-    pub fn session(&mut self, alloc: Global, lines: &str) -> Result<Vec<u8>, Fail> {
-        let mut runs = Vec::new(alloc);
-        for words in lines.lines() {
-            runs.push(listed(alloc, words)?)?;
-        }
-        Ok(session(
-            alloc,
-            &runs,
-            &mut self.input,
-            &mut self.output,
-            &mut self.errors,
-            &mut self.files,
-        )?)
     }
 
     /// Whether a call of this status left `IMAGE` as it was, if it is a refusal before the put.
@@ -129,13 +116,4 @@ impl Outside {
             _ => true,
         }
     }
-}
-
-/// Words that have blanks between them.
-fn listed(alloc: Global, words: &str) -> Result<Vec<String>, Memory> {
-    let mut list = Vec::new(alloc);
-    for word in words.split(' ') {
-        list.push(String::from_str(alloc, word)?)?;
-    }
-    Ok(list)
 }
