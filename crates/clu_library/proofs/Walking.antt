@@ -1,6 +1,6 @@
 -- A list that is walked by numbers until there is no item more.
-use Rattle.std.proofs.Common.{◌≡◌, ℕ, zero, suc, ◌+◌, ◌≤◌, min, List, [], ◌∷◌, ◌++◌, length, take, drop, slice_get, Option, Some, None, refl, sym, ap, ◌∙◌, append_assoc, arith}
-use Rattle.std.specs.List.{flat_map}
+use Rattle.std.proofs.Common.{◌≡◌, ◌&&◌, Bool, true, ℕ, zero, suc, ◌+◌, ◌≤◌, min, List, [], ◌∷◌, ◌++◌, length, take, drop, slice_get, Option, Some, None, refl, sym, ap, ◌∙◌, append_assoc, arith}
+use Rattle.std.specs.List.{flat_map, list_all}
 use Rattle.std.proofs.lemmas.Option.{none-some}
 use Rattle.std.proofs.lemmas.List.{take_all, append-nil}
 use Rattle.std.proofs.lemmas.Grind.{flat_map-append}
@@ -47,5 +47,12 @@ one_left xs n x e = let next : n + 1 ≡ suc n = omega arith in rw next (next_le
 
 pub term_left : {X : Type 0} (xs : List X) (n : ℕ) (x : X) → slice_get xs n ≡ Some x → drop n xs ≡ x ∷ drop (n + 1) xs
 term_left xs n x e = one_left xs n x (sym e)
+
+-- of what is left, all pass a test where one more passes it
+pub all_more : {X : Type 0} (t : X → Bool) (xs : List X) (n : ℕ) (x : X) (start : Bool) → Some x ≡ slice_get xs n → t x ≡ true → list_all t (drop n xs) ≡ start → list_all t (drop (n + 1) xs) ≡ start
+all_more t xs n x start e passes whole =
+    let rest : Bool = list_all t (drop (n + 1) xs) in
+    let one : (t x && rest) ≡ rest = ap (λ (b : Bool). b && rest) passes in
+    sym one ∙ sym (ap (list_all t) (one_left xs n x e)) ∙ whole
 
 pub ruleset walks = (none_left, one_left, term_left)

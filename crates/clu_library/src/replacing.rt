@@ -195,8 +195,8 @@ pub fn add_stale(
     bodies: &[ModuleBody],
 ) -> Result<(), Memory>
     requires ascending { AreAscending (λ (c : Change). c.name) changes.now }
-    requires bounds { IsTrue latest.now.are_bounds → AreBounds (with_changed specs.now (option_copied changed.entry)) changes.now (in_table latest.now.table) }
-    requires reached { IsTrue latest.now.are_reached → AreReached (with_changed specs.now (option_copied changed.entry)) changes.now (in_table latest.now.table) (rank_in latest.now.table) }
+    requires bounds { IsTrue latest.now.are_bounds → AreBounds (with_changed specs.now (option_copied changed)) changes.now (in_table latest.now.table) }
+    requires reached { IsTrue latest.now.are_reached → AreReached (with_changed specs.now (option_copied changed)) changes.now (in_table latest.now.table) (rank_in latest.now.table) }
     ensures { OnOk result (AreStaleOf (with_changed specs.now (option_copied changed.entry)) changes.now bodies.now lost.old.keys lost.new.keys) }
 {
     for kept in bodies {
@@ -219,8 +219,8 @@ fn is_stale(
     kept: &ModuleBody,
 ) -> Result<bool, Memory>
     requires ascending { AreAscending (λ (c : Change). c.name) changes.now }
-    requires bounds { IsTrue latest.now.are_bounds → AreBounds (with_changed specs.now (option_copied changed.entry)) changes.now (in_table latest.now.table) }
-    requires reached { IsTrue latest.now.are_reached → AreReached (with_changed specs.now (option_copied changed.entry)) changes.now (in_table latest.now.table) (rank_in latest.now.table) }
+    requires bounds { IsTrue latest.now.are_bounds → AreBounds (with_changed specs.now (option_copied changed)) changes.now (in_table latest.now.table) }
+    requires reached { IsTrue latest.now.are_reached → AreReached (with_changed specs.now (option_copied changed)) changes.now (in_table latest.now.table) (rank_in latest.now.table) }
     ensures { IfOk result (λ stale. IsTrue stale ↔ IsStaleBody (with_changed specs.now (option_copied changed.entry)) changes.now kept.now.name kept.now.body) }
 {
     if latest.excludes(&kept.body) {

@@ -4,7 +4,7 @@ use crate::combining::{combine, is_small};
 use crate::conditions::{Target, compare};
 use crate::error::SelectError;
 use crate::knowing::{
-    is_comparison, is_known, is_opposite, is_short, is_told, known_of, ready, small_of,
+    Side, is_comparison, is_known, is_opposite, is_short, is_told, known_of, ready_side, small_of,
 };
 use crate::operand::{Operand, Scope};
 use crate::parts::raise_trap;
@@ -36,7 +36,30 @@ pub(crate) fn value(
             let right = value(words, right, scope.keeping(left))?;
             combine(words, *op, left, right, scope)
         }
-        WExpr::If(condition, then, other) => choose(words, condition, then, other, scope),
+        WExpr::If(condition, then, other) => {
+            let choice = Choice::new(words, scope)?;
+            match ready_side(condition, then, other, scope) {
+                Side::Then(word) => {
+                    let kept = choice.begin(words, word, scope)?;
+                    branch(words, condition, true, choice.end(), kept)?;
+                    let word = value(words, other, scope)?;
+                    choice.finish(words, word)
+                }
+                Side::Other(word) => {
+                    let kept = choice.begin(words, word, scope)?;
+                    branch(words, condition, false, choice.end(), kept)?;
+                    let word = value(words, then, scope)?;
+                    choice.finish(words, word)
+                }
+                Side::Neither => {
+                    branch(words, condition, false, choice.otherwise(), scope)?;
+                    let word = value(words, then, scope)?;
+                    choice.turn(words, word)?;
+                    let word = value(words, other, scope)?;
+                    choice.finish(words, word)
+                }
+            }
+        }
         WExpr::Check(condition, trap, word) => {
             check(words, condition, *trap, scope)?;
             value(words, word, scope)
@@ -78,50 +101,6 @@ fn bind_all(words: &mut Words, values: &[WExpr], scope: Scope) -> Result<Scope, 
         number = number.saturating_add(1);
     }
     Ok(kept.with_bound(inner))
-}
-
-/// One of two words. Where one of them is there already, the other takes its place if the condition wants it.
-#[cycle(evaluation)]
-fn choose(
-    words: &mut Words,
-    condition: &WExpr,
-    then: &WExpr,
-    other: &WExpr,
-    scope: Scope,
-) -> Result<Operand, SelectError> {
-    if let Some(word) = ready(then, condition, other, scope) {
-        return replace(words, word, condition, true, other, scope);
-    }
-    if let Some(word) = ready(other, condition, then, scope) {
-        return replace(words, word, condition, false, then, scope);
-    }
-    let choice = Choice::new(words, scope)?;
-    branch(words, condition, false, choice.otherwise(), scope)?;
-    let word = value(words, then, scope)?;
-    choice.turn(words, word)?;
-    let word = value(words, other, scope)?;
-    choice.end(words, word)
-}
-
-/// A word that is there already, where the condition is as `sense` says, and else another one.
-#[cycle(evaluation)]
-fn replace(
-    words: &mut Words,
-    word: Operand,
-    condition: &WExpr,
-    sense: bool,
-    other: &WExpr,
-    scope: Scope,
-) -> Result<Operand, SelectError> {
-    let to = scope.free()?;
-    word.put(words, to)?;
-    let end = words.fresh()?;
-    let kept = scope.keeping(Operand::At(to));
-    branch(words, condition, sense, Target::near(end), kept)?;
-    let word = value(words, other, scope)?;
-    word.put(words, to)?;
-    words.label(end)?;
-    Ok(Operand::At(to))
 }
 
 /// The word so many bytes after an address. A small number that is added last is one of the distance.
@@ -299,6 +278,17 @@ impl Choice {
         Target::far(self.otherwise)
     }
 
+    /// Where the word is there that was there already.
+    fn end(self) -> Target {
+        Target::near(self.end)
+    }
+
+    /// A word that is there already, unless the other one takes its place; it is to be left as it is until then.
+    fn begin(self, words: &mut Words, word: Operand, scope: Scope) -> Result<Scope, SelectError> {
+        word.put(words, self.to)?;
+        Ok(scope.keeping(Operand::At(self.to)))
+    }
+
     /// After the first word the second one begins.
     fn turn(self, words: &mut Words, word: Operand) -> Result<(), SelectError> {
         word.put(words, self.to)?;
@@ -306,8 +296,8 @@ impl Choice {
         words.label(self.otherwise)
     }
 
-    /// After the second word.
-    fn end(self, words: &mut Words, word: Operand) -> Result<Operand, SelectError> {
+    /// After the last word.
+    fn finish(self, words: &mut Words, word: Operand) -> Result<Operand, SelectError> {
         word.put(words, self.to)?;
         words.label(self.end)?;
         Ok(Operand::At(self.to))

@@ -22,22 +22,39 @@ pub(crate) fn known_of(expression: &WExpr, scope: Scope) -> Option<u64> {
 /// The most words of a condition and of the choice after it that one branch reaches over: an immediate of it reaches 1,023.
 const REACH: u64 = 1000;
 
-/// The word of one side of a choice, if it is there already, and one branch reaches over the condition and the other side.
-pub(crate) fn ready(
-    side: &WExpr,
-    condition: &WExpr,
-    other: &WExpr,
-    scope: Scope,
-) -> Option<Operand> {
-    let word = match side {
-        WExpr::Word(word) => Operand::Known(*word),
-        WExpr::Bound(number) => scope.bound(*number).ok()?,
-        _ => return None,
-    };
-    if condition.words().saturating_add(other.words()) > REACH {
-        return None;
+/// A side of a choice that is known, or in a register already.
+#[derive(Clone, Copy)]
+pub(crate) enum Side {
+    Then(Operand),
+    Other(Operand),
+    Neither,
+}
+
+/// The side of a choice that is there already, if one branch reaches over the condition and the other side.
+pub(crate) fn ready_side(condition: &WExpr, then: &WExpr, other: &WExpr, scope: Scope) -> Side {
+    if condition
+        .words()
+        .saturating_add(then.words())
+        .saturating_add(other.words())
+        > REACH
+    {
+        return Side::Neither;
     }
-    Some(word)
+    match ready(then, scope) {
+        Some(word) => Side::Then(word),
+        None => match ready(other, scope) {
+            Some(word) => Side::Other(word),
+            None => Side::Neither,
+        },
+    }
+}
+
+fn ready(side: &WExpr, scope: Scope) -> Option<Operand> {
+    match side {
+        WExpr::Word(word) => Some(Operand::Known(*word)),
+        WExpr::Bound(number) => scope.bound(*number).ok(),
+        _ => None,
+    }
 }
 
 /// The word of a comparison of two words.
