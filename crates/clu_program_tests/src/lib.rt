@@ -31,8 +31,6 @@ mod limit_rows;
 #[cfg(test)]
 mod limit_tests;
 #[cfg(test)]
-mod objects_tests;
-#[cfg(test)]
 mod op_costs;
 #[cfg(test)]
 mod op_helpers;
