@@ -1,6 +1,8 @@
 -- Programs that compute: parameters and where clauses. Each is the tree of the CLU above it.
 use Rattle.std.specs.Fmt.{digits}
 use Rattle.std.specs.Prelude.{refl, List, [], ◌∷◌, codes, Some, None}
+use Rattle.clu_types.specs.CluType as term
+use Rattle.clu_types.specs.Substituted.{actuals_substituted}
 use Rattle.clu_names.specs.declared.scopes.Declared.{Declared}
 use Rattle.clu_syntax.specs.declared.words.Operator.TheVariants as op
 use Rattle.clu_syntax.specs.declared.words.SimpleType.TheVariants as simple
@@ -9,9 +11,11 @@ use Rattle.clu_syntax.specs.declared.words.FieldsType.TheVariants as fields_word
 use Rattle.clu_syntax.specs.declared.words.RoutineKind.TheVariants as kind
 use Rattle.clu_syntax.specs.Syntax.{integer, string, an_infix, a_literal, a_name, an_index, a_get, a_call, fields, elements, an_operation, no_expressions, expression_and, no_components, component_and, an_expression, a_type, no_constants, constant_and, a_simple_type, a_list_type, a_fields_type, a_routine_type, a_named_type, no_types, type_and, no_selectors, selector_and, no_exceptions, an_equate, no_equates, equate_and, objects, an_init, an_assign, a_call_statement, a_for, a_return, an_except, no_statements, statement_and, a_body, no_whens, when_and, no_others, has_operations, Module, a_routine, a_cluster}
 use Rattle.clu_layout.specs.Computing.{computing}
+use Rattle.clu_meaning.specs.Resolving.{resolved}
 use Rattle.clu_meaning.specs.Run.{returned_normally}
+use Rattle.clu_meaning.specs.Headings.{HeadingsStand}
 use Rattle.clu_meaning.specs.Executing.{executing}
-use Rattle.clu_meaning.proofs.Running.{d, typed, a_variable, parameter, routine, cluster, Runs}
+use Rattle.clu_meaning.proofs.Running.{d, typed, a_variable, parameter, routine, cluster, file, Runs}
 
 -- % a type parameter
 -- first = proc [t: type] (a: array[t], d: t) returns (t) return (array[t]$bottom(a)) except when bounds: return (d) end end first
@@ -168,3 +172,26 @@ a_parameterised_cluster_declared =
 a_parameterised_cluster : Runs a_parameterised_cluster_declared a_parameterised_cluster_modules (codes "") 10000 returned_normally (120 ∷ 10 ∷ 49 ∷ 10 ∷ []) 10 290
 unfolding executing computing digits
 a_parameterised_cluster = refl
+
+-- its headings stand, whatever the actuals
+a_parameterised_cluster_headings : HeadingsStand (resolved (file a_parameterised_cluster_declared a_parameterised_cluster_modules ∷ []))
+unfolding executing
+a_parameterised_cluster_headings =
+    let own : term.Actuals = term.actual_type (term.parameter 1) (term.actual_type (term.parameter 2) term.no_actuals) in (
+      (
+        record {
+          declared = (refl, (refl, tt));
+          formals = (tt, (tt, tt));
+          results = ((λ given. record { actuals = actuals_substituted given own; type = refl; inside = refl }), tt);
+          signals = tt;
+        },
+        (
+          record { declared = (refl, tt); formals = ((λ given. record { actuals = actuals_substituted given own; type = refl; inside = refl }), tt); results = (tt, tt); signals = tt },
+          (
+            record { declared = (refl, tt); formals = ((λ given. record { actuals = actuals_substituted given own; type = refl; inside = refl }), tt); results = (tt, tt); signals = tt },
+            (record { declared = (refl, tt); formals = (tt, tt); results = (tt, tt); signals = tt }, tt),
+          ),
+        ),
+      ),
+      (record { declared = tt; formals = tt; results = tt; signals = tt }, tt),
+    )
