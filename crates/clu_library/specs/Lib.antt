@@ -2,7 +2,10 @@ pub mod Bounds
 pub mod ByName
 pub mod Contents
 pub mod Growing
+pub mod ImageReading
+pub mod Libraries
 pub mod LibraryFile
+pub mod LibraryReading
 pub mod Replacing
 pub mod Resting
 pub mod Staleness
