@@ -9,9 +9,9 @@ use Rattle.clu_tree.specs.declared.node.Node.{Node}
 use Rattle.rv_isa.specs.Image.{Contents}
 use Rattle.clu_words.specs.Command.{Limits, Meant}
 use Rattle.clu_words.specs.Command as command
-use Rattle.clu_driver.specs.Commands.{CluShows, CommandShows, GenShows, IsRefusal, PutShows}
+use Rattle.clu_driver.specs.Commands.{CluShows, CommandShows, GenShows, GoShows, IsRefusal, PutShows}
 use Rattle.clu_driver.specs.Puts.{NotPut}
-use Rattle.clu_driver.specs.Shows.{Reported, RunShows, TextShows}
+use Rattle.clu_driver.specs.Shows.{IsAsked, Reported, RunShows, TextShows, untraced}
 use Rattle.clu_driver.specs.Libraries.{CompileShows, CompiledShows, EnteredShows, LibraryShows, LinkShows, LinkedShows, NotGathered, NotLibrary, SpecifiedShows, SpecifyShows, SpecsShow}
 use Rattle.clu_driver.specs.Refusals.{IsRefusalBy}
 use Rattle.clu_driver.specs.declared.specifying.Kept.{Kept}
@@ -29,6 +29,7 @@ usage_of : (how : Outcome) → status_of how ≡ 2 → how ≡ outcome.Usage
 usage_of outcome.Usage is = refl
 usage_of outcome.Done is = cc
 usage_of (outcome.Failure text) is = cc
+usage_of (outcome.Traced text trace) is = cc
 usage_of _ is = cc
 
 -- no source comes to Usage
@@ -88,8 +89,10 @@ not_accepted name file nodes files files' faults faults' (inr entered) = not_ent
 usage_shown : (meant : Option Meant) (before after : World) → CommandShows meant outcome.Usage before after → meant ≡ None
 unfolding SpecifyShows CompileShows LinkShows
 usage_shown None before after shown = refl
-usage_shown (Some (command.go file image limits peep trace)) before after (inl refused) = elim (not_compiled file before.files before.store_faults after.store_faults refused.0) [ ]
-usage_shown (Some (command.go file image limits peep trace)) before after (inr put) = elim put.1.3 [ inl notput ↦ elim notput.0 [ ] | inr ran ↦ elim ran.1.ends [ ] ]
+usage_shown (Some (command.go file image limits peep trace)) before after shown = elim shown.1 [
+  | inl refused ↦ elim (not_compiled file before.files before.store_faults after.store_faults refused.0) [ ]
+  | inr put ↦ elim put.1.3 [ inl notput ↦ elim notput.0 [ ] | inr ran ↦ elim ran.1.ends [ ] ]
+]
 usage_shown (Some (command.exec image limits)) before after (inl refused) = elim refused.0 [ ]
 usage_shown (Some (command.exec image limits)) before after (inr ran) = elim ran.1.2.ends [ ]
 usage_shown (Some (command.gen procedures)) before after shown = elim shown.2 [ ]
@@ -222,10 +225,19 @@ text_refused outcome.Done text written faults written' faults' h r = cc (refusal
 text_refused outcome.WriteFault text written faults written' faults' h r = cc (refusal_test 23 h)
 text_refused _ text written faults written' faults' h r = elim r [ ]
 
+-- a trace changes no status
+status_untraced : (how : Outcome) → status_of (untraced how) ≡ status_of how
+status_untraced (outcome.Traced text trace) = refl
+status_untraced _ = refl
+
+go_refused : (how : Outcome) (file image : List ℕ) (limits : Limits) (before after : World) → IsRefusal (status_of how) → GoShows how file image limits before after → after.streams.written ≡ before.streams.written
+go_refused how file image limits before after h (inl refused) = refused.1.1.written
+go_refused how file image limits before after h (inr put) = elim put.1.3 [ inl notput ↦ notput.1.written | inr ran ↦ ran_refused how put.1.0 limits before.streams after.streams h ran.1 ]
+
 refused_shown : (meant : Option Meant) (before after : World) (how : Outcome) → IsRefusal (status_of how) → CommandShows meant how before after → after.streams.written ≡ before.streams.written
 refused_shown None before after how h shown = shown.1.1.written
-refused_shown (Some (command.go file image limits peep trace)) before after how h (inl refused) = refused.1.1.written
-refused_shown (Some (command.go file image limits peep trace)) before after how h (inr put) = elim put.1.3 [ inl notput ↦ notput.1.written | inr ran ↦ ran_refused how put.1.0 limits before.streams after.streams h ran.1 ]
+refused_shown (Some (command.go file image limits peep trace)) before after how h shown =
+    let P : ℕ → Type 0 = λ n. IsRefusal n in go_refused (untraced how) file image limits before after (subst P (sym (status_untraced how)) h) shown.1
 refused_shown (Some (command.exec image limits)) before after how h (inl refused) = refused.1.1.written
 refused_shown (Some (command.exec image limits)) before after how h (inr ran) = ran_refused how ran.1.0 limits before.streams after.streams h ran.1.2
 refused_shown (Some (command.gen procedures)) before after how h shown = gen_refused how procedures before.streams.written after.streams.written before.streams.write_faults after.streams.write_faults h shown.2

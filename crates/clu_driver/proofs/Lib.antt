@@ -1,3 +1,4 @@
+pub mod Asked
 pub mod ByStatus
 pub mod FailureText
 pub mod Found

@@ -16,7 +16,7 @@ use Rattle.clu_driver.specs.Found.{IsFound, NotRead}
 use Rattle.clu_driver.specs.Generated.{generated_text}
 use Rattle.clu_driver.specs.Libraries.{CompileShows, LinkShows, RunOfShows, SpecifyShows, XrefShows}
 use Rattle.clu_driver.specs.Puts.{IsPut, NotPut}
-use Rattle.clu_driver.specs.Shows.{RunShows, TextShows}
+use Rattle.clu_driver.specs.Shows.{IsAsked, RunShows, TextShows, untraced}
 use Rattle.clu_driver.specs.Sources.{IsAccepted, IsSource, NotCompiled, NotParsed}
 use Rattle.clu_driver.specs.World.{IsUnrun, IsUntouched, World, world_of}
 use Rattle.clu_outcome.specs.declared.outcome.Outcome.{Outcome}
@@ -113,7 +113,7 @@ AsmShows how file name files faults files' faults' =
 -- what the command that the words are shows of the outcome
 abbrev pub CommandShows : Option Meant → Outcome → World → World → Type 0
 CommandShows None how before after = (how ≡ outcome.Usage) × IsUntouched before after
-CommandShows (Some (command.go file image limits peep trace)) how before after = GoShows how file image limits before after
+CommandShows (Some (command.go file image limits peep trace)) how before after = IsAsked how trace × GoShows (untraced how) file image limits before after
 CommandShows (Some (command.exec image limits)) how before after = ExecShows how image limits before after
 CommandShows (Some (command.gen procedures)) how before after =
     (after.files ≡ before.files) × (after.streams.left ≡ before.streams.left)

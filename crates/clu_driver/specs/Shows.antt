@@ -1,5 +1,5 @@
 -- What each outcome of a command shows of the call.
-use Rattle.std.specs.Prelude.{◌≡◌, ◌⊎◌, ℕ, List, [], Option, Some, None, IfSome, IsSome, option_map}
+use Rattle.std.specs.Prelude.{◌≡◌, ◌⊎◌, ℕ, Bool, true, false, List, [], Option, Some, None, IfSome, IsSome, option_map}
 use Rattle.clu_base.specs.Outside.{GrewWithin, IsTorn, Rose, appended, with_file}
 use Rattle.clu_image.specs.Faults.{fault_of}
 use Rattle.clu_image.specs.ImageFile.{IsFileOf, image_bytes}
@@ -62,6 +62,17 @@ pub record Ran (how : Outcome) (image : Contents) (limits : Limits) (before afte
 abbrev pub RunShows : Outcome → Contents → Limits → Streams → Streams → Type 0
 RunShows outcome.Memory image limits before after = after.written ≡ before.written
 RunShows how image limits before after = Ran how image limits before after
+
+-- a failure is told with a trace exactly where that was asked for
+abbrev pub IsAsked : Outcome → Bool → Type 0
+IsAsked (outcome.Failure text) traced = traced ≡ false
+IsAsked (outcome.Traced text trace) traced = traced ≡ true
+IsAsked _ traced = Unit {0}
+
+-- the outcome of a run without its trace
+abbrev pub untraced : Outcome → Outcome
+untraced (outcome.Traced text trace) = outcome.Failure text
+untraced how = how
 
 -- a text was written, or some first bytes of it
 abbrev pub TextShows : Outcome → List ℕ → Option (List ℕ) → ℕ → Option (List ℕ) → ℕ → Type 0

@@ -1,7 +1,7 @@
 //! From an accepted file to its image: its modules are entered into an empty library and linked from `start_up`.
 
-ghost use Rattle.std.specs.Prelude.{◌≡◌, IfErr, codes, length, take};
-ghost use Rattle.std.specs.Option.{option_copied};
+ghost use Rattle.std.specs.Prelude.{◌≡◌, IfErr, IfOk, codes, length, take};
+ghost use Rattle.std.specs.Option.{is_some, option_copied};
 ghost use Rattle.std.specs.Str.{bytes_eq};
 ghost use Rattle.clu_tree.specs.Nodes.{modules};
 ghost use Rattle.clu_driver.specs.Sources.{NotBuilt, start_in};
@@ -11,8 +11,9 @@ use clu_base::Bytes;
 use clu_build::{BuildError, Text, enter_file, own_specs};
 use clu_core::Checked;
 use clu_library::Library;
-use clu_link::{is_start, link};
+use clu_link::{Traced, is_start, link, link_traced};
 use clu_outcome::Outcome;
+use clu_trace::TraceMap;
 use clu_types::Spec;
 use rv_isa::Image;
 use std::alloc::Global;
@@ -20,17 +21,34 @@ use std::alloc::Global;
 /// The module with which a program starts.
 const START: &str = "start_up";
 
-/// The image of an accepted file, by shorter code if `peep` is true.
+/// What the flags of `go` ask for.
+#[derive(Clone, Copy)]
+pub struct Flags {
+    /// Whether the code of routines is shortened.
+    pub peep: bool,
+    /// Whether the run is traced.
+    pub trace: bool,
+}
+
+/// An image, with a map of it if a run of it is to be traced.
+#[derive(Drop)]
+pub struct Built {
+    pub image: Image,
+    pub map: Option<TraceMap>,
+}
+
+/// The image of an accepted file.
 pub fn image_of_modules<'a>(
     alloc: Global,
     text: Text<'_>,
     c: &Checked,
-    peep: bool,
-) -> Result<Image, Outcome<'a>>
-    ensures { IfErr result (λ how. NotBuilt how (take (length (modules c.now.tree)) c.now.specs.items)) }
+    flags: Flags,
+) -> Result<Built, Outcome<'a>>
+    ensures traced { IfOk result (λ built. is_some built.map ≡ flags.trace) }
+    ensures refused { IfErr result (λ how. NotBuilt how (take (length (modules c.now.tree)) c.now.specs.items)) }
 {
-    match library_of(alloc, text, c, peep) {
-        Ok(library) => image_from(alloc, &library, own_specs(c)),
+    match library_of(alloc, text, c, flags.peep) {
+        Ok(library) => image_from(alloc, &library, own_specs(c), flags.trace),
         Err(error) => Err(refusal_of_file(&error)),
     }
 }
@@ -48,12 +66,18 @@ fn library_of(
 }
 
 /// The image of the program of a library that keeps modules with these specifications.
-fn image_from<'a>(alloc: Global, library: &Library, own: &[Spec]) -> Result<Image, Outcome<'a>>
-    ensures { IfErr result (λ how. NotBuilt how own.now) }
+fn image_from<'a>(
+    alloc: Global,
+    library: &Library,
+    own: &[Spec],
+    trace: bool,
+) -> Result<Built, Outcome<'a>>
+    ensures traced { IfOk result (λ built. is_some built.map ≡ trace) }
+    ensures refused { IfErr result (λ how. NotBuilt how own.now) }
 {
     match may_start(own) {
-        Ok(()) => match linked(alloc, library) {
-            Ok(image) => Ok(image),
+        Ok(()) => match linked(alloc, library, trace) {
+            Ok(built) => Ok(built),
             Err(error) => Err(refusal_of_file(&error)),
         },
         Err(how) => Err(how),
@@ -83,7 +107,20 @@ fn start_of(own: &[Spec]) -> Option<&Spec>
     )
 }
 
-fn linked(alloc: Global, library: &Library) -> Result<Image, BuildError> {
+fn linked(alloc: Global, library: &Library, trace: bool) -> Result<Built, BuildError>
+    ensures { IfOk result (λ built. is_some built.map ≡ trace) }
+{
     let start = Bytes::from_slice(alloc, START.as_bytes())?;
-    Ok(link(alloc, library, &start)?.image)
+    if trace {
+        let Traced { linked, map } = link_traced(alloc, library, &start)?;
+        Ok(Built {
+            image: linked.image,
+            map: Some(map),
+        })
+    } else {
+        Ok(Built {
+            image: link(alloc, library, &start)?.image,
+            map: None,
+        })
+    }
 }

@@ -8,6 +8,7 @@ ghost use Rattle.clu_driver.specs.Shows.{Reported};
 ghost use Rattle.clu_driver.specs.World.{streams_of, world_of};
 
 use crate::assembling::assemble;
+use crate::building::Flags;
 use crate::compiling::go;
 use crate::executing::exec;
 use crate::generating::generate;
@@ -91,10 +92,13 @@ fn run_command<S: Source, K: Sink, E: Sink, F: Store>(
             image,
             limits,
             peep,
-            trace: _,
-        } => go(
-            alloc, file, image, limits, peep, input, output, errors, files,
-        ),
+            trace,
+        } => {
+            let flags = Flags { peep, trace };
+            go(
+                alloc, file, image, limits, flags, input, output, errors, files,
+            )
+        }
         Command::Exec { image, limits } => {
             exec(alloc, image, limits, input, output, errors, files)
         }

@@ -20,8 +20,9 @@ mod reach;
 mod runtime;
 mod tables;
 mod texts;
+mod tracing;
 mod type_words;
 
 pub use crate::errors::LinkError;
-pub use crate::linking::{Linked, link};
+pub use crate::linking::{Linked, Traced, link, link_traced};
 pub use crate::reach::is_start;

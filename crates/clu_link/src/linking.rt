@@ -1,6 +1,7 @@
 //! Linking: from a library and a start to an image.
 
 ghost use Rattle.std.specs.Prelude.{◌≡◌, IfErr, IfOk, OnOk};
+ghost use Rattle.clu_trace.specs.Maps.{Maps};
 ghost use Rattle.clu_library.specs.Contents.{spec_of};
 ghost use Rattle.clu_link.specs.Starts.{AreUnset, IsStartRefusal, MayStart};
 
@@ -10,14 +11,17 @@ use crate::filling::code_words;
 use crate::member::Member;
 use crate::places::{Places, lay_out};
 use crate::program::{Code, Program};
-use crate::reach::{RoutineName, reach, start_of};
+use crate::reach::{Reached, RoutineName, reach, start_of};
 use crate::tables::fixed_part;
 use crate::texts::{Texts, collect_texts};
+use crate::tracing::map_of;
 use clu_base::Bytes;
 use clu_library::Library;
+use clu_trace::TraceMap;
 use indexmap::IndexMap;
 use rv_isa::Image;
 use std::alloc::Global;
+use std::boxed::Box;
 
 /// A program that was linked.
 #[derive(Debug, Drop)]
@@ -25,6 +29,22 @@ pub struct Linked {
     pub image: Image,
     /// The modules whose bodies it has, ascending.
     pub modules: Vec<Bytes>,
+}
+
+/// A program that was linked, with the map by which a run of it is traced.
+#[derive(Debug, Drop)]
+pub struct Traced {
+    pub linked: Linked,
+    pub map: TraceMap,
+}
+
+/// A program that was linked, with what it was made from.
+#[derive(Drop)]
+struct Made<'a> {
+    linked: Linked,
+    reached: Box<Reached<'a>>,
+    program: Box<Program<'a>>,
+    places: Box<Places>,
 }
 
 /// Links the program that starts with the procedure `start`. `NoModule` only if no specification is kept of it, and
@@ -38,6 +58,21 @@ pub fn link(alloc: Global, lib: &Library, start: &Bytes) -> Result<Linked, LinkE
     let first = start_of(alloc, lib, start)?;
     match link_from(alloc, lib, first) {
         Ok(linked) => Ok(linked),
+        Err(error) => Err(after_start(error, lib, start)),
+    }
+}
+
+/// Links the same program to the same image, and refuses as `link` does. The names in the map are made here alone.
+pub fn link_traced(alloc: Global, lib: &Library, start: &Bytes) -> Result<Traced, LinkError>
+    ensures started { OnOk result (MayStart (spec_of lib.now start.now)) }
+    ensures refused { IfErr result (λ e. IsStartRefusal e start.now (spec_of lib.now start.now)) }
+    ensures entry { IfOk result (λ traced. traced.linked.image.entry ≡ 0) }
+    ensures unset { IfOk result (λ traced. AreUnset traced.linked.image.area) }
+    ensures maps { IfOk result (λ traced. Maps traced.map traced.linked.image) }
+{
+    let first = start_of(alloc, lib, start)?;
+    match traced_from(alloc, lib, first) {
+        Ok(traced) => Ok(traced),
         Err(error) => Err(after_start(error, lib, start)),
     }
 }
@@ -57,13 +92,56 @@ fn link_from(alloc: Global, lib: &Library, first: Member) -> Result<Linked, Link
     ensures entry { IfOk result (λ linked. linked.image.entry ≡ 0) }
     ensures unset { IfOk result (λ linked. AreUnset linked.image.area) }
 {
+    match make(alloc, lib, first) {
+        Ok(made) => Ok(made.linked),
+        Err(error) => Err(error),
+    }
+}
+
+/// The same, with a map.
+fn traced_from(alloc: Global, lib: &Library, first: Member) -> Result<Traced, LinkError>
+    ensures entry { IfOk result (λ traced. traced.linked.image.entry ≡ 0) }
+    ensures unset { IfOk result (λ traced. AreUnset traced.linked.image.area) }
+    ensures maps { IfOk result (λ traced. Maps traced.map traced.linked.image) }
+{
+    match make(alloc, lib, first) {
+        Ok(made) => {
+            let map = map_of(alloc, &made.program, &made.reached.members, &made.places)?;
+            with_map(made.linked, map)
+        }
+        Err(error) => Err(error),
+    }
+}
+
+/// A program with its map, which is one of the image.
+fn with_map(linked: Linked, map: TraceMap) -> Result<Traced, LinkError>
+    ensures linked { IfOk result (λ traced. traced.linked ≡ linked) }
+    ensures maps { IfOk result (λ traced. Maps traced.map traced.linked.image) }
+{
+    if map.is_map_of(&linked.image) {
+        Ok(Traced { linked, map })
+    } else {
+        Err(LinkError::NotYet)
+    }
+}
+
+/// Makes the program whose first instance is this one.
+fn make<'a>(alloc: Global, lib: &'a Library, first: Member) -> Result<Made<'a>, LinkError>
+    ensures entry { IfOk result (λ made. made.linked.image.entry ≡ 0) }
+    ensures unset { IfOk result (λ made. AreUnset made.linked.image.area) }
+{
     let mut reached = reach(alloc, lib, first)?;
     let modules = modules_of(alloc, &reached.routines)?;
     let program = collect(alloc, &mut reached)?;
     let texts = collect_texts(alloc, &program)?;
-    let places = lay_out(alloc, &program, &texts)?;
+    let places = Box::new(alloc, lay_out(alloc, &program, &texts)?)?;
     let image = image_of(alloc, &program, &texts, &places)?;
-    Ok(Linked { image, modules })
+    Ok(Made {
+        linked: Linked { image, modules },
+        reached,
+        program,
+        places,
+    })
 }
 
 /// The modules of routines, ascending, each once.

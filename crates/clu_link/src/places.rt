@@ -56,6 +56,11 @@ impl Places {
         at(self.strings.as_slice(), text)
     }
 
+    /// The address of a callable's link table.
+    pub fn table(&self, callable: usize) -> Result<u64, LinkError> {
+        at(self.tables.as_slice(), callable)
+    }
+
     /// The address of a callable's first own variable.
     pub fn own_of(&self, callable: usize) -> Result<u64, LinkError> {
         at(self.own.as_slice(), callable)

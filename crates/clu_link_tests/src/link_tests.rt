@@ -3,7 +3,7 @@
 use crate::specs::{enter, enter_plain, none};
 use clu_base::{Bytes, Const, Memory, ObjConst, Sequence};
 use clu_library::{Body, EnterError, Library};
-use clu_link::{LinkError, Linked, link};
+use clu_link::{LinkError, Linked, Traced, link, link_traced};
 use clu_object::{Hole, ObjRoutine, Object};
 use clu_types::ParamKind;
 use std::alloc::Global;
@@ -137,12 +137,26 @@ fn shown(error: &LinkError) -> (&[u8], &[u8]) {
     }
 }
 
-/// Whether linking from a start comes to this.
+/// Whether linking from a start comes to this, with a map and without.
 fn comes_to(alloc: Global, library: &Library, start: &str, wanted: &str) -> Result<bool, Memory> {
     let start = Bytes::from_slice(alloc, start.as_bytes())?;
-    match link(alloc, library, &start) {
-        Ok(_) => Ok(wanted == "linked"),
-        Err(error) => Ok(says(&error, wanted.as_bytes())),
+    Ok(
+        plain_comes_to(alloc, library, &start, wanted)
+            && traced_comes_to(alloc, library, &start, wanted),
+    )
+}
+
+fn plain_comes_to(alloc: Global, library: &Library, start: &Bytes, wanted: &str) -> bool {
+    match link(alloc, library, start) {
+        Ok(_) => wanted == "linked",
+        Err(error) => says(&error, wanted.as_bytes()),
+    }
+}
+
+fn traced_comes_to(alloc: Global, library: &Library, start: &Bytes, wanted: &str) -> bool {
+    match link_traced(alloc, library, start) {
+        Ok(_) => wanted == "linked",
+        Err(error) => says(&error, wanted.as_bytes()),
     }
 }
 
@@ -344,6 +358,53 @@ fn linked_p(alloc: Global, start: &Bytes) -> Result<Linked, LinkError> {
     match enter_p(&mut library, alloc, 9, "p") {
         Ok(()) => link(alloc, &library, start),
         Err(_) => Err(LinkError::NotYet),
+    }
+}
+
+fn traced_p(alloc: Global, start: &Bytes) -> Result<Traced, LinkError> {
+    let mut library = Library::empty(alloc);
+    match enter_p(&mut library, alloc, 9, "p") {
+        Ok(()) => link_traced(alloc, &library, start),
+        Err(_) => Err(LinkError::NotYet),
+    }
+}
+
+fn are_same(one: &Linked, other: &Linked) -> bool {
+    one.image.entry == other.image.entry
+        && one.image.code.as_slice() == other.image.code.as_slice()
+        && one.image.fixed.as_slice() == other.image.fixed.as_slice()
+        && one.image.area.as_slice() == other.image.area.as_slice()
+}
+
+/// The one instance of `p` has its name, and tells it.
+fn tells_p(traced: &Traced, start: &Bytes) -> bool {
+    match traced.map.names.as_slice() {
+        [name] => *name == *start && tells_first(traced),
+        _ => false,
+    }
+}
+
+fn tells_first(traced: &Traced) -> bool {
+    match traced.map.instances.as_slice() {
+        [instance] => instance.entries.as_slice() == [0].as_slice(),
+        _ => false,
+    }
+}
+
+#[test]
+fn a_traced_program_has_the_same_image(rt: HostRuntime) -> Result<(), Fail> {
+    let alloc = rt.alloc();
+    let start = Bytes::from_slice(alloc, b"p")?;
+    match linked_p(alloc, &start) {
+        Ok(linked) => match traced_p(alloc, &start) {
+            Ok(traced) => {
+                assert!(rt; are_same(&linked, &traced.linked));
+                assert!(rt; tells_p(&traced, &start));
+                Ok(())
+            }
+            Err(_) => Err("not linked with a map".into()),
+        },
+        Err(_) => Err("not linked".into()),
     }
 }
 

@@ -1,5 +1,5 @@
 -- The status and the line of each outcome of a command.
-use Rattle.std.specs.Prelude.{◌≡◌, ℕ, ◌⊎◌, List, [], ◌∷◌, ◌++◌, Option, codes, decimal}
+use Rattle.std.specs.Prelude.{◌≡◌, ℕ, ◌⊎◌, List, [], ◌∷◌, ◌++◌, Option, codes, decimal, slice_index_or}
 use Rattle.std.specs.Int.{w64, to_be_bytes}
 use Rattle.hex.specs.Hex.{encode_lower}
 use Rattle.clu_base.specs.Outside.{appended, GrewWithin, Rose}
@@ -9,6 +9,7 @@ use Rattle.clu_base.specs.declared.rules.Rule.{Rule}
 use Rattle.clu_base.specs.declared.tokens.Place.{Place}
 use Rattle.clu_build.specs.declared.errors.Difference.{Difference}
 use Rattle.clu_build.specs.declared.errors.StaleBody.{StaleBody}
+use Rattle.clu_trace.specs.Traces.{Watched}
 use Rattle.clu_outcome.specs.declared.lines.Mark.{Mark}
 use Rattle.clu_outcome.specs.declared.lines.Mark.TheVariants as mark
 use Rattle.clu_outcome.specs.declared.outcome.Outcome.{Outcome}
@@ -17,6 +18,7 @@ use Rattle.clu_outcome.specs.declared.outcome.Outcome.TheVariants as outcome
 abbrev pub status_of : Outcome → ℕ
 status_of outcome.Done = 0
 status_of (outcome.Failure d) = 1
+status_of (outcome.Traced d t) = 1
 status_of outcome.Usage = 2
 status_of outcome.StoreFull = 3
 status_of outcome.StackFull = 4
@@ -52,6 +54,7 @@ status_of (outcome.Misfit n) = 31
 unfoldable pub text_of : Outcome → List ℕ
 text_of outcome.Done = []
 text_of (outcome.Failure d) = codes "failure: "
+text_of (outcome.Traced d t) = codes "failure: "
 text_of outcome.Usage = codes "usage: clu go|spec|replace|compile|link|run|exec|gen|list|asm|print|xref"
 text_of outcome.StoreFull = codes "store full"
 text_of outcome.StackFull = codes "stack full"
@@ -96,6 +99,7 @@ mark_text mark.Line = codes "\n"
 mark_text mark.By = codes ": "
 mark_text mark.Changed = codes " changed at "
 mark_text mark.Checked = codes ", checked at "
+mark_text mark.Live = codes "\nat "
 
 -- the file, line and column of a place
 abbrev pub place_text : List ℕ → Place → List ℕ
@@ -119,9 +123,22 @@ revisions_text changed checked = (mark_text mark.Changed ++ decimal changed) ++ 
 abbrev pub stale_text : StaleBody → List ℕ
 stale_text s = s.name ++ ((mark_text mark.By ++ s.by) ++ revisions_text s.changed s.checked)
 
+-- the entries of a trace, each on a line of its own
+abbrev pub entry_text : List (List ℕ) → ℕ → List ℕ
+entry_text names n = mark_text mark.Live ++ slice_index_or names n []
+
+abbrev pub entries_text : List (List ℕ) → List ℕ → List ℕ
+entries_text names [] = []
+entries_text names (n ∷ ns) = entry_text names n ++ entries_text names ns
+
+-- the text of a failure, and the trace of its run
+abbrev pub traced_text : List ℕ → Watched → List ℕ
+traced_text text trace = text ++ entries_text trace.map.names trace.entries
+
 -- what the line tells after it: a text or a name, an address, a number
 abbrev pub detail_of : Outcome → List ℕ
 detail_of (outcome.Failure d) = d.now
+detail_of (outcome.Traced d t) = traced_text d.now t.now
 detail_of (outcome.BadInstruction d) = hexadecimal_of d
 detail_of (outcome.BadAccess d) = hexadecimal_of d
 detail_of (outcome.BadJump d) = hexadecimal_of d

@@ -1,13 +1,14 @@
 //! The lines of outcomes, and the one place that turns an outcome into its line and its status.
 
-ghost use Rattle.std.specs.Prelude.{◌≡◌, ◌≤◌, ◌⊎◌, ◌++◌, OnOk, OnErr, decimal};
+ghost use Rattle.std.specs.Prelude.{◌≡◌, ◌<◌, ◌≤◌, ◌⊎◌, ◌++◌, All, length, OnOk, OnErr, decimal};
 ghost use Rattle.clu_base.specs.Outside.{appended, GrewWithin, Rose};
 ghost use Rattle.clu_base.specs.Rules.{name_of};
-ghost use Rattle.clu_outcome.specs.Outcome.{IsTold, detail_of, difference_text, hexadecimal_of, line_of, mark_text, place_text, refused_text, revisions_text, rule_text, stale_text};
+ghost use Rattle.clu_outcome.specs.Outcome.{IsTold, detail_of, difference_text, entries_text, hexadecimal_of, line_of, mark_text, place_text, refused_text, revisions_text, rule_text, stale_text, traced_text};
 
 use crate::outcome::Outcome;
 use clu_base::{Failed, Place, Refused, Rule, Sink, write_all};
 use clu_build::{Difference, StaleBody};
+use clu_trace::{Trace, TraceMap};
 use itoa::Buffer;
 
 // Sixteen lower-case hexadecimal digits of a number, the highest first.
@@ -51,6 +52,8 @@ enum Mark {
     Changed,
     /// Before the revision at which the body was checked.
     Checked,
+    /// Before an instance that was live.
+    Live,
 }
 
 impl Mark {
@@ -66,6 +69,7 @@ impl Mark {
             Mark::By => ": ",
             Mark::Changed => " changed at ",
             Mark::Checked => ", checked at ",
+            Mark::Live => "\nat ",
         }
     }
 }
@@ -179,6 +183,33 @@ fn write_stale<E: Sink>(errors: &mut E, stale: &StaleBody) -> Result<(), Failed>
     write_revisions(errors, stale.changed, stale.checked)
 }
 
+// The entries of a trace.
+#[tactic(auto, using(clu_base::proofs::Written::laws))]
+fn write_entries<E: Sink>(errors: &mut E, map: &TraceMap, entries: &[u32]) -> Result<(), Failed>
+    requires { All (λ n. n < length map.now.names) entries.now }
+    ensures counts { E.faults errors.old ≤ E.faults errors.new }
+    ensures failed { OnErr result (Rose (E.faults errors.old) (E.faults errors.new)) }
+    ensures whole { OnOk result (E.written errors.new ≡ appended (E.written errors.old) (entries_text map.now.names entries.now)) }
+    ensures part { OnErr result (GrewWithin (E.written errors.old) (E.written errors.new) (entries_text map.now.names entries.now)) }
+{
+    for n in entries {
+        write_marked(errors, Mark::Live, map.name(*n).as_slice())?;
+    }
+    Ok(())
+}
+
+// The text of a failure, and the trace of its run.
+#[tactic(auto, using(clu_base::proofs::Written::laws))]
+fn write_traced<E: Sink>(errors: &mut E, text: &[u8], trace: &Trace) -> Result<(), Failed>
+    ensures counts { E.faults errors.old ≤ E.faults errors.new }
+    ensures failed { OnErr result (Rose (E.faults errors.old) (E.faults errors.new)) }
+    ensures whole { OnOk result (E.written errors.new ≡ appended (E.written errors.old) (traced_text text.now trace.now)) }
+    ensures part { OnErr result (GrewWithin (E.written errors.old) (E.written errors.new) (traced_text text.now trace.now)) }
+{
+    write_all(errors, text)?;
+    write_entries(errors, trace.map(), trace.entries())
+}
+
 // What the line tells of this outcome, after its text.
 #[tactic(auto, using(clu_base::proofs::Written::laws))]
 fn write_detail<E: Sink>(errors: &mut E, outcome: &Outcome<'_>) -> Result<(), Failed>
@@ -189,6 +220,7 @@ fn write_detail<E: Sink>(errors: &mut E, outcome: &Outcome<'_>) -> Result<(), Fa
 {
     match outcome {
         Outcome::Failure(text) => write_all(errors, text),
+        Outcome::Traced(text, trace) => write_traced(errors, text, trace),
         Outcome::NoFile(name)
         | Outcome::NoProgram(name)
         | Outcome::FileFault(name)

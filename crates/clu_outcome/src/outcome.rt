@@ -5,6 +5,7 @@ ghost use Rattle.clu_outcome.specs.Outcome.{line_end_of, status_of, text_of};
 
 use clu_base::Refused;
 use clu_build::{Difference, StaleBody};
+use clu_trace::Trace;
 
 /// How a command ended. A name of text is that of a file or a program as the words give it, one of bytes that of a module.
 #[derive(Clone, Copy)]
@@ -13,6 +14,8 @@ pub enum Outcome<'a> {
     Done,
     /// The program ended by a failure with this text.
     Failure(&'a [u8]),
+    /// The same of a run that was traced, with the instances that were live at its last raise.
+    Traced(&'a [u8], &'a Trace),
     /// The words are none that the program takes.
     Usage,
     /// The store is full.
@@ -82,7 +85,7 @@ impl Outcome<'_> {
     {
         match self {
             Outcome::Done => 0,
-            Outcome::Failure(_) => 1,
+            Outcome::Failure(_) | Outcome::Traced(_, _) => 1,
             Outcome::Usage => 2,
             Outcome::StoreFull => 3,
             Outcome::StackFull => 4,
@@ -123,7 +126,7 @@ impl Outcome<'_> {
     {
         match self {
             Outcome::Done | Outcome::Refused(_, _) => "",
-            Outcome::Failure(_) => "failure: ",
+            Outcome::Failure(_) | Outcome::Traced(_, _) => "failure: ",
             Outcome::Usage => USAGE,
             Outcome::StoreFull => "store full",
             Outcome::StackFull => "stack full",

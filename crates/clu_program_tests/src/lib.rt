@@ -67,4 +67,6 @@ mod syntax_tests;
 #[cfg(test)]
 mod text_rows;
 #[cfg(test)]
+mod trace_rows;
+#[cfg(test)]
 mod walk_rows;

@@ -10,6 +10,7 @@ use crate::go_rows::{COUNT, ROWS};
 use crate::outside::Outside;
 use crate::parameter_rows::{PARAMETER_COUNT, PARAMETER_FILES};
 use crate::rows::{PARTS, counted, keep, same};
+use crate::trace_rows::{TRACED, TRACED_COUNT};
 use std::alloc::Global;
 use std::test::Fail;
 
@@ -71,6 +72,21 @@ fn files_with_iterators_second(rt: HostRuntime) -> Result<(), Fail> {
 #[test]
 fn files_with_iterators_third(rt: HostRuntime) -> Result<(), Fail> {
     keep(rt.alloc(), ITERATOR_FILES, ITERATOR_COUNT, 2)
+}
+
+#[test]
+fn files_traced_first(rt: HostRuntime) -> Result<(), Fail> {
+    keep(rt.alloc(), TRACED, TRACED_COUNT, 0)
+}
+
+#[test]
+fn files_traced_second(rt: HostRuntime) -> Result<(), Fail> {
+    keep(rt.alloc(), TRACED, TRACED_COUNT, 1)
+}
+
+#[test]
+fn files_traced_third(rt: HostRuntime) -> Result<(), Fail> {
+    keep(rt.alloc(), TRACED, TRACED_COUNT, 2)
 }
 
 #[test]
