@@ -21,6 +21,7 @@ mod runtime;
 mod tables;
 mod texts;
 mod type_words;
+mod variables;
 
 pub use crate::errors::LinkError;
 pub use crate::linking::{Linked, link};
