@@ -1,16 +1,16 @@
 //! The bounds on what an instance of a routine takes of a program, and what its code may not name.
 
-ghost use Rattle.std.specs.Prelude.{◌≡◌, ◌/◌};
+ghost use Rattle.std.specs.Prelude.{◌≡◌, ◌/◌, fold};
 ghost use Rattle.std.specs.List.{list_all};
 ghost use Rattle.std.specs.Option.{is_some, option_copied};
 ghost use Rattle.clu_wir.specs.Rooms.{plus};
 ghost use Rattle.clu_link.specs.Numbers.{string_bytes as bytes_of_string};
 ghost use Rattle.clu_link.specs.Parameters.{constant_of};
-ghost use Rattle.clu_link.specs.Tables.{bytes_of, cells, cluster_variables, fits, is_filled, length_of, length_or_0, named_by, named_step, own_variables, region_bound, region_step, text_length, weight, with_text};
+ghost use Rattle.clu_link.specs.Tables.{arm_step, bytes_of, cells, fits, is_filled, length_of, length_or_0, own_holes, own_step, region_bound, region_step, text_length, weight, with_text};
 
 use crate::parameters::constant_of;
 use clu_base::{Const, ObjConst};
-use clu_object::{Hole, HoleKind, ObjRoutine, Region};
+use clu_object::{Arm, Hole, HoleKind, ObjRoutine, Region};
 use clu_types::Actual;
 
 /// The most code words for each node of a routine.
@@ -31,21 +31,32 @@ pub const DESCRIPTOR: u64 = 24;
 /// The bytes of an own variable: its object, and whether it names one.
 pub const OWN_VARIABLE: u64 = 16;
 
+/// The most bytes of an operation of a built-in type that a use names: a descriptor, and a link table of six cells.
+const OPERATION: u64 = 72;
+
+/// The bytes of a table of regions without a region: its size and a cut.
+const TABLE: u64 = 24;
+
+/// The bytes of a region in it: a row, and two cuts more.
+const REGION: u64 = 56;
+
+/// The bytes of an arm's row.
+const ARM: u64 = 24;
+
 /// The parts of the runtime that code may name.
 pub const RUNTIME_PARTS: u32 = 4;
 
 /// Whether the constants of the routine name no parameter that is not there or is of a type, its code no part of the
 /// runtime that is not there, and an instance with these actual parameters takes no more of the image than the nodes
-/// allow. Where it sets up the own variables of a cluster, so many of these are its own.
-pub fn fits(routine: &ObjRoutine, actuals: &[Actual], shared: u64) -> bool
-    ensures { result ≡ fits routine.now actuals.now shared }
+/// allow.
+pub fn fits(routine: &ObjRoutine, actuals: &[Actual]) -> bool
+    ensures { result ≡ fits routine.now actuals.now }
 {
     are_constants_known(routine.constants.as_slice(), actuals)
         && are_filled(routine.holes.as_slice())
         && routine.code.as_slice().len() as u64
             <= WORDS_PER_NODE.saturating_mul(routine.nodes as u64)
-        && bytes_of(routine, actuals).saturating_add(shared.saturating_mul(OWN_VARIABLE))
-            <= BYTES_PER_NODE.saturating_mul(weight(routine, actuals))
+        && bytes_of(routine, actuals) <= BYTES_PER_NODE.saturating_mul(weight(routine, actuals))
 }
 
 fn are_constants_known(constants: &[ObjConst], actuals: &[Actual]) -> bool
@@ -101,44 +112,29 @@ pub fn cells(routine: &ObjRoutine) -> u64
 {
     let uses = routine.uses.as_slice().len() as u64;
     let others = (routine.constants.as_slice().len() as u64)
-        .saturating_add(own_variables(routine))
-        .saturating_add(cluster_variables(routine))
+        .saturating_add(own_holes(routine.holes.as_slice()))
         .saturating_add(routine.types.as_slice().len() as u64);
     uses.saturating_mul(2)
         .saturating_add(others)
         .saturating_add(1)
 }
 
-/// How many own variables the routine has: those that its holes name.
-pub fn own_variables(routine: &ObjRoutine) -> u64
-    ensures { result ≡ own_variables routine.now }
-{
-    named_by(routine.holes.as_slice(), HoleKind::RoutineOwn.number())
-}
-
-/// How many own variables of the cluster round it the routine names.
-pub fn cluster_variables(routine: &ObjRoutine) -> u64
-    ensures { result ≡ cluster_variables routine.now }
-{
-    named_by(routine.holes.as_slice(), HoleKind::ClusterOwn.number())
-}
-
-/// How many items of a kind there are that holes name.
-fn named_by(holes: &[Hole], kind: u8) -> u64
-    ensures { result ≡ named_by kind holes.now }
+/// How many of the holes name own variables, of the routine or of the cluster round it. Each of these has a cell.
+pub fn own_holes(holes: &[Hole]) -> u64
+    ensures { result ≡ own_holes holes.now }
 {
     let mut count = 0u64;
     for hole in holes {
-        count = with_hole(count, hole, kind);
+        count = with_hole(count, hole);
     }
     count
 }
 
-fn with_hole(count: u64, hole: &Hole, kind: u8) -> u64
-    ensures { result ≡ named_step kind count hole.now }
+fn with_hole(count: u64, hole: &Hole) -> u64
+    ensures { result ≡ own_step count hole.now }
 {
-    if hole.kind == kind {
-        count.max(hole.number as u64 + 1)
+    if hole.kind == HoleKind::RoutineOwn.number() || hole.kind == HoleKind::ClusterOwn.number() {
+        count.saturating_add(1)
     } else {
         count
     }
@@ -153,26 +149,46 @@ pub fn string_bytes(length: u64) -> u64
         .saturating_mul(8)
 }
 
-/// The most bytes of a table of regions: its size, two words for each of its cuts, of which there are no more than twice
-/// the regions and one, and three for each region and arm.
+/// The most bytes of a table of regions, and of the names of its arms, which are strings of the program. There are no more
+/// cuts than twice the regions and one.
 fn region_bound(regions: &[Region]) -> u64
     ensures { result ≡ region_bound regions.now }
 {
-    let mut words = 3u64;
+    let mut bytes = TABLE;
     for region in regions {
-        let arms = region.arms.as_slice().len() as u64;
-        words = words.saturating_add(arms.saturating_mul(3).saturating_add(7));
+        bytes = with_arms(bytes, region.arms.as_slice()).saturating_add(REGION);
     }
-    words.saturating_mul(8)
+    bytes
 }
 
-/// The bytes of the fixed part and the data that an instance takes where no other has its strings.
+/// So many bytes and those of arms.
+fn with_arms(before: u64, arms: &[Arm]) -> u64
+    ensures { result ≡ fold arm_step before arms.now }
+{
+    let mut bytes = before;
+    for arm in arms {
+        bytes = with_arm(bytes, arm);
+    }
+    bytes
+}
+
+fn with_arm(bytes: u64, arm: &Arm) -> u64
+    ensures { result ≡ arm_step bytes arm.now }
+{
+    bytes
+        .saturating_add(ARM)
+        .saturating_add(string_bytes(arm.name.as_slice().len() as u64))
+}
+
+/// The most bytes of the fixed part and the data that an instance takes: where no other has its strings, its own variables
+/// and the operations that it uses.
 fn bytes_of(routine: &ObjRoutine, actuals: &[Actual]) -> u64
     ensures { result ≡ bytes_of actuals.now routine.now }
 {
     let mut bytes = DESCRIPTOR
         .saturating_add(cells(routine).saturating_mul(CELL))
-        .saturating_add(own_variables(routine).saturating_mul(OWN_VARIABLE))
+        .saturating_add((routine.uses.as_slice().len() as u64).saturating_mul(OPERATION))
+        .saturating_add(own_holes(routine.holes.as_slice()).saturating_mul(OWN_VARIABLE))
         .saturating_add(region_bound(routine.regions.as_slice()));
     for constant in routine.constants.as_slice() {
         bytes = with_text(bytes, text_length(constant, actuals));

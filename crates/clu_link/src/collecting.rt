@@ -5,11 +5,12 @@ use crate::bounds::RUNTIME_PARTS;
 use crate::errors::LinkError;
 use crate::member::Member;
 use crate::operation_codes::{Chosen, CodeName, Family, choose};
-use crate::operations::{code_of, operation_code, type_of_force, type_of_operation};
+use crate::operations::{code_of, operation_code, type_of_force, type_of_operation, type_of_plain};
 use crate::parameters::types_of;
 use crate::program::{Callable, Code, Program};
 use crate::reach::{Callee, Instance, Reached, RoutineName};
 use crate::runtime::runtime_parts;
+use crate::variables::Owners;
 use clu_base::{Bytes, Const};
 use clu_object::ObjRoutine;
 use clu_rt_data::force_code;
@@ -27,7 +28,6 @@ pub fn collect<'a>(
 ) -> Result<Box<Program<'a>>, LinkError> {
     let mut program = Box::new(alloc, begun(alloc, reached))?;
     add_codes(alloc, &mut program.codes, &mut reached.routines)?;
-    add_clusters(&mut program.clusters, &mut reached.clusters)?;
     add_callables(alloc, &mut program, reached)?;
     Ok(program)
 }
@@ -38,7 +38,7 @@ fn begun<'a>(alloc: Global, reached: &mut Reached<'a>) -> Program<'a> {
         types: mem::replace(&mut reached.types, TypeArena::new(alloc)),
         codes: Vec::new(alloc),
         callables: Vec::new(alloc),
-        clusters: Vec::new(alloc),
+        variables: IndexSet::new(alloc),
     }
 }
 
@@ -53,17 +53,6 @@ fn add_codes<'a>(
     }
     for (_, code) in routines.drain(..) {
         codes.push(code)?;
-    }
-    Ok(())
-}
-
-/// Adds for each cluster instance how many own variables it has.
-fn add_clusters(
-    counts: &mut Vec<u64>,
-    clusters: &mut IndexMap<TypeId, u64>,
-) -> Result<(), LinkError> {
-    for (_, count) in clusters.drain(..) {
-        counts.push(count)?;
     }
     Ok(())
 }
@@ -91,7 +80,8 @@ fn add_instance(
     instance: Instance,
     count: usize,
 ) -> Result<(), LinkError> {
-    let Some(member) = members.get_index(program.callables.len()) else {
+    let number = program.callables.len();
+    let Some(member) = members.get_index(number) else {
         return Err(LinkError::NotYet);
     };
     let Instance {
@@ -101,19 +91,24 @@ fn add_instance(
         types,
         cluster,
     } = instance;
+    let code = (RUNTIME_PARTS as usize).saturating_add(routine);
     let own = own_type(alloc, &mut program.types, member, types.as_slice())?;
+    let owners = Owners { number, cluster };
+    let codes = program.codes.as_slice();
+    let variables = owners.variables(alloc, &mut program.variables, codes, code)?;
     program.callables.push(Callable {
-        code: (RUNTIME_PARTS as usize).saturating_add(routine),
+        code,
         own,
         uses: callables_of(alloc, uses.as_slice(), count)?,
         types,
         actuals,
-        cluster,
+        variables,
     })?;
     Ok(())
 }
 
-/// The own type of an instance: the first of its types, or that of the operation that it is.
+/// The own type of an instance: the first of its types, or that of the operation that it is. The routine of a module that
+/// names no type has that of a procedure without arguments.
 fn own_type(
     alloc: Global,
     types: &mut TypeArena,
@@ -124,7 +119,7 @@ fn own_type(
         Some(own) => Ok(*own),
         None => match member {
             Member::Op(of, op) => type_of_operation(alloc, types, *of, op),
-            _ => Err(LinkError::NotYet),
+            _ => type_of_plain(alloc, types),
         },
     }
 }
@@ -179,7 +174,7 @@ fn add_operation(
         uses: Vec::new(alloc),
         types,
         actuals: as_actuals(alloc, known)?,
-        cluster: None,
+        variables: Vec::new(alloc),
     })?;
     Ok(())
 }
@@ -251,7 +246,7 @@ fn add_force(
         uses: Vec::new(alloc),
         types: vec![in alloc; of]?,
         actuals: Vec::new(alloc),
-        cluster: None,
+        variables: Vec::new(alloc),
     })?;
     Ok(())
 }

@@ -3,9 +3,9 @@
 ghost use Rattle.std.specs.Prelude.{◌≡◌, ◌≤◌, length, IfNone, IfSome};
 ghost use Rattle.clu_wir.specs.Numbers.{kind_number};
 ghost use Rattle.clu_wir.specs.Rooms.{plus, times};
-ghost use Rattle.clu_link.specs.Tables.{cluster_variables, own_variables};
+ghost use Rattle.clu_link.specs.Tables.{own_holes};
 
-use crate::bounds::{CELL, cluster_variables, own_variables};
+use crate::bounds::{CELL, own_holes};
 use crate::errors::LinkError;
 use crate::places::Places;
 use crate::program::Program;
@@ -22,13 +22,12 @@ struct Filling {
     first: u64,
     /// The address of its regions table.
     regions: u64,
-    /// The numbers of the first cells for descriptors, constants, own variables of the routine and of the cluster, and
-    /// types in a link table.
+    /// The numbers of the first cells for descriptors, constants and types in a link table.
     descriptors: u64,
     constants: u64,
-    own: u64,
-    cluster: u64,
     types: u64,
+    /// That of the cell for the next hole that names an own variable.
+    own: u64,
 }
 
 /// The code of a program.
@@ -55,6 +54,7 @@ fn add_code(
 ) -> Result<(), LinkError> {
     let first = words.len();
     words.extend_from_slice(routine.code.as_slice())?;
+    let mut filling = filling;
     for hole in routine.holes.as_slice() {
         let number = filling.number(hole, places)?;
         let at = first.saturating_add(hole.at as usize);
@@ -68,39 +68,45 @@ impl Filling {
         ensures descriptors { result.descriptors ≡ plus (length routine.now.uses) 1 }
         ensures constants { result.constants ≡ plus (times (length routine.now.uses) 2) 1 }
         ensures own { result.own ≡ plus result.constants (length routine.now.constants) }
-        ensures cluster { result.cluster ≡ plus result.own (own_variables routine.now) }
-        ensures types { result.types ≡ plus result.cluster (cluster_variables routine.now) }
+        ensures types { result.types ≡ plus result.own (own_holes routine.now.holes) }
     {
         let uses = routine.uses.as_slice().len() as u64;
         let constants = uses.saturating_mul(2).saturating_add(1);
         let own = constants.saturating_add(routine.constants.as_slice().len() as u64);
-        let cluster = own.saturating_add(own_variables(routine));
         Filling {
             first,
             regions,
             descriptors: uses.saturating_add(1),
             constants,
+            types: own.saturating_add(own_holes(routine.holes.as_slice())),
             own,
-            cluster,
-            types: cluster.saturating_add(cluster_variables(routine)),
         }
     }
 
     /// What a hole is to give: the place of a cell in the link table, or an address.
-    fn number(&self, hole: &Hole, places: &Places) -> Result<u64, LinkError> {
+    fn number(&mut self, hole: &Hole, places: &Places) -> Result<u64, LinkError> {
         let number = hole.number as u64;
         match kind_of(hole.kind) {
             Some(HoleKind::Entry) => Ok(cell(1, number)),
             Some(HoleKind::Descriptor) => Ok(cell(self.descriptors, number)),
             Some(HoleKind::Constant) => Ok(cell(self.constants, number)),
-            Some(HoleKind::RoutineOwn) => Ok(cell(self.own, number)),
-            Some(HoleKind::ClusterOwn) => Ok(cell(self.cluster, number)),
+            Some(HoleKind::RoutineOwn | HoleKind::ClusterOwn) => Ok(self.next_own()),
             Some(HoleKind::TypeWord | HoleKind::TypeCell) => Ok(cell(self.types, number)),
             Some(HoleKind::Regions) => Ok(self.regions),
             Some(HoleKind::Runtime) => places.entry(hole.number as usize),
             Some(HoleKind::Code) => Ok(self.first.saturating_add(number.saturating_mul(4))),
             None => Err(LinkError::NotYet),
         }
+    }
+
+    /// The place of the cell for the next hole that names an own variable.
+    fn next_own(&mut self) -> u64
+        ensures place { result ≡ times self.old.own 8 }
+        ensures next { self.new.own ≡ plus self.old.own 1 }
+    {
+        let place = self.own.saturating_mul(CELL);
+        self.own = self.own.saturating_add(1);
+        place
     }
 }
 

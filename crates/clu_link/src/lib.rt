@@ -22,6 +22,7 @@ mod tables;
 mod texts;
 mod tracing;
 mod type_words;
+mod variables;
 
 pub use crate::errors::LinkError;
 pub use crate::linking::{Linked, Traced, link, link_traced};

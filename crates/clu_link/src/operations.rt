@@ -14,7 +14,8 @@ use clu_wir::{WCode, WRoutine};
 use rv_select::{select, select_leaf};
 use std::alloc::Global;
 
-/// The type of an operation of a built-in type as an object.
+/// The type of an operation as an object: that of its heading, if the type is a built-in one that has it, else that of a
+/// procedure without arguments.
 pub fn type_of_operation(
     alloc: Global,
     types: &mut TypeArena,
@@ -38,8 +39,18 @@ pub fn type_of_operation(
                 Ok(types.intern(Term::Proc(heading))?)
             }
         }
-        None => Err(LinkError::NotYet),
+        None => type_of_plain(alloc, types),
     }
+}
+
+/// The type of a procedure without arguments: `proctype ()`.
+pub fn type_of_plain(alloc: Global, types: &mut TypeArena) -> Result<TypeId, LinkError> {
+    let heading = Heading {
+        args: Sequence::from_vec(Vec::new(alloc)),
+        results: Sequence::from_vec(Vec::new(alloc)),
+        signals: Sequence::from_vec(Vec::new(alloc)),
+    };
+    Ok(intern(types, Term::Proc(heading))?)
 }
 
 /// The type of `force` of a type: `proctype (any) returns (t) signals (wrong_type)`.

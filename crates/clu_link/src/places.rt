@@ -1,6 +1,6 @@
 //! Where the parts of a program lie: the code, after it the fixed part, after that the data.
 
-use crate::bounds::{CELL, DESCRIPTOR, OWN_VARIABLE, cells, own_variables, string_bytes};
+use crate::bounds::{CELL, DESCRIPTOR, OWN_VARIABLE, cells, string_bytes};
 use crate::errors::LinkError;
 use crate::program::Program;
 use crate::runtime::{RUNTIME_TABLE, regions_bytes};
@@ -27,12 +27,8 @@ pub struct Places {
     pub runtime: u64,
     /// For each code that of its regions table, for the parts of the runtime that of the runtime's table.
     pub regions: Vec<u64>,
-    /// That of the data.
+    /// That of the data, which are the own variables.
     pub data: u64,
-    /// For each callable that of its first own variable.
-    pub own: Vec<u64>,
-    /// For each cluster instance that of its first own variable.
-    pub clusters: Vec<u64>,
     /// That after the data.
     pub end: u64,
 }
@@ -61,14 +57,10 @@ impl Places {
         at(self.tables.as_slice(), callable)
     }
 
-    /// The address of a callable's first own variable.
-    pub fn own_of(&self, callable: usize) -> Result<u64, LinkError> {
-        at(self.own.as_slice(), callable)
-    }
-
-    /// The address of the first own variable of a cluster instance.
-    pub fn cluster(&self, number: usize) -> Result<u64, LinkError> {
-        at(self.clusters.as_slice(), number)
+    /// The address of an own variable.
+    pub fn variable(&self, number: usize) -> u64 {
+        let behind = (number as u64).saturating_mul(OWN_VARIABLE);
+        self.data.saturating_add(behind)
     }
 
     /// The address of a callable's descriptor.
@@ -118,9 +110,8 @@ pub fn lay_out(alloc: Global, program: &Program<'_>, texts: &Texts) -> Result<Pl
     let tables = table_places(alloc, &mut cursor, program)?;
     let runtime = cursor.take(RUNTIME_TABLE);
     let regions = region_places(alloc, &mut cursor, program, runtime)?;
-    let data = cursor.next;
-    let own = own_places(alloc, &mut cursor, program)?;
-    let clusters = cluster_places(alloc, &mut cursor, program)?;
+    let variables = program.variables.len() as u64;
+    let data = cursor.take(variables.saturating_mul(OWN_VARIABLE));
     Ok(Places {
         codes,
         fixed,
@@ -130,8 +121,6 @@ pub fn lay_out(alloc: Global, program: &Program<'_>, texts: &Texts) -> Result<Pl
         runtime,
         regions,
         data,
-        own,
-        clusters,
         end: cursor.next,
     })
 }
@@ -184,32 +173,6 @@ fn region_places(
             let bytes = regions_bytes(alloc, code.routine().regions.as_slice())?;
             places.push(cursor.take(bytes))?;
         }
-    }
-    Ok(places)
-}
-
-fn own_places(
-    alloc: Global,
-    cursor: &mut Cursor,
-    program: &Program<'_>,
-) -> Result<Vec<u64>, LinkError> {
-    let mut places = Vec::new(alloc);
-    for callable in program.callables.as_slice() {
-        let routine = program.routine(callable.code)?;
-        let bytes = own_variables(routine).saturating_mul(OWN_VARIABLE);
-        places.push(cursor.take(bytes))?;
-    }
-    Ok(places)
-}
-
-fn cluster_places(
-    alloc: Global,
-    cursor: &mut Cursor,
-    program: &Program<'_>,
-) -> Result<Vec<u64>, LinkError> {
-    let mut places = Vec::new(alloc);
-    for count in &program.clusters {
-        places.push(cursor.take(count.saturating_mul(OWN_VARIABLE)))?;
     }
     Ok(places)
 }

@@ -2,8 +2,10 @@
 
 use crate::bounds::RUNTIME_PARTS;
 use crate::errors::LinkError;
+use crate::variables::Variable;
 use clu_object::ObjRoutine;
 use clu_types::{Actual, TypeArena, TypeId};
+use indexmap::IndexSet;
 
 /// Code that stands once in a program.
 #[derive(Debug, Drop)]
@@ -36,8 +38,8 @@ pub struct Callable {
     pub types: Vec<TypeId>,
     /// What takes the places of its code's parameters.
     pub actuals: Vec<Actual>,
-    /// The number of the cluster instance whose own variables it has.
-    pub cluster: Option<usize>,
+    /// The numbers of the own variables that the holes of its code name, in the order of these.
+    pub variables: Vec<usize>,
 }
 
 /// A program before its parts have addresses.
@@ -48,8 +50,8 @@ pub struct Program<'a> {
     pub codes: Vec<Code<'a>>,
     /// The instances, of which the first is the start, and after them the operations.
     pub callables: Vec<Callable>,
-    /// For each cluster instance how many own variables it has.
-    pub clusters: Vec<u64>,
+    /// The own variables that the instances name, each once.
+    pub variables: IndexSet<Variable>,
 }
 
 impl Program<'_> {

@@ -5,14 +5,14 @@ ghost use Rattle.indexmap.specs.IndexSet.{index_set_len};
 ghost use Rattle.clu_library.specs.Contents.{spec_of};
 ghost use Rattle.clu_link.specs.Starts.{IsRefusal, IsStartRefusal, MayStart, is_start, is_start_form};
 
-use crate::bounds::{cluster_variables, fits, weight};
+use crate::bounds::{fits, weight};
 use crate::denoting::{Needs, Use, uses_of};
 use crate::errors::LinkError;
 use crate::faults::Faults;
 use crate::member::Member;
 use crate::operation_codes::{Family, family_of};
 use crate::operations::code_of;
-use crate::origins::{Kept, Origin, SET_UP, origin_of};
+use crate::origins::{Kept, Origin, origin_of};
 use crate::parameters::types_of;
 use crate::program::Code;
 use clu_base::{Bytes, Memory, Sequence};
@@ -58,8 +58,8 @@ pub struct Instance {
     pub uses: Vec<Callee>,
     /// The types that its routine names, with the actuals put in.
     pub types: Vec<TypeId>,
-    /// The number of the cluster instance whose routine it is.
-    pub cluster: Option<usize>,
+    /// The cluster instance whose routine it is.
+    pub cluster: Option<TypeId>,
 }
 
 /// What a program consists of.
@@ -74,8 +74,6 @@ pub struct Reached<'a> {
     pub routines: IndexMap<RoutineName, Code<'a>>,
     /// The operations that are used and that no module has.
     pub operations: IndexSet<Member>,
-    /// The cluster instances whose routines are reached, and how many own variables each has.
-    pub clusters: IndexMap<TypeId, u64>,
 }
 
 /// What is reached so far, and what was found wrong with it.
@@ -155,15 +153,6 @@ fn routine_named<'a>(object: &'a Object, name: &Bytes) -> Option<&'a ObjRoutine>
         }
     }
     None
-}
-
-/// How many own variables a cluster has: those that its routines name.
-fn variables_of(object: &Object) -> u64 {
-    let mut count = 0u64;
-    for routine in object.routines.as_slice() {
-        count = count.max(cluster_variables(routine));
-    }
-    count
 }
 
 /// What a routine uses and names with these actual parameters; None if it names what is not there.
@@ -256,37 +245,13 @@ impl<'a> Work<'a> {
         kept: Kept,
         object: &'a Object,
     ) -> Result<(), LinkError> {
-        let shared = if kept.routine.as_slice() == SET_UP {
-            variables_of(object)
-        } else {
-            0
-        };
         match routine_named(object, &kept.routine) {
-            Some(routine) if fits(routine, kept.actuals.as_slice(), shared) => {
-                let cluster = self.cluster_number(kept.cluster, object)?;
-                self.visit_routine(alloc, kept, routine, cluster)
+            Some(routine) if fits(routine, kept.actuals.as_slice()) => {
+                self.visit_routine(alloc, kept, routine)
             }
             _ => {
                 self.faults.add_misfit(kept.module);
                 Ok(())
-            }
-        }
-    }
-
-    /// The number of a cluster instance.
-    fn cluster_number(
-        &mut self,
-        cluster: Option<TypeId>,
-        object: &Object,
-    ) -> Result<Option<usize>, LinkError> {
-        let Some(of) = cluster else {
-            return Ok(None);
-        };
-        match self.reached.clusters.get_index_of(&of) {
-            Some(number) => Ok(Some(number)),
-            None => {
-                let (number, _) = self.reached.clusters.insert_full(of, variables_of(object))?;
-                Ok(Some(number))
             }
         }
     }
@@ -296,12 +261,11 @@ impl<'a> Work<'a> {
         alloc: Global,
         kept: Kept,
         routine: &'a ObjRoutine,
-        cluster: Option<usize>,
     ) -> Result<(), LinkError> {
         let Kept {
             module,
             routine: name,
-            cluster: _,
+            cluster,
             actuals,
         } = kept;
         let types = &mut self.reached.types;
@@ -401,7 +365,6 @@ impl<'a> Reached<'a> {
             instances: Vec::new(alloc),
             routines: IndexMap::new(alloc),
             operations: IndexSet::new(alloc),
-            clusters: IndexMap::new(alloc),
         }
     }
 
@@ -413,7 +376,7 @@ impl<'a> Reached<'a> {
         code: Code<'a>,
         actuals: Vec<Actual>,
         parts: Parts,
-        cluster: Option<usize>,
+        cluster: Option<TypeId>,
     ) -> Result<(), Memory> {
         let (number, _) = self.routines.insert_full(name, code)?;
         let mut callees = Vec::new(alloc);

@@ -1,7 +1,6 @@
 //! The bytes of the fixed part: strings, descriptors, link tables, the runtime's table and the regions tables,
 //! each at its place.
 
-use crate::bounds::{OWN_VARIABLE, cluster_variables, own_variables};
 use crate::errors::LinkError;
 use crate::places::Places;
 use crate::program::{Callable, Program};
@@ -9,7 +8,6 @@ use crate::runtime::add_regions;
 use crate::texts::{Cell, Texts, TrapTexts};
 use crate::type_words::type_word;
 use clu_base::{Memory, u64_add};
-use clu_object::ObjRoutine;
 use clu_types::TypeId;
 use std::alloc::Global;
 
@@ -82,10 +80,7 @@ fn add_link_tables(
         add_entries(out, program, places, callable)?;
         add_descriptor_cells(out, places, callable)?;
         add_constants(out, texts, places, number)?;
-        let routine = program.routine(callable.code)?;
-        let own = places.own_of(number)?;
-        add_own_cells(out, own, own_variables(routine))?;
-        add_cluster_cells(out, places, callable, routine)?;
+        add_variables(out, places, callable)?;
         add_types(out, program, callable.types.as_slice())?;
     }
     Ok(())
@@ -136,27 +131,12 @@ fn add_constants(
     Ok(())
 }
 
-/// The addresses of so many own variables that lie one after the other.
-fn add_own_cells(out: &mut Vec<u8>, first: u64, count: u64) -> Result<(), LinkError> {
-    for n in 0..count {
-        u64_add(out, first.saturating_add(n.saturating_mul(OWN_VARIABLE)))?;
+/// The addresses of the own variables that the holes of the code name.
+fn add_variables(out: &mut Vec<u8>, places: &Places, callable: &Callable) -> Result<(), LinkError> {
+    for variable in callable.variables.as_slice() {
+        u64_add(out, places.variable(*variable))?;
     }
     Ok(())
-}
-
-/// The addresses of the own variables of the cluster round a routine.
-fn add_cluster_cells(
-    out: &mut Vec<u8>,
-    places: &Places,
-    callable: &Callable,
-    routine: &ObjRoutine,
-) -> Result<(), LinkError> {
-    let count = cluster_variables(routine);
-    match callable.cluster {
-        Some(cluster) => add_own_cells(out, places.cluster(cluster)?, count),
-        None if count == 0 => Ok(()),
-        None => Err(LinkError::NotYet),
-    }
 }
 
 fn add_types(out: &mut Vec<u8>, program: &Program<'_>, types: &[TypeId]) -> Result<(), LinkError> {

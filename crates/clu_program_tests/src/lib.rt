@@ -13,6 +13,10 @@ mod example_rows;
 #[cfg(test)]
 mod fault_tests;
 #[cfg(test)]
+mod foreign_rows;
+#[cfg(test)]
+mod foreign_tests;
+#[cfg(test)]
 mod go_arm_rows;
 #[cfg(test)]
 mod go_bound_rows;

@@ -1,12 +1,13 @@
 //! Programs at the limits of a program, and programs that are large.
 
 /// How many rows `LIMITS` has.
-pub const LIMIT_COUNT: usize = 11;
+pub const LIMIT_COUNT: usize = 12;
 
 /// Rows as those of `go_rows`: more modules than a library keeps; 4,096 instances, which are the start, 63 of a procedure with
 /// one constant and for each of them 64 with two, and more; types whose texts double from call to call; the outermost of many
-/// arms; many types that come to one arm; many objects that are signalled on; many uses of own and of bare variables; and a
-/// loop that ends an inner one at each turn, in a stack that has no room for what some turns would leave.
+/// arms; many types that come to one arm; many objects that are signalled on; many uses of own and of bare variables; a small
+/// routine of a cluster with hundreds of own variables; and a loop that ends an inner one at each turn, in a stack that has no
+/// room for what some turns would leave.
 pub const LIMITS: &str = "\
     go a b\t\t21\t\tlibrary full\n\t^4097^p? = proc () end p?\n^\0\
     go a b\t\t0\tall\n\t\tq = proc [a, b: int] () end q r = proc [a: int] () ^64^q[a, ?]() ^end r start_up = proc () \
@@ -31,6 +32,8 @@ pub const LIMITS: &str = "\
     @#force[int](a[2]))) end start_up\0\
     go a b\t\t0\t7\n\t\tstart_up = proc () x: int x := 7 a: array[any] := array[any]$[x^999^, x^] \
     @#force[int](a[2]))) end start_up\0\
+    go a b\t\t0\t299\n\t\tc = cluster is get rep = null ^300^own v?: int := ? ^get = proc () returns (int) return (v299) end \
+    get end c start_up = proc () @#c$get())) end start_up\0\
     go --stack 4096 a b\t\t0\t300000\n\t\tstart_up = proc () n: int := 0 for i: int in int$from_to(1, 100000) do for \
     j: int in int$from_to(1, 3) do n := n + j if j = 2 then break end end end @#n)) end start_up\0\
 ";

@@ -1,0 +1,213 @@
+//! Tests of libraries that another program could have made: each program that is linked from their objects can be run, and
+//! what is refused is an object that does not fit.
+
+use crate::foreign_rows::{FOREIGN, FOREIGN_COUNT};
+use crate::outside::Outside;
+use crate::rows::counted;
+use clu_base::{Bytes, Const, ObjConst, Sequence, Store};
+use clu_library::{Body, Library};
+use clu_object::{Arm, Hole, ObjRoutine, Object, Region};
+use clu_specs::read_spec;
+use std::alloc::Global;
+use std::test::Fail;
+
+fn text(alloc: Global, text: &str) -> Result<Bytes, Fail> {
+    Ok(Bytes::from_slice(alloc, text.as_bytes())?)
+}
+
+/// The part of a row or a routine at this place.
+fn part<'a>(whole: &'a str, between: char, place: usize) -> &'a str {
+    whole.split(between).nth(place).unwrap_or("")
+}
+
+fn number(text: &str) -> u32 {
+    text.parse::<u32>().unwrap_or(0)
+}
+
+/// A list without its bars; `-` has no items.
+fn items<'a>(alloc: Global, listed: &'a str) -> Result<Vec<&'a str>, Fail> {
+    let mut items = Vec::new(alloc);
+    if listed != "-" {
+        for item in listed.split('|') {
+            items.push(item)?;
+        }
+    }
+    Ok(items)
+}
+
+fn texts(alloc: Global, listed: &str) -> Result<Sequence<Bytes>, Fail> {
+    let mut made = Vec::new(alloc);
+    for item in items(alloc, listed)? {
+        made.push(text(alloc, item)?)?;
+    }
+    Ok(Sequence::from_vec(made))
+}
+
+/// For each hole LUI x5, 0 and ADDI x5, x5, 0, then JALR x0, x1, 0, and so many ADDI x0, x0, 0.
+fn code(alloc: Global, holes: usize, more: u32) -> Result<Sequence<u32>, Fail> {
+    let mut words = Vec::new(alloc);
+    for _ in 0..holes {
+        words.extend_from_slice(&[0x0000_02b7, 0x0002_8293])?;
+    }
+    words.push(0x0000_8067)?;
+    for _ in 0..more {
+        words.push(0x0000_0013)?;
+    }
+    Ok(Sequence::from_vec(words))
+}
+
+fn holes(alloc: Global, listed: &[&str]) -> Result<Sequence<Hole>, Fail> {
+    let mut holes = Vec::new(alloc);
+    let mut at = 0u32;
+    for item in listed {
+        holes.push(Hole {
+            at,
+            kind: u8::try_from(number(part(*item, ':', 0))).unwrap_or(0),
+            number: number(part(*item, ':', 1)),
+        })?;
+        at = at.saturating_add(2);
+    }
+    Ok(Sequence::from_vec(holes))
+}
+
+fn constants(alloc: Global, listed: &str) -> Result<Sequence<ObjConst>, Fail> {
+    let mut made = Vec::new(alloc);
+    for item in items(alloc, listed)? {
+        made.push(match item.strip_prefix("#") {
+            Some(parameter) => ObjConst::Param(number(parameter)),
+            None => ObjConst::Value(Const::Str(text(alloc, item)?)),
+        })?;
+    }
+    Ok(Sequence::from_vec(made))
+}
+
+/// A region of the code word after so many, with an arm at the routine's first word.
+fn region(alloc: Global, word: u32) -> Result<Region, Fail> {
+    let arm = Arm {
+        name: text(alloc, "e")?,
+        target: 0,
+        mark: 0,
+    };
+    Ok(Region {
+        first: word,
+        last: word,
+        parent: None,
+        arms: Sequence::from_vec(vec![in alloc; arm]?),
+    })
+}
+
+fn regions(alloc: Global, first: u32, count: u32) -> Result<Sequence<Region>, Fail> {
+    let mut made = Vec::new(alloc);
+    for n in 0..count {
+        made.push(region(alloc, first.saturating_add(n))?)?;
+    }
+    Ok(Sequence::from_vec(made))
+}
+
+/// The routine of a line.
+fn routine(alloc: Global, line: &str) -> Result<ObjRoutine, Fail> {
+    let listed = items(alloc, part(line, ' ', 3))?;
+    let more = number(part(line, ' ', 7));
+    let words = code(alloc, listed.len(), more)?;
+    let behind = u32::try_from(words.as_slice().len())
+        .unwrap_or(0)
+        .saturating_sub(more);
+    Ok(ObjRoutine {
+        name: text(alloc, part(line, ' ', 1))?,
+        nodes: number(part(line, ' ', 2)),
+        code: words,
+        holes: holes(alloc, &listed)?,
+        uses: texts(alloc, part(line, ' ', 4))?,
+        constants: constants(alloc, part(line, ' ', 5))?,
+        types: texts(alloc, part(line, ' ', 6))?,
+        regions: regions(alloc, behind, more)?,
+    })
+}
+
+/// The object of a module, with those of the routines that are its.
+fn object(alloc: Global, module: &str, lines: &str) -> Result<Box<Object>, Fail> {
+    let mut routines = Vec::new(alloc);
+    for line in lines.split(';') {
+        if part(line, ' ', 0) == module {
+            routines.push(routine(alloc, line)?)?;
+        }
+    }
+    let object = Object {
+        module: text(alloc, module)?,
+        routines: Sequence::from_vec(routines),
+    };
+    Ok(Box::new(alloc, object)?)
+}
+
+fn enter_spec(alloc: Global, library: &mut Library, spec: &str) -> Result<(), Fail> {
+    match read_spec(alloc, spec.as_bytes()) {
+        Ok(spec) => match library.enter_spec(alloc, spec) {
+            Ok(()) => Ok(()),
+            Err(_) => Err("not entered")?,
+        },
+        Err(_) => Err("no specification")?,
+    }
+}
+
+/// Enters the body of a module whose specification is there.
+fn enter_body(alloc: Global, library: &mut Library, module: &str, lines: &str) -> Result<(), Fail> {
+    let name = text(alloc, module)?;
+    let body = Body {
+        text: text(alloc, "")?,
+        names: None,
+        checked: 0,
+        object: Box::into_inner(object(alloc, module, lines)?),
+    };
+    if library.spec(&name).is_none() {
+        return Err("no specification")?;
+    }
+    Ok(library.enter_body(alloc, &name, body)?)
+}
+
+/// Enters the bodies of the modules that have routines here.
+fn enter_bodies(alloc: Global, library: &mut Library, lines: &str) -> Result<(), Fail> {
+    for line in lines.split(';') {
+        let module = part(line, ' ', 0);
+        if !module.is_empty() {
+            enter_body(alloc, library, module, lines)?;
+        }
+    }
+    Ok(())
+}
+
+/// An outside in which the library `L` is that of a row.
+fn outside_of(alloc: Global, row: &str) -> Result<Box<Outside>, Fail> {
+    let mut library = Box::new(alloc, Library::empty(alloc))?;
+    for spec in part(row, '\t', 0).lines() {
+        enter_spec(alloc, &mut library, spec)?;
+    }
+    enter_bodies(alloc, &mut library, part(row, '\t', 1))?;
+    let bytes = library.write(alloc)?;
+    let mut outside = Outside::new(alloc, b"", b"", "")?;
+    outside.files.put(alloc, "L", bytes.as_slice())?;
+    Ok(outside)
+}
+
+/// Whether linking comes to what is due, and what is linked can be run.
+fn holds(alloc: Global, row: &str) -> Result<bool, Fail> {
+    let mut outside = outside_of(alloc, row)?;
+    let due = part(row, '\t', 2);
+    let status = outside.call(alloc, "link L g p")?;
+    if due == "linked" {
+        return Ok(status == 0 && outside.call(alloc, "run L g")? == 0);
+    }
+    match outside.errors.bytes().split_last() {
+        Some((_, line)) => Ok(line == due.as_bytes()),
+        None => Ok(false),
+    }
+}
+
+#[test]
+fn foreign_objects_are_linked_or_do_not_fit(rt: HostRuntime) -> Result<(), Fail> {
+    let mut rows = 0usize;
+    for row in FOREIGN.split_terminator('\0') {
+        assert!(rt; holds(rt.alloc(), row)?, "{row}");
+        rows = rows.saturating_add(1);
+    }
+    counted(rt.alloc(), rows, FOREIGN_COUNT)
+}
