@@ -98,7 +98,7 @@ fn link_from(alloc: Global, lib: &Library, first: Member) -> Result<Linked, Link
     }
 }
 
-/// The same, with a map.
+/// The same, with a map, which is one of the image.
 fn traced_from(alloc: Global, lib: &Library, first: Member) -> Result<Traced, LinkError>
     ensures entry { IfOk result (λ traced. traced.linked.image.entry ≡ 0) }
     ensures unset { IfOk result (λ traced. AreUnset traced.linked.image.area) }
@@ -107,21 +107,16 @@ fn traced_from(alloc: Global, lib: &Library, first: Member) -> Result<Traced, Li
     match make(alloc, lib, first) {
         Ok(made) => {
             let map = map_of(alloc, &made.program, &made.reached.members, &made.places)?;
-            with_map(made.linked, map)
+            if map.is_map_of(&made.linked.image) {
+                Ok(Traced {
+                    linked: made.linked,
+                    map,
+                })
+            } else {
+                Err(LinkError::NotYet)
+            }
         }
         Err(error) => Err(error),
-    }
-}
-
-/// A program with its map, which is one of the image.
-fn with_map(linked: Linked, map: TraceMap) -> Result<Traced, LinkError>
-    ensures linked { IfOk result (λ traced. traced.linked ≡ linked) }
-    ensures maps { IfOk result (λ traced. Maps traced.map traced.linked.image) }
-{
-    if map.is_map_of(&linked.image) {
-        Ok(Traced { linked, map })
-    } else {
-        Err(LinkError::NotYet)
     }
 }
 
