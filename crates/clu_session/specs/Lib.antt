@@ -1,0 +1,2 @@
+-- Calls of `clu` one after the other.
+pub mod Sessions
