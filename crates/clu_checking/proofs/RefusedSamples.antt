@@ -546,3 +546,48 @@ operation_of_a_set_with_a_good_type_nodes =
 operation_of_a_set_with_a_good_type : IsRefused operation_of_a_set_with_a_good_type_nodes rule.ArgumentType 1 47
 unfolding checking
 operation_of_a_set_with_a_good_type = refl
+
+-- a type whose demands aren't met is one all the same: else the first of these would be accepted
+
+-- c = cluster [t: type] is m where t has f: proctype (c[int]) rep = int m = proc () end m end c
+abbrev demand_that_an_instance_in_it_breaks_nodes : List Node
+demand_that_an_instance_in_it_breaks_nodes =
+    (n kind.Parm 1 14 4 6 [] ((codes "t") ∷ []) (codes "type") (Some 6) ∷ n kind.Simple 1 55 19 19 [] [] (codes "int")
+    (Some 19) ∷ n kind.NameT 1 53 17 20 (1 ∷ []) ((codes "c") ∷ []) [] None ∷ n kind.RoutineT 1 43 15 21 (2 ∷ []) []
+    (codes "proctype") (Some 15) ∷ n kind.Oper 1 40 13 21 (3 ∷ []) ((codes "f") ∷ []) [] None ∷ n kind.Restrict 1 34
+    11 21 (4 ∷ []) ((codes "t") ∷ []) (codes "has") (Some 12) ∷ n kind.Where 1 28 10 21 (5 ∷ []) [] [] None ∷ n
+    kind.Simple 1 67 24 24 [] [] (codes "int") (Some 24) ∷ n kind.Equate 1 61 22 24 (7 ∷ []) [] (codes "rep") (Some
+    22) ∷ n kind.Routine 1 71 25 31 [] ((codes "m") ∷ (codes "m") ∷ []) (codes "proc") (Some 27) ∷ n kind.Cluster 1 1
+    0 33 (0 ∷ 6 ∷ 8 ∷ 9 ∷ []) ((codes "c") ∷ (codes "m") ∷ (codes "c") ∷ []) [] None ∷ n kind.Module 1 1 0 33 (10 ∷
+    []) [] [] None ∷ n kind.File 1 1 0 33 (11 ∷ []) [] [] None ∷ [])
+
+demand_that_an_instance_in_it_breaks : IsRefused demand_that_an_instance_in_it_breaks_nodes rule.WhereNotMet 1 53
+unfolding checking
+demand_that_an_instance_in_it_breaks = refl
+
+-- d = cluster [t: type] is m where t has copy: proctype (t) returns (t) rep = int m = proc () end m end d
+-- c = cluster [k: int] is m rep = int own n: d[any] m = proc (x: c[(n + 1)]) end m end c
+abbrev own_variable_of_a_demand_that_is_not_met_nodes : List Node
+own_variable_of_a_demand_that_is_not_met_nodes =
+    (n kind.Parm 1 14 4 6 [] ((codes "t") ∷ []) (codes "type") (Some 6) ∷ n kind.NameT 1 56 17 17 [] ((codes "t") ∷
+    []) [] None ∷ n kind.NameT 1 68 21 21 [] ((codes "t") ∷ []) [] None ∷ n kind.Results 1 59 19 22 (2 ∷ []) [] (codes
+    "returns") (Some 19) ∷ n kind.RoutineT 1 46 15 22 (1 ∷ 3 ∷ []) [] (codes "proctype") (Some 15) ∷ n kind.Oper 1 40
+    13 22 (4 ∷ []) ((codes "copy") ∷ []) [] None ∷ n kind.Restrict 1 34 11 22 (5 ∷ []) ((codes "t") ∷ []) (codes
+    "has") (Some 12) ∷ n kind.Where 1 28 10 22 (6 ∷ []) [] [] None ∷ n kind.Simple 1 77 25 25 [] [] (codes "int")
+    (Some 25) ∷ n kind.Equate 1 71 23 25 (8 ∷ []) [] (codes "rep") (Some 23) ∷ n kind.Routine 1 81 26 32 [] ((codes
+    "m") ∷ (codes "m") ∷ []) (codes "proc") (Some 28) ∷ n kind.Cluster 1 1 0 34 (0 ∷ 7 ∷ 9 ∷ 10 ∷ []) ((codes "d") ∷
+    (codes "m") ∷ (codes "d") ∷ []) [] None ∷ n kind.Module 1 1 0 34 (11 ∷ []) [] [] None ∷ n kind.Simple 2 17 41 41
+    [] [] (codes "int") (Some 41) ∷ n kind.Parm 2 14 39 41 (13 ∷ []) ((codes "k") ∷ []) [] None ∷ n kind.Simple 2 33
+    47 47 [] [] (codes "int") (Some 47) ∷ n kind.Equate 2 27 45 47 (15 ∷ []) [] (codes "rep") (Some 45) ∷ n
+    kind.Simple 2 46 53 53 [] [] (codes "any") (Some 53) ∷ n kind.NameT 2 44 51 54 (17 ∷ []) ((codes "d") ∷ []) []
+    None ∷ n kind.Decl 2 41 49 54 (18 ∷ []) ((codes "n") ∷ []) [] None ∷ n kind.Own 2 37 48 54 (19 ∷ []) [] [] None ∷
+    n kind.Name 2 67 64 64 [] ((codes "n") ∷ []) [] None ∷ n kind.Literal 2 71 66 66 [] [] (codes "1") (Some 66) ∷ n
+    kind.Infix 2 69 64 66 (21 ∷ 22 ∷ []) [] (codes "+") (Some 65) ∷ n kind.Paren 2 66 63 67 (23 ∷ []) [] [] None ∷ n
+    kind.NameT 2 64 61 68 (24 ∷ []) ((codes "c") ∷ []) [] None ∷ n kind.Decl 2 61 59 68 (25 ∷ []) ((codes "x") ∷ [])
+    [] None ∷ n kind.Routine 2 51 55 71 (26 ∷ []) ((codes "m") ∷ (codes "m") ∷ []) (codes "proc") (Some 57) ∷ n
+    kind.Cluster 2 1 35 73 (14 ∷ 16 ∷ 20 ∷ 27 ∷ []) ((codes "c") ∷ (codes "m") ∷ (codes "c") ∷ []) [] None ∷ n
+    kind.Module 2 1 35 73 (28 ∷ []) [] [] None ∷ n kind.File 1 1 0 73 (12 ∷ 29 ∷ []) [] [] None ∷ [])
+
+own_variable_of_a_demand_that_is_not_met : IsRefused own_variable_of_a_demand_that_is_not_met_nodes rule.NoOperation 2 69
+unfolding checking
+own_variable_of_a_demand_that_is_not_met = refl
