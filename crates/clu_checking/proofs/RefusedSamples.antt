@@ -97,6 +97,24 @@ down_of_a_bad_rep : IsRefused down_of_a_bad_rep_nodes rule.NotConstant 1 76
 unfolding checking
 down_of_a_bad_rep = refl
 
+-- c = cluster [k: int] is m rep = zork m = proc (l: c[k]) returns (c[(down(l) + 1)]) end m end c
+abbrev down_of_a_bad_rep_in_parentheses_nodes : List Node
+down_of_a_bad_rep_in_parentheses_nodes =
+    (n kind.Simple 1 17 6 6 [] [] (codes "int") (Some 6) ∷ n kind.Parm 1 14 4 6 (0 ∷ []) ((codes "k") ∷ []) [] None ∷
+    n kind.Name 1 33 12 12 [] ((codes "zork") ∷ []) [] None ∷ n kind.Equate 1 27 10 12 (2 ∷ []) [] (codes "rep") (Some
+    10) ∷ n kind.Name 1 53 21 21 [] ((codes "k") ∷ []) [] None ∷ n kind.NameT 1 51 19 22 (4 ∷ []) ((codes "c") ∷ [])
+    [] None ∷ n kind.Decl 1 48 17 22 (5 ∷ []) ((codes "l") ∷ []) [] None ∷ n kind.Name 1 74 31 31 [] ((codes "l") ∷
+    []) [] None ∷ n kind.Down 1 69 29 32 (7 ∷ []) [] [] None ∷ n kind.Literal 1 79 34 34 [] [] (codes "1") (Some 34) ∷
+    n kind.Infix 1 77 29 34 (8 ∷ 9 ∷ []) [] (codes "+") (Some 33) ∷ n kind.Paren 1 68 28 35 (10 ∷ []) [] [] None ∷ n
+    kind.NameT 1 66 26 36 (11 ∷ []) ((codes "c") ∷ []) [] None ∷ n kind.Results 1 57 24 37 (12 ∷ []) [] (codes
+    "returns") (Some 24) ∷ n kind.Routine 1 38 13 39 (6 ∷ 13 ∷ []) ((codes "m") ∷ (codes "m") ∷ []) (codes "proc")
+    (Some 15) ∷ n kind.Cluster 1 1 0 41 (1 ∷ 3 ∷ 14 ∷ []) ((codes "c") ∷ (codes "m") ∷ (codes "c") ∷ []) [] None ∷ n
+    kind.Module 1 1 0 41 (15 ∷ []) [] [] None ∷ n kind.File 1 1 0 41 (16 ∷ []) [] [] None ∷ [])
+
+down_of_a_bad_rep_in_parentheses : IsRefused down_of_a_bad_rep_in_parentheses_nodes rule.NotConstant 1 68
+unfolding checking
+down_of_a_bad_rep_in_parentheses = refl
+
 -- c = cluster [k: int] is m rep = bool m = proc (l: c[k]) returns (c[(down(l) + 1)]) end m end c
 abbrev down_of_a_good_rep_nodes : List Node
 down_of_a_good_rep_nodes =
@@ -211,25 +229,26 @@ routine_of_the_cluster_with_a_bad_heading : IsRefused routine_of_the_cluster_wit
 unfolding checking
 routine_of_the_cluster_with_a_bad_heading = refl
 
--- p = proc (x: c[d$g(1)]) end p d = cluster is g rep = int g = proc (y: array[cvt]) end g end d c = cluster [k: int] is m rep = int m = proc () end m end c
+-- p = proc (x: c[(d$g(1))]) end p d = cluster is g rep = int g = proc (y: array[cvt]) end g end d c = cluster [k: int] is m rep = int m = proc () end m end c
 abbrev operation_with_a_bad_heading_nodes : List Node
 operation_with_a_bad_heading_nodes =
-    (n kind.NameT 1 16 8 8 [] ((codes "d") ∷ []) [] None ∷ n kind.OperOf 1 16 8 10 (0 ∷ []) ((codes "g") ∷ []) [] None
-    ∷ n kind.Literal 1 20 12 12 [] [] (codes "1") (Some 12) ∷ n kind.Call 1 19 8 13 (1 ∷ 2 ∷ []) [] [] None ∷ n
-    kind.NameT 1 14 6 14 (3 ∷ []) ((codes "c") ∷ []) [] None ∷ n kind.Decl 1 11 4 14 (4 ∷ []) ((codes "x") ∷ []) []
-    None ∷ n kind.Routine 1 1 0 17 (5 ∷ []) ((codes "p") ∷ (codes "p") ∷ []) (codes "proc") (Some 2) ∷ n kind.Module 1
-    1 0 17 (6 ∷ []) [] [] None ∷ n kind.Simple 1 54 25 25 [] [] (codes "int") (Some 25) ∷ n kind.Equate 1 48 23 25 (8
-    ∷ []) [] (codes "rep") (Some 23) ∷ n kind.Simple 1 77 34 34 [] [] (codes "cvt") (Some 34) ∷ n kind.ListT 1 71 32
-    35 (10 ∷ []) [] (codes "array") (Some 32) ∷ n kind.Decl 1 68 30 35 (11 ∷ []) ((codes "y") ∷ []) [] None ∷ n
-    kind.Routine 1 58 26 38 (12 ∷ []) ((codes "g") ∷ (codes "g") ∷ []) (codes "proc") (Some 28) ∷ n kind.Cluster 1 31
-    18 40 (9 ∷ 13 ∷ []) ((codes "d") ∷ (codes "g") ∷ (codes "d") ∷ []) [] None ∷ n kind.Module 1 31 18 40 (14 ∷ []) []
-    [] None ∷ n kind.Simple 1 111 47 47 [] [] (codes "int") (Some 47) ∷ n kind.Parm 1 108 45 47 (16 ∷ []) ((codes "k")
-    ∷ []) [] None ∷ n kind.Simple 1 127 53 53 [] [] (codes "int") (Some 53) ∷ n kind.Equate 1 121 51 53 (18 ∷ []) []
-    (codes "rep") (Some 51) ∷ n kind.Routine 1 131 54 60 [] ((codes "m") ∷ (codes "m") ∷ []) (codes "proc") (Some 56)
-    ∷ n kind.Cluster 1 95 41 62 (17 ∷ 19 ∷ 20 ∷ []) ((codes "c") ∷ (codes "m") ∷ (codes "c") ∷ []) [] None ∷ n
-    kind.Module 1 95 41 62 (21 ∷ []) [] [] None ∷ n kind.File 1 1 0 62 (7 ∷ 15 ∷ 22 ∷ []) [] [] None ∷ [])
+    (n kind.NameT 1 17 9 9 [] ((codes "d") ∷ []) [] None ∷ n kind.OperOf 1 17 9 11 (0 ∷ []) ((codes "g") ∷ []) [] None
+    ∷ n kind.Literal 1 21 13 13 [] [] (codes "1") (Some 13) ∷ n kind.Call 1 20 9 14 (1 ∷ 2 ∷ []) [] [] None ∷ n
+    kind.Paren 1 16 8 15 (3 ∷ []) [] [] None ∷ n kind.NameT 1 14 6 16 (4 ∷ []) ((codes "c") ∷ []) [] None ∷ n
+    kind.Decl 1 11 4 16 (5 ∷ []) ((codes "x") ∷ []) [] None ∷ n kind.Routine 1 1 0 19 (6 ∷ []) ((codes "p") ∷ (codes
+    "p") ∷ []) (codes "proc") (Some 2) ∷ n kind.Module 1 1 0 19 (7 ∷ []) [] [] None ∷ n kind.Simple 1 56 27 27 [] []
+    (codes "int") (Some 27) ∷ n kind.Equate 1 50 25 27 (9 ∷ []) [] (codes "rep") (Some 25) ∷ n kind.Simple 1 79 36 36
+    [] [] (codes "cvt") (Some 36) ∷ n kind.ListT 1 73 34 37 (11 ∷ []) [] (codes "array") (Some 34) ∷ n kind.Decl 1 70
+    32 37 (12 ∷ []) ((codes "y") ∷ []) [] None ∷ n kind.Routine 1 60 28 40 (13 ∷ []) ((codes "g") ∷ (codes "g") ∷ [])
+    (codes "proc") (Some 30) ∷ n kind.Cluster 1 33 20 42 (10 ∷ 14 ∷ []) ((codes "d") ∷ (codes "g") ∷ (codes "d") ∷ [])
+    [] None ∷ n kind.Module 1 33 20 42 (15 ∷ []) [] [] None ∷ n kind.Simple 1 113 49 49 [] [] (codes "int") (Some 49)
+    ∷ n kind.Parm 1 110 47 49 (17 ∷ []) ((codes "k") ∷ []) [] None ∷ n kind.Simple 1 129 55 55 [] [] (codes "int")
+    (Some 55) ∷ n kind.Equate 1 123 53 55 (19 ∷ []) [] (codes "rep") (Some 53) ∷ n kind.Routine 1 133 56 62 [] ((codes
+    "m") ∷ (codes "m") ∷ []) (codes "proc") (Some 58) ∷ n kind.Cluster 1 97 43 64 (18 ∷ 20 ∷ 21 ∷ []) ((codes "c") ∷
+    (codes "m") ∷ (codes "c") ∷ []) [] None ∷ n kind.Module 1 97 43 64 (22 ∷ []) [] [] None ∷ n kind.File 1 1 0 64 (8
+    ∷ 16 ∷ 23 ∷ []) [] [] None ∷ [])
 
-operation_with_a_bad_heading : IsRefused operation_with_a_bad_heading_nodes rule.NotConstant 1 19
+operation_with_a_bad_heading : IsRefused operation_with_a_bad_heading_nodes rule.NotConstant 1 16
 unfolding checking
 operation_with_a_bad_heading = refl
 
@@ -365,24 +384,24 @@ demand_met_by_no_such_demand : IsRefused demand_met_by_no_such_demand_nodes rule
 unfolding checking
 demand_met_by_no_such_demand = refl
 
--- p = proc [t: type] (x: c[t$f(1)]) where t has f: proctype (zork) end p c = cluster [k: int] is m rep = int m = proc () end m end c
+-- p = proc [t: type] (x: c[(t$f(1))]) where t has f: proctype (zork) end p c = cluster [k: int] is m rep = int m = proc () end m end c
 abbrev operation_of_a_bad_demand_nodes : List Node
 operation_of_a_bad_demand_nodes =
-    (n kind.Parm 1 11 4 6 [] ((codes "t") ∷ []) (codes "type") (Some 6) ∷ n kind.NameT 1 26 13 13 [] ((codes "t") ∷
-    []) [] None ∷ n kind.OperOf 1 26 13 15 (1 ∷ []) ((codes "f") ∷ []) [] None ∷ n kind.Literal 1 30 17 17 [] []
-    (codes "1") (Some 17) ∷ n kind.Call 1 29 13 18 (2 ∷ 3 ∷ []) [] [] None ∷ n kind.NameT 1 24 11 19 (4 ∷ []) ((codes
-    "c") ∷ []) [] None ∷ n kind.Decl 1 21 9 19 (5 ∷ []) ((codes "x") ∷ []) [] None ∷ n kind.NameT 1 60 28 28 []
-    ((codes "zork") ∷ []) [] None ∷ n kind.RoutineT 1 50 26 29 (7 ∷ []) [] (codes "proctype") (Some 26) ∷ n kind.Oper
-    1 47 24 29 (8 ∷ []) ((codes "f") ∷ []) [] None ∷ n kind.Restrict 1 41 22 29 (9 ∷ []) ((codes "t") ∷ []) (codes
-    "has") (Some 23) ∷ n kind.Where 1 35 21 29 (10 ∷ []) [] [] None ∷ n kind.Routine 1 1 0 31 (0 ∷ 6 ∷ 11 ∷ [])
-    ((codes "p") ∷ (codes "p") ∷ []) (codes "proc") (Some 2) ∷ n kind.Module 1 1 0 31 (12 ∷ []) [] [] None ∷ n
-    kind.Simple 1 88 38 38 [] [] (codes "int") (Some 38) ∷ n kind.Parm 1 85 36 38 (14 ∷ []) ((codes "k") ∷ []) [] None
-    ∷ n kind.Simple 1 104 44 44 [] [] (codes "int") (Some 44) ∷ n kind.Equate 1 98 42 44 (16 ∷ []) [] (codes "rep")
-    (Some 42) ∷ n kind.Routine 1 108 45 51 [] ((codes "m") ∷ (codes "m") ∷ []) (codes "proc") (Some 47) ∷ n
-    kind.Cluster 1 72 32 53 (15 ∷ 17 ∷ 18 ∷ []) ((codes "c") ∷ (codes "m") ∷ (codes "c") ∷ []) [] None ∷ n kind.Module
-    1 72 32 53 (19 ∷ []) [] [] None ∷ n kind.File 1 1 0 53 (13 ∷ 20 ∷ []) [] [] None ∷ [])
+    (n kind.Parm 1 11 4 6 [] ((codes "t") ∷ []) (codes "type") (Some 6) ∷ n kind.NameT 1 27 14 14 [] ((codes "t") ∷
+    []) [] None ∷ n kind.OperOf 1 27 14 16 (1 ∷ []) ((codes "f") ∷ []) [] None ∷ n kind.Literal 1 31 18 18 [] []
+    (codes "1") (Some 18) ∷ n kind.Call 1 30 14 19 (2 ∷ 3 ∷ []) [] [] None ∷ n kind.Paren 1 26 13 20 (4 ∷ []) [] []
+    None ∷ n kind.NameT 1 24 11 21 (5 ∷ []) ((codes "c") ∷ []) [] None ∷ n kind.Decl 1 21 9 21 (6 ∷ []) ((codes "x") ∷
+    []) [] None ∷ n kind.NameT 1 62 30 30 [] ((codes "zork") ∷ []) [] None ∷ n kind.RoutineT 1 52 28 31 (8 ∷ []) []
+    (codes "proctype") (Some 28) ∷ n kind.Oper 1 49 26 31 (9 ∷ []) ((codes "f") ∷ []) [] None ∷ n kind.Restrict 1 43
+    24 31 (10 ∷ []) ((codes "t") ∷ []) (codes "has") (Some 25) ∷ n kind.Where 1 37 23 31 (11 ∷ []) [] [] None ∷ n
+    kind.Routine 1 1 0 33 (0 ∷ 7 ∷ 12 ∷ []) ((codes "p") ∷ (codes "p") ∷ []) (codes "proc") (Some 2) ∷ n kind.Module 1
+    1 0 33 (13 ∷ []) [] [] None ∷ n kind.Simple 1 90 40 40 [] [] (codes "int") (Some 40) ∷ n kind.Parm 1 87 38 40 (15
+    ∷ []) ((codes "k") ∷ []) [] None ∷ n kind.Simple 1 106 46 46 [] [] (codes "int") (Some 46) ∷ n kind.Equate 1 100
+    44 46 (17 ∷ []) [] (codes "rep") (Some 44) ∷ n kind.Routine 1 110 47 53 [] ((codes "m") ∷ (codes "m") ∷ []) (codes
+    "proc") (Some 49) ∷ n kind.Cluster 1 74 34 55 (16 ∷ 18 ∷ 19 ∷ []) ((codes "c") ∷ (codes "m") ∷ (codes "c") ∷ [])
+    [] None ∷ n kind.Module 1 74 34 55 (20 ∷ []) [] [] None ∷ n kind.File 1 1 0 55 (14 ∷ 21 ∷ []) [] [] None ∷ [])
 
-operation_of_a_bad_demand : IsRefused operation_of_a_bad_demand_nodes rule.NotConstant 1 29
+operation_of_a_bad_demand : IsRefused operation_of_a_bad_demand_nodes rule.NotConstant 1 26
 unfolding checking
 operation_of_a_bad_demand = refl
 
@@ -504,24 +523,25 @@ parameter_of_another_type : IsRefused parameter_of_another_type_nodes rule.Param
 unfolding checking
 parameter_of_another_type = refl
 
--- p = proc () s = {u | u has f: proctype (c[u$g(1)]), g: proctype (zork)} end p c = cluster [k: int] is m rep = int m = proc () end m end c
+-- p = proc () s = {u | u has f: proctype (c[(u$g(1))]), g: proctype (zork)} end p c = cluster [k: int] is m rep = int m = proc () end m end c
 abbrev operation_of_a_set_with_a_bad_type_nodes : List Node
 operation_of_a_set_with_a_bad_type_nodes =
-    (n kind.NameT 1 43 18 18 [] ((codes "u") ∷ []) [] None ∷ n kind.OperOf 1 43 18 20 (0 ∷ []) ((codes "g") ∷ []) []
-    None ∷ n kind.Literal 1 47 22 22 [] [] (codes "1") (Some 22) ∷ n kind.Call 1 46 18 23 (1 ∷ 2 ∷ []) [] [] None ∷ n
-    kind.NameT 1 41 16 24 (3 ∷ []) ((codes "c") ∷ []) [] None ∷ n kind.RoutineT 1 31 14 25 (4 ∷ []) [] (codes
-    "proctype") (Some 14) ∷ n kind.Oper 1 28 12 25 (5 ∷ []) ((codes "f") ∷ []) [] None ∷ n kind.NameT 1 66 31 31 []
-    ((codes "zork") ∷ []) [] None ∷ n kind.RoutineT 1 56 29 32 (7 ∷ []) [] (codes "proctype") (Some 29) ∷ n kind.Oper
-    1 53 27 32 (8 ∷ []) ((codes "g") ∷ []) [] None ∷ n kind.TypeSet 1 17 7 33 (6 ∷ 9 ∷ []) ((codes "u") ∷ (codes "u")
-    ∷ []) [] None ∷ n kind.Equate 1 13 5 33 (10 ∷ []) ((codes "s") ∷ []) [] None ∷ n kind.Routine 1 1 0 35 (11 ∷ [])
-    ((codes "p") ∷ (codes "p") ∷ []) (codes "proc") (Some 2) ∷ n kind.Module 1 1 0 35 (12 ∷ []) [] [] None ∷ n
-    kind.Simple 1 95 42 42 [] [] (codes "int") (Some 42) ∷ n kind.Parm 1 92 40 42 (14 ∷ []) ((codes "k") ∷ []) [] None
-    ∷ n kind.Simple 1 111 48 48 [] [] (codes "int") (Some 48) ∷ n kind.Equate 1 105 46 48 (16 ∷ []) [] (codes "rep")
-    (Some 46) ∷ n kind.Routine 1 115 49 55 [] ((codes "m") ∷ (codes "m") ∷ []) (codes "proc") (Some 51) ∷ n
-    kind.Cluster 1 79 36 57 (15 ∷ 17 ∷ 18 ∷ []) ((codes "c") ∷ (codes "m") ∷ (codes "c") ∷ []) [] None ∷ n kind.Module
-    1 79 36 57 (19 ∷ []) [] [] None ∷ n kind.File 1 1 0 57 (13 ∷ 20 ∷ []) [] [] None ∷ [])
+    (n kind.NameT 1 44 19 19 [] ((codes "u") ∷ []) [] None ∷ n kind.OperOf 1 44 19 21 (0 ∷ []) ((codes "g") ∷ []) []
+    None ∷ n kind.Literal 1 48 23 23 [] [] (codes "1") (Some 23) ∷ n kind.Call 1 47 19 24 (1 ∷ 2 ∷ []) [] [] None ∷ n
+    kind.Paren 1 43 18 25 (3 ∷ []) [] [] None ∷ n kind.NameT 1 41 16 26 (4 ∷ []) ((codes "c") ∷ []) [] None ∷ n
+    kind.RoutineT 1 31 14 27 (5 ∷ []) [] (codes "proctype") (Some 14) ∷ n kind.Oper 1 28 12 27 (6 ∷ []) ((codes "f") ∷
+    []) [] None ∷ n kind.NameT 1 68 33 33 [] ((codes "zork") ∷ []) [] None ∷ n kind.RoutineT 1 58 31 34 (8 ∷ []) []
+    (codes "proctype") (Some 31) ∷ n kind.Oper 1 55 29 34 (9 ∷ []) ((codes "g") ∷ []) [] None ∷ n kind.TypeSet 1 17 7
+    35 (7 ∷ 10 ∷ []) ((codes "u") ∷ (codes "u") ∷ []) [] None ∷ n kind.Equate 1 13 5 35 (11 ∷ []) ((codes "s") ∷ [])
+    [] None ∷ n kind.Routine 1 1 0 37 (12 ∷ []) ((codes "p") ∷ (codes "p") ∷ []) (codes "proc") (Some 2) ∷ n
+    kind.Module 1 1 0 37 (13 ∷ []) [] [] None ∷ n kind.Simple 1 97 44 44 [] [] (codes "int") (Some 44) ∷ n kind.Parm 1
+    94 42 44 (15 ∷ []) ((codes "k") ∷ []) [] None ∷ n kind.Simple 1 113 50 50 [] [] (codes "int") (Some 50) ∷ n
+    kind.Equate 1 107 48 50 (17 ∷ []) [] (codes "rep") (Some 48) ∷ n kind.Routine 1 117 51 57 [] ((codes "m") ∷ (codes
+    "m") ∷ []) (codes "proc") (Some 53) ∷ n kind.Cluster 1 81 38 59 (16 ∷ 18 ∷ 19 ∷ []) ((codes "c") ∷ (codes "m") ∷
+    (codes "c") ∷ []) [] None ∷ n kind.Module 1 81 38 59 (20 ∷ []) [] [] None ∷ n kind.File 1 1 0 59 (14 ∷ 21 ∷ []) []
+    [] None ∷ [])
 
-operation_of_a_set_with_a_bad_type : IsRefused operation_of_a_set_with_a_bad_type_nodes rule.NotConstant 1 46
+operation_of_a_set_with_a_bad_type : IsRefused operation_of_a_set_with_a_bad_type_nodes rule.NotConstant 1 43
 unfolding checking
 operation_of_a_set_with_a_bad_type = refl
 
