@@ -12,7 +12,8 @@ use Rattle.clu_words.specs.Command as command
 use Rattle.clu_driver.specs.Commands.{CluShows, CommandShows, GenShows, GoShows, IsRefusal, PutShows}
 use Rattle.clu_driver.specs.Puts.{NotPut}
 use Rattle.clu_driver.specs.Shows.{IsAsked, Reported, RunShows, TextShows, untraced}
-use Rattle.clu_driver.specs.Libraries.{CompileShows, CompiledShows, EnteredShows, LibraryShows, LinkShows, LinkedShows, NotGathered, NotLibrary, SpecifiedShows, SpecifyShows, SpecsShow}
+use Rattle.clu_driver.specs.Libraries.{CompileShows, CompiledShows, EnteredShows, LibraryShows, LinkShows, LinkedShows, NotGathered, SpecifiedShows, SpecifyShows, SpecsShow}
+use Rattle.clu_driver.specs.Held.{NotLibrary}
 use Rattle.clu_driver.specs.Refusals.{IsRefusalBy}
 use Rattle.clu_driver.specs.declared.specifying.Kept.{Kept}
 use Rattle.clu_driver.specs.declared.specifying.Kept.TheVariants as kept
@@ -38,12 +39,11 @@ not_compiled name files faults faults' (inl unread) = unread
 not_compiled name files faults faults' (inr unmade) = elim unmade.2 [ inl refused ↦ refused | inr unbuilt ↦ unbuilt.1.2 ]
 
 -- nor does what is read of a library and a source, nor an entry
-not_library : (name : List ℕ) (faults faults' : ℕ) → NotLibrary outcome.Usage name faults faults' → ⊥
-not_library name faults faults' (inl unreadable) = unreadable
-not_library name faults faults' (inr unknown) = unknown
+not_library : (name : List ℕ) (files : Option Files) (faults faults' : ℕ) → NotLibrary outcome.Usage name files faults faults' → ⊥
+not_library name files faults faults' unknown = unknown
 
 not_gathered : (library file : List ℕ) (files : Option Files) (faults faults' : ℕ) → NotGathered outcome.Usage library file files faults faults' → ⊥
-not_gathered library file files faults faults' (inl unread) = not_library library faults faults' unread
+not_gathered library file files faults faults' (inl unread) = not_library library files faults faults' unread
 not_gathered library file files faults faults' (inr unparsed) = unparsed.2
 
 not_put : (name : List ℕ) (kept : library.Contents) (files files' : Option Files) (faults faults' : ℕ) → LibraryShows outcome.Usage name kept files files' faults faults' → ⊥
@@ -65,25 +65,25 @@ not_refused build.ProgramTooLarge by = let no : outcome.Usage ≡ outcome.Progra
 not_refused build.Memory by = let no : outcome.Usage ≡ outcome.Memory = by in cc
 not_refused build.NotYet by = let no : outcome.Usage ≡ outcome.NotYet = by in cc
 
-not_linked : (name program start : List ℕ) (files files' : Option Files) (faults faults' : ℕ) → LinkedShows outcome.Usage name program start files faults files' faults' → ⊥
-not_linked name program start files files' faults faults' (inl refused) = not_refused refused.0.1 refused.0.3
-not_linked name program start files files' faults faults' (inr linked) = not_put name linked.1 files files' faults faults' linked.3
+not_linked : (name program start : List ℕ) (known : library.Contents) (files files' : Option Files) (faults faults' : ℕ) → LinkedShows outcome.Usage name program start known files faults files' faults' → ⊥
+not_linked name program start known files files' faults faults' (inl refused) = not_refused refused.0.0 refused.0.2
+not_linked name program start known files files' faults faults' (inr linked) = not_put name linked.0 files files' faults faults' linked.2
 
-not_entered : (name : List ℕ) (files files' : Option Files) (faults faults' : ℕ) → EnteredShows outcome.Usage name files faults files' faults' → ⊥
-not_entered name files files' faults faults' (inl refused) = not_refused refused.0.1 refused.0.3
-not_entered name files files' faults faults' (inr kept) = not_put name kept.0 files files' faults faults' kept.1
+not_entered : (name : List ℕ) (known : library.Contents) (files files' : Option Files) (faults faults' : ℕ) → EnteredShows outcome.Usage name known files faults files' faults' → ⊥
+not_entered name known files files' faults faults' (inl refused) = not_refused refused.0.0 refused.0.2
+not_entered name known files files' faults faults' (inr kept) = not_put name kept.0 files files' faults faults' kept.1
 
-specs_not_entered : (kept : Kept) (name : List ℕ) (files files' : Option Files) (faults faults' : ℕ) → SpecsShow kept outcome.Usage name files faults files' faults' → ⊥
-specs_not_entered kept name files files' faults faults' (inl refused) = not_refused refused.0.1 refused.0.3
-specs_not_entered kept name files files' faults faults' (inr put) = not_put name put.0 files files' faults faults' put.1
+specs_not_entered : (kept : Kept) (name : List ℕ) (known : library.Contents) (files files' : Option Files) (faults faults' : ℕ) → SpecsShow kept outcome.Usage name known files faults files' faults' → ⊥
+specs_not_entered kept name known files files' faults faults' (inl refused) = not_refused refused.0.0 refused.0.2
+specs_not_entered kept name known files files' faults faults' (inr put) = not_put name put.0 files files' faults faults' put.1
 
-not_specified : (kept : Kept) (name file : List ℕ) (files files' : Option Files) (faults faults' : ℕ) → SpecifiedShows kept outcome.Usage name file files faults files' faults' → ⊥
-not_specified kept name file files files' faults faults' (inl refused) = refused.0
-not_specified kept name file files files' faults faults' (inr entered) = specs_not_entered kept name files files' faults faults' entered
+not_specified : (kept : Kept) (name file : List ℕ) (known : library.Contents) (files files' : Option Files) (faults faults' : ℕ) → SpecifiedShows kept outcome.Usage name file known files faults files' faults' → ⊥
+not_specified kept name file known files files' faults faults' (inl refused) = refused.0
+not_specified kept name file known files files' faults faults' (inr entered) = specs_not_entered kept name known files files' faults faults' entered
 
-not_accepted : (name file : List ℕ) (nodes : List Node) (files files' : Option Files) (faults faults' : ℕ) → CompiledShows outcome.Usage name file nodes files faults files' faults' → ⊥
-not_accepted name file nodes files files' faults faults' (inl refused) = refused.0
-not_accepted name file nodes files files' faults faults' (inr entered) = not_entered name files files' faults faults' entered.1
+not_accepted : (name file : List ℕ) (known : library.Contents) (nodes : List Node) (files files' : Option Files) (faults faults' : ℕ) → CompiledShows outcome.Usage name file known nodes files faults files' faults' → ⊥
+not_accepted name file known nodes files files' faults faults' (inl refused) = refused.0
+not_accepted name file known nodes files files' faults faults' (inr entered) = not_entered name known files files' faults faults' entered.1
 
 -- only words that are no command come to Usage
 usage_shown : (meant : Option Meant) (before after : World) → CommandShows meant outcome.Usage before after → meant ≡ None
@@ -98,29 +98,29 @@ usage_shown (Some (command.exec image limits)) before after (inr ran) = elim ran
 usage_shown (Some (command.gen procedures)) before after shown = elim shown.2 [ ]
 usage_shown (Some (command.spec a b)) before after shown = elim shown.1 [
   | inl refused ↦ elim (not_gathered a b before.files before.store_faults after.store_faults refused.0) [ ]
-  | inr entered ↦ elim (not_specified kept.Stays a b before.files after.files entered.2.0 after.store_faults entered.2.2) [ ]
+  | inr entered ↦ elim (not_specified kept.Stays a b entered.0 before.files after.files entered.2.2.0 after.store_faults entered.2.2.2) [ ]
 ]
 usage_shown (Some (command.replace a b)) before after shown = elim shown.1 [
   | inl refused ↦ elim (not_gathered a b before.files before.store_faults after.store_faults refused.0) [ ]
-  | inr entered ↦ elim (not_specified kept.Goes a b before.files after.files entered.2.0 after.store_faults entered.2.2) [ ]
+  | inr entered ↦ elim (not_specified kept.Goes a b entered.0 before.files after.files entered.2.2.0 after.store_faults entered.2.2.2) [ ]
 ]
 usage_shown (Some (command.compile a b p)) before after shown = elim shown.1 [
   | inl refused ↦ elim (not_gathered a b before.files before.store_faults after.store_faults refused.0) [ ]
-  | inr entered ↦ elim (not_accepted a b entered.0 before.files after.files entered.2.0 after.store_faults entered.2.2) [ ]
+  | inr entered ↦ elim (not_accepted a b entered.0 entered.2.0 before.files after.files entered.2.2.0 after.store_faults entered.2.2.2) [ ]
 ]
 usage_shown (Some (command.link a b d)) before after shown = elim shown.1 [
-  | inl refused ↦ elim (not_library a before.store_faults after.store_faults refused.0) [ ]
-  | inr entered ↦ elim (not_linked a b (map to_ascii_lowercase d) before.files after.files entered.0 after.store_faults entered.2) [ ]
+  | inl refused ↦ elim (not_library a before.files before.store_faults after.store_faults refused.0) [ ]
+  | inr entered ↦ elim (not_linked a b (map to_ascii_lowercase d) entered.0 before.files after.files entered.2.0 after.store_faults entered.2.2) [ ]
 ]
 usage_shown (Some (command.run a b l)) before after shown = elim shown.1 [
-  | inl refused ↦ elim (not_library a before.store_faults after.store_faults refused.0) [ ]
-  | inr program ↦ elim program [ inl none ↦ elim none.0 [ ] | inr ran ↦ elim ran.1.ends [ ] ]
+  | inl refused ↦ elim (not_library a before.files before.store_faults after.store_faults refused.0) [ ]
+  | inr program ↦ elim program.2 [ inl none ↦ elim none.0 [ ] | inr ran ↦ elim ran.2.ends [ ] ]
 ]
 usage_shown (Some (command.list a)) before after shown = elim shown.1.1 [ inl refused ↦ elim refused.0 [ ] | inr written ↦ elim written.2 [ ] ]
 usage_shown (Some (command.asm a b)) before after shown = elim shown.1 [ inl refused ↦ elim refused.0 [ ] | inr put ↦ elim put.2.2 [ ] ]
 usage_shown (Some (command.print a)) before after shown = elim shown.1.1 [ inl refused ↦ elim refused.0 [ ] | inr written ↦ elim written.2 [ ] ]
 usage_shown (Some (command.xref a)) before after shown = elim shown.1.1 [
-  | inl refused ↦ elim (not_library a before.store_faults after.store_faults refused.0) [ ]
+  | inl refused ↦ elim (not_library a before.files before.store_faults after.store_faults refused.0) [ ]
   | inr written ↦ elim written.2 [ ]
 ]
 
@@ -256,7 +256,7 @@ refused_shown (Some (command.compile a b p)) before after how h shown = shown.0.
 refused_shown (Some (command.link a b d)) before after how h shown = shown.0.written
 refused_shown (Some (command.run a b l)) before after how h shown = elim shown.1 [
   | inl refused ↦ refused.1.written
-  | inr program ↦ elim program [ inl none ↦ none.1.written | inr ran ↦ ran_refused how ran.0 l before.streams after.streams h ran.1 ]
+  | inr program ↦ elim program.2 [ inl none ↦ none.1.written | inr ran ↦ ran_refused how ran.0.image l before.streams after.streams h ran.2 ]
 ]
 refused_shown (Some (command.xref a)) before after how h shown = elim shown.1.1 [
   | inl refused ↦ refused.1

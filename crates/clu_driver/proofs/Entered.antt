@@ -3,23 +3,29 @@ use Rattle.std.proofs.Common.{◌≡◌, ◌≤◌, ◌⊎◌, ℕ, List, Option
 use Rattle.std.specs.Char.{to_ascii_lowercase}
 use Rattle.clu_base.specs.Outside.{Files}
 use Rattle.clu_base.specs.declared.tokens.Token.{Token}
+use Rattle.clu_library.specs.Contents.{Contents}
 use Rattle.clu_tree.specs.declared.node.Node.{Node}
-use Rattle.clu_driver.specs.Found.{IsFound}
-use Rattle.clu_driver.specs.Libraries.{CompileShows, CompiledShows, IsUnreadable, LinkShows, LinkedShows, NotGathered, NotLibrary, SpecifiedShows, SpecifyShows}
+use Rattle.clu_driver.specs.Found.{IsFound, IsUnder, NotHad}
+use Rattle.clu_driver.specs.Held.{HasLibrary, IsLibrary, IsUnreadable, NotLibrary}
+use Rattle.clu_driver.specs.Libraries.{CompileShows, CompiledShows, LinkShows, LinkedShows, NotBeside, NotGathered, SpecifiedShows, SpecifyShows}
 use Rattle.clu_driver.specs.Shows.{Reported}
 use Rattle.clu_driver.specs.declared.specifying.Kept.{Kept}
-use Rattle.clu_driver.specs.Sources.{IsParsed, IsSource, NotGot, NotParsed, NotSource}
+use Rattle.clu_driver.specs.Sources.{IsParsed, IsSource, NotGot, NotSource}
 use Rattle.clu_outcome.specs.declared.outcome.Outcome.{Outcome}
 use Rattle.clu_outcome.specs.declared.outcome.Outcome.TheVariants as outcome
 use Rattle.clu_driver.proofs.Found.{found_with, not_parsed}
+use Rattle.clu_driver.proofs.Held.{under_with, unknown, unreadable}
 
--- a source whose content was not got is not parsed
-pub not_got : (how : Outcome) (name : List ℕ) (files : Option Files) (faults faults' : ℕ) → NotGot how name files faults faults' → NotParsed how name files faults faults'
-not_got (outcome.NoFile n) name files faults faults' why = why
-not_got (outcome.FileFault n) name files faults faults' why = why
-not_got (outcome.SourceTooLarge n) name files faults faults' why = why
-not_got outcome.Memory name files faults faults' why = why
-not_got _ name files faults faults' why = elim why [ ]
+-- a source whose content was not got is not read beside a library, nor one that breaks a rule
+pub not_got : (how : Outcome) (library file : List ℕ) (files : Option Files) (faults faults' : ℕ) → NotGot how file files faults faults' → NotBeside how library file files faults faults'
+not_got (outcome.Refused n r) library file files faults faults' why = elim why [ ]
+not_got _ library file files faults faults' why = why
+
+pub not_source : (how : Outcome) (library file bytes : List ℕ) (files : Option Files) (faults faults' : ℕ)
+    → IsUnder files library IsLibrary → IsFound files file (λ b. b ≡ bytes) → NotSource how file bytes → NotBeside how library file files faults faults'
+not_source (outcome.Refused n r) library file bytes files faults faults' known found why = (known, not_parsed (outcome.Refused n r) file bytes files faults faults' found why)
+not_source outcome.Memory library file bytes files faults faults' known found why = tt
+not_source _ library file bytes files faults faults' known found why = elim why [ ]
 
 -- a command that shows this shows that
 pub shown_as : (P Q : Outcome → Type 0) (status : ℕ) (old new : Option (List ℕ)) (faults faults' : ℕ)
@@ -27,52 +33,53 @@ pub shown_as : (P Q : Outcome → Type 0) (status : ℕ) (old new : Option (List
 shown_as P Q status old new faults faults' gives r = record { how = r.how; shown = gives r.how r.shown; told = r.told }
 
 -- reading library and source left the files as they were
-pub specify_shows : (kept : Kept) (how : Outcome) (library file bytes : List ℕ) (tokens : List Token) (nodes : List Node) (files read files' : Option Files) (faults between faults' : ℕ)
-    → IsFound files file (λ b. b ≡ bytes) → IsSource bytes tokens nodes → read ≡ files → faults ≤ between
-    → SpecifiedShows kept how library file read between files' faults' → SpecifyShows kept how library file files faults files' faults'
+pub specify_shows : (kept : Kept) (how : Outcome) (library file bytes : List ℕ) (tokens : List Token) (nodes : List Node) (known : Contents) (files read files' : Option Files) (faults between faults' : ℕ)
+    → HasLibrary files library known → IsFound files file (λ b. b ≡ bytes) → IsSource bytes tokens nodes → read ≡ files → faults ≤ between
+    → SpecifiedShows kept how library file known read between files' faults' → SpecifyShows kept how library file files faults files' faults'
 unfolding SpecifyShows
-specify_shows kept how library file bytes tokens nodes files read files' faults between faults' found source same counts shown =
-    let P : Option Files → Type 0 = λ f. SpecifiedShows kept how library file f between files' faults' in
-    inr (nodes, found_with (λ b. IsParsed b nodes) files file bytes found (tokens, source), (between, counts, subst P same shown))
+specify_shows kept how library file bytes tokens nodes known files read files' faults between faults' held found source same counts shown =
+    let P : Option Files → Type 0 = λ f. SpecifiedShows kept how library file known f between files' faults' in
+    inr (known, held, (nodes, found_with (λ b. IsParsed b nodes) files file bytes found (tokens, source), (between, counts, subst P same shown)))
 
-pub compile_shows : (how : Outcome) (library file bytes : List ℕ) (tokens : List Token) (nodes : List Node) (files read files' : Option Files) (faults between faults' : ℕ)
-    → IsFound files file (λ b. b ≡ bytes) → IsSource bytes tokens nodes → read ≡ files → faults ≤ between
-    → CompiledShows how library file nodes read between files' faults' → CompileShows how library file files faults files' faults'
+pub compile_shows : (how : Outcome) (library file bytes : List ℕ) (tokens : List Token) (nodes : List Node) (known : Contents) (files read files' : Option Files) (faults between faults' : ℕ)
+    → HasLibrary files library known → IsFound files file (λ b. b ≡ bytes) → IsSource bytes tokens nodes → read ≡ files → faults ≤ between
+    → CompiledShows how library file known nodes read between files' faults' → CompileShows how library file files faults files' faults'
 unfolding CompileShows
-compile_shows how library file bytes tokens nodes files read files' faults between faults' found source same counts shown =
-    let P : Option Files → Type 0 = λ f. CompiledShows how library file nodes f between files' faults' in
-    inr (nodes, found_with (λ b. IsParsed b nodes) files file bytes found (tokens, source), (between, counts, subst P same shown))
+compile_shows how library file bytes tokens nodes known files read files' faults between faults' held found source same counts shown =
+    let P : Option Files → Type 0 = λ f. CompiledShows how library file known nodes f between files' faults' in
+    inr (known, held, (nodes, found_with (λ b. IsParsed b nodes) files file bytes found (tokens, source), (between, counts, subst P same shown)))
 
-pub link_shows : (how : Outcome) (library program start : List ℕ) (files read files' : Option Files) (faults between faults' : ℕ)
-    → read ≡ files → faults ≤ between → LinkedShows how library program (map to_ascii_lowercase start) read between files' faults' → LinkShows how library program start files faults files' faults'
+pub link_shows : (how : Outcome) (library program start : List ℕ) (known : Contents) (files read files' : Option Files) (faults between faults' : ℕ)
+    → HasLibrary files library known → read ≡ files → faults ≤ between → LinkedShows how library program (map to_ascii_lowercase start) known read between files' faults' → LinkShows how library program start files faults files' faults'
 unfolding LinkShows
-link_shows how library program start files read files' faults between faults' same counts shown =
-    let P : Option Files → Type 0 = λ f. LinkedShows how library program (map to_ascii_lowercase start) f between files' faults' in
-    inr (between, counts, subst P same shown)
+link_shows how library program start known files read files' faults between faults' held same counts shown =
+    let P : Option Files → Type 0 = λ f. LinkedShows how library program (map to_ascii_lowercase start) known f between files' faults' in
+    inr (known, held, (between, counts, subst P same shown))
 
 -- a library or a source that was not got, or is none, is not gathered
-pub source_not_got : (how : Outcome) (library file : List ℕ) (files : Option Files) (faults between faults' : ℕ)
-    → faults ≤ between → NotGot how file files between faults' → NotGathered how library file files faults faults'
-source_not_got how library file files faults between faults' counts why = inr (between, counts, not_got how file files between faults' why)
+pub not_read : (how : Outcome) (library file bytes : List ℕ) (content : Option (List ℕ)) (files : Option Files) (faults between faults' : ℕ)
+    → faults ≤ between → IsUnder files library (λ c. c ≡ content) → IsFound files file (λ b. b ≡ bytes)
+    → IsUnreadable how content ⊎ (IsLibrary content × NotSource how file bytes) → NotGathered how library file files faults faults'
+not_read how library file bytes content files faults between faults' counts held found (inl why) = inl (unreadable how library files faults faults' content held why)
+not_read how library file bytes content files faults between faults' counts held found (inr why) =
+    inr (between, counts, not_source how library file bytes files between faults' (under_with IsLibrary files library content held why.0) found why.1)
 
-pub not_read : (how : Outcome) (library file bytes : List ℕ) (files : Option Files) (faults between faults' : ℕ)
-    → faults ≤ between → IsFound files file (λ b. b ≡ bytes) → IsUnreadable how ⊎ NotSource how file bytes → NotGathered how library file files faults faults'
-not_read how library file bytes files faults between faults' counts found (inl why) = inl (inl why)
-not_read how library file bytes files faults between faults' counts found (inr why) = inr (between, counts, not_parsed how file bytes files between faults' found why)
-
-pub gathered_refused : {X : Type 0} (result : Result X Outcome) (library file bytes : List ℕ) (files read : Option Files) (faults between faults' : ℕ)
-    → read ≡ files → faults ≤ between → IsFound read file (λ b. b ≡ bytes)
-    → IfErr result (λ how. IsUnreadable how ⊎ NotSource how file bytes) → IfErr result (λ how. NotGathered how library file files faults faults')
-gathered_refused (Ok both) library file bytes files read faults between faults' same counts found why = tt
-gathered_refused (Err how) library file bytes files read faults between faults' same counts found why =
+pub gathered_refused : {X : Type 0} (result : Result X Outcome) (library file bytes : List ℕ) (content : Option (List ℕ)) (files read : Option Files) (faults between faults' : ℕ)
+    → read ≡ files → faults ≤ between → IsUnder files library (λ c. c ≡ content) → IsFound read file (λ b. b ≡ bytes)
+    → IfErr result (λ how. IsUnreadable how content ⊎ (IsLibrary content × NotSource how file bytes)) → IfErr result (λ how. NotGathered how library file files faults faults')
+gathered_refused (Ok both) library file bytes content files read faults between faults' same counts held found why = tt
+gathered_refused (Err how) library file bytes content files read faults between faults' same counts held found why =
     let P : Option Files → Type 0 = λ f. IsFound f file (λ b. b ≡ bytes) in
-    not_read how library file bytes files faults between faults' counts (subst P same found) why
+    not_read how library file bytes content files faults between faults' counts held (subst P same found) why
 
 pub unread_source : (how : Outcome) (library file : List ℕ) (files read : Option Files) (faults between faults' : ℕ)
     → read ≡ files → faults ≤ between → NotGot how file read between faults' → NotGathered how library file files faults faults'
 unread_source how library file files read faults between faults' same counts why =
     let P : Option Files → Type 0 = λ f. NotGot how file f between faults' in
-    source_not_got how library file files faults between faults' counts (subst P same why)
+    inr (between, counts, not_got how library file files between faults' (subst P same why))
+
+pub unread_library : (how : Outcome) (library file : List ℕ) (files : Option Files) (faults faults' : ℕ) → NotHad how library faults faults' → NotGathered how library file files faults faults'
+unread_library how library file files faults faults' why = inl (unknown how library files faults faults' why)
 
 -- what was refused before anything was entered
 pub specify_refused : (kept : Kept) (how : Outcome) (library file : List ℕ) (files files' : Option Files) (faults faults' : ℕ)
@@ -86,6 +93,6 @@ unfolding CompileShows
 compile_refused how library file files files' faults faults' why same = inl (why, same)
 
 pub link_refused : (how : Outcome) (library program start : List ℕ) (files files' : Option Files) (faults faults' : ℕ)
-    → NotLibrary how library faults faults' → files' ≡ files → LinkShows how library program start files faults files' faults'
+    → NotLibrary how library files faults faults' → files' ≡ files → LinkShows how library program start files faults files' faults'
 unfolding LinkShows
 link_refused how library program start files files' faults faults' why same = inl (why, same)

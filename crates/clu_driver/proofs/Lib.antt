@@ -3,5 +3,6 @@ pub mod ByStatus
 pub mod FailureText
 pub mod Found
 pub mod Entered
+pub mod Held
 pub mod Repeated
 pub mod Runs

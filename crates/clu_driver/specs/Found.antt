@@ -8,6 +8,10 @@ use Rattle.clu_outcome.specs.declared.outcome.Outcome.TheVariants as outcome
 abbrev pub IsFound : Option Files → List ℕ → (List ℕ → Type 0) → Type 0
 IsFound files name P = IfSome files (λ all. (bytes : List ℕ) × (all name ≡ Some bytes) × P bytes)
 
+-- where files are told, this holds of what is under the name: a content, or none
+abbrev pub IsUnder : Option Files → List ℕ → (Option (List ℕ) → Type 0) → Type 0
+IsUnder files name P = IfSome files (λ all. P (all name))
+
 -- why it is not known what a file has, if anything: the store failed, or memory was refused
 abbrev pub NotHad : Outcome → List ℕ → ℕ → ℕ → Type 0
 NotHad (outcome.FileFault n) name faults faults' = (n.now ≡ name) × Rose faults faults'

@@ -1,6 +1,7 @@
 pub mod Commands
 pub mod Found
 pub mod Generated
+pub mod Held
 pub mod Libraries
 pub mod Puts
 pub mod Refusals

@@ -31,19 +31,19 @@ IsRefusalBy build.ProgramTooLarge how = how ≡ outcome.ProgramTooLarge
 IsRefusalBy build.Memory how = how ≡ outcome.Memory
 IsRefusalBy build.NotYet how = how ≡ outcome.NotYet
 
--- the modules of a source were not entered into some library
-abbrev pub NotEntered : Outcome → Type 0
-NotEntered how = (library : Contents) × (e : BuildError) × IsOfEntries e library × IsRefusalBy e how
+-- the modules of a source were not entered into a library
+abbrev pub NotEntered : Outcome → Contents → Type 0
+NotEntered how library = (e : BuildError) × IsOfEntries e library × IsRefusalBy e how
 
 -- what becomes of a kept specification decides for which reasons those of a source are refused
 abbrev pub IsOfSpecifying : Kept → BuildError → Contents → Type 0
 IsOfSpecifying kept.Stays e library = IsOfEntries e library
 IsOfSpecifying kept.Goes e library = IsOfReplacement e
 
--- the specifications of a source were not entered into some library
-abbrev pub NotSpecified : Kept → Outcome → Type 0
-NotSpecified kept how = (library : Contents) × (e : BuildError) × IsOfSpecifying kept e library × IsRefusalBy e how
+-- the specifications of a source were not entered into a library
+abbrev pub NotSpecified : Kept → Outcome → Contents → Type 0
+NotSpecified kept how library = (e : BuildError) × IsOfSpecifying kept e library × IsRefusalBy e how
 
--- no program with this start was entered into some library
-abbrev pub NotLinked : Outcome → List ℕ → Type 0
-NotLinked how start = (library : Contents) × (e : BuildError) × IsOfProgram e start (spec_of library start) × IsRefusalBy e how
+-- no program with this start was entered into a library
+abbrev pub NotLinked : Outcome → List ℕ → Contents → Type 0
+NotLinked how start library = (e : BuildError) × IsOfProgram e start (spec_of library start) × IsRefusalBy e how

@@ -1,8 +1,8 @@
 //! Reading and putting the files that the words name.
 
-ghost use Rattle.std.specs.Prelude.{◌≡◌, ◌≤◌, IfErr, IfOk, OnOk, take};
+ghost use Rattle.std.specs.Prelude.{◌≡◌, ◌≤◌, IfErr, IfOk, OnOk, option_map, take};
 ghost use Rattle.clu_driver.specs.Puts.{IsPut, NotPut};
-ghost use Rattle.clu_driver.specs.Found.{IsFound, NotHad, NotRead};
+ghost use Rattle.clu_driver.specs.Found.{IsFound, IsUnder, NotHad, NotRead};
 
 use clu_base::{Store, StoreError};
 use clu_outcome::Outcome;
@@ -35,6 +35,7 @@ pub fn content_if_any<'a, F: Store>(
 ) -> Result<Option<Vec<u8>>, Outcome<'a>>
     ensures counts { F.faults files.old ≤ F.faults files.new }
     ensures kept { F.files files.new ≡ F.files files.old }
+    ensures found { IfOk result (λ got. IsUnder (F.files files.old) name.now (λ content. content ≡ option_map (λ v. v.items) got)) }
     ensures refused { IfErr result (λ how. NotHad how name.now (F.faults files.old) (F.faults files.new)) }
 {
     match files.get(alloc, name) {

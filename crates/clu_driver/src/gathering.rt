@@ -1,8 +1,9 @@
 //! What the commands that enter a source into a library read: the library and the source.
 
-ghost use Rattle.std.specs.Prelude.{◌≡◌, ◌≤◌, ◌⊎◌, IfErr, IfOk, length};
+ghost use Rattle.std.specs.Prelude.{◌≡◌, ◌≤◌, ◌⊎◌, IfErr, IfOk, length, option_map};
 ghost use Rattle.clu_driver.specs.Found.{IsFound};
-ghost use Rattle.clu_driver.specs.Libraries.{IsUnreadable, NotGathered};
+ghost use Rattle.clu_driver.specs.Held.{HasLibrary, IsLibrary, IsLibraryOf, IsUnreadable};
+ghost use Rattle.clu_driver.specs.Libraries.{NotGathered};
 ghost use Rattle.clu_driver.specs.Sources.{IsSource, NotSource};
 
 use crate::file::content_if_any;
@@ -30,6 +31,7 @@ pub fn gather<'a, F: Store>(
 ) -> Result<Gathered, Outcome<'a>>
     ensures counts { F.faults files.old ≤ F.faults files.new }
     ensures kept { F.files files.new ≡ F.files files.old }
+    ensures library { IfOk result (λ g. HasLibrary (F.files files.old) library.now g.library.value) }
     ensures found { IfOk result (λ g. IsFound (F.files files.old) file.now (λ bytes. bytes ≡ g.source.value.bytes.items)) }
     ensures parsed { IfOk result (λ g. IsSource g.source.value.bytes.items g.source.value.tokens.items g.source.value.tree) }
     ensures refused { IfErr result (λ how. NotGathered how library.now file.now (F.files files.old) (F.faults files.old) (F.faults files.new)) }
@@ -51,9 +53,10 @@ fn read_both<'a>(
     bytes: Vec<u8>,
 ) -> Result<Gathered, Outcome<'a>>
     requires { length bytes.items ≤ 1_048_576 }
+    ensures library { IfOk result (λ g. IsLibraryOf (option_map (λ v. v.items) content) g.library.value) }
     ensures same { IfOk result (λ g. g.source.value.bytes.items ≡ bytes.items) }
     ensures parsed { IfOk result (λ g. IsSource g.source.value.bytes.items g.source.value.tokens.items g.source.value.tree) }
-    ensures refused { IfErr result (λ how. IsUnreadable how ⊎ NotSource how name.now bytes.items) }
+    ensures refused { IfErr result (λ how. IsUnreadable how (option_map (λ v. v.items) content) ⊎ (IsLibrary (option_map (λ v. v.items) content) × NotSource how name.now bytes.items)) }
 {
     let library = library_of(alloc, content)?;
     let source = boxed(alloc, name, bytes)?;

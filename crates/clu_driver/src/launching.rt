@@ -46,7 +46,7 @@ fn run_of<S: Source, K: Sink, E: Sink>(
     output: &mut K,
     errors: &mut E,
 ) -> u8
-    ensures told { Reported (λ how. ProgramShows how name.now (seen_limits limits)
+    ensures told { Reported (λ how. ProgramShows how name.now library.now (seen_limits limits)
         (streams_of (S.left input.old) (S.faults input.old) (K.written output.old) (K.faults output.old))
         (streams_of (S.left input.new) (S.faults input.new) (K.written output.new) (K.faults output.new)))
         result (E.written errors.old) (E.written errors.new) (E.faults errors.old) (E.faults errors.new) }

@@ -1,8 +1,9 @@
 //! Libraries as files. An absent file is an empty library.
 
-ghost use Rattle.std.specs.Prelude.{◌≡◌, ◌≤◌, IfErr, IfOk};
+ghost use Rattle.std.specs.Prelude.{◌≡◌, ◌≤◌, IfErr, IfOk, List, Option, Some, option_map, ℕ};
 ghost use Rattle.clu_library.specs.LibraryFile.{library_bytes};
-ghost use Rattle.clu_driver.specs.Libraries.{BytesShow, IsUnreadable, IsUnwritable, LibraryShows, NotLibrary};
+ghost use Rattle.clu_driver.specs.Held.{HasLibrary, IsLibraryOf, IsUnreadable, NotLibrary};
+ghost use Rattle.clu_driver.specs.Libraries.{BytesShow, IsUnwritable, LibraryShows};
 ghost use Rattle.clu_driver.specs.Shows.{Reported};
 
 use crate::file::{content_if_any, put};
@@ -19,7 +20,8 @@ pub fn library_in<'a, F: Store>(
 ) -> Result<Box<Library>, Outcome<'a>>
     ensures counts { F.faults files.old ≤ F.faults files.new }
     ensures kept { F.files files.new ≡ F.files files.old }
-    ensures refused { IfErr result (λ how. NotLibrary how name.now (F.faults files.old) (F.faults files.new)) }
+    ensures library { IfOk result (λ library. HasLibrary (F.files files.old) name.now library.value) }
+    ensures refused { IfErr result (λ how. NotLibrary how name.now (F.files files.old) (F.faults files.old) (F.faults files.new)) }
 {
     let content = content_if_any(alloc, name, files)?;
     library_of(alloc, content)
@@ -27,7 +29,8 @@ pub fn library_in<'a, F: Store>(
 
 /// The library of a file's content. The outcomes are `LibraryBad` and `Memory`.
 pub fn library_of<'a>(alloc: Global, content: Option<Vec<u8>>) -> Result<Box<Library>, Outcome<'a>>
-    ensures { IfErr result IsUnreadable }
+    ensures library { IfOk result (λ library. IsLibraryOf (option_map (λ v. v.items) content) library.value) }
+    ensures refused { IfErr result (λ how. IsUnreadable how (option_map (λ v. v.items) content)) }
 {
     match content {
         Some(bytes) => read(alloc, &bytes),
@@ -36,7 +39,8 @@ pub fn library_of<'a>(alloc: Global, content: Option<Vec<u8>>) -> Result<Box<Lib
 }
 
 fn read<'a>(alloc: Global, bytes: &[u8]) -> Result<Box<Library>, Outcome<'a>>
-    ensures { IfErr result IsUnreadable }
+    ensures library { IfOk result (λ library. IsLibraryOf (Some bytes.now) library.value) }
+    ensures refused { IfErr result (λ how. IsUnreadable how (Some bytes.now)) }
 {
     match Library::read(alloc, bytes) {
         Ok(library) => boxed(alloc, library),
@@ -46,7 +50,8 @@ fn read<'a>(alloc: Global, bytes: &[u8]) -> Result<Box<Library>, Outcome<'a>>
 }
 
 fn boxed<'a>(alloc: Global, library: Library) -> Result<Box<Library>, Outcome<'a>>
-    ensures { IfErr result IsUnreadable }
+    ensures same { IfOk result (λ kept. kept.value ≡ library) }
+    ensures refused { IfErr result (λ how. (content : Option (List ℕ)) → IsUnreadable how content) }
 {
     match Box::new(alloc, library) {
         Ok(library) => Ok(library),

@@ -44,7 +44,7 @@ fn link_and_put<E: Sink, F: Store>(
     errors: &mut E,
     files: &mut F,
 ) -> u8
-    ensures told { Reported (λ how. LinkedShows how name.now program.now (map to_ascii_lowercase start.now) (F.files files.old) (F.faults files.old) (F.files files.new) (F.faults files.new))
+    ensures told { Reported (λ how. LinkedShows how name.now program.now (map to_ascii_lowercase start.now) library.old (F.files files.old) (F.faults files.old) (F.files files.new) (F.faults files.new))
         result (E.written errors.old) (E.written errors.new) (E.faults errors.old) (E.faults errors.new) }
 {
     match linked(alloc, library, program, start) {

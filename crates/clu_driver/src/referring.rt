@@ -1,7 +1,8 @@
 //! The command `xref`: writes which modules of a library name which.
 
 ghost use Rattle.std.specs.Prelude.{◌≡◌, ◌≤◌, IfErr, IfOk};
-ghost use Rattle.clu_driver.specs.Libraries.{IsReferenceText, NotLibrary, XrefShows};
+ghost use Rattle.clu_driver.specs.Held.{NotLibrary};
+ghost use Rattle.clu_driver.specs.Libraries.{IsReferenceText, XrefShows};
 ghost use Rattle.clu_driver.specs.Shows.{Reported};
 
 use crate::libraries::library_in;
@@ -38,8 +39,8 @@ fn references<'a, F: Store>(
 ) -> Result<Vec<u8>, Outcome<'a>>
     ensures counts { F.faults files.old ≤ F.faults files.new }
     ensures kept { F.files files.new ≡ F.files files.old }
-    ensures text { IfOk result (λ text. IsReferenceText text.items) }
-    ensures refused { IfErr result (λ how. NotLibrary how name.now (F.faults files.old) (F.faults files.new)) }
+    ensures text { IfOk result (λ text. IsReferenceText (F.files files.old) name.now text.items) }
+    ensures refused { IfErr result (λ how. NotLibrary how name.now (F.files files.old) (F.faults files.old) (F.faults files.new)) }
 {
     let library = library_in(alloc, name, files)?;
     match cross_reference(alloc, &library) {

@@ -5,7 +5,7 @@ pub returns-in-Ok : goal.returns-in-Ok
 returns-in-Ok g c =
     let read = c.gather.ensures in
     let known = c.in-Ok.ensures in
-    record { told = shown_as _ _ _ _ _ _ _ (λ how. specify_shows c.args.kept how _ _ _ _ _ _ _ _ _ _ _ known.found known.parsed read.kept read.counts) c.specify_source.ensures.told }
+    record { told = shown_as _ _ _ _ _ _ _ (λ how. specify_shows c.args.kept how _ _ _ _ _ _ _ _ _ _ _ _ known.library known.found known.parsed read.kept read.counts) c.specify_source.ensures.told }
 
 pub returns-in-Err : goal.returns-in-Err
 returns-in-Err g c =
