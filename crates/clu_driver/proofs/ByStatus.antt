@@ -48,7 +48,7 @@ not_gathered library file files faults faults' (inr unparsed) = unparsed.2
 
 not_put : (name : List ℕ) (kept : library.Contents) (files files' : Option Files) (faults faults' : ℕ) → LibraryShows outcome.Usage name kept files files' faults faults' → ⊥
 not_put name kept files files' faults faults' (inl unwritable) = unwritable.0
-not_put name kept files files' faults faults' (inr torn) = torn
+not_put name kept files files' faults faults' (inr torn) = torn.1
 
 -- no refusal of an entry comes to it
 not_refused : (e : BuildError) → IsRefusalBy e outcome.Usage → ⊥

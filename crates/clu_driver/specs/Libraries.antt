@@ -44,12 +44,12 @@ IsUnwritable outcome.Memory = Unit {0}
 IsUnwritable outcome.NotYet = Unit {0}
 IsUnwritable _ = ⊥
 
--- this library was put, or why it was not
+-- the bytes of this library were put, which are read again as one, or why they were not
 abbrev pub LibraryShows : Outcome → List ℕ → Contents → Option Files → Option Files → ℕ → ℕ → Type 0
 LibraryShows how name kept files files' faults faults' =
-    (IsUnwritable how × (files' ≡ files)) ⊎ BytesShow how name (library_bytes kept) files files' faults faults'
+    (IsUnwritable how × (files' ≡ files)) ⊎ (IsLibrary (Some (library_bytes kept)) × BytesShow how name (library_bytes kept) files files' faults faults')
 
--- some library was
+-- those of some library were
 abbrev pub KeptShows : Outcome → List ℕ → Option Files → Option Files → ℕ → ℕ → Type 0
 KeptShows how name files files' faults faults' = (kept : Contents) × LibraryShows how name kept files files' faults faults'
 

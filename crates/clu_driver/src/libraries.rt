@@ -1,8 +1,8 @@
 //! Libraries as files. An absent file is an empty library.
 
-ghost use Rattle.std.specs.Prelude.{◌≡◌, ◌≤◌, IfErr, IfOk, List, Option, Some, option_map, ℕ};
+ghost use Rattle.std.specs.Prelude.{◌≡◌, ◌≤◌, IfErr, IfOk, List, OnOk, Option, Some, option_map, ℕ};
 ghost use Rattle.clu_library.specs.LibraryFile.{library_bytes};
-ghost use Rattle.clu_driver.specs.Held.{HasLibrary, IsLibraryOf, IsUnreadable, NotLibrary};
+ghost use Rattle.clu_driver.specs.Held.{HasLibrary, IsLibrary, IsLibraryOf, IsUnreadable, NotLibrary};
 ghost use Rattle.clu_driver.specs.Libraries.{BytesShow, IsUnwritable, LibraryShows};
 ghost use Rattle.clu_driver.specs.Shows.{Reported};
 
@@ -76,9 +76,10 @@ pub fn put_library<E: Sink, F: Store>(
     }
 }
 
-// The file of a library. No contract shows yet that it can be read: it is tried.
+// The file of a library. No contract shows yet that every library is read again: it is tried.
 fn file_of<'a>(alloc: Global, library: &Library) -> Result<Bytes, Outcome<'a>>
     ensures bytes { IfOk result (λ b. b ≡ library_bytes library.now) }
+    ensures read { OnOk result (IsLibrary (Some (library_bytes library.now))) }
     ensures refused { IfErr result IsUnwritable }
 {
     match library.write(alloc) {
