@@ -1,9 +1,11 @@
 -- Files that are checked: which refusal comes first. Each is the tree of the CLU above it.
-use Rattle.std.specs.Prelude.{refl, List, [], ◌∷◌, codes, Some, None}
+use Rattle.std.specs.Prelude.{◌≡◌, refl, List, [], ◌∷◌, codes, Some, None}
 use Rattle.clu_base.specs.declared.rules.Rule.TheVariants as rule
 use Rattle.clu_tree.specs.declared.node.Node.{Node}
 use Rattle.clu_tree.specs.declared.node.NodeKind.TheVariants as kind
-use Rattle.clu_checking.proofs.Checking.{n, IsRefused, checking}
+use Rattle.clu_checking.specs.Files.{File}
+use Rattle.clu_checking.specs.Refusals.{checked_file, refusal_below}
+use Rattle.clu_checking.proofs.Checking.{n, surroundings, IsRefused, checking}
 
 -- c = cluster is m rep = 1 m = proc () end m end c
 -- p = proc (x: q) end p
@@ -285,3 +287,28 @@ module_named_stream_nodes =
 module_named_stream : IsRefused module_named_stream_nodes rule.DefinedTwice 1 1
 unfolding checking
 module_named_stream = refl
+
+-- ---- the first refusal of one statement alone
+
+-- p = proc () x: int := 1 + "a" y: int := 2 + zork end p
+abbrev statements_nodes : List Node
+statements_nodes =
+    (n kind.Simple 1 16 7 7 [] [] (codes "int") (Some 7) ∷ n kind.Literal 1 23 9 9 [] [] (codes "1") (Some 9) ∷ n
+    kind.Literal 1 27 11 11 [] [] (34 ∷ 97 ∷ 34 ∷ []) (Some 11) ∷ n kind.Infix 1 25 9 11 (1 ∷ 2 ∷ []) [] (codes "+")
+    (Some 10) ∷ n kind.Init 1 13 5 11 (0 ∷ 3 ∷ []) ((codes "x") ∷ []) [] None ∷ n kind.Simple 1 34 14 14 [] [] (codes
+    "int") (Some 14) ∷ n kind.Literal 1 41 16 16 [] [] (codes "2") (Some 16) ∷ n kind.Name 1 45 18 18 [] ((codes
+    "zork") ∷ []) [] None ∷ n kind.Infix 1 43 16 18 (6 ∷ 7 ∷ []) [] (codes "+") (Some 17) ∷ n kind.Init 1 31 12 18 (5
+    ∷ 8 ∷ []) ((codes "y") ∷ []) [] None ∷ n kind.Routine 1 1 0 20 (4 ∷ 9 ∷ []) ((codes "p") ∷ (codes "p") ∷ [])
+    (codes "proc") (Some 2) ∷ n kind.Module 1 1 0 20 (10 ∷ []) [] [] None ∷ n kind.File 1 1 0 20 (11 ∷ []) [] [] None
+    ∷ [])
+
+abbrev statements_file : File
+statements_file = checked_file statements_nodes (surroundings statements_nodes) []
+
+first_statement_refused : refusal_below statements_file 4 ≡ Some (record { rule = rule.ArgumentType; place = record { line = 1; col = 25 } })
+unfolding checking
+first_statement_refused = refl
+
+second_statement_refused : refusal_below statements_file 9 ≡ Some (record { rule = rule.UnknownName; place = record { line = 1; col = 45 } })
+unfolding checking
+second_statement_refused = refl

@@ -1,9 +1,13 @@
 -- Files that are checked: raises, arms and tags. Each is the tree of the CLU above it.
-use Rattle.std.specs.Prelude.{refl, List, [], ◌∷◌, codes, Some, None}
+use Rattle.std.specs.Prelude.{◌≡◌, refl, List, [], ◌∷◌, codes, Some, None}
 use Rattle.clu_base.specs.declared.rules.Rule.TheVariants as rule
 use Rattle.clu_tree.specs.declared.node.Node.{Node}
 use Rattle.clu_tree.specs.declared.node.NodeKind.TheVariants as kind
-use Rattle.clu_checking.proofs.Checking.{n, IsRefused, IsFine, checking}
+use Rattle.clu_types.specs.CluType.{no_types}
+use Rattle.clu_checking.specs.Files.{File, item}
+use Rattle.clu_checking.specs.Raising.{failure, by_routine}
+use Rattle.clu_checking.specs.Refusals.{checked_file}
+use Rattle.clu_checking.proofs.Checking.{n, surroundings, IsRefused, IsFine, checking}
 
 -- p = proc () q() except when failure: end end p q = proc () end q
 abbrev failure_of_an_invocation_nodes : List Node
@@ -321,3 +325,41 @@ number_for_a_bad_declaration_nodes =
 number_for_a_bad_declaration : IsRefused number_for_a_bad_declaration_nodes rule.SignalTypes 1 19
 unfolding checking
 number_for_a_bad_declaration = refl
+
+-- ---- the raises of a routine's body
+
+-- p = proc (n: int) signals (e(int))
+--   m: int := 1
+--   begin q() resignal e end except when f (s: string): signal e(m) end
+-- end p
+-- q = proc () signals (e(int), f(string), g) end q
+abbrev body_nodes : List Node
+body_nodes =
+    (n kind.Simple 1 14 6 6 [] [] (codes "int") (Some 6) ∷ n kind.Decl 1 11 4 6 (0 ∷ []) ((codes "n") ∷ []) [] None ∷
+    n kind.Simple 1 30 12 12 [] [] (codes "int") (Some 12) ∷ n kind.Exc 1 28 10 13 (2 ∷ []) ((codes "e") ∷ []) [] None
+    ∷ n kind.Signals 1 19 8 14 (3 ∷ []) [] [] None ∷ n kind.Simple 2 6 17 17 [] [] (codes "int") (Some 17) ∷ n
+    kind.Literal 2 13 19 19 [] [] (codes "1") (Some 19) ∷ n kind.Init 2 3 15 19 (5 ∷ 6 ∷ []) ((codes "m") ∷ []) []
+    None ∷ n kind.Name 3 9 21 21 [] ((codes "q") ∷ []) [] None ∷ n kind.Call 3 10 21 23 (8 ∷ []) [] [] None ∷ n
+    kind.CallS 3 9 21 23 (9 ∷ []) [] [] None ∷ n kind.Resignal 3 13 21 25 (10 ∷ []) ((codes "e") ∷ []) [] None ∷ n
+    kind.Begin 3 3 20 26 (11 ∷ []) [] [] None ∷ n kind.Simple 3 46 33 33 [] [] (codes "string") (Some 33) ∷ n
+    kind.Decl 3 43 31 33 (13 ∷ []) ((codes "s") ∷ []) [] None ∷ n kind.Name 3 64 39 39 [] ((codes "m") ∷ []) [] None ∷
+    n kind.Signal 3 55 36 40 (15 ∷ []) ((codes "e") ∷ []) [] None ∷ n kind.When 3 35 28 40 (14 ∷ 16 ∷ []) ((codes "f")
+    ∷ []) [] None ∷ n kind.Except 3 28 20 41 (12 ∷ 17 ∷ []) [] [] None ∷ n kind.Routine 1 1 0 43 (1 ∷ 4 ∷ 7 ∷ 18 ∷ [])
+    ((codes "p") ∷ (codes "p") ∷ []) (codes "proc") (Some 2) ∷ n kind.Module 1 1 0 43 (19 ∷ []) [] [] None ∷ n
+    kind.Simple 5 24 53 53 [] [] (codes "int") (Some 53) ∷ n kind.Exc 5 22 51 54 (21 ∷ []) ((codes "e") ∷ []) [] None
+    ∷ n kind.Simple 5 32 58 58 [] [] (codes "string") (Some 58) ∷ n kind.Exc 5 30 56 59 (23 ∷ []) ((codes "f") ∷ [])
+    [] None ∷ n kind.Exc 5 41 61 61 [] ((codes "g") ∷ []) [] None ∷ n kind.Signals 5 13 49 62 (22 ∷ 24 ∷ 25 ∷ []) []
+    [] None ∷ n kind.Routine 5 1 44 64 (26 ∷ []) ((codes "q") ∷ (codes "q") ∷ []) (codes "proc") (Some 46) ∷ n
+    kind.Module 5 1 44 64 (27 ∷ []) [] [] None ∷ n kind.File 1 1 0 64 (20 ∷ 28 ∷ []) [] [] None ∷ [])
+
+body_accepted : IsFine body_nodes
+unfolding checking
+body_accepted = refl
+
+abbrev body_file : File
+body_file = checked_file body_nodes (surroundings body_nodes) []
+
+-- those of the invocation but for e and f, and the use of m in the arm
+body_raises : by_routine body_file (item body_file 19).routine ≡ failure ∷ (codes "g", no_types) ∷ failure ∷ []
+unfolding checking
+body_raises = refl

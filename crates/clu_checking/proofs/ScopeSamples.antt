@@ -386,3 +386,50 @@ loop_variables_twice_nodes =
 loop_variables_twice : IsRefused loop_variables_twice_nodes rule.DefinedTwice 1 25
 unfolding checking
 loop_variables_twice = refl
+
+-- p = proc () a = {u | u has f: proctype (u)} u = a end p
+abbrev equate_after_the_variable_of_a_set_nodes : List Node
+equate_after_the_variable_of_a_set_nodes =
+    (n kind.NameT 1 41 16 16 [] ((codes "u") ∷ []) [] None ∷ n kind.RoutineT 1 31 14 17 (0 ∷ []) [] (codes "proctype")
+    (Some 14) ∷ n kind.Oper 1 28 12 17 (1 ∷ []) ((codes "f") ∷ []) [] None ∷ n kind.TypeSet 1 17 7 18 (2 ∷ []) ((codes
+    "u") ∷ (codes "u") ∷ []) [] None ∷ n kind.Equate 1 13 5 18 (3 ∷ []) ((codes "a") ∷ []) [] None ∷ n kind.Name 1 49
+    21 21 [] ((codes "a") ∷ []) [] None ∷ n kind.Equate 1 45 19 21 (5 ∷ []) ((codes "u") ∷ []) [] None ∷ n
+    kind.Routine 1 1 0 23 (4 ∷ 6 ∷ []) ((codes "p") ∷ (codes "p") ∷ []) (codes "proc") (Some 2) ∷ n kind.Module 1 1 0
+    23 (7 ∷ []) [] [] None ∷ n kind.File 1 1 0 23 (8 ∷ []) [] [] None ∷ [])
+
+equate_after_the_variable_of_a_set : IsRefused equate_after_the_variable_of_a_set_nodes rule.CircularEquate 1 41
+unfolding checking
+equate_after_the_variable_of_a_set = refl
+
+-- c = cluster is f rep = int f = proc (x: oneof[a: int]) tagcase x tag a (g: int): y: int := g end end f g = proc () end g end c
+abbrev routine_after_the_variable_of_an_arm_nodes : List Node
+routine_after_the_variable_of_an_arm_nodes =
+    (n kind.Simple 1 24 7 7 [] [] (codes "int") (Some 7) ∷ n kind.Equate 1 18 5 7 (0 ∷ []) [] (codes "rep") (Some 5) ∷
+    n kind.Simple 1 50 18 18 [] [] (codes "int") (Some 18) ∷ n kind.FieldT 1 47 16 18 (2 ∷ []) ((codes "a") ∷ []) []
+    None ∷ n kind.FieldsT 1 41 14 19 (3 ∷ []) [] (codes "oneof") (Some 14) ∷ n kind.Decl 1 38 12 19 (4 ∷ []) ((codes
+    "x") ∷ []) [] None ∷ n kind.Name 1 64 22 22 [] ((codes "x") ∷ []) [] None ∷ n kind.Simple 1 76 28 28 [] [] (codes
+    "int") (Some 28) ∷ n kind.Simple 1 85 33 33 [] [] (codes "int") (Some 33) ∷ n kind.Name 1 92 35 35 [] ((codes "g")
+    ∷ []) [] None ∷ n kind.Init 1 82 31 35 (8 ∷ 9 ∷ []) ((codes "y") ∷ []) [] None ∷ n kind.TagArm 1 66 23 35 (7 ∷ 10
+    ∷ []) ((codes "a") ∷ (codes "g") ∷ []) [] None ∷ n kind.Tagcase 1 56 21 36 (6 ∷ 11 ∷ []) [] [] None ∷ n
+    kind.Routine 1 28 8 38 (5 ∷ 12 ∷ []) ((codes "f") ∷ (codes "f") ∷ []) (codes "proc") (Some 10) ∷ n kind.Routine 1
+    104 39 45 [] ((codes "g") ∷ (codes "g") ∷ []) (codes "proc") (Some 41) ∷ n kind.Cluster 1 1 0 47 (1 ∷ 13 ∷ 14 ∷
+    []) ((codes "c") ∷ (codes "f") ∷ (codes "c") ∷ []) [] None ∷ n kind.Module 1 1 0 47 (15 ∷ []) [] [] None ∷ n
+    kind.File 1 1 0 47 (16 ∷ []) [] [] None ∷ [])
+
+routine_after_the_variable_of_an_arm : IsRefused routine_after_the_variable_of_an_arm_nodes rule.AssignType 1 82
+unfolding checking
+routine_after_the_variable_of_an_arm = refl
+
+-- p = proc [n: int] () where n has f: proctype (), f: int end p
+abbrev demands_of_a_constant_parameter_nodes : List Node
+demands_of_a_constant_parameter_nodes =
+    (n kind.Simple 1 14 6 6 [] [] (codes "int") (Some 6) ∷ n kind.Parm 1 11 4 6 (0 ∷ []) ((codes "n") ∷ []) [] None ∷
+    n kind.RoutineT 1 37 15 17 [] [] (codes "proctype") (Some 15) ∷ n kind.Oper 1 34 13 17 (2 ∷ []) ((codes "f") ∷ [])
+    [] None ∷ n kind.Simple 1 53 21 21 [] [] (codes "int") (Some 21) ∷ n kind.Oper 1 50 19 21 (4 ∷ []) ((codes "f") ∷
+    []) [] None ∷ n kind.Restrict 1 28 11 21 (3 ∷ 5 ∷ []) ((codes "n") ∷ []) (codes "has") (Some 12) ∷ n kind.Where 1
+    22 10 21 (6 ∷ []) [] [] None ∷ n kind.Routine 1 1 0 23 (1 ∷ 7 ∷ []) ((codes "p") ∷ (codes "p") ∷ []) (codes
+    "proc") (Some 2) ∷ n kind.Module 1 1 0 23 (8 ∷ []) [] [] None ∷ n kind.File 1 1 0 23 (9 ∷ []) [] [] None ∷ [])
+
+demands_of_a_constant_parameter : IsRefused demands_of_a_constant_parameter_nodes rule.NotType 1 28
+unfolding checking
+demands_of_a_constant_parameter = refl

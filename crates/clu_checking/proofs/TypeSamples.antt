@@ -152,3 +152,50 @@ module_without_its_actuals_nodes =
 module_without_its_actuals : IsRefused module_without_its_actuals_nodes rule.ParameterKind 1 13
 unfolding checking
 module_without_its_actuals = refl
+
+-- t = int x = t[int] p = proc () end p
+abbrev type_with_brackets_as_a_constant_nodes : List Node
+type_with_brackets_as_a_constant_nodes =
+    (n kind.Simple 1 5 2 2 [] [] (codes "int") (Some 2) ∷ n kind.Equate 1 1 0 2 (0 ∷ []) ((codes "t") ∷ []) [] None ∷
+    n kind.Name 1 13 5 5 [] ((codes "t") ∷ []) [] None ∷ n kind.Simple 1 15 7 7 [] [] (codes "int") (Some 7) ∷ n
+    kind.Index 1 14 5 8 (2 ∷ 3 ∷ []) [] [] None ∷ n kind.Equate 1 9 3 8 (4 ∷ []) ((codes "x") ∷ []) [] None ∷ n
+    kind.Routine 1 20 9 15 [] ((codes "p") ∷ (codes "p") ∷ []) (codes "proc") (Some 11) ∷ n kind.Module 1 1 0 15 (1 ∷
+    5 ∷ 6 ∷ []) [] [] None ∷ n kind.File 1 1 0 15 (7 ∷ []) [] [] None ∷ [])
+
+type_with_brackets_as_a_constant : IsRefused type_with_brackets_as_a_constant_nodes rule.ParameterKind 1 14
+unfolding checking
+type_with_brackets_as_a_constant = refl
+
+-- s = {u | u has f: proctype (u)} x = s[int] p = proc () end p
+abbrev set_with_brackets_as_a_constant_nodes : List Node
+set_with_brackets_as_a_constant_nodes =
+    (n kind.NameT 1 29 11 11 [] ((codes "u") ∷ []) [] None ∷ n kind.RoutineT 1 19 9 12 (0 ∷ []) [] (codes "proctype")
+    (Some 9) ∷ n kind.Oper 1 16 7 12 (1 ∷ []) ((codes "f") ∷ []) [] None ∷ n kind.TypeSet 1 5 2 13 (2 ∷ []) ((codes
+    "u") ∷ (codes "u") ∷ []) [] None ∷ n kind.Equate 1 1 0 13 (3 ∷ []) ((codes "s") ∷ []) [] None ∷ n kind.Name 1 37
+    16 16 [] ((codes "s") ∷ []) [] None ∷ n kind.Simple 1 39 18 18 [] [] (codes "int") (Some 18) ∷ n kind.Index 1 38
+    16 19 (5 ∷ 6 ∷ []) [] [] None ∷ n kind.Equate 1 33 14 19 (7 ∷ []) ((codes "x") ∷ []) [] None ∷ n kind.Routine 1 44
+    20 26 [] ((codes "p") ∷ (codes "p") ∷ []) (codes "proc") (Some 22) ∷ n kind.Module 1 1 0 26 (4 ∷ 8 ∷ 9 ∷ []) [] []
+    None ∷ n kind.File 1 1 0 26 (10 ∷ []) [] [] None ∷ [])
+
+set_with_brackets_as_a_constant : IsRefused set_with_brackets_as_a_constant_nodes rule.ParameterKind 1 38
+unfolding checking
+set_with_brackets_as_a_constant = refl
+
+-- s = {u | u has f: proctype (u)} p = proc (x: c[s[int]]) end p c = cluster [t: type] is m rep = int m = proc () end m end c
+abbrev set_with_brackets_as_an_actual_nodes : List Node
+set_with_brackets_as_an_actual_nodes =
+    (n kind.NameT 1 29 11 11 [] ((codes "u") ∷ []) [] None ∷ n kind.RoutineT 1 19 9 12 (0 ∷ []) [] (codes "proctype")
+    (Some 9) ∷ n kind.Oper 1 16 7 12 (1 ∷ []) ((codes "f") ∷ []) [] None ∷ n kind.TypeSet 1 5 2 13 (2 ∷ []) ((codes
+    "u") ∷ (codes "u") ∷ []) [] None ∷ n kind.Equate 1 1 0 13 (3 ∷ []) ((codes "s") ∷ []) [] None ∷ n kind.Name 1 48
+    22 22 [] ((codes "s") ∷ []) [] None ∷ n kind.Simple 1 50 24 24 [] [] (codes "int") (Some 24) ∷ n kind.Index 1 49
+    22 25 (5 ∷ 6 ∷ []) [] [] None ∷ n kind.NameT 1 46 20 26 (7 ∷ []) ((codes "c") ∷ []) [] None ∷ n kind.Decl 1 43 18
+    26 (8 ∷ []) ((codes "x") ∷ []) [] None ∷ n kind.Routine 1 33 14 29 (9 ∷ []) ((codes "p") ∷ (codes "p") ∷ [])
+    (codes "proc") (Some 16) ∷ n kind.Module 1 1 0 29 (4 ∷ 10 ∷ []) [] [] None ∷ n kind.Parm 1 76 34 36 [] ((codes
+    "t") ∷ []) (codes "type") (Some 36) ∷ n kind.Simple 1 96 42 42 [] [] (codes "int") (Some 42) ∷ n kind.Equate 1 90
+    40 42 (13 ∷ []) [] (codes "rep") (Some 40) ∷ n kind.Routine 1 100 43 49 [] ((codes "m") ∷ (codes "m") ∷ []) (codes
+    "proc") (Some 45) ∷ n kind.Cluster 1 63 30 51 (12 ∷ 14 ∷ 15 ∷ []) ((codes "c") ∷ (codes "m") ∷ (codes "c") ∷ [])
+    [] None ∷ n kind.Module 1 63 30 51 (16 ∷ []) [] [] None ∷ n kind.File 1 1 0 51 (11 ∷ 17 ∷ []) [] [] None ∷ [])
+
+set_with_brackets_as_an_actual : IsRefused set_with_brackets_as_an_actual_nodes rule.ParameterKind 1 49
+unfolding checking
+set_with_brackets_as_an_actual = refl

@@ -17,7 +17,7 @@ use Rattle.clu_meaning.specs.Scoping.{Meaning, is_equate, is_type_set, is_type_p
 use Rattle.clu_meaning.specs.Settling.{Value, settled_type, settled_constant, settled_parameter, settled}
 use Rattle.clu_checking.specs.Specifications.{Form, of_routine, of_cluster, Specification}
 use Rattle.clu_checking.specs.Files.{File, item, kind_in, is_kind, is_kind_at, stands_in, parent, parent_of, names, round, meaning, is_of_module, equate_named}
-use Rattle.clu_checking.specs.Equates.{is_circular, set_named}
+use Rattle.clu_checking.specs.Equates.{set_named, is_bad_name}
 use Rattle.clu_checking.specs.Headings.{specification, kind_of_parameter, parameter_type}
 use Rattle.clu_checking.specs.Typing.{is_type_value, takes_actuals}
 use Rattle.clu_checking.specs.Invocations.{is_object_wanted}
@@ -229,18 +229,6 @@ module _ (f : File) where
 module _ (f : File) (bad : ℕ → Bool) where
   -- ---- names of equates that are bad
 
-  -- of a circle V7 is asked alone
-  abbrev pub bad_unless : Bool → ℕ → Bool
-  bad_unless true e = false
-  bad_unless false e = bad e
-
-  abbrev pub is_bad_at : Option ℕ → Bool
-  is_bad_at (Some e) = bad_unless (is_circular f e) e
-  is_bad_at None = false
-
-  abbrev pub is_bad_name : ℕ → Identifier → Bool
-  is_bad_name n name = is_bad_at (equate_named f n name)
-
   abbrev pub wants_type_round : Option ℕ → Bool
   wants_type_round (Some p) = is_constant_wanted (wanted f p) && wants_type f p
   wants_type_round None = false
@@ -252,14 +240,14 @@ module _ (f : File) (bad : ℕ → Bool) where
   is_type_wanted _ n = false
 
   abbrev pub has_bad_constant : NodeKind → ℕ → Bool
-  has_bad_constant kind.Name n = is_bad_name n (first_name_at f n) && not (is_type_wanted (wanted f n) n)
+  has_bad_constant kind.Name n = is_bad_name f bad n (first_name_at f n) && not (is_type_wanted (wanted f n) n)
   has_bad_constant _ n = false
 
   abbrev pub has_bad_type : NodeKind → ℕ → Bool
-  has_bad_type kind.Name n = is_bad_name n (first_name_at f n) && is_type_wanted (wanted f n) n
-  has_bad_type kind.NameT n = is_bad_name n (first_name_at f n)
-  has_bad_type kind.Simple n = is_word simple.Rep (item f n).type && is_bad_name n (codes "rep")
-  has_bad_type kind.Restrict n = list_any (is_bad_name n) (names f n)
+  has_bad_type kind.Name n = is_bad_name f bad n (first_name_at f n) && is_type_wanted (wanted f n) n
+  has_bad_type kind.NameT n = is_bad_name f bad n (first_name_at f n)
+  has_bad_type kind.Simple n = is_word simple.Rep (item f n).type && is_bad_name f bad n (codes "rep")
+  has_bad_type kind.Restrict n = list_any (is_bad_name f bad n) (names f n)
   has_bad_type _ n = false
 
   -- V8: a constant is wanted and this is none, or it is the name of a bad equate

@@ -1,15 +1,24 @@
 -- Equates that lead to themselves, and the type sets that names stand for. What else a name is equated to is settled by
 -- clu_meaning, whether a rule is violated on the way or not.
-use Rattle.std.specs.Prelude.{ℕ, zero, suc, Bool, true, false, List, [], ◌∷◌, length, is_some, codes, Option, Some, None, map, flat_map, ◌++◌}
+use Rattle.std.specs.Prelude.{ℕ, zero, suc, Bool, true, false, List, [], ◌∷◌, length, is_some, codes, if◌then◌else◌, Option, Some, None, map, flat_map, ◌++◌}
 use Rattle.std.specs.List.{list_any}
 use Rattle.clu_tree.specs.declared.node.NodeKind.{NodeKind}
 use Rattle.clu_tree.specs.declared.node.NodeKind.TheVariants as kind
+use Rattle.clu_types.specs.CluType.{CluType}
 use Rattle.clu_syntax.specs.declared.words.SimpleType.TheVariants as simple
-use Rattle.clu_syntax.specs.Syntax.{Identifier, a_name, an_expression, TypeExpression, a_simple_type, Equate, an_equate, a_set_equate, TypeSet, Typed, a_type_set, Restriction, has_operations, is_in, is_in_set}
+use Rattle.clu_syntax.specs.Syntax.{Identifier, a_name, an_expression, TypeExpression, a_simple_type, a_list_type, a_fields_type, a_routine_type, a_named_type, Equate, an_equate, a_set_equate, TypeSet, Typed, a_type_set, Restriction, has_operations, is_in, is_in_set}
 use Rattle.clu_meaning.specs.Scoping.{Meaning, is_type_parameter, Scope, binding, meaning_of}
 use Rattle.clu_meaning.specs.Settling.{type_settled}
 use Rattle.clu_checking.specs.Specifications.{Demand}
-use Rattle.clu_checking.specs.Files.{File, item, kind_in, names, below, equate_named}
+use Rattle.clu_checking.specs.Files.{File, item, kind_in, names, below, is_refused, equate_named}
+
+-- the node of a type
+abbrev pub type_node : TypeExpression → ℕ
+type_node (a_simple_type n word) = n
+type_node (a_list_type n word t) = n
+type_node (a_fields_type n word ss) = n
+type_node (a_routine_type n word args results signals) = n
+type_node (a_named_type n name cs) = n
 
 module _ (f : File) where
   -- ---- circles
@@ -72,8 +81,12 @@ module _ (f : File) where
 
   -- ---- what where clauses ask of the type parameter k
 
+  -- a type, unless it is refused where it stands
+  abbrev pub unless_refused : ℕ → CluType → Option CluType
+  unless_refused n t = if is_refused f n then None else Some t
+
   abbrev pub demands_for : Scope → ℕ → ℕ → TypeExpression → Bool → List Identifier → List Demand
-  demands_for scope node k wanted in_set names = map (λ name. record { node = node; parameter = k; operation = name; wanted = type_settled scope wanted; in_set = in_set }) names
+  demands_for scope node k wanted in_set names = map (λ name. record { node = node; parameter = k; operation = name; wanted = unless_refused (type_node wanted) (type_settled scope wanted); in_set = in_set }) names
 
   -- by operations
   abbrev pub operations_asked : Scope → ℕ → List Typed → List Demand
@@ -111,3 +124,17 @@ module _ (f : File) where
   -- all that a where clause asks, in the order of the text
   abbrev pub demands_in : List Restriction → List Demand
   demands_in rs = flat_map demands_by rs
+
+module _ (f : File) (bad : ℕ → Bool) where
+  -- ---- names of bad equates; of a circle V7 is asked alone
+
+  abbrev pub bad_unless : Bool → ℕ → Bool
+  bad_unless true e = false
+  bad_unless false e = bad e
+
+  abbrev pub is_bad_at : Option ℕ → Bool
+  is_bad_at (Some e) = bad_unless (is_circular f e) e
+  is_bad_at None = false
+
+  abbrev pub is_bad_name : ℕ → Identifier → Bool
+  is_bad_name n name = is_bad_at (equate_named f n name)

@@ -1,10 +1,10 @@
 -- The rules on expressions: V11 NoOperation, V12 ArgumentCount, V13 ArgumentType, V17 Selectors, V18 WhereNotMet,
 -- V20 NotInTypeSet, V32 UpDown, and of V14 ResultCount, V16 NotBool and V36 IteratorUse what is asked of expressions.
 -- An expression without a type violates a rule by itself, so nothing is asked of it here.
-use Rattle.std.specs.Prelude.{ℕ, suc, ◌==◌, ◌&&◌, ◌||◌, not, Bool, true, false, List, [], ◌∷◌, ◌++◌, length, is_none, is_some, bytes_eq, if◌then◌else◌, Option, Some, None}
+use Rattle.std.specs.Prelude.{ℕ, suc, ◌==◌, ◌&&◌, ◌||◌, not, Bool, true, false, List, [], ◌∷◌, ◌++◌, length, is_none, is_some, codes, bytes_eq, if◌then◌else◌, Option, Some, None}
 use Rattle.std.specs.List.{list_any, list_all}
 use Rattle.clu_types.specs.CluType.{CluType, bool_type, int_type, array_of, sequence_of, record_of, struct_of, iter_of, CluTypes, no_types, type_and, Fields, no_fields, field_and}
-use Rattle.clu_layout.specs.SameType.{same_type, fits, is_routine_type}
+use Rattle.clu_layout.specs.SameType.{same_type, is_routine_type}
 use Rattle.clu_tree.specs.declared.node.NodeKind.{NodeKind}
 use Rattle.clu_tree.specs.declared.node.NodeKind.TheVariants as kind
 use Rattle.clu_syntax.specs.Kinds.{is_type}
@@ -12,11 +12,11 @@ use Rattle.clu_syntax.specs.Syntax.{Identifier, Expression, an_infix, a_name, an
 use Rattle.clu_meaning.specs.Constants.{Sugar, is_cand, is_cor, sugar}
 use Rattle.clu_meaning.specs.Scoping.{Meaning, is_equate, is_type_set, is_type_parameter, is_module}
 use Rattle.clu_meaning.specs.Settling.{settled, type_settled}
-use Rattle.clu_checking.specs.Files.{File, item, kind_in, parent, names, meaning, is_of_module}
+use Rattle.clu_checking.specs.Files.{File, item, kind_in, parent, names, meaning, is_of_module, equate_named}
 use Rattle.clu_checking.specs.Equates.{is_set_name}
 use Rattle.clu_checking.specs.Headings.{own_type}
-use Rattle.clu_checking.specs.Operations.{Asked, Found, is_met}
-use Rattle.clu_checking.specs.Typing.{type_of, arguments_of, results_of, takes_actuals, is_type_value, representation}
+use Rattle.clu_checking.specs.Operations.{Asked, Found, may_fit, is_met}
+use Rattle.clu_checking.specs.Typing.{type_of, found_type, arguments_of, results_of, takes_actuals, is_type_value, representation}
 use Rattle.clu_checking.specs.Wanted.{Wanted, an_object, a_loop_call, a_name_with_actuals, wanted, first_name_at}
 use Rattle.clu_checking.specs.Invocations.{Invocation, is_object_wanted, invocations, operations_at, asks_at, types_of}
 use Rattle.clu_checking.specs.NameRules.{stands_twice, stands_before}
@@ -27,11 +27,6 @@ use Rattle.clu_checking.specs.ConstantRules.{is_module_routine}
 abbrev pub count : CluTypes → ℕ
 count no_types = 0
 count (type_and t ts) = suc (count ts)
-
--- what is known is included
-abbrev pub may_fit : Option CluType → CluType → Bool
-may_fit (Some t) wanted = fits t wanted
-may_fit None wanted = true
 
 -- each of the types is included in the one at its place
 abbrev pub all_may_fit : List (Option CluType) → CluTypes → Bool
@@ -44,9 +39,13 @@ is_iterator _ = false
 
 -- ---- invocations
 
+abbrev pub holds_if : (CluType → Bool) → Option CluType → Bool
+holds_if test (Some t) = test t
+holds_if test None = false
+
+-- of a type that is known
 abbrev pub holds_of : (CluType → Bool) → Option Found → Bool
-holds_of test (Some x) = test x.type
-holds_of test None = false
+holds_of test found = holds_if test (found_type found)
 
 abbrev pub has_other_count : Invocation → Bool
 has_other_count i = holds_of (λ t. is_routine_type t && not (count (arguments_of t) == length i.arguments)) i.invoked
@@ -112,14 +111,10 @@ abbrev pub is_other_than : CluType → Option CluType → Bool
 is_other_than wanted (Some t) = not (same_type t wanted)
 is_other_than wanted None = false
 
--- where the other type is not there, none is the very type
-abbrev pub is_very : Option CluType → CluType → Bool
-is_very (Some wanted) t = same_type wanted t
-is_very None t = false
-
+-- as far as both are known
 abbrev pub is_not_of : Option CluType → Option CluType → Bool
-is_not_of wanted (Some t) = not (is_very wanted t)
-is_not_of wanted None = false
+is_not_of (Some wanted) given = is_other_than wanted given
+is_not_of None given = false
 
 module _ (f : File) where
   -- V11: the type gives no operation of that name
@@ -248,11 +243,14 @@ module _ (f : File) where
   v20 n = list_any (λ a. a.in_set && is_broken n a) (asks_at f n)
 
   -- ---- V32: up takes an object of exactly `rep`, down one of the cluster's type with its own parameters; without `rep`
-  -- neither takes one
+  -- neither stands, and a `rep` that is refused asks nothing
+
+  abbrev pub has_no_rep : ℕ → Bool
+  has_no_rep n = is_none (own_type f n) || is_none (equate_named f n (codes "rep"))
 
   abbrev pub is_misplaced : Expression → Bool
-  is_misplaced (an_up n e) = is_none (own_type f n) || is_not_of (representation f n) (type_of f e)
-  is_misplaced (a_down n e) = is_none (representation f n) || is_not_of (own_type f n) (type_of f e)
+  is_misplaced (an_up n e) = has_no_rep n || is_not_of (representation f n) (type_of f e)
+  is_misplaced (a_down n e) = has_no_rep n || is_not_of (own_type f n) (type_of f e)
   is_misplaced _ = false
 
   abbrev pub v32_at : NodeKind → ℕ → Bool

@@ -1,7 +1,7 @@
 -- A file as it is checked: the nodes of its tree, what surrounds them, its declarations, and the specifications of a
 -- library. What stands at a node, and what a name denotes there.
 use Rattle.std.specs.Prelude.{ℕ, suc, ◌+◌, ◌-◌, ◌&&◌, ◌||◌, nat_le, Bool, true, false, List, [], ◌∷◌, ◌++◌, length, slice_get, filter, flat_map, is_some, if◌then◌else◌, Option, Some, None}
-use Rattle.std.specs.List.{range_with_len}
+use Rattle.std.specs.List.{list_any, range_with_len}
 use Rattle.clu_tree.specs.declared.node.Node.{Node}
 use Rattle.clu_tree.specs.declared.node.NodeKind.{NodeKind}
 use Rattle.clu_tree.specs.declared.node.NodeKind.TheVariants as kind
@@ -24,6 +24,8 @@ pub record File : Type 0 where
   -- the declarations, and what each of them declares
   pub scope : Scope
   pub library : List Specification
+  -- the nodes by which a type is refused where it stands
+  pub refused : List ℕ
 
 abbrev pub numbers : List Node → List ℕ
 numbers nodes = range_with_len 0 (length nodes)
@@ -60,8 +62,9 @@ of_type_sets nodes rounds = flat_map (λ n. of_type_set (variable_number nodes r
 abbrev pub scope_in : List Node → List Round → Scope
 scope_in nodes rounds = record { declarations = declarations nodes rounds; bindings = of_modules (file_of nodes) ++ of_type_sets nodes rounds }
 
-abbrev pub checked_file : List Node → List Round → List Specification → File
-checked_file nodes rounds library = record { nodes = nodes; rounds = rounds; scope = scope_in nodes rounds; library = library }
+-- one in which no type is refused
+abbrev pub plain_file : List Node → List Round → List Specification → File
+plain_file nodes rounds library = record { nodes = nodes; rounds = rounds; scope = scope_in nodes rounds; library = library; refused = [] }
 
 module _ (f : File) where
   -- ---- what stands at a node, and round it
@@ -117,6 +120,14 @@ module _ (f : File) where
 
   abbrev pub stands_below : ℕ → ℕ → Bool
   stands_below n top = nat_le (round top).first n && nat_le n top
+
+  -- a node by which a type is refused stands at or below this one
+  abbrev pub is_refused : ℕ → Bool
+  is_refused top = list_any (λ n. stands_below n top) f.refused
+
+  abbrev pub is_refused_at : Option ℕ → Bool
+  is_refused_at (Some n) = is_refused n
+  is_refused_at None = false
 
   abbrev pub routine_at : Option ℕ → Option Routine
   routine_at (Some n) = Some (item n).routine

@@ -5,15 +5,18 @@ use Rattle.std.specs.Option.{option_and_then}
 use Rattle.clu_types.specs.CluType.{CluType, null_type, bool_type, int_type, char_type, string_type, CluTypes, no_types, type_and, Signals, no_signals, signal_and}
 use Rattle.clu_types.specs.declared.spec.ParamKind.{ParamKind}
 use Rattle.clu_types.specs.declared.spec.ParamKind.TheVariants as param
-use Rattle.clu_syntax.specs.Syntax.{Identifier, TypeExpression, TypeExpressions, Exceptions, Parameter, Routine, Cluster, Module, a_routine, a_cluster}
+use Rattle.clu_tree.specs.declared.node.NodeKind.{NodeKind}
+use Rattle.clu_tree.specs.declared.node.NodeKind.TheVariants as kind
+use Rattle.clu_syntax.specs.declared.words.SimpleType.TheVariants as simple
+use Rattle.clu_syntax.specs.Syntax.{Identifier, TypeExpression, a_simple_type, TypeExpressions, Exceptions, Parameter, Routine, Cluster, Module, a_routine, a_cluster}
 use Rattle.clu_syntax.specs.Nodes.{file_of}
 use Rattle.clu_names.specs.Scopes.{is_stream}
 use Rattle.clu_meaning.specs.Settling.{comes_after, type_settled, routine_type}
 use Rattle.clu_meaning.specs.Programs.{HeadingType, plain, cvt, Formal, Exception}
 use Rattle.clu_meaning.specs.Resolving.{Place, cluster_place, heading_type, heading_types, formals_of, exceptions_of}
 use Rattle.clu_checking.specs.Specifications.{Demand, Heading, of_routine, of_cluster, Specification, specification_in}
-use Rattle.clu_checking.specs.Files.{File, declaration, cluster_round, parameters_round, round}
-use Rattle.clu_checking.specs.Equates.{demands_in}
+use Rattle.clu_checking.specs.Files.{File, kind_in, children, stands_below, is_refused, is_refused_at, declaration, equate_named, cluster_round, parameters_round, round}
+use Rattle.clu_checking.specs.Equates.{type_node, demands_in}
 
 -- ---- in ascending order, each once
 
@@ -79,11 +82,6 @@ kind_of_type char_type = Some param.Char
 kind_of_type string_type = Some param.Str
 kind_of_type _ = None
 
--- what has no kind is refused where it is declared, and counts as null here
-abbrev pub kind_or_null : Option ParamKind → ParamKind
-kind_or_null (Some k) = k
-kind_or_null None = param.Null
-
 abbrev pub types_in : List Parameter → List (Option TypeExpression)
 types_in ps = flat_map (λ p. map (λ name. p.type) p.names) ps
 
@@ -94,6 +92,13 @@ nth xs (suc k) = slice_get xs k
 abbrev pub legal_type : CluType → Option ParamKind → Option CluType
 legal_type t (Some k) = Some t
 legal_type t None = None
+
+-- the parts of a routine's heading that make its type
+abbrev pub is_of_type : NodeKind → Bool
+is_of_type kind.Decl = true
+is_of_type kind.Results = true
+is_of_type kind.Signals = true
+is_of_type _ = false
 
 module _ (f : File) where
   -- ---- types in the headings of a file
@@ -113,9 +118,21 @@ module _ (f : File) where
   abbrev pub is_represented : ℕ → Bool
   is_represented n = is_some (declaration f n (codes "rep"))
 
+  -- what `rep` is equated to is refused
+  abbrev pub is_refused_rep : ℕ → Bool
+  is_refused_rep n = is_refused_at f (equate_named f n (codes "rep"))
+
   -- the types of variables, results and signals at the node n, as the body sees them
   abbrev pub type_inside : ℕ → TypeExpression → CluType
   type_inside n t = for_body (is_represented n) (heading_type (place_at n) t)
+
+  abbrev pub is_refused_inside : ℕ → TypeExpression → Bool
+  is_refused_inside n (a_simple_type m simple.Cvt) = is_refused f m || is_refused_rep n
+  is_refused_inside n t = is_refused f (type_node t)
+
+  -- the type of a variable by its name, unless it is refused where it is declared
+  abbrev pub known_inside : ℕ → TypeExpression → Option CluType
+  known_inside n t = if is_refused_inside n t then None else Some (type_inside n t)
 
   abbrev pub results_inside : ℕ → TypeExpressions → CluTypes
   results_inside n ts = types_by (for_body (is_represented n)) (heading_types (place_at n) ts)
@@ -135,8 +152,8 @@ module _ (f : File) where
   kind_of_parameter None = Some param.OfType
   kind_of_parameter (Some t) = kind_of_type (type_settled f.scope t)
 
-  abbrev pub kinds_in : List Parameter → List ParamKind
-  kinds_in ps = flat_map (λ p. map (λ name. kind_or_null (kind_of_parameter p.type)) p.names) ps
+  abbrev pub kinds_in : List Parameter → List (Option ParamKind)
+  kinds_in ps = flat_map (λ p. map (λ name. kind_of_parameter p.type) p.names) ps
 
   -- the type expression of the constant parameter k of the module round a node
   abbrev pub declared_parameter : ℕ → ℕ → Option TypeExpression
@@ -152,10 +169,20 @@ module _ (f : File) where
 
   -- ---- specifications
 
+  -- a Decl, Results or Signals of the Routine in which the node stands
+  abbrev pub is_in_type_of : Routine → ℕ → Bool
+  is_in_type_of r n = list_any (λ c. is_of_type (kind_in f c) && stands_below f n c) (children f r.node)
+
+  abbrev pub is_refused_heading : Routine → Bool
+  is_refused_heading r = list_any (is_in_type_of r) f.refused
+
+  abbrev pub outside_type : Place → Routine → CluType
+  outside_type place r = routine_type r.kind (types_by for_callers (formal_types (formals_of place r.arguments))) (types_by for_callers (heading_types place r.results)) (signals_by for_callers (exceptions_of place r.signals))
+
   abbrev pub heading_of : Place → Routine → Heading
   heading_of place r = record {
     name = r.name;
-    type = routine_type r.kind (types_by for_callers (formal_types (formals_of place r.arguments))) (types_by for_callers (heading_types place r.results)) (signals_by for_callers (exceptions_of place r.signals));
+    type = if is_refused_heading r then None else Some (outside_type place r);
     demands = listed_demands (demands_in f r.restrictions);
   }
 

@@ -62,7 +62,7 @@ module _ (f : File) where
       compared ++ negations n compared
 
   abbrev pub by_call : Option CluType → List (Option CluType) → List Invocation
-  by_call (Some t) arguments = record { invoked = Some (record { type = t; asks = [] }); arguments = arguments } ∷ []
+  by_call (Some t) arguments = record { invoked = Some (record { type = Some t; asks = [] }); arguments = arguments } ∷ []
   by_call None arguments = []
 
   abbrev pub by_index : Bool → ℕ → Option CluType → Constants → List Invocation
@@ -136,7 +136,7 @@ module _ (f : File) where
   asks_of None = []
 
   abbrev pub asks_by : Constants → Option Specification → List Asked
-  asks_by cs (Some s) = map (demanded (actuals_settled f.scope cs)) (demands_of s.form)
+  asks_by cs (Some s) = flat_map (demanded (actuals_settled f.scope cs)) (demands_of s.form)
   asks_by cs None = []
 
   abbrev pub asks_of_module : Bool → Named → List Asked

@@ -6,8 +6,10 @@ pub mod Headings
 pub mod Operations
 pub mod Typing
 pub mod Raising
+pub mod Named
 pub mod Wanted
 pub mod Invocations
+pub mod Invoked
 pub mod NameRules
 pub mod ConstantRules
 pub mod ExpressionRules

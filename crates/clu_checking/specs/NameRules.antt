@@ -2,6 +2,7 @@
 use Rattle.std.specs.Prelude.{ℕ, suc, ◌==◌, ◌&&◌, ◌||◌, nat_lt, not, Bool, false, List, [], ◌∷◌, ◌++◌, length, take, drop, slice_get, is_none, bytes_eq, if◌then◌else◌, Option, Some, None}
 use Rattle.std.specs.List.{list_any}
 use Rattle.clu_literal.specs.Literal.{string_denoted, char_denoted}
+use Rattle.clu_types.specs.CluType.{CluType}
 use Rattle.clu_layout.specs.SameType.{same_type}
 use Rattle.clu_tree.specs.declared.node.NodeKind.{NodeKind}
 use Rattle.clu_tree.specs.declared.node.NodeKind.TheVariants as kind
@@ -16,7 +17,7 @@ use Rattle.clu_meaning.specs.Counting.{variable_names}
 use Rattle.clu_meaning.specs.Resolving.{declared_from}
 use Rattle.clu_checking.specs.Specifications.{Demand}
 use Rattle.clu_checking.specs.Files.{File, item, kind_in, is_kind, stands_in, parent, names, below, is_known, declared_by, equate_named, routine_round, cluster_round, children_at, variable_number}
-use Rattle.clu_checking.specs.Equates.{is_circular_at, equates_named, demands_in, asked_by_set}
+use Rattle.clu_checking.specs.Equates.{is_circular_at, equates_named, demands_in, asked_by_set, is_bad_name}
 
 -- ---- V4: an identifier of more than 200 bytes, an integer above 9223372036854775807, an octal code above 377
 
@@ -58,9 +59,14 @@ abbrev pub before_in : List ℕ → ℕ → List ℕ
 before_in [] n = []
 before_in (c ∷ cs) n = if c == n then [] else c ∷ before_in cs n
 
+-- both are known
+abbrev pub are_other_types : Option CluType → Option CluType → Bool
+are_other_types (Some a) (Some b) = not (same_type a b)
+are_other_types _ _ = false
+
 -- the same operation of one parameter is asked for with another type
 abbrev pub disagrees : Demand → Demand → Bool
-disagrees d e = d.parameter == e.parameter && bytes_eq d.operation e.operation && not (same_type d.wanted e.wanted)
+disagrees d e = d.parameter == e.parameter && bytes_eq d.operation e.operation && are_other_types d.wanted e.wanted
 
 -- a demand that the node makes disagrees with one before it
 abbrev pub disagrees_with : ℕ → List Demand → List Demand → Bool
@@ -136,21 +142,6 @@ module _ (f : File) where
   names_defined kind.TypeSet n = take 1 (names f n)
   names_defined _ n = []
 
-  -- ---- of demands
-
-  -- the where clause in which the node stands
-  abbrev pub clause_round : ℕ → List Demand
-  clause_round n = demands_in f (restrictions_of (routine_round f n) (cluster_round f n))
-
-  abbrev pub asked_in_set : Option ℕ → List Demand
-  asked_in_set (Some s) = asked_by_set f (variable_number f.nodes f.rounds s) (item f s).type_set
-  asked_in_set None = []
-
-  abbrev pub disagrees_at : NodeKind → ℕ → Bool
-  disagrees_at kind.Oper n = if stands_in f kind.TypeSet n then disagrees_with n [] (asked_in_set (parent f n)) else disagrees_with n [] (clause_round n)
-  disagrees_at kind.Restrict n = disagrees_with n [] (clause_round n)
-  disagrees_at _ n = false
-
   -- ---- of modules and exports
 
   abbrev pub module_before : ℕ → Identifier → Bool
@@ -170,10 +161,10 @@ module _ (f : File) where
   v6_by kind.Cluster n = is_module_redefined n || stands_twice (exports n)
   v6_by _ n = false
 
-  abbrev pub v6 : ℕ → Bool
-  v6 n =
+  abbrev pub is_defined_twice : ℕ → Bool
+  is_defined_twice n =
       let defined = names_defined (kind_in f n) n in
-      stands_twice defined || list_any (is_redefined n) defined || v6_by (kind_in f n) n || disagrees_at (kind_in f n) n
+      stands_twice defined || list_any (is_redefined n) defined || v6_by (kind_in f n) n
 
   -- ---- V7: a name leads to an equate whose unfolding meets itself
 
@@ -195,3 +186,26 @@ module _ (f : File) where
 
   abbrev pub v37 : ℕ → Bool
   v37 n = is_kind f kind.Own n && list_any names_argument (below f n)
+
+module _ (f : File) (bad : ℕ → Bool) where
+  -- ---- V6: a name is defined twice, or a demand disagrees with one before it
+
+  -- the where clause in which the node stands
+  abbrev pub clause_round : ℕ → List Demand
+  clause_round n = demands_in f (restrictions_of (routine_round f n) (cluster_round f n))
+
+  abbrev pub asked_in_set : Option ℕ → List Demand
+  asked_in_set (Some s) = asked_by_set f (variable_number f.nodes f.rounds s) (item f s).type_set
+  asked_in_set None = []
+
+  -- nothing is asked by a set that is bad or circular
+  abbrev pub is_unusable : ℕ → Identifier → Bool
+  is_unusable n name = is_circular_at f (equate_named f n name) || is_bad_name f bad n name
+
+  abbrev pub disagrees_at : NodeKind → ℕ → Bool
+  disagrees_at kind.Oper n = if stands_in f kind.TypeSet n then disagrees_with n [] (asked_in_set (parent f n)) else disagrees_with n [] (clause_round n)
+  disagrees_at kind.Restrict n = not (list_any (is_unusable n) (names f n)) && disagrees_with n [] (clause_round n)
+  disagrees_at _ n = false
+
+  abbrev pub v6 : ℕ → Bool
+  v6 n = is_defined_twice f n || disagrees_at (kind_in f n) n

@@ -1,5 +1,5 @@
 -- The operations that a type has at a node, and when what is asked of a type is met.
-use Rattle.std.specs.Prelude.{ℕ, ◌-◌, ◌==◌, ◌&&◌, Bool, true, false, List, [], ◌++◌, map, flat_map, filter, find, bytes_eq, if◌then◌else◌, Option, Some, None}
+use Rattle.std.specs.Prelude.{ℕ, ◌-◌, ◌==◌, ◌&&◌, Bool, true, false, List, [], ◌∷◌, ◌++◌, map, flat_map, filter, find, bytes_eq, if◌then◌else◌, Option, Some, None}
 use Rattle.std.specs.List.{list_all}
 use Rattle.std.specs.Option.{option_map}
 use Rattle.clu_types.specs.CluType.{CluType, array_of, sequence_of, record_of, struct_of, oneof_of, variant_of, proc_of, iter_of, cluster_of, parameter, Fields, no_fields, field_and, Actuals, no_actuals, actual_type, actual_const, actual_param}
@@ -21,9 +21,9 @@ pub record Asked : Type 0 where
   pub wanted : CluType
   pub in_set : Bool
 
--- an operation that was found: its type, and what it asks
+-- an operation that was found: its type, unless that is refused where it is declared, and what it asks
 pub record Found : Type 0 where
-  pub type : CluType
+  pub type : Option CluType
   pub asks : List Asked
 
 -- ---- what is given of type parameters
@@ -32,8 +32,8 @@ abbrev pub is_given : ℕ → Identifier → Demand → Bool
 is_given k name d = d.parameter == k && bytes_eq d.operation name
 
 -- of two headings of one name the first counts
-abbrev pub given_of : List Demand → ℕ → Identifier → Option CluType
-given_of given k name = option_map (λ d. d.wanted) (find (is_given k name) given)
+abbrev pub given_of : List Demand → ℕ → Identifier → Option Demand
+given_of given k name = find (is_given k name) given
 
 -- ---- built-in operations
 
@@ -45,15 +45,20 @@ abbrev pub needed : Needed → Asked
 needed n = record { of = n.of; operation = n.op; wanted = n.wanted; in_set = false }
 
 abbrev pub builtin_found : Operation → Found
-builtin_found op = record { type = builtin_type op.iter op; asks = map needed op.needs }
+builtin_found op = record { type = Some (builtin_type op.iter op); asks = map needed op.needs }
 
 -- ---- what a routine asks of the actuals for its parameters
 
-abbrev pub demanded : Actuals → Demand → Asked
-demanded given d = record { of = type_put given d.parameter; operation = d.operation; wanted = substituted given d.wanted; in_set = d.in_set }
+abbrev pub asked_as : Actuals → Demand → Option CluType → List Asked
+asked_as given d (Some wanted) = record { of = type_put given d.parameter; operation = d.operation; wanted = substituted given wanted; in_set = d.in_set } ∷ []
+asked_as given d None = []
+
+-- a demand with a type that is refused asks nothing
+abbrev pub demanded : Actuals → Demand → List Asked
+demanded given d = asked_as given d d.wanted
 
 abbrev pub routine_found : Actuals → Heading → Found
-routine_found given h = record { type = substituted given h.type; asks = map (demanded given) h.demands }
+routine_found given h = record { type = option_map (substituted given) h.type; asks = flat_map (demanded given) h.demands }
 
 -- ---- what is met
 
@@ -65,17 +70,26 @@ abbrev pub is_met_by : (CluType → Identifier → CluType → Bool) → CluType
 is_met_by test wanted (Some op) = fits (builtin_type op.iter op) wanted && are_met_by test op.needs
 is_met_by test wanted None = false
 
+-- a type that is refused where it is declared fits all
+abbrev pub may_fit : Option CluType → CluType → Bool
+may_fit (Some t) wanted = fits t wanted
+may_fit None wanted = true
+
+abbrev pub is_put_met : (ℕ → Identifier → CluType → Bool) → Actuals → Demand → Option CluType → Bool
+is_put_met test given d (Some wanted) = test d.parameter d.operation (substituted given wanted)
+is_put_met test given d None = true
+
 -- an operation of a cluster with these actuals, by a test for the actual of each number
 abbrev pub is_met_in : (ℕ → Identifier → CluType → Bool) → Actuals → CluType → Option Heading → Bool
-is_met_in test given wanted (Some h) = fits (substituted given h.type) wanted && list_all (λ d. test d.parameter d.operation (substituted given d.wanted)) h.demands
+is_met_in test given wanted (Some h) = may_fit (option_map (substituted given) h.type) wanted && list_all (λ d. is_put_met test given d d.wanted) h.demands
 is_met_in test given wanted None = false
 
 abbrev pub exported_operation : Identifier → Option Specification → Option Heading
 exported_operation name (Some s) = heading_named (operations_of s.form) name
 exported_operation name None = None
 
-abbrev pub is_included : CluType → Option CluType → Bool
-is_included wanted (Some t) = fits t wanted
+abbrev pub is_included : CluType → Option Demand → Bool
+is_included wanted (Some d) = may_fit d.wanted wanted
 is_included wanted None = false
 
 module _ (given : List Demand) (specified : Identifier → Option Specification) where
@@ -143,8 +157,8 @@ module _ (f : File) where
   headings_seen name (Some c) = if bytes_eq c.name name then routines_of f c else exported_headings (specification f name)
   headings_seen name None = exported_headings (specification f name)
 
-  abbrev pub given_found : CluType → Found
-  given_found t = record { type = t; asks = [] }
+  abbrev pub given_found : Demand → Found
+  given_found d = record { type = d.wanted; asks = [] }
 
   -- the operation of this name that the type has for sugar and for `t$op`
   abbrev pub operation_found : ℕ → CluType → Identifier → Option Found

@@ -2,7 +2,7 @@
 use Rattle.std.specs.Prelude.{ℕ, ◌++◌, not, Bool, true, false, List, [], ◌∷◌, filter, bytes_eq, codes, Option, Some, None}
 use Rattle.std.specs.List.{list_any}
 use Rattle.clu_types.specs.CluType.{CluType, string_type, CluTypes, no_types, type_and, Signals, no_signals, signal_and}
-use Rattle.clu_syntax.specs.Syntax.{Identifier, Expression, an_infix, a_prefix, a_paren, a_literal, a_name, an_index, a_get, a_call, fields, elements, elements_from, an_operation, a_force, an_up, a_down, Expressions, no_expressions, expression_and, Components, no_components, component_and, Constant, an_expression, a_type, Constants, no_constants, constant_and, Statement, a_declare, an_init, a_call_init, an_assign, a_set_field, a_set_index, a_call_statement, a_while, a_for, a_for_of_names, an_if, a_tagcase, a_return, a_yield, a_signal, an_exit, a_break, a_continue, a_begin, a_resignal, an_except, Statements, no_statements, statement_and, Body, a_body, Clauses, no_clauses, clause_and, Otherwise, nothing_else, otherwise, TagArms, no_tag_arms, tag_arm_and, Whens, no_whens, when_and, Others, no_others, others}
+use Rattle.clu_syntax.specs.Syntax.{Identifier, Expression, an_infix, a_prefix, a_paren, a_literal, a_name, an_index, a_get, a_call, fields, elements, elements_from, an_operation, a_force, an_up, a_down, Expressions, no_expressions, expression_and, Components, no_components, component_and, Constant, an_expression, a_type, Constants, no_constants, constant_and, Statement, a_declare, an_init, a_call_init, an_assign, a_set_field, a_set_index, a_call_statement, a_while, a_for, a_for_of_names, an_if, a_tagcase, a_return, a_yield, a_signal, an_exit, a_break, a_continue, a_begin, a_resignal, an_except, Statements, no_statements, statement_and, Body, a_body, Clauses, no_clauses, clause_and, Otherwise, nothing_else, otherwise, TagArms, no_tag_arms, tag_arm_and, Whens, no_whens, when_and, Others, no_others, others, Routine}
 use Rattle.clu_meaning.specs.Constants.{Sugar, is_cand, is_cor, is_operation, is_negated, sugar, prefix_name}
 use Rattle.clu_meaning.specs.Scoping.{Meaning, is_local, is_own_of_routine, is_own_of_cluster}
 use Rattle.clu_checking.specs.Files.{File, meaning}
@@ -149,3 +149,7 @@ module _ (f : File) where
     pub by_others : Others → List Raise
     by_others no_others = []
     by_others (others n x body) = by_body body
+
+  -- the body of a routine
+  abbrev pub by_routine : Routine → List Raise
+  by_routine r = by_statements r.statements

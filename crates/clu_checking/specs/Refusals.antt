@@ -1,6 +1,6 @@
 -- The refusal of a file: the first node, on the walk over the headings and then on the walk over the rest, at which a rule
 -- is violated, with the least such rule.
-use Rattle.std.specs.Prelude.{◌≡◌, ℕ, zero, suc, ◌-◌, Bool, true, false, List, [], ◌∷◌, length, filter, slice_get, is_some, not, Option, Some, None}
+use Rattle.std.specs.Prelude.{◌≡◌, ℕ, zero, suc, ◌-◌, Bool, true, false, List, [], ◌∷◌, length, filter, slice_get, is_some, not, if◌then◌else◌, Option, Some, None}
 use Rattle.std.specs.List.{list_any, range_with_len}
 use Rattle.clu_base.specs.declared.rules.Rule.{Rule}
 use Rattle.clu_base.specs.declared.rules.Rule.TheVariants as rule
@@ -8,7 +8,9 @@ use Rattle.clu_base.specs.declared.rules.Refused.{Refused}
 use Rattle.clu_tree.specs.declared.node.Node.{Node}
 use Rattle.clu_tree.specs.declared.node.NodeKind.{NodeKind}
 use Rattle.clu_tree.specs.declared.node.NodeKind.TheVariants as kind
-use Rattle.clu_checking.specs.Files.{File, numbers, kind_in, round, below}
+use Rattle.clu_syntax.specs.declared.round.Round.{Round}
+use Rattle.clu_checking.specs.Specifications.{Specification}
+use Rattle.clu_checking.specs.Files.{File, plain_file, numbers, kind_in, round, below}
 use Rattle.clu_checking.specs.Rules.{violates, all_rules, least}
 
 -- the walk over the headings, and the walk over the rest
@@ -52,13 +54,29 @@ module _ (f : File) where
   abbrev pub right_side : ℕ → List ℕ
   right_side e = range_with_len (round f e).first (e - (round f e).first)
 
-  unfoldable pub is_bad_in : ℕ → ℕ → Bool
-  is_bad_in zero e = false
-  is_bad_in (suc steps) e = list_any (λ n. is_some (least (violates f (is_bad_in steps) n) all_rules)) (right_side e)
+  unfoldable pub is_bad_by : List Rule → ℕ → ℕ → Bool
+  is_bad_by rules zero e = false
+  is_bad_by rules (suc steps) e = list_any (λ n. is_some (least (violates f (is_bad_by rules steps) n) rules)) (right_side e)
 
-  -- no chain of equates is longer than there are declarations
+  -- by these rules; no chain of equates is longer than there are declarations
+  abbrev pub is_bad_of : List Rule → ℕ → Bool
+  is_bad_of rules e = is_bad_by rules (length f.scope.declarations) e
+
   abbrev pub is_bad : ℕ → Bool
-  is_bad e = is_bad_in (length f.scope.declarations) e
+  is_bad e = is_bad_of all_rules e
+
+  -- ---- types that are refused where they stand, by rules that ask nothing of the types of names
+
+  abbrev pub rules_of_types : List Rule
+  rules_of_types =
+      rule.LiteralRange ∷ rule.UnknownName ∷ rule.CircularEquate ∷ rule.NotConstant ∷ rule.NotType ∷ rule.Real ∷ rule.Selectors ∷
+      rule.ParameterKind ∷ rule.CvtPlace ∷ []
+
+  abbrev pub is_no_type_at : ℕ → Bool
+  is_no_type_at n = is_some (least (violates f (is_bad_of rules_of_types) n) rules_of_types)
+
+  abbrev pub refused_nodes : List ℕ
+  refused_nodes = filter is_no_type_at (numbers f.nodes)
 
   -- ---- the first fault
 
@@ -98,6 +116,20 @@ module _ (f : File) where
   abbrev pub heading_refusal : Option Refused
   heading_refusal = refused_at (first_on headings)
 
+  -- of what stands at or below a node, on the walk that goes over it
+  abbrev pub walk_over : ℕ → Walk
+  walk_over n = if (round f n).heading then headings else rest
+
+  abbrev pub refusal_below : ℕ → Option Refused
+  refusal_below n = refused_at (first_among (fault_at (walk_over n)) (below f n))
+
   -- and of the heading of one module alone, which is this node
   abbrev pub heading_refusal_of : ℕ → Option Refused
   heading_refusal_of n = refused_at (first_among (fault_at headings) (below f n))
+
+-- the file of a tree
+abbrev pub with_refused : File → File
+with_refused f = record f { refused = refused_nodes f }
+
+abbrev pub checked_file : List Node → List Round → List Specification → File
+checked_file nodes rounds library = with_refused (plain_file nodes rounds library)

@@ -18,7 +18,7 @@ module _ (f : File) (bad : ℕ → Bool) where
   -- the name denotes nothing in scope, in the file or in the library
   violates n rule.UnknownName = v5 f n
   -- the name is in scope already from this module, or stands twice
-  violates n rule.DefinedTwice = v6 f n
+  violates n rule.DefinedTwice = v6 f bad n
   -- the unfolding of the equate meets itself
   violates n rule.CircularEquate = v7 f n
   -- a constant is wanted and this is none

@@ -1,8 +1,7 @@
 -- What a module shows of itself: its parameters, the headings of its routines as callers see them, and what it asks of
 -- its type parameters.
-use Rattle.std.specs.Prelude.{ℕ, Bool, true, false, List, [], map, find, bytes_eq, Option}
-use Rattle.clu_types.specs.CluType.{CluType, proc_of, iter_of, CluTypes, Signals, Actuals}
-use Rattle.clu_types.specs.Substituted.{substituted}
+use Rattle.std.specs.Prelude.{ℕ, Bool, true, false, List, [], map, find, bytes_eq, Option, Some}
+use Rattle.clu_types.specs.CluType.{CluType, proc_of, iter_of, CluTypes, Signals}
 use Rattle.clu_types.specs.Arena.{type_at, types_at, signals_at, types_of}
 use Rattle.clu_types.specs.declared.spec.ParamKind.{ParamKind}
 use Rattle.clu_types.specs.declared.spec.Demand.{Demand as KeptDemand}
@@ -12,18 +11,19 @@ use Rattle.clu_types.specs.declared.spec.Form.TheVariants as kept
 use Rattle.clu_types.specs.declared.spec.Spec.{Spec}
 
 -- The type parameter of this number must have an operation of this name, whose type is included in the one that is
--- wanted. The node is the Oper or Restrict that asks; `in_set` says that an `in` clause does.
+-- wanted, unless that one is refused where it stands. The node is the Oper or Restrict that asks; `in_set` says that an
+-- `in` clause does.
 pub record Demand : Type 0 where
   pub node : ℕ
   pub parameter : ℕ
   pub operation : List ℕ
-  pub wanted : CluType
+  pub wanted : Option CluType
   pub in_set : Bool
 
--- a routine: its name, its type as callers see it, and what it asks itself
+-- a routine: its name, its type as callers see it, unless that is refused where it stands, and what it asks itself
 pub record Heading : Type 0 where
   pub name : List ℕ
-  pub type : CluType
+  pub type : Option CluType
   pub demands : List Demand
 
 -- a routine; or a cluster, what it asks and its operations
@@ -33,7 +33,8 @@ pub data Form : Type 0 where
 
 pub record Specification : Type 0 where
   pub name : List ℕ
-  pub kinds : List ParamKind
+  -- of what kind the actual for each parameter is, unless the parameter has no legal type
+  pub kinds : List (Option ParamKind)
   pub form : Form
 
 -- ---- by name
@@ -53,18 +54,25 @@ abbrev pub operations_of : Form → List Heading
 operations_of (of_routine h) = []
 operations_of (of_cluster ds hs) = hs
 
--- ---- with actuals put in
+-- ---- as a library keeps them: neither where something is asked nor by which clause
 
-abbrev pub demand_put : Actuals → Demand → Demand
-demand_put given d = record d { wanted = substituted given d.wanted }
+abbrev pub demand_kept : Demand → Demand
+demand_kept d = record d { node = 0; in_set = false }
 
-abbrev pub heading_put : Actuals → Heading → Heading
-heading_put given h = record { name = h.name; type = substituted given h.type; demands = map (demand_put given) h.demands }
+abbrev pub heading_kept : Heading → Heading
+heading_kept h = record h { demands = map demand_kept h.demands }
+
+abbrev pub form_kept : Form → Form
+form_kept (of_routine h) = of_routine (heading_kept h)
+form_kept (of_cluster ds hs) = of_cluster (map demand_kept ds) (map heading_kept hs)
+
+abbrev pub specification_kept : Specification → Specification
+specification_kept s = record s { form = form_kept s.form }
 
 -- ---- those of a library, over the types of their arenas. Which clause asks for what is not kept.
 
 abbrev pub demand_told : List CluType → KeptDemand → Demand
-demand_told types d = record { node = 0; parameter = d.param; operation = d.op; wanted = type_at types d.wanted; in_set = false }
+demand_told types d = record { node = 0; parameter = d.param; operation = d.op; wanted = Some (type_at types d.wanted); in_set = false }
 
 abbrev pub type_told : Bool → CluTypes → CluTypes → Signals → CluType
 type_told true args results signals = iter_of args results signals
@@ -73,7 +81,7 @@ type_told false args results signals = proc_of args results signals
 abbrev pub heading_told : List CluType → OpSpec → Heading
 heading_told types op = record {
   name = op.name;
-  type = type_told op.iter (types_at types op.heading.args) (types_at types op.heading.results) (signals_at types op.heading.signals);
+  type = Some (type_told op.iter (types_at types op.heading.args) (types_at types op.heading.results) (signals_at types op.heading.signals));
   demands = map (demand_told types) op.demands;
 }
 
@@ -82,4 +90,4 @@ form_told types (kept.Routine op) = of_routine (heading_told types op)
 form_told types (kept.Cluster demands ops) = of_cluster (map (demand_told types) demands) (map (heading_told types) ops)
 
 abbrev pub specification_told : Spec → Specification
-specification_told s = record { name = s.name; kinds = s.kinds; form = form_told (types_of s.types) s.form }
+specification_told s = record { name = s.name; kinds = map (λ k. Some k) s.kinds; form = form_told (types_of s.types) s.form }

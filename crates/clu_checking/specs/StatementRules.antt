@@ -17,7 +17,8 @@ use Rattle.clu_checking.specs.Headings.{type_inside, results_inside}
 use Rattle.clu_checking.specs.Typing.{type_of, results_of}
 use Rattle.clu_checking.specs.Invocations.{types_of}
 use Rattle.clu_checking.specs.NameRules.{stands_twice, siblings_before}
-use Rattle.clu_checking.specs.ExpressionRules.{count, may_fit, all_may_fit, is_iterator, is_other_than, component_type, is_selector_of, is_not_one_object, has_no_bool, is_iterator_misused}
+use Rattle.clu_checking.specs.Operations.{may_fit}
+use Rattle.clu_checking.specs.ExpressionRules.{count, all_may_fit, is_iterator, is_other_than, component_type, is_selector_of, is_not_one_object, has_no_bool, is_iterator_misused}
 
 -- ---- lists of types
 

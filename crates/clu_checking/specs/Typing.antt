@@ -1,6 +1,6 @@
 -- The types of expressions, each from the types of what stands in it. An expression that violates a rule may have none.
-use Rattle.std.specs.Prelude.{ℕ, ◌++◌, ◌||◌, Bool, true, false, codes, Option, Some, None}
-use Rattle.std.specs.Option.{option_map, option_and_then}
+use Rattle.std.specs.Prelude.{ℕ, ◌++◌, ◌||◌, Bool, true, false, codes, if◌then◌else◌, Option, Some, None}
+use Rattle.std.specs.Option.{option_and_then}
 use Rattle.clu_base.specs.declared.constants.Const.{Const}
 use Rattle.clu_base.specs.declared.constants.Const.TheVariants as constant
 use Rattle.clu_types.specs.CluType.{CluType, null_type, bool_type, int_type, char_type, string_type, any_type, proc_of, iter_of, CluTypes, no_types, type_and, Signals, no_signals, signal_and, Actuals, no_actuals}
@@ -11,7 +11,7 @@ use Rattle.clu_meaning.specs.Settling.{Value, settled_type, settled_constant, se
 use Rattle.clu_checking.specs.Specifications.{Form, of_routine, of_cluster, Specification}
 use Rattle.clu_checking.specs.Files.{File, meaning}
 use Rattle.clu_checking.specs.Equates.{is_set_name}
-use Rattle.clu_checking.specs.Headings.{type_inside, own_type, parameter_type, specification}
+use Rattle.clu_checking.specs.Headings.{is_refused_rep, known_inside, own_type, parameter_type, specification}
 use Rattle.clu_checking.specs.Operations.{Found, routine_found, operation_found}
 
 -- ---- routine types
@@ -75,7 +75,7 @@ heading_in given (Some s) = found_in given s.form
 heading_in given None = None
 
 abbrev pub found_type : Option Found → Option CluType
-found_type found = option_map (λ x. x.type) found
+found_type found = option_and_then (λ x. x.type) found
 
 abbrev pub is_type_value : Value → Bool
 is_type_value (settled_type t) = true
@@ -99,9 +99,9 @@ module _ (f : File) where
 
   -- a name by what it denotes
   abbrev pub type_of_meaning : ℕ → Identifier → Meaning → Option CluType
-  type_of_meaning n name (is_local t) = Some (type_inside f n t)
-  type_of_meaning n name (is_own_of_routine t) = Some (type_inside f n t)
-  type_of_meaning n name (is_own_of_cluster t) = Some (type_inside f n t)
+  type_of_meaning n name (is_local t) = known_inside f n t
+  type_of_meaning n name (is_own_of_routine t) = known_inside f n t
+  type_of_meaning n name (is_own_of_cluster t) = known_inside f n t
   type_of_meaning n name (is_equate c) = value_type n (settled f.scope c)
   type_of_meaning n name (is_constant_parameter k) = parameter_type f n k
   type_of_meaning n name is_routine_of_cluster = found_type (own_found n name)
@@ -143,9 +143,9 @@ module _ (f : File) where
   rep_value (is_equate c) = representation_of (settled f.scope c)
   rep_value _ = None
 
-  -- the representation of the cluster round a node
+  -- the representation of the cluster round a node, unless it is refused where it stands
   abbrev pub representation : ℕ → Option CluType
-  representation n = rep_value (meaning f n (codes "rep"))
+  representation n = if is_refused_rep f n then None else rep_value (meaning f n (codes "rep"))
 
   -- ---- expressions
 

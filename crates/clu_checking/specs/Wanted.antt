@@ -47,11 +47,13 @@ kind_of_constant (constant.Int n) = param.Int
 kind_of_constant (constant.Char c) = param.Char
 kind_of_constant (constant.Str bytes) = param.Str
 
-abbrev pub same_kind : ParamKind → Option ParamKind → Bool
-same_kind wanted (Some given) = sameb the_type wanted given
-same_kind wanted None = false
+-- a parameter of no legal type takes every actual
+abbrev pub same_kind : Option ParamKind → Option ParamKind → Bool
+same_kind (Some wanted) (Some given) = sameb the_type wanted given
+same_kind (Some wanted) None = false
+same_kind None given = true
 
-abbrev pub kinds_of : Option Specification → List ParamKind
+abbrev pub kinds_of : Option Specification → List (Option ParamKind)
 kinds_of (Some s) = s.kinds
 kinds_of None = []
 
@@ -89,9 +91,9 @@ module _ (f : File) where
   place_in [] n = 0
   place_in (c ∷ cs) n = if c == n then 0 else suc (place_in cs n)
 
-  abbrev pub is_type_kind : Option ParamKind → Bool
-  is_type_kind (Some k) = sameb the_type param.OfType k
-  is_type_kind None = false
+  abbrev pub is_type_kind : Option (Option ParamKind) → Bool
+  is_type_kind (Some (Some k)) = sameb the_type param.OfType k
+  is_type_kind _ = false
 
   abbrev pub wants_type_as : List ℕ → ℕ → Identifier → ℕ → Bool
   wants_type_as siblings m name n = is_of_module f m name && is_type_kind (slice_get (kinds_of (specification f name)) (place_in siblings n))
@@ -139,7 +141,7 @@ module _ (f : File) where
   value_kind n unsettled = None
 
   -- as many actuals as kinds, each of its kind
-  abbrev pub kinds_fit : ℕ → List ParamKind → Constants → Bool
+  abbrev pub kinds_fit : ℕ → List (Option ParamKind) → Constants → Bool
   kinds_fit n [] no_constants = true
   kinds_fit n (k ∷ ks) (constant_and c cs) = same_kind k (value_kind n (settled f.scope c)) && kinds_fit n ks cs
   kinds_fit n _ _ = false
