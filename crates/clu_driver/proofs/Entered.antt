@@ -1,5 +1,5 @@
 -- Why there is no library and no source, and what entering one into the other shows.
-use Rattle.std.proofs.Common.{◌≡◌, ◌≤◌, ◌⊎◌, ℕ, List, Option, Result, Ok, Err, IfErr, inl, inr, subst, map}
+use Rattle.std.proofs.Common.{◌≡◌, ◌≤◌, ◌⊎◌, ℕ, List, Option, Result, Ok, Err, IfErr, inl, inr, subst, sym, map}
 use Rattle.std.specs.Char.{to_ascii_lowercase}
 use Rattle.clu_base.specs.Outside.{Files}
 use Rattle.clu_base.specs.declared.tokens.Token.{Token}
@@ -49,12 +49,13 @@ compile_shows how library file bytes tokens nodes known files read files' faults
     let P : Option Files → Type 0 = λ f. CompiledShows how library file known nodes f between files' faults' in
     inr (known, held, (nodes, found_with (λ b. IsParsed b nodes) files file bytes found (tokens, source), (between, counts, subst P same shown)))
 
-pub link_shows : (how : Outcome) (library program start : List ℕ) (known : Contents) (files read files' : Option Files) (faults between faults' : ℕ)
-    → HasLibrary files library known → read ≡ files → faults ≤ between → LinkedShows how library program (map to_ascii_lowercase start) known read between files' faults' → LinkShows how library program start files faults files' faults'
+pub link_shows : (how : Outcome) (library program start : List ℕ) (known kept : Contents) (files read files' : Option Files) (faults between faults' : ℕ)
+    → known ≡ kept → HasLibrary files library kept → read ≡ files → faults ≤ between → LinkedShows how library program (map to_ascii_lowercase start) known read between files' faults' → LinkShows how library program start files faults files' faults'
 unfolding LinkShows
-link_shows how library program start known files read files' faults between faults' held same counts shown =
+link_shows how library program start known kept files read files' faults between faults' is held same counts shown =
     let P : Option Files → Type 0 = λ f. LinkedShows how library program (map to_ascii_lowercase start) known f between files' faults' in
-    inr (known, held, (between, counts, subst P same shown))
+    let Q : Contents → Type 0 = λ l. HasLibrary files library l in
+    inr (known, subst Q (sym is) held, (between, counts, subst P same shown))
 
 -- a library or a source that was not got, or is none, is not gathered
 pub not_read : (how : Outcome) (library file bytes : List ℕ) (content : Option (List ℕ)) (files : Option Files) (faults between faults' : ℕ)
