@@ -13,4 +13,4 @@ compiled_asked (outcome.Failure text) traced name files faults faults' (inl unre
 compiled_asked (outcome.Failure text) traced name files faults faults' (inr unmade) = elim unmade.2 [ inl refused ↦ elim refused [ ] | inr unbuilt ↦ elim unbuilt.1.2 [ ] ]
 compiled_asked (outcome.Traced text trace) traced name files faults faults' (inl unread) = elim unread [ ]
 compiled_asked (outcome.Traced text trace) traced name files faults faults' (inr unmade) = elim unmade.2 [ inl refused ↦ elim refused [ ] | inr unbuilt ↦ elim unbuilt.1.2 [ ] ]
-compiled_asked _ traced name files faults faults' no = (tt, no)
+compiled_asked _ traced name files faults faults' refused = (tt, refused)
