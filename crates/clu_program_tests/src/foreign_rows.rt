@@ -39,20 +39,20 @@ pub const FOREIGN: &str = "\
     p=proc()\tp p 2 7:3|6:4294967295 - - - 0;\tlinked\0\
     p=proc()\tp p 2 7:4 - - - 0;\tobject misfit: p\0\
     p=proc()\tp p 2 3:4294967295|4:4294967295|3:0|4:0 - - - 0;\tlinked\0\
-    c=cluster is;a:proc()\np=proc()\tp p 2 - c$a|c$own - - 0;c own 2 - - - - 0;c a 2 4:1 - - - 0;c b 2 \
+    c=clusteris;a:proc()\np=proc()\tp p 2 - c$a|c$own - - 0;c own 2 - - - - 0;c a 2 4:1 - - - 0;c b 2 \
     4:4294967295|3:4294967295 - - - 0;\tlinked\0\
-    c=cluster is;a:proc()\np=proc()\tp p 2 - c$a|c$b - - 0;c a 2 4:0|4:4294967295 - - - 0;c b 2 4:7|4:0 - - - 0;\tlinked\0\
-    c=cluster is;a:proc()\np=proc()\tp p 2 - c$own - - 0;c a 2 - - - - 0;\tobject misfit: c\0\
-    c=cluster is;a:proc()\np=proc()\tp p 2 - c$a - - 0;c a 2 - - - - 0;c own 0 - - - - 0;\tlinked\0\
-    c=cluster[type] is;a:proc()\np=proc()\tp p 2 - c[5]$a - - 0;\tobject misfit: p\0\
-    c=cluster[type] is;a:proc()\np=proc()\tp p 2 - c[int,int]$own - - 0;\tobject misfit: p\0\
-    c=cluster[type] is;equal:proc(c[5],c[5])returns(bool)\np=proc()\tp p 2 - sequence[array[c[5]]]$equal - - 0;\tlinked\0\
-    c=cluster[type] is;copy:proc(c[#1])returns(c[#1])\nd=cluster[int] is;copy:proc(d[%1])returns(d[%1])\np=proc()\tp p 2 - \
+    c=clusteris;a:proc()\np=proc()\tp p 2 - c$a|c$b - - 0;c a 2 4:0|4:4294967295 - - - 0;c b 2 4:7|4:0 - - - 0;\tlinked\0\
+    c=clusteris;a:proc()\np=proc()\tp p 2 - c$own - - 0;c a 2 - - - - 0;\tobject misfit: c\0\
+    c=clusteris;a:proc()\np=proc()\tp p 2 - c$a - - 0;c a 2 - - - - 0;c own 0 - - - - 0;\tlinked\0\
+    c=cluster[type]is;a:proc()\np=proc()\tp p 2 - c[5]$a - - 0;\tobject misfit: p\0\
+    c=cluster[type]is;a:proc()\np=proc()\tp p 2 - c[int,int]$own - - 0;\tobject misfit: p\0\
+    c=cluster[type]is;equal:proc(c[5],c[5])returns(bool)\np=proc()\tp p 2 - sequence[array[c[5]]]$equal - - 0;\tlinked\0\
+    c=cluster[type]is;copy:proc(c[#1])returns(c[#1])\nd=cluster[int]is;copy:proc(d[%1])returns(d[%1])\np=proc()\tp p 2 - \
     array[c[d[int]]]$copy - - 0;c copy 2 - #1$copy - - 0;\tobject misfit: c\0\
     c=proc()\np=proc()\tp p 2 - array[c]$copy - - 0;c c 2 - - - - 0;\tobject misfit: p\0\
-    c=cluster is;copy:proc(c)returns(c)\np=proc()\tp p 2 - array[c]$copy - - 0;c a 2 - - - - 0;\tobject misfit: c\0\
-    c=cluster is;copy:proc(c)returns(c)\np=proc()\tp p 2 - array[c]$copy - - 0;c copy 2 - - - - 0;\tlinked\0\
-    c=cluster is;copy:proc(c)returns(c)\np=proc()\tp p 2 - array[c]$copy - - 0;\tno body: c\0\
+    c=clusteris;copy:proc(c)returns(c)\np=proc()\tp p 2 - array[c]$copy - - 0;c a 2 - - - - 0;\tobject misfit: c\0\
+    c=clusteris;copy:proc(c)returns(c)\np=proc()\tp p 2 - array[c]$copy - - 0;c copy 2 - - - - 0;\tlinked\0\
+    c=clusteris;copy:proc(c)returns(c)\np=proc()\tp p 2 - array[c]$copy - - 0;\tno body: c\0\
     p=proc()\tp p 2 - int$add|int$sub|int$mul|int$div|int$mod - - 0;\tlinked\0\
     p=proc()\tp p 2 - int$add|int$sub|int$mul|int$div|int$mod|int$minus - - 0;\tobject misfit: p\0\
     p=proc()\tp p 2 - - - - 4;\tlinked\0\
