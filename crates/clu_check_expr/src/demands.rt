@@ -1,7 +1,7 @@
 //! Whether a type has an operation whose type is included in a wanted one.
 
 use crate::carried::routine_type;
-use crate::found::{Instance, given as first_given, instance_of, op_named, seen_spec};
+use crate::found::{Instance, given as first_given, instance_of, op_named, op_with, seen_spec};
 use clu_base::{Bytes, Rule};
 use clu_builtin::{Need, heading};
 use clu_core::{Context, SetDemand};
@@ -167,7 +167,8 @@ fn asked_of_builtin(
     }
 }
 
-/// Of a cluster its exported operations alone count, inside it too.
+/// Of a cluster its exported operations alone count, inside it too. A type whose actual parameters are not of the cluster's
+/// kinds has none.
 fn asked_of_cluster(
     alloc: Global,
     instance: &Instance,
@@ -179,10 +180,10 @@ fn asked_of_cluster(
     let Some(spec) = specs.get(&instance.name) else {
         return Ok(None);
     };
-    let Some(routine) = op_named(spec, op) else {
+    let actuals = instance.actuals.as_slice();
+    let Some(routine) = op_with(spec, actuals, op) else {
         return Ok(None);
     };
-    let actuals = instance.actuals.as_slice();
     let of = routine_type(alloc, types, &spec.types, routine, actuals)?;
     if included(types, of, wanted)? {
         Ok(Some(needs_of(alloc, spec, routine, actuals, types)?))

@@ -2,11 +2,12 @@
 
 use crate::carried::routine_type;
 use crate::invoked::Operation;
+use crate::type_rules::constant_kind;
 use clu_base::{Bytes, Sequence};
 use clu_builtin::{Need, heading};
 use clu_core::{Context, OpRef, Unit};
 use clu_equates::{CheckError, intern, term};
-use clu_types::{Actual, Demand, Form, OpSpec, Spec, Specs, Term, TypeArena, TypeId};
+use clu_types::{Actual, Demand, Form, OpSpec, ParamKind, Spec, Specs, Term, TypeArena, TypeId};
 use std::alloc::Global;
 use std::cmp::Ordering;
 
@@ -111,10 +112,10 @@ fn find_in_cluster(
     let Some(spec) = seen_spec(&c.unit, &c.specs, &instance.name) else {
         return Ok(None);
     };
-    let Some(routine) = op_named(spec, op) else {
+    let actuals = instance.actuals.as_slice();
+    let Some(routine) = op_with(spec, actuals, op) else {
         return Ok(None);
     };
-    let actuals = instance.actuals.as_slice();
     let routine = routine_type(c.alloc, &mut c.types, &spec.types, routine, actuals)?;
     let op = OpRef::Cluster(of, op.copy(c.alloc)?);
     Ok(Some(boxed(c.alloc, routine, op, Asked::Where)?))
@@ -125,6 +126,37 @@ pub fn seen_spec<'a>(unit: &'a Unit, specs: &'a Specs, module: &Bytes) -> Option
     match &unit.cluster {
         Some(cluster) if unit.name == *module => Some(&cluster.inner),
         _ => specs.get(module),
+    }
+}
+
+/// The routine of this name of a cluster with these actual parameters; None if they are not of its kinds, as in a library
+/// that is not sound.
+pub fn op_with<'a>(spec: &'a Spec, actuals: &[Actual], op: &Bytes) -> Option<&'a OpSpec> {
+    if are_of_kinds(actuals, spec.kinds.as_slice()) {
+        op_named(spec, op)
+    } else {
+        None
+    }
+}
+
+fn are_of_kinds(actuals: &[Actual], kinds: &[ParamKind]) -> bool {
+    if actuals.len() != kinds.len() {
+        return false;
+    }
+    for (actual, kind) in actuals.iter().zip(kinds) {
+        if !may_be(actual, *kind) {
+            return false;
+        }
+    }
+    true
+}
+
+/// Whether an actual parameter may be of this kind. Of a constant parameter it is only known that it is no type.
+fn may_be(actual: &Actual, kind: ParamKind) -> bool {
+    match actual {
+        Actual::Of(_) => kind == ParamKind::OfType,
+        Actual::Const(constant) => kind == constant_kind(constant),
+        Actual::ConstParam(_) => kind != ParamKind::OfType,
     }
 }
 

@@ -289,7 +289,7 @@ fn kind_of(c: &Context, actual: &Actual) -> Option<ParamKind> {
     }
 }
 
-fn constant_kind(constant: &Const) -> ParamKind {
+pub fn constant_kind(constant: &Const) -> ParamKind {
     match constant {
         Const::Null => ParamKind::Null,
         Const::Bool(_) => ParamKind::Bool,

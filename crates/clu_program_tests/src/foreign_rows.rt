@@ -1,7 +1,7 @@
 //! Libraries that another program could have made: each is one by the format, though no source has these objects.
 
 /// How many rows `FOREIGN` has.
-pub const FOREIGN_COUNT: usize = 45;
+pub const FOREIGN_COUNT: usize = 47;
 
 /// Rows that each end with byte 0. Their parts stand between tabs: specifications, one a line; routines of objects, one a
 /// line, each with a semicolon after it; and what comes of linking from `p`. Of a routine are given, with blanks between
@@ -10,8 +10,9 @@ pub const FOREIGN_COUNT: usize = 45;
 /// and bars stand between the items of a list.
 ///
 /// No types, own variables that only a routine has that is not reached, or that no set-up is called for, or of a cluster
-/// that is not there, are no fault. A descriptor has 24 bytes, a use 88 with the operation that it may be, a constant and a
-/// type 8, an own variable 24, a table of regions 24 and each region 96 with its arm, and each node allows 256.
+/// that is not there, are no fault. A type whose actual parameters do not fit its cluster has no operations. A descriptor
+/// has 24 bytes, a use 88 with the operation that it may be, a constant and a type 8, an own variable 24, a table of
+/// regions 24 and each region 96 with its arm, and each node allows 256.
 pub const FOREIGN: &str = "\
     p=proc()\tp p 2 - - - - 0;\tlinked\0\
     p=proc()\tp p 2 - - - proctype() 0;\tlinked\0\
@@ -46,6 +47,9 @@ pub const FOREIGN: &str = "\
     c=clusteris;a:proc()\np=proc()\tp p 2 - c$a - - 0;c a 2 - - - - 0;c own 0 - - - - 0;\tlinked\0\
     c=cluster[type]is;a:proc()\np=proc()\tp p 2 - c[5]$a - - 0;\tobject misfit: p\0\
     c=cluster[type]is;a:proc()\np=proc()\tp p 2 - c[int,int]$own - - 0;\tobject misfit: p\0\
+    c=cluster[type]is;copy:proc(c[5])returns(c[5])\np=proc()\tp p 2 - array[c[5]]$copy - - 0;\tobject misfit: p\0\
+    c=cluster[type]is;copy:proc(c[5])returns(c[5]) where #1 has f:proctype() \np=proc()\tp p 2 - \
+    struct[a:c[5],b:int]$copy - - 0;\tobject misfit: p\0\
     c=cluster[type]is;equal:proc(c[5],c[5])returns(bool)\np=proc()\tp p 2 - sequence[array[c[5]]]$equal - - 0;\tlinked\0\
     c=cluster[type]is;copy:proc(c[#1])returns(c[#1])\nd=cluster[int]is;copy:proc(d[%1])returns(d[%1])\np=proc()\tp p 2 - \
     array[c[d[int]]]$copy - - 0;c copy 2 - #1$copy - - 0;\tobject misfit: c\0\

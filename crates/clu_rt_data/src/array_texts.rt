@@ -3,8 +3,9 @@
 //! uses of the routine.
 
 ghost use Rattle.std.specs.Prelude.{◌≡◌, IfSome};
-ghost use Rattle.clu_rt_text.specs.Texts.{names_and_counts};
-ghost use Rattle.clu_rt_data.specs.Texts.{array_iterator_counts, array_procedure_counts};
+ghost use Rattle.std.specs.Option.{option_map};
+ghost use Rattle.clu_rt_text.specs.Texts.{count_in, names_and_counts};
+ghost use Rattle.clu_rt_data.specs.Texts.{array_counts, array_iterator_counts, array_procedure_counts};
 
 use crate::arrays::{
     ELEMENT, FIND, FROM_FIRST, GREATEST, HIGH, LOW, PLACE, SIZE, TAKE_PLACE, WRAP,
@@ -103,7 +104,8 @@ const COPY: &[Step] = &[
 
 /// The operation of arrays of this name that is a text.
 pub fn derived_of_arrays(name: &[u8]) -> Option<&'static Derived>
-    ensures { IfSome result (λ derived. derived.now.name.now ≡ name.now) }
+    ensures named { IfSome result (λ derived. derived.now.name.now ≡ name.now) }
+    ensures counts { option_map (λ derived. derived.now.nodes) result ≡ count_in array_counts name.now }
 {
     match derived_named(iterators(), name) {
         Some(derived) => Some(derived),

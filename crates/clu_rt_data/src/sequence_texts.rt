@@ -3,8 +3,9 @@
 //! uses of the routine.
 
 ghost use Rattle.std.specs.Prelude.{◌≡◌, IfSome};
-ghost use Rattle.clu_rt_text.specs.Texts.{names_and_counts};
-ghost use Rattle.clu_rt_data.specs.Texts.{sequence_iterator_counts, sequence_procedure_counts};
+ghost use Rattle.std.specs.Option.{option_map};
+ghost use Rattle.clu_rt_text.specs.Texts.{count_in, names_and_counts};
+ghost use Rattle.clu_rt_data.specs.Texts.{sequence_counts, sequence_iterator_counts, sequence_procedure_counts};
 
 use crate::sequences::{AT_Y, SIZE, Y_SIZE};
 use clu_rt_text::{Derived, Expr, Step, X, Y, Z, derived_named};
@@ -67,7 +68,8 @@ const COPY: &[Step] = &[
 
 /// The operation of sequences of this name that is a text.
 pub fn derived_of_sequences(name: &[u8]) -> Option<&'static Derived>
-    ensures { IfSome result (λ derived. derived.now.name.now ≡ name.now) }
+    ensures named { IfSome result (λ derived. derived.now.name.now ≡ name.now) }
+    ensures counts { option_map (λ derived. derived.now.nodes) result ≡ count_in sequence_counts name.now }
 {
     match derived_named(iterators(), name) {
         Some(derived) => Some(derived),

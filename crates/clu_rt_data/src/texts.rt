@@ -1,7 +1,9 @@
 //! The operations that are defined by texts of CLU as routines: one code for all types of a kind, with the type of the
 //! elements as its parameter.
 
-ghost use Rattle.std.specs.Prelude.{◌≡◌, ◌<◌, length, IfOk, IfSome, IsSome};
+ghost use Rattle.std.specs.Prelude.{◌≡◌, ◌<◌, length, slice_get, IfOk, IfSome, IsSome};
+ghost use Rattle.std.specs.Option.{option_map};
+ghost use Rattle.clu_rt_data.specs.Texts.{text_count, text_count_of};
 
 use crate::array_texts::derived_of_arrays;
 use crate::sequence_texts::derived_of_sequences;
@@ -21,6 +23,7 @@ pub fn derived(
     op: &Bytes,
 ) -> Result<Option<WRoutine>, Memory>
     ensures named { IfOk result (λ found. IfSome found (λ code. code.name ≡ op.now)) }
+    ensures counts { IfOk result (λ found. option_map (λ code. code.nodes) found ≡ text_count_of (slice_get types.now of.0) op.now) }
     ensures known { IfOk result (λ found. IsSome found → of.0 < length types.now) }
 {
     if !types.contains(of) {
@@ -34,7 +37,8 @@ pub fn derived(
 
 /// The operation of this name of a type.
 fn derived_of(term: &Term, name: &[u8]) -> Option<&'static Derived>
-    ensures { IfSome result (λ derived. derived.now.name.now ≡ name.now) }
+    ensures named { IfSome result (λ derived. derived.now.name.now ≡ name.now) }
+    ensures counts { option_map (λ derived. derived.now.nodes) result ≡ text_count term.now name.now }
 {
     match term {
         Term::Int => derived_of_int(name),

@@ -2,7 +2,8 @@
 //! stands here as word code; these are uses of the routine all the same.
 
 ghost use Rattle.std.specs.Prelude.{◌≡◌, IfSome};
-ghost use Rattle.clu_rt_text.specs.Texts.{int_counts, names_and_counts, string_counts};
+ghost use Rattle.std.specs.Option.{option_map};
+ghost use Rattle.clu_rt_text.specs.Texts.{count_in, int_counts, names_and_counts, string_counts};
 
 use crate::code::{Derived, Expr, Step, X, Y, Z};
 use crate::integers::PLUS;
@@ -70,7 +71,8 @@ const CHARS: &[Step] = &[
 
 /// The operation of int of this name that is a text.
 pub fn derived_of_int(name: &[u8]) -> Option<&'static Derived>
-    ensures { IfSome result (λ derived. derived.now.name.now ≡ name.now) }
+    ensures named { IfSome result (λ derived. derived.now.name.now ≡ name.now) }
+    ensures counts { option_map (λ derived. derived.now.nodes) result ≡ count_in int_counts name.now }
 {
     derived_named(texts_of_int(), name)
 }
@@ -102,7 +104,8 @@ const INT: &[Derived] = &[
 
 /// The operation of string of this name that is a text.
 pub fn derived_of_string(name: &[u8]) -> Option<&'static Derived>
-    ensures { IfSome result (λ derived. derived.now.name.now ≡ name.now) }
+    ensures named { IfSome result (λ derived. derived.now.name.now ≡ name.now) }
+    ensures counts { option_map (λ derived. derived.now.nodes) result ≡ count_in string_counts name.now }
 {
     derived_named(texts_of_string(), name)
 }
@@ -124,7 +127,8 @@ const STRING: &[Derived] = &[Derived {
 
 /// The first of these operations that has this name.
 pub fn derived_named(operations: &'static [Derived], name: &[u8]) -> Option<&'static Derived>
-    ensures { IfSome result (λ derived. derived.now.name.now ≡ name.now) }
+    ensures named { IfSome result (λ derived. derived.now.name.now ≡ name.now) }
+    ensures counts { option_map (λ derived. derived.now.nodes) result ≡ count_in (names_and_counts operations.now) name.now }
 {
     for derived in operations {
         if derived.name == name {

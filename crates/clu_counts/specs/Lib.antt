@@ -1,2 +1,0 @@
--- The counts of the operations that texts define.
-pub mod Counts
