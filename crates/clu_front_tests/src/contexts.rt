@@ -92,14 +92,17 @@ fn actuals(alloc: Global) -> Result<Sequence<Actual>, Memory> {
     Ok(Sequence::from_vec(actuals))
 }
 
+/// The names of the references of each kind, in the order of the kinds.
+const NAMES: [&str; 5] = ["add", "get", "q", "equal", ""];
+
 /// A reference of each kind, by its number.
-fn reference(alloc: Global, number: u32) -> Result<OpRef, Memory> {
+fn reference(number: u32, name: Bytes, actuals: Sequence<Actual>) -> OpRef {
     match number {
-        0 => Ok(OpRef::Builtin(TypeId(1), Bytes::from_slice(alloc, b"add")?)),
-        1 => Ok(OpRef::Cluster(TypeId(2), Bytes::from_slice(alloc, b"get")?)),
-        2 => Ok(OpRef::Module(Bytes::from_slice(alloc, b"q")?, actuals(alloc)?)),
-        3 => Ok(OpRef::Param(1, Bytes::from_slice(alloc, b"equal")?)),
-        _ => Ok(OpRef::Stored),
+        0 => OpRef::Builtin(TypeId(1), name),
+        1 => OpRef::Cluster(TypeId(2), name),
+        2 => OpRef::Module(name, actuals),
+        3 => OpRef::Param(1, name),
+        _ => OpRef::Stored,
     }
 }
 
@@ -109,16 +112,19 @@ fn is_copied(alloc: Global, op: &OpRef) -> Result<bool, Memory> {
 }
 
 /// Whether the reference of this number is copied as an equal one.
-fn is_kept(alloc: Global, number: u32) -> Result<bool, Memory> {
-    let op = reference(alloc, number)?;
-    is_copied(alloc, &op)
+fn is_kept(alloc: Global, number: u32, name: &str) -> Result<bool, Memory> {
+    let name = Bytes::from_slice(alloc, name.as_bytes())?;
+    let actuals = actuals(alloc)?;
+    is_copied(alloc, &reference(number, name, actuals))
 }
 
 #[test]
 fn copies_references(rt: HostRuntime) -> Result<(), Fail> {
-    for number in 0..5 {
-        let is_equal = is_kept(rt.alloc(), number)?;
+    let mut number = 0u32;
+    for name in NAMES {
+        let is_equal = is_kept(rt.alloc(), number, name)?;
         assert!(rt; is_equal, "{number}");
+        number = number.saturating_add(1);
     }
     Ok(())
 }

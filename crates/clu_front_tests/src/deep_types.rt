@@ -37,13 +37,17 @@ fn repeat(bytes: &mut Vec<u8>, part: &[u8]) -> Result<(), Fail> {
 }
 
 /// Where the text is refused, or `ok`.
-fn refusal(alloc: Global, text: &[u8]) -> Result<Bytes, Fail> {
-    let mut types = TypeArena::new(alloc);
-    match read_type(alloc, &mut types, text) {
+fn refusal_in(alloc: Global, types: &mut TypeArena, text: &[u8]) -> Result<Bytes, Fail> {
+    match read_type(alloc, types, text) {
         Ok(_) => word(alloc, "ok"),
         Err(FormatError::Bad(at)) => number(alloc, at),
         Err(FormatError::Memory) => word(alloc, "out of memory"),
     }
+}
+
+/// The same in an arena of its own.
+fn refusal(alloc: Global, text: &[u8]) -> Result<Bytes, Fail> {
+    refusal_in(alloc, &mut TypeArena::new(alloc), text)
 }
 
 fn keep(alloc: Global, text: &[u8], due: &[u8]) -> Result<(), Fail> {

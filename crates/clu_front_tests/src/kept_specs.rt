@@ -16,10 +16,14 @@ const ORDER_COUNT: usize = 3;
 /// What there is then, in order.
 const ORDER: &str = "c=proc[type]()\0m=iter[type]()\0x=proc[type]()\0";
 
+fn read(alloc: Global, text: &str) -> Result<Box<Spec>, FormatError> {
+    Ok(Box::new(alloc, read_spec(alloc, text.as_bytes())?)?)
+}
+
 fn fill(alloc: Global, specs: &mut Specs) -> Result<(), Fail> {
     for text in KEPT.split_terminator('\0') {
-        let spec = read_spec(alloc, text.as_bytes())?;
-        specs.with(spec)?;
+        let spec = read(alloc, text)?;
+        specs.with(Box::into_inner(spec))?;
     }
     Ok(())
 }
@@ -51,7 +55,7 @@ fn is_found(
     n: usize,
     text: &str,
 ) -> Result<bool, FormatError> {
-    let due = read_spec(alloc, text.as_bytes())?;
+    let due = read(alloc, text)?;
     Ok(is_at(copied, n, &due) && is_kept(specs, &due))
 }
 
@@ -74,7 +78,7 @@ fn lacks(specs: &Specs, copied: &Specs, name: &Bytes) -> bool {
 
 fn keep_and_find(alloc: Global, specs: &mut Specs, unknown: &Bytes) -> Result<bool, Fail> {
     fill(alloc, specs)?;
-    let copied = specs.copy(alloc)?;
+    let copied = Box::new(alloc, specs.copy(alloc)?)?;
     keep_order(alloc, specs, &copied)?;
     Ok(lacks(specs, &copied, unknown))
 }
@@ -83,7 +87,7 @@ fn keep_and_find(alloc: Global, specs: &mut Specs, unknown: &Bytes) -> Result<bo
 fn specifications_ascend(rt: HostRuntime) -> Result<(), Fail> {
     let alloc = rt.alloc();
     let unknown = Bytes::from_slice(alloc, b"d")?;
-    let mut specs = Specs::new(alloc);
+    let mut specs = Box::new(alloc, Specs::new(alloc))?;
     let has_no_more = keep_and_find(alloc, &mut specs, &unknown)?;
     assert!(rt; has_no_more);
     Ok(())

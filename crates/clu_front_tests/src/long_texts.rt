@@ -47,20 +47,21 @@ fn is_written(alloc: Global, types: &mut TypeArena, levels: usize) -> Result<boo
 
 #[test]
 fn deep_types_are_written(rt: HostRuntime) -> Result<(), Fail> {
-    let mut types = TypeArena::new(rt.alloc());
+    let mut types = Box::new(rt.alloc(), TypeArena::new(rt.alloc()))?;
     let is_written = is_written(rt.alloc(), &mut types, 30_000)?;
     assert!(rt; is_written);
     Ok(())
 }
 
 /// The type of the procedures that take two of a type.
-fn doubled(alloc: Global, of: TypeId) -> Result<Term, Fail> {
+fn doubled(alloc: Global, types: &mut TypeArena, of: TypeId) -> Result<TypeId, Fail> {
     let args = vec![in alloc; of, of]?;
-    Ok(Term::Proc(Heading {
+    let heading = Heading {
         args: Sequence::from_vec(args),
         results: Sequence::from_vec(Vec::new(alloc)),
         signals: Sequence::from_vec(Vec::new(alloc)),
-    }))
+    };
+    intern(types, Term::Proc(heading))
 }
 
 fn intern(types: &mut TypeArena, term: Term) -> Result<TypeId, Fail> {
@@ -74,7 +75,7 @@ fn intern(types: &mut TypeArena, term: Term) -> Result<TypeId, Fail> {
 fn doubled_often(alloc: Global, types: &mut TypeArena, levels: usize) -> Result<TypeId, Fail> {
     let mut id = types.intern(Term::Int)?;
     for _ in 0..levels {
-        id = intern(types, doubled(alloc, id)?)?;
+        id = doubled(alloc, types, id)?;
     }
     Ok(id)
 }
@@ -95,12 +96,10 @@ fn written_length(alloc: Global, types: &mut TypeArena, levels: usize) -> Result
 #[test]
 fn long_texts_are_written_or_refused(rt: HostRuntime) -> Result<(), Fail> {
     let alloc = rt.alloc();
-    let mut types = TypeArena::new(alloc);
+    let mut types = Box::new(alloc, TypeArena::new(alloc))?;
     let short = written_length(alloc, &mut types, 12)?;
     let long = written_length(alloc, &mut types, 16)?;
     let longest = written_length(alloc, &mut types, 60)?;
-    assert!(rt; short == 57_333);
-    assert!(rt; long == 917_493);
-    assert!(rt; longest == 0);
+    assert!(rt; short == 57_333 && long == 917_493 && longest == 0);
     Ok(())
 }

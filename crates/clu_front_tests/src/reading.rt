@@ -49,7 +49,7 @@ fn refusal(alloc: Global, text: &[u8], written: Result<Bytes, FormatError>) -> R
 }
 
 fn spec_again(alloc: Global, text: &[u8]) -> Result<Bytes, FormatError> {
-    let spec = read_spec(alloc, text)?;
+    let spec = Box::new(alloc, read_spec(alloc, text)?)?;
     Ok(spec_text(alloc, &spec)?)
 }
 
@@ -72,8 +72,17 @@ pub fn type_refusal(alloc: Global, types: &mut TypeArena, text: &str) -> Result<
     )
 }
 
+/// What a use names.
+pub fn target(
+    alloc: Global,
+    types: &mut TypeArena,
+    text: &[u8],
+) -> Result<Box<Target>, FormatError> {
+    Ok(Box::new(alloc, read_use(alloc, types, text)?)?)
+}
+
 fn use_again(alloc: Global, types: &mut TypeArena, text: &[u8]) -> Result<Bytes, FormatError> {
-    let target = read_use(alloc, types, text)?;
+    let target = target(alloc, types, text)?;
     Ok(use_text(alloc, types, &target)?)
 }
 
@@ -94,7 +103,8 @@ pub fn number_of(alloc: Global, types: &mut TypeArena, text: &str) -> Result<Byt
 
 /// What a use names, in a word.
 pub fn named(alloc: Global, types: &mut TypeArena, text: &str) -> Result<Bytes, Fail> {
-    match read_use(alloc, types, text.as_bytes())? {
+    let target = target(alloc, types, text.as_bytes())?;
+    match &*target {
         Target::Module(_, _) => word(alloc, "module"),
         Target::Op(_, _) => word(alloc, "operation"),
         Target::OwnSetUp(_) => word(alloc, "own"),
@@ -157,7 +167,7 @@ fn is_tally(spec: &Spec) -> bool {
 }
 
 fn tally_is_read(alloc: Global) -> Result<bool, FormatError> {
-    let spec = read_spec(alloc, TALLY.as_bytes())?;
+    let spec = Box::new(alloc, read_spec(alloc, TALLY.as_bytes())?)?;
     Ok(is_tally(&spec))
 }
 

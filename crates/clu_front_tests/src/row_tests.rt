@@ -74,7 +74,7 @@ fn number_types(alloc: Global, types: &mut TypeArena) -> Result<bool, Fail> {
 
 #[test]
 fn equal_types_have_one_number(rt: HostRuntime) -> Result<(), Fail> {
-    let mut types = TypeArena::new(rt.alloc());
+    let mut types = Box::new(rt.alloc(), TypeArena::new(rt.alloc()))?;
     let is_numbered = number_types(rt.alloc(), &mut types)?;
     assert!(rt; is_numbered);
     Ok(())

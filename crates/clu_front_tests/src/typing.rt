@@ -1,9 +1,10 @@
 //! Inclusion of types, and types with actual parameters put in.
 
 use crate::answers::yes_or_no;
+use crate::reading::target;
 use crate::rows::parts;
 use clu_base::{Bytes, Sequence};
-use clu_specs::{Target, read_type, read_use, type_text};
+use clu_specs::{Target, read_type, type_text};
 use clu_types::{Actual, TypeArena};
 use std::alloc::Global;
 use std::test::Fail;
@@ -21,7 +22,8 @@ pub fn inclusion(alloc: Global, types: &mut TypeArena, text: &str) -> Result<Byt
 
 /// The actuals of a use.
 fn actuals_of(alloc: Global, types: &mut TypeArena, text: &str) -> Result<Sequence<Actual>, Fail> {
-    match read_use(alloc, types, text.as_bytes())? {
+    let target = target(alloc, types, text.as_bytes())?;
+    match Box::into_inner(target) {
         Target::Module(_, actuals) => Ok(actuals),
         Target::Op(_, _) => Err("no module")?,
         Target::OwnSetUp(_) => Err("no module")?,
