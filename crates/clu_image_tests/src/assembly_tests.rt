@@ -192,10 +192,25 @@ fn is_line(alloc: Global, row: &str) -> Result<bool, Fail> {
         return Err("a row has no blank")?;
     };
     let word = u32::from_str_radix(digits, 16)?;
+    let source = format!(in alloc; "entry 0\n{text}\n")?;
+    Ok(has_line(alloc, word, text)? && is_read(alloc, source.as_bytes(), word))
+}
+
+/// Whether a word has the line of a text.
+fn has_line(alloc: Global, word: u32, text: &str) -> Result<bool, Fail> {
     let line = asm_line(alloc, word)?;
-    let image = read_asm(alloc, format!(in alloc; "entry 0\n{text}\n")?.as_bytes())?;
-    let due = format!(in alloc; "{text}\n")?;
-    Ok(line.as_slice() == due.as_bytes() && image.code.as_slice() == [word].as_slice())
+    match line.as_slice().split_last() {
+        Some((last, front)) => Ok(*last == b'\n' && front == text.as_bytes()),
+        None => Ok(false),
+    }
+}
+
+/// Whether a text is read as one word.
+fn is_read(alloc: Global, text: &[u8], word: u32) -> bool {
+    match &read_asm(alloc, text) {
+        Ok(image) => image.code.as_slice() == [word].as_slice(),
+        Err(_) => false,
+    }
 }
 
 #[test]
@@ -208,10 +223,26 @@ fn every_mnemonic(rt: HostRuntime) -> Result<(), Fail> {
     Ok(())
 }
 
+/// Whether a text is read as an image with these parts, and is written again.
+fn is_text(
+    alloc: Global,
+    text: &str,
+    code: &[u32],
+    fixed: &[u8],
+    area: &[u8],
+) -> Result<bool, Fail> {
+    let image = read_asm(alloc, text.as_bytes())?;
+    let written = asm_text(alloc, &image)?;
+    Ok(
+        image.code.as_slice() == code
+            && image.fixed.as_slice() == fixed
+            && image.area.as_slice() == area
+            && written.as_slice() == text.as_bytes(),
+    )
+}
+
 #[test]
 fn program_hi(rt: HostRuntime) -> Result<(), Fail> {
-    let alloc = rt.alloc();
-    let image = read_asm(alloc, HI.as_bytes())?;
     let code = [
         0x0040_0893,
         0x0001_0537,
@@ -221,19 +252,17 @@ fn program_hi(rt: HostRuntime) -> Result<(), Fail> {
         0x0000_0893,
         0x73,
     ];
-    assert_eq!(rt; image.code.as_slice(), code.as_slice());
-    assert_eq!(rt; image.area.as_slice(), b"hi\n\0\0\0\0\0".as_slice());
-    assert_eq!(rt; asm_text(alloc, &image)?.as_slice(), HI.as_bytes());
+    let holds = is_text(rt.alloc(), HI, &code, b"", b"hi\n\0\0\0\0\0")?;
+    assert!(rt; holds);
     Ok(())
 }
 
 #[test]
 fn every_sort_of_line(rt: HostRuntime) -> Result<(), Fail> {
-    let alloc = rt.alloc();
-    let image = read_asm(alloc, SMALL.as_bytes())?;
     let fixed = [0, 0x11, 0x22, 0x33, 0x44, 0x55, 0x66, 0x77];
-    assert_eq!(rt; image.fixed.as_slice(), fixed.as_slice());
-    assert_eq!(rt; asm_text(alloc, &image)?.as_slice(), SMALL.as_bytes());
+    let area = [0x88, 0x99, 0xaa, 0xbb, 0xcc, 0xdd, 0xee, 0xff];
+    let holds = is_text(rt.alloc(), SMALL, &[0x0031_40b3, 0], &fixed, &area)?;
+    assert!(rt; holds);
     Ok(())
 }
 

@@ -5,6 +5,7 @@ ghost use Rattle.std.specs.Prelude.{◌≤◌};
 
 use clu_base::FormatError;
 use clu_image::{load, store};
+use rv_isa::Image;
 use std::alloc::Global;
 use std::process::Abort;
 use std::test::Fail;
@@ -20,47 +21,68 @@ const FIRST: [u8; 24] = [
     67, 76, 85, 73, 1, 0, 0, 0, 0, 0, 0, 0, 1, 0, 0, 0, 0, 0, 0, 0, 0x73, 0, 0, 0,
 ];
 
+/// `FIRST` as it is written.
+const AGAIN: [u8; 28] = [
+    67, 76, 85, 73, 2, 0, 0, 0, 0, 0, 0, 0, 1, 0, 0, 0, 0, 0, 0, 0, 0, 0, 0, 0, 0x73, 0, 0, 0,
+];
+
+/// Whether bytes are refused at this place.
+fn is_refused(alloc: Global, b: &[u8], at: u64) -> bool {
+    match load(alloc, b) {
+        Err(FormatError::Bad(found)) => found == at,
+        _ => false,
+    }
+}
+
 fn refused(rt: &impl Abort, alloc: Global, b: &[u8], at: u64) {
-    assert_eq!(rt;
-        load(alloc, b).err(),
-        Some(FormatError::Bad(at)),
-        "{} bytes",
-        b.len()
-    );
+    assert!(rt; is_refused(alloc, b, at), "not bad at {at}");
+}
+
+/// Whether an image has these parts, and is written as these bytes.
+fn is_image(
+    alloc: Global,
+    image: &Image,
+    entry: u32,
+    parts: (&[u32], &[u8], &[u8]),
+    bytes: &[u8],
+) -> Result<bool, Fail> {
+    let (code, fixed, area) = parts;
+    let written = store(alloc, image)?;
+    Ok(
+        image.entry == entry
+            && image.code.as_slice() == code
+            && image.fixed.as_slice() == fixed
+            && image.area.as_slice() == area
+            && written.as_slice() == bytes,
+    )
 }
 
 #[test]
 fn second_version(rt: HostRuntime) -> Result<(), Fail> {
-    let alloc = rt.alloc();
-    let image = load(alloc, &SECOND)?;
-    assert_eq!(rt; image.entry, 1);
-    assert_eq!(rt; image.code.as_slice(), [0x13, 0x73].as_slice());
-    assert_eq!(rt; image.fixed.as_slice(), [1, 2, 3, 4, 5, 6, 7, 8].as_slice());
-    assert_eq!(rt;
-        image.area.as_slice(),
-        [11, 12, 13, 14, 15, 16, 17, 18].as_slice()
-    );
-    assert_eq!(rt; store(alloc, &image)?.as_slice(), SECOND.as_slice());
+    let image = load(rt.alloc(), &SECOND)?;
+    let (fixed, area) = ([1, 2, 3, 4, 5, 6, 7, 8], [11, 12, 13, 14, 15, 16, 17, 18]);
+    let parts = ([0x13, 0x73].as_slice(), fixed.as_slice(), area.as_slice());
+    let holds = is_image(rt.alloc(), &image, 1, parts, &SECOND)?;
+    assert!(rt; holds);
     Ok(())
 }
 
 #[test]
 fn first_version(rt: HostRuntime) -> Result<(), Fail> {
-    let alloc = rt.alloc();
-    let image = load(alloc, &FIRST)?;
-    assert_eq!(rt;
-        (image.entry, image.fixed.len(), image.area.len()),
-        (0, 0, 0)
-    );
-    assert_eq!(rt; image.code.as_slice(), [0x73].as_slice());
-    let again = [
-        67, 76, 85, 73, 2, 0, 0, 0, 0, 0, 0, 0, 1, 0, 0, 0, 0, 0, 0, 0, 0, 0, 0, 0, 0x73, 0, 0, 0,
-    ];
-    assert_eq!(rt; store(alloc, &image)?.as_slice(), again.as_slice());
-    refused(&rt, alloc, &FIRST[..3], 0);
-    refused(&rt, alloc, &FIRST[..19], 16);
-    refused(&rt, alloc, &FIRST[..23], 20);
-    refused(&rt, alloc, &[FIRST.as_slice(), b"x"].concat(alloc)?, 24);
+    let image = load(rt.alloc(), &FIRST)?;
+    let parts = ([0x73].as_slice(), b"".as_slice(), b"".as_slice());
+    let holds = is_image(rt.alloc(), &image, 0, parts, &AGAIN)?;
+    assert!(rt; holds);
+    Ok(())
+}
+
+#[test]
+fn cut_first_version(rt: HostRuntime) -> Result<(), Fail> {
+    let longer = [FIRST.as_slice(), b"x"].concat(rt.alloc())?;
+    refused(&rt, rt.alloc(), &FIRST[..3], 0);
+    refused(&rt, rt.alloc(), &FIRST[..19], 16);
+    refused(&rt, rt.alloc(), &FIRST[..23], 20);
+    refused(&rt, rt.alloc(), &longer, 24);
     Ok(())
 }
 
@@ -81,11 +103,11 @@ fn cut_field(n: usize) -> u64 {
 
 #[test]
 fn cut_files(rt: HostRuntime) -> Result<(), Fail> {
-    let alloc = rt.alloc();
+    let longer = [SECOND.as_slice(), b"x"].concat(rt.alloc())?;
     for n in 0..48 {
-        refused(&rt, alloc, &SECOND[..n], cut_field(n));
+        refused(&rt, rt.alloc(), &SECOND[..n], cut_field(n));
     }
-    refused(&rt, alloc, &[SECOND.as_slice(), b"x"].concat(alloc)?, 48);
+    refused(&rt, rt.alloc(), &longer, 48);
     Ok(())
 }
 

@@ -4,14 +4,20 @@
 ghost use Rattle.std.specs.Prelude.{◌≡◌, ◌<◌};
 
 use rv_isa::{Image, Instr, Op, Reg, decode, encode};
+use std::alloc::Global;
 use std::process::Abort;
 use std::test::Fail;
 
-/// The word is the instruction, and the instruction has the word.
+/// Whether the word is the instruction, and the instruction has the word.
+fn is_row(word: u32, instr: Instr) -> bool {
+    match decode(word) {
+        Some(found) => found == instr && instr.valid() && encode(instr) == word,
+        None => false,
+    }
+}
+
 fn row(rt: &impl Abort, word: u32, instr: Instr) {
-    assert_eq!(rt; decode(word), Some(instr), "word {word}");
-    assert!(rt; instr.valid(), "word {word}");
-    assert_eq!(rt; encode(instr), word);
+    assert!(rt; is_row(word, instr), "word {word}");
 }
 
 /// The register of the number.
@@ -228,87 +234,83 @@ fn other_words(rt: HostRuntime) {
         0x0000_007f,
     ];
     for word in words {
-        assert_eq!(rt; decode(word), None, "word {word}");
+        assert!(rt; decode(word).is_none(), "word {word}");
     }
+}
+
+fn refused(rt: &impl Abort, number: u32, instr: Instr) {
+    assert!(rt; !instr.valid(), "instruction {number}");
 }
 
 #[test]
 fn other_instructions(rt: HostRuntime) {
-    let instrs = [
-        upper(Op::Add, 1, 4096),
-        upper(Op::Lui, 1, 1),
-        jal(1, 1_048_576),
-        jal(1, 3),
-        jalr(1, 2, 2048),
-        branch(Op::Beq, 1, 2, 4096),
-        branch(Op::Beq, 1, 2, -1),
-        branch(Op::Lw, 1, 2, 0),
-        load(Op::Sw, 1, 2, 0),
-        load(Op::Lw, 1, 2, -2049),
-        save(Op::Lw, 1, 2, 0),
-        save(Op::Sw, 1, 2, 2048),
-        imm(Op::Addi, 1, 2, 2048),
-        imm(Op::Add, 1, 2, 0),
-        imm(Op::Slli, 1, 2, 64),
-        imm(Op::Srai, 1, 2, -1),
-        imm(Op::Sraiw, 1, 2, 32),
-        three(Op::Addi, 1, 2, 3),
-        fence(0, 0, -2049),
-    ];
-    for instr in instrs {
-        assert!(rt; !instr.valid(), "{instr:?}");
+    refused(&rt, 1, upper(Op::Add, 1, 4096));
+    refused(&rt, 2, upper(Op::Lui, 1, 1));
+    refused(&rt, 3, jal(1, 1_048_576));
+    refused(&rt, 4, jal(1, 3));
+    refused(&rt, 5, jalr(1, 2, 2048));
+    refused(&rt, 6, branch(Op::Beq, 1, 2, 4096));
+    refused(&rt, 7, branch(Op::Beq, 1, 2, -1));
+    refused(&rt, 8, branch(Op::Lw, 1, 2, 0));
+    refused(&rt, 9, load(Op::Sw, 1, 2, 0));
+    refused(&rt, 10, load(Op::Lw, 1, 2, -2049));
+    refused(&rt, 11, save(Op::Lw, 1, 2, 0));
+    refused(&rt, 12, save(Op::Sw, 1, 2, 2048));
+    refused(&rt, 13, imm(Op::Addi, 1, 2, 2048));
+    refused(&rt, 14, imm(Op::Add, 1, 2, 0));
+    refused(&rt, 15, imm(Op::Slli, 1, 2, 64));
+    refused(&rt, 16, imm(Op::Srai, 1, 2, -1));
+    refused(&rt, 17, imm(Op::Sraiw, 1, 2, 32));
+    refused(&rt, 18, three(Op::Addi, 1, 2, 3));
+    refused(&rt, 19, fence(0, 0, -2049));
+}
+
+fn have_numbers() -> bool {
+    match Reg::new(31) {
+        Some(last) => last.number() == 31 && Reg::new(32).is_none(),
+        None => false,
     }
 }
 
 #[test]
-fn registers_and_images(rt: HostRuntime) -> Result<(), Fail> {
-    assert_eq!(rt; Reg::new(31).ok_or("no register")?.number(), 31);
-    assert_eq!(rt; Reg::new(32), None);
+fn registers_have_numbers(rt: HostRuntime) {
+    assert!(rt; have_numbers());
+}
 
-    let alloc = rt.alloc();
-    let image = Image::new(
-        1,
-        vec![in alloc; 0x73, 0x73]?,
-        vec![in alloc; 1; 8]?,
-        vec![in alloc; 2; 16]?,
-    );
-    let image = image.ok_or("no image")?;
-    assert_eq!(rt;
-        (
-            image.entry,
-            image.code.len(),
-            image.fixed.len(),
-            image.area.len()
-        ),
-        (1, 2, 8, 16)
-    );
-    assert!(rt;
-        Image::new(
-            2,
-            vec![in alloc; 0x73, 0x73]?,
-            Vec::new(alloc),
-            Vec::new(alloc)
-        )
-        .is_none()
-    );
-    assert!(rt; Image::new(0, Vec::new(alloc), Vec::new(alloc), Vec::new(alloc)).is_none());
-    assert!(rt;
-        Image::new(
-            0,
-            vec![in alloc; 0x73]?,
-            vec![in alloc; 0; 4]?,
-            Vec::new(alloc)
-        )
-        .is_none()
-    );
-    assert!(rt;
-        Image::new(
-            0,
-            vec![in alloc; 0x73]?,
-            Vec::new(alloc),
-            vec![in alloc; 0; 9]?
-        )
-        .is_none()
-    );
+fn has_sizes(image: &Image, sizes: (u32, usize, usize, usize)) -> bool {
+    let (entry, code, fixed, area) = sizes;
+    image.entry == entry
+        && image.code.len() == code
+        && image.fixed.len() == fixed
+        && image.area.len() == area
+}
+
+/// Whether there is an image that starts at this word, with so many words of code and bytes of both parts.
+fn is_image(alloc: Global, sizes: (u32, usize, usize, usize)) -> Result<bool, Fail> {
+    let (entry, code, fixed, area) = sizes;
+    let code = vec![in alloc; 0x73; code]?;
+    let fixed = vec![in alloc; 1; fixed]?;
+    let area = vec![in alloc; 2; area]?;
+    match &Image::new(entry, code, fixed, area) {
+        Some(image) => Ok(has_sizes(image, sizes)),
+        None => Ok(false),
+    }
+}
+
+/// Where an image would start, how many words of code and bytes of both parts it would have, and whether there is one.
+const IMAGES: [(u32, usize, usize, usize, bool); 5] = [
+    (1, 2, 8, 16, true),
+    (2, 2, 0, 0, false),
+    (0, 0, 0, 0, false),
+    (0, 1, 4, 0, false),
+    (0, 1, 0, 9, false),
+];
+
+#[test]
+fn images(rt: HostRuntime) -> Result<(), Fail> {
+    for (entry, code, fixed, area, due) in IMAGES {
+        let found = is_image(rt.alloc(), (entry, code, fixed, area))?;
+        assert!(rt; found == due, "{entry} {code} {fixed} {area}");
+    }
     Ok(())
 }
