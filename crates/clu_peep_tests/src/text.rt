@@ -25,22 +25,66 @@ fn number_at(text: &str, place: usize) -> u32 {
     }
 }
 
-/// The step of a text.
-pub fn step(text: &str) -> Result<Flat, Fail> {
+/// The sorts of steps that texts have.
+#[derive(Clone, Copy)]
+enum Sort {
+    Move,
+    Word,
+    Label,
+    Jump,
+    Branch,
+    Enter,
+    Invoke,
+    Take,
+    Resume,
+    Leave,
+}
+
+const SORTS: [(&str, Sort); 10] = [
+    ("move", Sort::Move),
+    ("word", Sort::Word),
+    ("label", Sort::Label),
+    ("jump", Sort::Jump),
+    ("branch", Sort::Branch),
+    ("enter", Sort::Enter),
+    ("invoke", Sort::Invoke),
+    ("take", Sort::Take),
+    ("resume", Sort::Resume),
+    ("leave", Sort::Leave),
+];
+
+fn sort_of(text: &str) -> Option<Sort> {
+    let name = text.split(' ').next().unwrap_or("");
+    for (known, sort) in SORTS {
+        if known == name {
+            return Some(sort);
+        }
+    }
+    None
+}
+
+fn step(sort: Sort, first: u32, second: u32) -> Flat {
+    match sort {
+        Sort::Move => Flat::Set(first, WExpr::Slot(second)),
+        Sort::Word => Flat::Set(first, WExpr::Word(u64::from(second))),
+        Sort::Label => Flat::Label(first),
+        Sort::Jump => Flat::Jump(first),
+        Sort::Branch => Flat::Branch(WExpr::Slot(0), true, first),
+        Sort::Enter => Flat::Enter(first),
+        Sort::Invoke => Flat::Invoke(WExpr::Slot(0), 0),
+        Sort::Take => Flat::Take(first),
+        Sort::Resume => Flat::Resume(first),
+        Sort::Leave => Flat::Leave(0, 0),
+    }
+}
+
+/// Appends the step of a text.
+pub fn put_step(code: &mut Vec<Flat>, text: &str) -> Result<(), Fail> {
     let first = number_at(text, 1);
     let second = number_at(text, 2);
-    match text.split(' ').next().unwrap_or("") {
-        "move" => Ok(Flat::Set(first, WExpr::Slot(second))),
-        "word" => Ok(Flat::Set(first, WExpr::Word(u64::from(second)))),
-        "label" => Ok(Flat::Label(first)),
-        "jump" => Ok(Flat::Jump(first)),
-        "branch" => Ok(Flat::Branch(WExpr::Slot(0), true, first)),
-        "enter" => Ok(Flat::Enter(first)),
-        "invoke" => Ok(Flat::Invoke(WExpr::Slot(0), 0)),
-        "take" => Ok(Flat::Take(first)),
-        "resume" => Ok(Flat::Resume(first)),
-        "leave" => Ok(Flat::Leave(0, 0)),
-        _ => Err("no step")?,
+    match sort_of(text) {
+        Some(sort) => Ok(code.push(step(sort, first, second))?),
+        None => Err("no step")?,
     }
 }
 
