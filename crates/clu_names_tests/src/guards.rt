@@ -95,17 +95,21 @@ fn tell_words(out: &mut String, round: &Round) -> Result<(), Fail> {
     Ok(())
 }
 
+fn tell_all(out: &mut String, tree: &Tree, rounds: &[Round]) -> Result<(), Fail> {
+    for n in 0..tree.len() {
+        if let Some(round) = rounds.get(n as usize) {
+            tell(out, tree, round, n)?;
+        }
+    }
+    Ok(())
+}
+
 /// What surrounds each node of a tree, as the rows write it, each with a blank before it and after it.
 pub fn surroundings(alloc: Global, tree: &Tree) -> Result<String, Fail> {
-    let rounds = match rounds(alloc, tree) {
-        Ok(rounds) => rounds,
-        Err(_) => return Err("no memory for the surroundings")?,
-    };
     let mut out = String::from_str(alloc, " ")?;
-    for n in 0..tree.len() {
-        if let Some(round) = rounds.as_slice().get(n as usize) {
-            tell(&mut out, tree, round, n)?;
-        }
+    match rounds(alloc, tree) {
+        Ok(rounds) => tell_all(&mut out, tree, rounds.as_slice())?,
+        Err(_) => return Err("no memory for the surroundings")?,
     }
     Ok(out)
 }
