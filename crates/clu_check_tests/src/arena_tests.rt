@@ -30,7 +30,7 @@ fn asks(types: &mut TypeArena) -> Result<bool, CheckError> {
 
 #[test]
 fn asks_an_arena_for_its_own_types(rt: HostRuntime) -> Result<(), Fail> {
-    let mut types = TypeArena::new(rt.alloc());
+    let mut types = Box::new(rt.alloc(), TypeArena::new(rt.alloc()))?;
     let is_so = asks(&mut types)?;
     assert!(rt; is_so);
     Ok(())
@@ -48,7 +48,7 @@ fn puts(alloc: Global, types: &mut TypeArena) -> Result<bool, CheckError> {
 
 #[test]
 fn puts_actuals_in(rt: HostRuntime) -> Result<(), Fail> {
-    let mut types = TypeArena::new(rt.alloc());
+    let mut types = Box::new(rt.alloc(), TypeArena::new(rt.alloc()))?;
     let is_so = puts(rt.alloc(), &mut types)?;
     assert!(rt; is_so);
     Ok(())
@@ -68,8 +68,8 @@ fn carries(
 
 #[test]
 fn carries_types_over(rt: HostRuntime) -> Result<(), Fail> {
-    let mut types = TypeArena::new(rt.alloc());
-    let mut other = TypeArena::new(rt.alloc());
+    let mut types = Box::new(rt.alloc(), TypeArena::new(rt.alloc()))?;
+    let mut other = Box::new(rt.alloc(), TypeArena::new(rt.alloc()))?;
     let is_so = carries(rt.alloc(), &mut types, &mut other)?;
     assert!(rt; is_so);
     Ok(())

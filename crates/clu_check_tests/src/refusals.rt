@@ -8,7 +8,7 @@ use crate::{
     rules_examples, rules_expressions, rules_instances, rules_leaving, rules_limits, rules_names,
     rules_operations, rules_order, rules_results, rules_selectors, rules_signals, rules_statements,
 };
-use clu_base::{Place, Rule};
+use clu_base::{Place, Rule, Token};
 use clu_check_mod::check;
 use clu_equates::CheckError;
 use clu_lexer::{LexError, lex};
@@ -33,28 +33,44 @@ fn word(alloc: Global, word: &str) -> Result<String, Fail> {
     Ok(String::from_str(alloc, word)?)
 }
 
+fn refusal_of_error(alloc: Global, error: CheckError) -> Result<String, Fail> {
+    match error {
+        CheckError::Refused(how) => refusal(alloc, how.rule, how.place),
+        CheckError::Memory => word(alloc, "memory"),
+        CheckError::NotYet => word(alloc, "not yet"),
+    }
+}
+
 fn refusal_of_tree(alloc: Global, tree: Tree, specs: &Specs) -> Result<String, Fail> {
-    match check(alloc, tree, specs) {
-        Ok(_) => word(alloc, "ok"),
-        Err(CheckError::Refused(how)) => refusal(alloc, how.rule, how.place),
-        Err(CheckError::Memory) => word(alloc, "memory"),
-        Err(CheckError::NotYet) => word(alloc, "not yet"),
+    match check(alloc, tree, specs).err() {
+        Some(error) => refusal_of_error(alloc, error),
+        None => word(alloc, "ok"),
+    }
+}
+
+fn refusal_of_tokens(
+    alloc: Global,
+    bytes: &[u8],
+    tokens: &[Token],
+    specs: &Specs,
+) -> Result<String, Fail>
+    requires { length bytes.now ≤ 1_048_576 }
+{
+    match parse(alloc, bytes, tokens) {
+        Ok(tree) => refusal_of_tree(alloc, tree, specs),
+        Err(ParseError::Syntax(place)) => refusal(alloc, Rule::Syntax, place),
+        Err(ParseError::TooDeep(place)) => refusal(alloc, Rule::TooDeep, place),
+        Err(_) => word(alloc, "not parsed"),
     }
 }
 
 fn refusal_in(alloc: Global, bytes: &[u8], specs: &Specs) -> Result<String, Fail>
     requires { length bytes.now ≤ 1_048_576 }
 {
-    let tokens = match lex(alloc, bytes) {
-        Ok(tokens) => tokens,
-        Err(LexError::Token(place)) => return refusal(alloc, Rule::Token, place),
-        Err(LexError::Memory) => return word(alloc, "memory"),
-    };
-    match parse(alloc, bytes, tokens.as_slice()) {
-        Ok(tree) => refusal_of_tree(alloc, tree, specs),
-        Err(ParseError::Syntax(place)) => refusal(alloc, Rule::Syntax, place),
-        Err(ParseError::TooDeep(place)) => refusal(alloc, Rule::TooDeep, place),
-        Err(_) => word(alloc, "not parsed"),
+    match lex(alloc, bytes) {
+        Ok(tokens) => refusal_of_tokens(alloc, bytes, tokens.as_slice(), specs),
+        Err(LexError::Token(place)) => refusal(alloc, Rule::Token, place),
+        Err(LexError::Memory) => word(alloc, "memory"),
     }
 }
 
@@ -126,24 +142,37 @@ pub fn keep_under(alloc: Global, rows: &str, due: usize, specs: &Specs) -> Resul
 }
 
 /// Keeps tables, each with its number of rows.
-fn keep_all(alloc: Global, tables: &[(&str, usize)]) -> Result<(), Fail> {
-    let none = Specs::new(alloc);
+fn keep_tables(alloc: Global, tables: &[(&str, usize)], specs: &Specs) -> Result<(), Fail> {
     for table in tables {
         let (rows, due) = *table;
-        keep_under(alloc, rows, due, &none)?;
+        keep_under(alloc, rows, due, specs)?;
     }
     Ok(())
 }
 
+/// The same over no specifications.
+fn keep_all(alloc: Global, tables: &[(&str, usize)]) -> Result<(), Fail> {
+    keep_tables(alloc, tables, &Specs::new(alloc))
+}
+
 /// Keeps groups of rows, each after what stands for `#` and how often, which have so many rows together.
-fn keep_groups(alloc: Global, groups: &[(&str, usize, &str)], due: usize) -> Result<(), Fail> {
-    let none = Specs::new(alloc);
+fn keep_groups_under(
+    alloc: Global,
+    groups: &[(&str, usize, &str)],
+    due: usize,
+    specs: &Specs,
+) -> Result<(), Fail> {
     let mut count = 0usize;
     for group in groups {
         let (unit, times, rows) = *group;
-        count = count.saturating_add(keep(alloc, rows, unit, times, &none)?);
+        count = count.saturating_add(keep(alloc, rows, unit, times, specs)?);
     }
     counted(alloc, count, due)
+}
+
+/// The same over no specifications.
+fn keep_groups(alloc: Global, groups: &[(&str, usize, &str)], due: usize) -> Result<(), Fail> {
+    keep_groups_under(alloc, groups, due, &Specs::new(alloc))
 }
 
 const NAMES_AND_CONSTANTS: [(&str, usize); 3] = [
@@ -238,14 +267,24 @@ const CHAINS: [(&str, &str); 4] = [
     ("zork", "1:18:V8"),
 ];
 
-#[test]
-fn unfolds_long_chains(rt: HostRuntime) -> Result<(), Fail> {
-    let alloc = rt.alloc();
-    let none = Specs::new(alloc);
-    for (last, due) in CHAINS {
-        let source = chained(alloc, last)?;
-        let found = refusal_of(alloc, source.as_bytes(), &none)?;
-        assert_eq!(rt; found.as_str(), due, "{last}");
+/// What is found of a chain with this last right side is what is due.
+fn keep_chain(alloc: Global, last: &str, due: &str, specs: &Specs) -> Result<(), Fail> {
+    let source = chained(alloc, last)?;
+    let found = refusal_of(alloc, source.as_bytes(), specs)?;
+    if found.as_str() != due {
+        return Err(format!(in alloc; "{found} comes of {last}")?)?;
     }
     Ok(())
+}
+
+fn keep_chains(alloc: Global, specs: &Specs) -> Result<(), Fail> {
+    for (last, due) in CHAINS {
+        keep_chain(alloc, last, due, specs)?;
+    }
+    Ok(())
+}
+
+#[test]
+fn unfolds_long_chains(rt: HostRuntime) -> Result<(), Fail> {
+    keep_chains(rt.alloc(), &Specs::new(rt.alloc()))
 }

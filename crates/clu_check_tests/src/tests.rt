@@ -67,46 +67,49 @@ fn text_of(alloc: Global, spec: &Spec) -> Result<Bytes, Fail> {
 }
 
 /// The text of the specification of the first module.
-fn first_text(alloc: Global, tree: &Tree) -> Result<Bytes, Fail> {
+fn first_text(alloc: Global, tree: &Tree, none: &Specs) -> Result<Bytes, Fail> {
     let module = first_module(tree)?;
-    match spec_of(alloc, tree, module, &Specs::new(alloc)) {
+    match spec_of(alloc, tree, module, none) {
         Ok(spec) => text_of(alloc, &spec),
         Err(_) => Err("no specification")?,
     }
 }
 
 /// Whether one specification is found for a source, both of its headings alone and of the whole.
-fn has_one(alloc: Global, tree: &Tree, source: &str) -> Result<bool, Fail> {
-    let none = Specs::new(alloc);
-    let whole = checked(alloc, source, &none)?;
-    match specs_of(alloc, tree, &none) {
+fn has_one(alloc: Global, tree: &Tree, source: &str, none: &Specs) -> Result<bool, Fail> {
+    let whole = checked(alloc, source, none)?;
+    match specs_of(alloc, tree, none) {
         Ok(specs) => Ok(specs.len() == 1 && whole.specs.len() == 1),
         Err(_) => Ok(false),
     }
 }
 
 /// The first module of a row has its text.
-fn keep_text(alloc: Global, row: &str) -> Result<(), Fail> {
+fn keep_text(alloc: Global, row: &str, none: &Specs) -> Result<(), Fail> {
     let (due, source) = row.split_once('\t').unwrap_or(("", row));
     let tree = parsed(alloc, source)?;
-    let found = first_text(alloc, &tree)?;
+    let found = first_text(alloc, &tree, none)?;
     if found.as_slice() != due.as_bytes() {
         return Err(format!(in alloc; "{}", std::str::from_utf8(found.as_slice())?)?)?;
     }
-    if !has_one(alloc, &tree, source)? {
+    if !has_one(alloc, &tree, source, none)? {
         return Err("not one specification")?;
     }
     Ok(())
 }
 
-#[test]
-fn specifications(rt: HostRuntime) -> Result<(), Fail> {
+fn keep_texts(alloc: Global, none: &Specs) -> Result<(), Fail> {
     let mut rows = 0usize;
     for row in SPECIFICATIONS.split_terminator('\0') {
-        keep_text(rt.alloc(), row)?;
+        keep_text(alloc, row, none)?;
         rows = rows.saturating_add(1);
     }
-    counted(rt.alloc(), rows, SPECIFICATION_COUNT)
+    counted(alloc, rows, SPECIFICATION_COUNT)
+}
+
+#[test]
+fn specifications(rt: HostRuntime) -> Result<(), Fail> {
+    keep_texts(rt.alloc(), &Specs::new(rt.alloc()))
 }
 
 /// The source of the kept specifications.
@@ -124,13 +127,18 @@ const UNDER_KEPT: &str = "\
 /// How many rows `UNDER_KEPT` has.
 const KEPT_COUNT: usize = 5;
 
-/// Keeps the specifications of a source.
-fn keep_specs(alloc: Global, specs: &mut Specs, source: &str) -> Result<(), Fail> {
-    let tree = parsed(alloc, source)?;
-    for spec in specs_of(alloc, &tree, &Specs::new(alloc))? {
+fn add_specs(specs: &mut Specs, found: Vec<Spec>) -> Result<(), Fail> {
+    for spec in found {
         specs.with(spec)?;
     }
     Ok(())
+}
+
+/// Keeps the specifications of a source.
+fn keep_specs(alloc: Global, specs: &mut Specs, source: &str) -> Result<(), Fail> {
+    let tree = parsed(alloc, source)?;
+    let found = specs_of(alloc, &tree, &Specs::new(alloc))?;
+    add_specs(specs, found)
 }
 
 /// The names of the specifications of what was checked, in their order with a blank after each.
@@ -148,15 +156,19 @@ fn put_name(names: &mut String, name: &Bytes) -> Result<(), Fail> {
     Ok(())
 }
 
+/// The names of the specifications of a module that uses a kept one.
+fn names_under(alloc: Global, specs: &Specs) -> Result<String, Fail> {
+    let checked = checked(alloc, "r = proc () q(1) end r", specs)?;
+    spec_names(alloc, &checked)
+}
+
 #[test]
 fn kept_specifications(rt: HostRuntime) -> Result<(), Fail> {
-    let alloc = rt.alloc();
-    let mut specs = Specs::new(alloc);
-    keep_specs(alloc, &mut specs, KEPT)?;
-    keep_under(alloc, UNDER_KEPT, KEPT_COUNT, &specs)?;
-    let checked = checked(alloc, "r = proc () q(1) end r", &specs)?;
-    let names = spec_names(alloc, &checked)?;
-    assert_eq!(rt; names.as_str(), "r q ");
+    let mut specs = Box::new(rt.alloc(), Specs::new(rt.alloc()))?;
+    keep_specs(rt.alloc(), &mut specs, KEPT)?;
+    keep_under(rt.alloc(), UNDER_KEPT, KEPT_COUNT, &specs)?;
+    let names = names_under(rt.alloc(), &specs)?;
+    assert!(rt; names.as_str() == "r q ");
     Ok(())
 }
 
@@ -192,9 +204,9 @@ fn named_by(alloc: Global, checked: &Checked) -> Result<String, Fail> {
 }
 
 /// The first module of a row names what stands before it.
-fn keep_names(alloc: Global, row: &str) -> Result<(), Fail> {
+fn keep_names(alloc: Global, row: &str, none: &Specs) -> Result<(), Fail> {
     let (due, source) = row.split_once('\t').unwrap_or(("?", row));
-    let checked = checked(alloc, source, &Specs::new(alloc))?;
+    let checked = checked(alloc, source, none)?;
     let found = named_by(alloc, &checked)?;
     if found.as_str() != due {
         return Err(format!(in alloc; "{found}are named by {row}")?)?;
@@ -202,12 +214,16 @@ fn keep_names(alloc: Global, row: &str) -> Result<(), Fail> {
     Ok(())
 }
 
-#[test]
-fn modules_that_a_text_names(rt: HostRuntime) -> Result<(), Fail> {
+fn keep_naming(alloc: Global, none: &Specs) -> Result<(), Fail> {
     let mut rows = 0usize;
     for row in NAMING.split_terminator('\0') {
-        keep_names(rt.alloc(), row)?;
+        keep_names(alloc, row, none)?;
         rows = rows.saturating_add(1);
     }
-    counted(rt.alloc(), rows, NAMING_COUNT)
+    counted(alloc, rows, NAMING_COUNT)
+}
+
+#[test]
+fn modules_that_a_text_names(rt: HostRuntime) -> Result<(), Fail> {
+    keep_naming(rt.alloc(), &Specs::new(rt.alloc()))
 }
