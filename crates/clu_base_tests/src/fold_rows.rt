@@ -1,5 +1,8 @@
 //! What operators give for constants, as rows.
 
+/// How many rows `ROWS` has besides comments.
+pub const COUNT: usize = 78;
+
 /// Rows that each end with byte 0: the left constant, the operator and the right constant, or a prefix operator and its
 /// operand, and what comes of them; `none` where it is no constant. `'x` is a character, `"x` a string. A row that begins
 /// with `%` is a comment.

@@ -1,48 +1,81 @@
 //! The table of what operators give, and where a text is too long.
 
-use crate::fold_rows::ROWS;
-use clu_base::{Bytes, Const};
+use crate::fold_rows::{COUNT, ROWS};
+use crate::text::{counted, same};
+use clu_base::{Bytes, Const, Memory};
 use clu_fold::{fold, fold_prefix, infix_operator, is_long, prefix_operator, text_length};
 use std::alloc::Global;
+use std::fmt::Write;
 use std::test::Fail;
 
+fn boxed(alloc: Global, constant: Const) -> Result<Box<Const>, Fail> {
+    Ok(Box::new(alloc, constant)?)
+}
+
 /// The constant that a row writes.
-fn constant(alloc: Global, text: &str) -> Result<Const, Fail> {
+fn constant(alloc: Global, text: &str) -> Result<Box<Const>, Fail> {
     match text.as_bytes() {
-        [b'"', rest @ ..] => Ok(Const::Str(Bytes::from_slice(alloc, rest)?)),
-        [b'\'', c] => Ok(Const::Char(*c)),
-        b"nil" => Ok(Const::Null),
-        b"true" => Ok(Const::Bool(true)),
-        b"false" => Ok(Const::Bool(false)),
-        _ => Ok(Const::Int(text.parse().ok().ok_or("no constant")?)),
+        [b'"', rest @ ..] => boxed(alloc, Const::Str(Bytes::from_slice(alloc, rest)?)),
+        [b'\'', c] => boxed(alloc, Const::Char(*c)),
+        b"nil" => boxed(alloc, Const::Null),
+        b"true" => boxed(alloc, Const::Bool(true)),
+        b"false" => boxed(alloc, Const::Bool(false)),
+        _ => boxed(alloc, Const::Int(text.parse::<i64>()?)),
     }
 }
 
-fn infixed(alloc: Global, left: &str, operator: &str, right: &str) -> Result<Option<Const>, Fail> {
-    let operator = infix_operator(operator.as_bytes()).ok_or("no operator")?;
-    let left = constant(alloc, left)?;
-    Ok(fold(left, operator, &constant(alloc, right)?)?)
-}
-
-fn prefixed(alloc: Global, operator: &str, operand: &str) -> Result<Option<Const>, Fail> {
-    let operator = prefix_operator(operator.as_bytes()).ok_or("no operator")?;
-    Ok(fold_prefix(operator, &constant(alloc, operand)?))
-}
-
-/// Whether what was found is what the row says.
-fn is_due(alloc: Global, found: Option<Const>, due: &str) -> Result<bool, Fail> {
+/// Writes what an operator gives, as a row writes it.
+fn put_found(text: &mut String, found: &Option<Const>) -> Result<(), Fail> {
     match found {
-        Some(found) => Ok(due != "none" && found == constant(alloc, due)?),
-        None => Ok(due == "none"),
+        Some(found) => put_constant(text, found),
+        None => Ok(text.push_str("none")?),
     }
 }
 
-fn is_kept(alloc: Global, words: &[&str]) -> Result<bool, Fail> {
+fn put_constant(text: &mut String, constant: &Const) -> Result<(), Fail> {
+    match constant {
+        Const::Null => Ok(text.push_str("nil")?),
+        Const::Bool(is_so) => Ok(write!(text, "{is_so}")?),
+        Const::Int(number) => Ok(write!(text, "{number}")?),
+        Const::Char(c) => put_quoted(text, "'", &[*c]),
+        Const::Str(bytes) => put_quoted(text, "\"", bytes.as_slice()),
+    }
+}
+
+fn put_quoted(text: &mut String, quote: &str, bytes: &[u8]) -> Result<(), Fail> {
+    text.push_str(quote)?;
+    text.push_str(str::from_utf8(bytes)?)?;
+    Ok(())
+}
+
+fn put_infix(
+    alloc: Global,
+    text: &mut String,
+    left: &str,
+    operator: &str,
+    right: &str,
+) -> Result<(), Fail> {
+    let Some(operator) = infix_operator(operator.as_bytes()) else {
+        return Err("no operator")?;
+    };
+    let left = constant(alloc, left)?;
+    let right = constant(alloc, right)?;
+    put_found(text, &fold(Box::into_inner(left), operator, &right)?)
+}
+
+fn put_prefix(alloc: Global, text: &mut String, operator: &str, operand: &str) -> Result<(), Fail> {
+    let Some(operator) = prefix_operator(operator.as_bytes()) else {
+        return Err("no operator")?;
+    };
+    let operand = constant(alloc, operand)?;
+    put_found(text, &fold_prefix(operator, &operand))
+}
+
+fn put_row(alloc: Global, text: &mut String, words: &[&str]) -> Result<(), Fail> {
     match words {
-        ["%", ..] | [""] => Ok(true),
-        [left, operator, right, due] => is_due(alloc, infixed(alloc, left, operator, right)?, due),
-        [operator, operand, due] => is_due(alloc, prefixed(alloc, operator, operand)?, due),
-        _ => Ok(false),
+        [left, operator, right] => put_infix(alloc, text, left, operator, right),
+        [operator, operand] => put_prefix(alloc, text, operator, operand),
+        _ => Err("no row")?,
     }
 }
 
@@ -54,31 +87,46 @@ fn words(alloc: Global, row: &'static str) -> Result<Vec<&'static str>, Fail> {
     Ok(words)
 }
 
-#[test]
-fn folds_each_row(rt: HostRuntime) -> Result<(), Fail> {
-    let alloc = rt.alloc();
-    for row in ROWS.split('\0') {
-        let words = words(alloc, row)?;
-        assert!(rt; is_kept(alloc, words.as_slice())?, "{row}");
-    }
-    Ok(())
+/// What comes of the operator of a row is its last word.
+fn keep_row(alloc: Global, row: &'static str) -> Result<(), Fail> {
+    let (given, due) = row.rsplit_once(' ').unwrap_or(("", row));
+    let words = words(alloc, given)?;
+    let mut text = String::new(alloc);
+    put_row(alloc, &mut text, words.as_slice())?;
+    same(text, due)
 }
 
-/// A string of so many bytes.
-fn string(alloc: Global, count: usize) -> Result<Const, Fail> {
-    let mut bytes = Vec::new(alloc);
-    for _ in 0..count {
-        bytes.push(b'x')?;
+#[test]
+fn folds_each_row(rt: HostRuntime) -> Result<(), Fail> {
+    let mut rows = 0usize;
+    for row in ROWS.split_terminator('\0') {
+        if !row.starts_with('%') {
+            keep_row(rt.alloc(), row)?;
+            rows = rows.saturating_add(1);
+        }
     }
-    Ok(Const::Str(Bytes::from_vec(bytes)))
+    counted(rt.alloc(), rows, COUNT)
+}
+
+/// The length of the constant that a row writes.
+fn length(alloc: Global, text: &str) -> Result<u64, Fail> {
+    let constant = constant(alloc, text)?;
+    Ok(text_length(&constant))
+}
+
+/// Whether a string of so many bytes is long.
+fn is_string_long(alloc: Global, count: usize) -> Result<bool, Memory> {
+    let bytes = vec![in alloc; b'x'; count]?;
+    Ok(is_long(&Const::Str(Bytes::from_vec(bytes))))
 }
 
 #[test]
 fn measures_texts(rt: HostRuntime) -> Result<(), Fail> {
     let alloc = rt.alloc();
-    assert_eq!(rt; text_length(&constant(alloc, "-9223372036854775808")?), 20);
-    assert_eq!(rt; text_length(&constant(alloc, "'a")?), 3);
-    assert!(rt; !is_long(&string(alloc, 32_767)?));
-    assert!(rt; is_long(&string(alloc, 32_768)?));
+    let number = length(alloc, "-9223372036854775808")?;
+    let character = length(alloc, "'a")?;
+    let below = is_string_long(alloc, 32_767)?;
+    let at = is_string_long(alloc, 32_768)?;
+    assert!(rt; number == 20 && character == 3 && !below && at);
     Ok(())
 }

@@ -17,4 +17,8 @@ mod literal_tests;
 #[cfg(test)]
 mod parser_tests;
 #[cfg(test)]
+mod streams;
+#[cfg(test)]
+mod text;
+#[cfg(test)]
 mod words_tests;

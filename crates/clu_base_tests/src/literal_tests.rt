@@ -1,42 +1,63 @@
 //! Spellings of literals with the bytes that they denote.
 
+use crate::text::{counted, parts_of, put_bytes, same};
 use clu_literal::{char_byte, string_bytes};
+use std::alloc::Global;
 use std::test::Fail;
 
-/// Spellings of string literals, with the bytes that they denote.
-const STRINGS: [(&[u8], Option<&[u8]>); 9] = [
-    (b"\"\"", Some(b"")),
-    (b"\"hi\"", Some(b"hi")),
-    (b"\"a\\tb\\101\"", Some(b"\x61\x09\x62\x41")),
-    (b"\"\\n\\t\\p\\b\\r\\v\"", Some(b"\x0a\x09\x0c\x08\x0d\x0b")),
-    (b"\"\\N\\T\\P\\B\\R\\V\"", Some(b"\x0a\x09\x0c\x08\x0d\x0b")),
-    (b"\"\\\\\\'\\\"'\"", Some(b"\\'\"'")),
-    (b"\"\\000\\377\\0123\"", Some(b"\x00\xff\x0a3")),
-    (b"\"a\\400\"", None),
-    (b"\"\\777b\"", None),
-];
+/// How many rows `LITERALS` has.
+const LITERALS_COUNT: usize = 16;
 
-/// Spellings of character literals.
-const CHARACTERS: [(&[u8], Option<u8>); 7] = [
-    (b"'a'", Some(97)),
-    (b"'\"'", Some(34)),
-    (b"'\\''", Some(39)),
-    (b"'\\n'", Some(10)),
-    (b"'\\B'", Some(8)),
-    (b"'\\377'", Some(255)),
-    (b"'\\400'", None),
-];
+/// Spellings of string literals and of character literals, with the bytes that they denote, in hexadecimal digits.
+const LITERALS: &str = "\
+\"\" gives\0\
+\"hi\" gives 68 69\0\
+\"a\\tb\\101\" gives 61 09 62 41\0\
+\"\\n\\t\\p\\b\\r\\v\" gives 0a 09 0c 08 0d 0b\0\
+\"\\N\\T\\P\\B\\R\\V\" gives 0a 09 0c 08 0d 0b\0\
+\"\\\\\\'\\\"'\" gives 5c 27 22 27\0\
+\"\\000\\377\\0123\" gives 00 ff 0a 33\0\
+\"a\\400\" gives none\0\
+\"\\777b\" gives none\0\
+'a' gives 61\0\
+'\"' gives 22\0\
+'\\'' gives 27\0\
+'\\n' gives 0a\0\
+'\\B' gives 08\0\
+'\\377' gives ff\0\
+'\\400' gives none";
+
+/// Writes what a spelling denotes.
+fn put_denoted(alloc: Global, text: &mut String, spelling: &[u8]) -> Result<(), Fail> {
+    if let [b'\'', ..] = spelling {
+        return put_byte(text, spelling);
+    }
+    match string_bytes(alloc, spelling)? {
+        Some(found) => Ok(put_bytes(text, found.as_slice())?),
+        None => Ok(text.push_str(" none")?),
+    }
+}
+
+fn put_byte(text: &mut String, spelling: &[u8]) -> Result<(), Fail> {
+    match char_byte(spelling) {
+        Some(found) => Ok(put_bytes(text, &[found])?),
+        None => Ok(text.push_str(" none")?),
+    }
+}
+
+fn keep_literal(alloc: Global, row: &str) -> Result<(), Fail> {
+    let (spelling, due) = parts_of(row);
+    let mut text = String::new(alloc);
+    put_denoted(alloc, &mut text, spelling.as_bytes())?;
+    same(text, due)
+}
 
 #[test]
 fn literals_denote_their_bytes(rt: HostRuntime) -> Result<(), Fail> {
-    for (spelling, bytes) in STRINGS {
-        match string_bytes(rt.alloc(), spelling)? {
-            Some(found) => assert_eq!(rt; Some(found.as_slice()), bytes),
-            None => assert!(rt; bytes.is_none(), "{spelling:?}"),
-        }
+    let mut rows = 0usize;
+    for row in LITERALS.split('\0') {
+        keep_literal(rt.alloc(), row)?;
+        rows = rows.saturating_add(1);
     }
-    for (spelling, byte) in CHARACTERS {
-        assert_eq!(rt; char_byte(spelling), byte, "{spelling:?}");
-    }
-    Ok(())
+    counted(rt.alloc(), rows, LITERALS_COUNT)
 }

@@ -1,8 +1,12 @@
 //! Words that are a command, words that are none, and what a command is told.
 
-use clu_words::{Command, WordsError, read_command};
+use crate::text::counted;
+use clu_words::{Command, RunLimits, WordsError, read_command};
 use std::alloc::Global;
 use std::test::Fail;
+
+/// How many rows `COMMANDS` has.
+const COMMANDS_COUNT: usize = 23;
 
 /// Words that are a command, one line each.
 const COMMANDS: &str = "go a b
@@ -28,6 +32,9 @@ list a
 asm a b
 print a
 xref L";
+
+/// How many rows `USAGE` has.
+const USAGE_COUNT: usize = 37;
 
 /// Words that are none.
 const USAGE: &str = "go
@@ -68,39 +75,66 @@ version
 Go a b
 zork";
 
-fn read_line(alloc: Global, line: &str) -> Result<bool, Fail> {
-    let mut words = Vec::new(alloc);
+/// Appends the words of a line.
+fn put_words(alloc: Global, words: &mut Vec<String>, line: &str) -> Result<(), Fail> {
     for word in line.split(' ') {
         words.push(String::from_str(alloc, word)?)?;
     }
-    match read_command(alloc, &words) {
-        Ok(_) => Ok(true),
-        Err(WordsError::Usage) => Ok(false),
-        Err(WordsError::Memory) => Err(Fail::from("out of memory")),
-    }
-}
-
-#[test]
-fn words_are_commands_or_usage(rt: HostRuntime) -> Result<(), Fail> {
-    let alloc = rt.alloc();
-    for line in COMMANDS.lines() {
-        assert!(rt; read_line(alloc, line)?, "a command: {line}");
-    }
-    for line in USAGE.lines() {
-        assert!(rt; !read_line(alloc, line)?, "no command: {line}");
-    }
-    assert_eq!(rt; read_command(alloc, &[]).err(), Some(WordsError::Usage));
     Ok(())
 }
 
-#[test]
-fn commands_are_told_their_words(rt: HostRuntime) -> Result<(), Fail> {
-    let alloc = rt.alloc();
-    let mut words = Vec::new(alloc);
-    for word in "go --stack=4096 a --trace -- -b".split(' ') {
-        words.push(String::from_str(alloc, word)?)?;
+/// Whether words are a command.
+fn is_command(alloc: Global, words: &[String]) -> Result<bool, Fail> {
+    match read_command(alloc, words) {
+        Ok(_) => Ok(true),
+        Err(WordsError::Usage) => Ok(false),
+        Err(WordsError::Memory) => Err("out of memory")?,
     }
-    match read_command(alloc, &words) {
+}
+
+fn keep_line(alloc: Global, line: &str, due: bool) -> Result<(), Fail> {
+    let mut words = Vec::new(alloc);
+    put_words(alloc, &mut words, line)?;
+    if is_command(alloc, words.as_slice())? != due {
+        return Err(format!(in alloc; "not {due}: {line}")?)?;
+    }
+    Ok(())
+}
+
+/// The lines of a table are commands, or are none, and there are so many.
+fn keep(alloc: Global, lines: &str, due: bool, count: usize) -> Result<(), Fail> {
+    let mut rows = 0usize;
+    for line in lines.lines() {
+        keep_line(alloc, line, due)?;
+        rows = rows.saturating_add(1);
+    }
+    counted(alloc, rows, count)
+}
+
+#[test]
+fn words_are_commands(rt: HostRuntime) -> Result<(), Fail> {
+    keep(rt.alloc(), COMMANDS, true, COMMANDS_COUNT)
+}
+
+#[test]
+fn words_are_usage(rt: HostRuntime) -> Result<(), Fail> {
+    keep(rt.alloc(), USAGE, false, USAGE_COUNT)
+}
+
+#[test]
+fn no_words_are_usage(rt: HostRuntime) -> Result<(), Fail> {
+    let is_so = is_command(rt.alloc(), &[])?;
+    assert!(rt; !is_so);
+    Ok(())
+}
+
+fn have_limits(limits: RunLimits) -> bool {
+    limits.steps == 1_000_000_000 && limits.store == 16_777_216 && limits.stack == 4096
+}
+
+/// Whether words are told as the command that they are.
+fn are_told(alloc: Global, words: &[String]) -> bool {
+    match read_command(alloc, words) {
         Ok(
             Command::Go {
                 file,
@@ -109,15 +143,15 @@ fn commands_are_told_their_words(rt: HostRuntime) -> Result<(), Fail> {
                 peep,
                 trace,
             },
-        ) => {
-            assert_eq!(rt; (file, image), ("a", "-b"));
-            assert_eq!(rt;
-                (limits.steps, limits.store, limits.stack),
-                (1_000_000_000, 16_777_216, 4096)
-            );
-            assert_eq!(rt; (peep, trace), (false, true));
-            Ok(())
-        }
-        _ => Err(Fail::from("no go")),
+        ) => file == "a" && image == "-b" && have_limits(limits) && !peep && trace,
+        _ => false,
     }
+}
+
+#[test]
+fn commands_are_told_their_words(rt: HostRuntime) -> Result<(), Fail> {
+    let mut words = Vec::new(rt.alloc());
+    put_words(rt.alloc(), &mut words, "go --stack=4096 a --trace -- -b")?;
+    assert!(rt; are_told(rt.alloc(), words.as_slice()));
+    Ok(())
 }
