@@ -282,7 +282,7 @@ fn refusals(rt: HostRuntime) -> Result<(), Fail> {
             return Err("a row has no place")?;
         };
         let due = at.parse::<u64>()?;
-        assert_eq!(rt; fault(alloc, text.as_bytes()), Some(due), "{text}");
+        assert!(rt; fault(alloc, text.as_bytes()) == Some(due), "{text}");
     }
     Ok(())
 }
@@ -295,7 +295,7 @@ fn cut_texts(rt: HostRuntime) {
         let cut = &text[..n];
         let is_whole = n > 8 && cut.ends_with(b"\n");
         let due = if is_whole { None } else { Some(n as u64) };
-        assert_eq!(rt; fault(alloc, cut), due, "{n} bytes");
+        assert!(rt; fault(alloc, cut) == due, "{n} bytes");
     }
 }
 
@@ -306,7 +306,7 @@ fn changed_texts(rt: HostRuntime) -> Result<(), Fail> {
     let mut start = 0;
     for n in 0..text.len() {
         let changed = [&text[..n], b"!", &text[n + 1..]].concat(alloc)?;
-        assert_eq!(rt; fault(alloc, &changed), Some(start), "byte {n}");
+        assert!(rt; fault(alloc, &changed) == Some(start), "byte {n}");
         if text[n] == b'\n' {
             start = n as u64 + 1;
         }
