@@ -4,7 +4,7 @@
 use crate::frames_rows::{COUNT, ROWS};
 use crate::regions::put_region;
 use crate::text::{counted, same};
-use crate::word_code::Made;
+use crate::word_code::statements;
 use clu_base::{Bytes, Const, ObjConst};
 use clu_frames::{FlatRoutine, FrameError, flatten};
 use clu_wir::{Arm, RegionBuilder, RegionError, WRoutine, WStmt};
@@ -41,8 +41,8 @@ impl RegionBuilder for Listed {
 }
 
 /// A routine with this body, without names and constants.
-fn empty(alloc: Global, body: Vec<WStmt>) -> WRoutine {
-    WRoutine {
+fn empty(alloc: Global, body: Vec<WStmt>) -> Result<Box<WRoutine>, Fail> {
+    let routine = WRoutine {
         name: Bytes::from_vec(Vec::new(alloc)),
         args: 1,
         slots: 3,
@@ -51,7 +51,8 @@ fn empty(alloc: Global, body: Vec<WStmt>) -> WRoutine {
         uses: Vec::new(alloc),
         constants: Vec::new(alloc),
         types: Vec::new(alloc),
-    }
+    };
+    Ok(Box::new(alloc, routine)?)
 }
 
 fn constant(alloc: Global, text: &str) -> Result<ObjConst, Fail> {
@@ -124,10 +125,8 @@ fn put_flattened(
 
 /// Writes what comes of the routine with the body of a text.
 fn put_row(alloc: Global, text: &mut String, body: &str) -> Result<(), Fail> {
-    let mut made = Made::new(alloc);
-    made.read(body)?;
-    let parts = made.parts;
-    let mut routine = empty(alloc, made.statements);
+    let (body, parts) = statements(alloc, body)?;
+    let mut routine = empty(alloc, body)?;
     name(alloc, &mut routine)?;
     put_flattened(alloc, text, &routine, parts)
 }
@@ -179,7 +178,7 @@ fn keeps(alloc: Global, word: &mut WRoutine, regions: &mut Listed) -> Result<boo
 
 #[test]
 fn what_a_routine_keeps(rt: HostRuntime) -> Result<(), Fail> {
-    let mut word = empty(rt.alloc(), Vec::new(rt.alloc()));
+    let mut word = empty(rt.alloc(), Vec::new(rt.alloc()))?;
     let mut regions = Listed {
         text: String::new(rt.alloc()),
         count: 0,

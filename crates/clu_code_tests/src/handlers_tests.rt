@@ -1,7 +1,7 @@
 //! Regions in code, the arms that are found in them, and their cuts. What is found is shown as one text.
 
 use crate::regions::{add_region, parent_of};
-use crate::text::{counted, small_at};
+use crate::text::{counted, same, small_at};
 use clu_base::Bytes;
 use clu_handlers::{NO_REGION, Regions};
 use clu_wir::{RegionBuilder, RegionError};
@@ -86,17 +86,32 @@ fn cuts(alloc: Global, regions: &Regions) -> Result<String, Fail> {
     Ok(text)
 }
 
+/// How many rows `CUTS` has.
+const CUTS_COUNT: usize = 3;
+
+/// Regions, of which `none` has none, and where the innermost region changes.
+const CUTS: &str = "\
+none gives 0:-\0\
+2 9 - e/20/4 /20/4 f/20/4; 4 5 0 g/20/4 e/20/4 gives 0:- 2:0 4:1 6:0 10:-\0\
+0 3 -; 4 4294967295 - gives 0:0 4:1";
+
+fn keep_cuts(alloc: Global, row: &str) -> Result<(), Fail> {
+    let (given, due) = row.split_once(" gives").unwrap_or((row, ""));
+    let mut regions = Regions::new(alloc);
+    if given != "none" {
+        add_all(alloc, &mut regions, given)?;
+    }
+    same(cuts(alloc, &regions)?, due)
+}
+
 #[test]
 fn where_the_innermost_region_changes(rt: HostRuntime) -> Result<(), Fail> {
-    let alloc = rt.alloc();
-    let none = Regions::new(alloc);
-    assert_eq!(rt; cuts(alloc, &none)?.as_str(), " 0:-");
-    let inside = two(alloc)?;
-    assert_eq!(rt; cuts(alloc, &inside)?.as_str(), " 0:- 2:0 4:1 6:0 10:-");
-    let mut ends = Regions::new(alloc);
-    add_all(alloc, &mut ends, "0 3 -; 4 4294967295 -")?;
-    assert_eq!(rt; cuts(alloc, &ends)?.as_str(), " 0:0 4:1");
-    Ok(())
+    let mut rows = 0usize;
+    for row in CUTS.split('\0') {
+        keep_cuts(rt.alloc(), row)?;
+        rows = rows.saturating_add(1);
+    }
+    counted(rt.alloc(), rows, CUTS_COUNT)
 }
 
 /// Whether the range of a text inside its parent may not be added to the two, and is not.
@@ -129,22 +144,28 @@ fn what_is_misplaced(rt: HostRuntime) -> Result<(), Fail> {
     Ok(())
 }
 
-/// Adds a region from 6 to 9 inside the first one and another before it, and answers their numbers.
-fn add_others(alloc: Global, regions: &mut Regions) -> Result<(u32, u32), Fail> {
+/// Adds a region from 6 to 9 inside the first one and another before it, and writes their numbers and the cuts.
+fn put_others(alloc: Global, text: &mut String, regions: &mut Regions) -> Result<(), Fail> {
     let inside = regions.add(alloc, 6, 9, Some(0), Vec::new(alloc))?;
     let before = regions.add(alloc, 0, 1, None, Vec::new(alloc))?;
-    Ok((inside, before))
+    write!(text, " {inside} {before}")?;
+    put_cuts(alloc, text, regions)
+}
+
+/// Whether there are four regions, and none after all were taken away.
+fn are_taken(regions: &mut Regions) -> bool {
+    if regions.at(3).is_none() || regions.at(4).is_some() {
+        return false;
+    }
+    regions.clear();
+    regions.is_empty()
 }
 
 #[test]
 fn what_is_added(rt: HostRuntime) -> Result<(), Fail> {
-    let alloc = rt.alloc();
-    let mut regions = two(alloc)?;
-    assert_eq!(rt; add_others(alloc, &mut regions)?, (2, 3));
-    assert_eq!(rt; cuts(alloc, &regions)?.as_str(), " 0:3 2:0 4:1 6:2 10:-");
-    assert!(rt; regions.at(3).is_some());
-    assert!(rt; regions.at(4).is_none());
-    regions.clear();
-    assert!(rt; regions.is_empty());
-    Ok(())
+    let mut text = String::new(rt.alloc());
+    let mut regions = two(rt.alloc())?;
+    put_others(rt.alloc(), &mut text, &mut regions)?;
+    assert!(rt; are_taken(&mut regions));
+    same(text, " 2 3 0:3 2:0 4:1 6:2 10:-")
 }

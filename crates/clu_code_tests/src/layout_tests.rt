@@ -41,7 +41,7 @@ fn put_layout(text: &mut String, routine: &ObjRoutine) -> Result<(), Fail> {
 
 fn layouts(alloc: Global, lines: &str) -> Result<String, Fail> {
     let mut text = String::new(alloc);
-    let mut program = Program::new(alloc);
+    let mut program = Program::new(alloc)?;
     program.lines(lines)?;
     for routine in program.objects.as_slice() {
         put_layout(&mut text, routine)?;
@@ -152,7 +152,7 @@ bind 900 901 902";
 
 /// Whether a step has no more words than are counted of it; after it stands a label.
 fn is_counted(alloc: Global, step: &str) -> Result<bool, Fail> {
-    let mut program = Program::new(alloc);
+    let mut program = Program::new(alloc)?;
     begin(&mut program, step)?;
     let most = match program.flat.code.first() {
         Some(step) => step.words(),
@@ -194,7 +194,7 @@ const WIDE: &str = "\
 
 /// Whether a slot is set to an expression in no more words than are counted.
 fn is_within(alloc: Global, line: &str) -> Result<bool, Fail> {
-    let mut program = Program::new(alloc);
+    let mut program = Program::new(alloc)?;
     begin(&mut program, "label 0")?;
     program.line("names", "e")?;
     program.line("sets", line)?;
@@ -232,7 +232,7 @@ constant 0 0\0\
 entry 0 1";
 
 fn is_refused(alloc: Global, steps: &str) -> Result<bool, Fail> {
-    let mut program = Program::new(alloc);
+    let mut program = Program::new(alloc)?;
     begin(&mut program, steps)?;
     program.select()?;
     Ok(program.is_refused)
@@ -251,7 +251,7 @@ fn what_no_source_gives(rt: HostRuntime) -> Result<(), Fail> {
 
 /// Writes the first and the last word of a routine of these steps, or that it is refused.
 fn put_ends(alloc: Global, text: &mut String, steps: &str) -> Result<(), Fail> {
-    let mut program = Program::new(alloc);
+    let mut program = Program::new(alloc)?;
     program.line("is", "p 250")?;
     program.line("does", steps)?;
     program.select()?;

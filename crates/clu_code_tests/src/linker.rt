@@ -37,14 +37,16 @@ struct Layout {
 
 /// The image of the parts and the routines after them, which starts at the first of these.
 pub fn linked(alloc: Global, objects: &[ObjRoutine]) -> Result<Image, Fail> {
-    let mut layout = Layout {
+    let fixed = vec![in alloc; 0; objects.len().saturating_mul(3).saturating_add(15)]?;
+    let layout = Layout {
         alloc,
         code: Vec::new(alloc),
         starts: Vec::new(alloc),
-        fixed: vec![in alloc; 0; objects.len().saturating_mul(3).saturating_add(15)]?,
+        fixed,
         base: IMAGE,
         texts: Vec::new(alloc),
     };
+    let mut layout = Box::new(alloc, layout)?;
     layout.place_all(objects)?;
     layout.image()
 }

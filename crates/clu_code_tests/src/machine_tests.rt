@@ -5,7 +5,7 @@ use crate::ending::put_ending;
 use crate::machine_rows::{
     ECHOES, ECHOES_COUNT, ENDINGS, ENDINGS_COUNT, INSTRUCTIONS, INSTRUCTIONS_COUNT,
 };
-use crate::running::put_end;
+use crate::running::{put_end, started};
 use crate::text::{counted, hex_at, same, small};
 use clu_base::{Bytes, MemSink, MemSource};
 use rv_isa::{Image, Reg};
@@ -17,7 +17,7 @@ use std::test::Fail;
 /// A machine with its input and output.
 #[derive(Drop)]
 struct Run {
-    machine: Machine,
+    machine: Box<Machine>,
     input: MemSource,
     output: MemSink,
 }
@@ -30,11 +30,8 @@ impl Run {
         input: MemSource,
         output: MemSink,
     ) -> Result<Box<Run>, Fail> {
-        let Some(limits) = Limits::new(4096, 4096) else {
-            return Err("no limits")?;
-        };
         let run = Run {
-            machine: Machine::new(alloc, image, limits)?,
+            machine: started(alloc, image)?,
             input,
             output,
         };
@@ -270,11 +267,12 @@ const ECHO: [u32; 18] = [
 fn echo(alloc: Global, row: &str) -> Result<Box<Run>, Fail> {
     let piece = (hex_at(row, 0) as usize).max(1);
     let reads = vec![in alloc; hex_at(row, 1), hex_at(row, 2)]?;
-    let writes = vec![in alloc; hex_at(row, 3), hex_at(row, 4)]?;
-    let image = image(alloc, 0, &ECHO, &[], &[0; 8])?;
-    let output = MemSink::new(alloc, 64, 1, writes)?;
     let input = Bytes::from_slice(alloc, b"abc")?;
-    Run::new(alloc, &image, MemSource::new(input, piece, reads), output)
+    let input = MemSource::new(input, piece, reads);
+    let writes = vec![in alloc; hex_at(row, 3), hex_at(row, 4)]?;
+    let output = MemSink::new(alloc, 64, 1, writes)?;
+    let image = image(alloc, 0, &ECHO, &[], &[0; 8])?;
+    Run::new(alloc, &image, input, output)
 }
 
 /// Writes how it ends and what it wrote.

@@ -6,8 +6,8 @@ use std::alloc::Global;
 use std::test::Fail;
 
 /// A routine with nothing in it.
-fn empty(alloc: Global) -> ObjRoutine {
-    ObjRoutine {
+fn empty(alloc: Global) -> Result<Box<ObjRoutine>, Memory> {
+    let routine = ObjRoutine {
         name: Bytes::from_vec(Vec::new(alloc)),
         nodes: 7,
         code: Sequence::from_vec(Vec::new(alloc)),
@@ -16,7 +16,8 @@ fn empty(alloc: Global) -> ObjRoutine {
         constants: Sequence::from_vec(Vec::new(alloc)),
         types: Sequence::from_vec(Vec::new(alloc)),
         regions: Sequence::from_vec(Vec::new(alloc)),
-    }
+    };
+    Ok(Box::new(alloc, routine)?)
 }
 
 fn text(alloc: Global, bytes: &[u8]) -> Result<Sequence<Bytes>, Memory> {
@@ -76,11 +77,12 @@ fn fill(alloc: Global, routine: &mut ObjRoutine) -> Result<(), Memory> {
 }
 
 fn object(alloc: Global) -> Result<Object, Memory> {
-    let mut routine = empty(alloc);
+    let module = Bytes::from_slice(alloc, b"p")?;
+    let mut routine = empty(alloc)?;
     fill(alloc, &mut routine)?;
-    let routines = vec![in alloc; routine]?;
+    let routines = vec![in alloc; Box::into_inner(routine)]?;
     Ok(Object {
-        module: Bytes::from_slice(alloc, b"p")?,
+        module,
         routines: Sequence::from_vec(routines),
     })
 }
@@ -125,7 +127,7 @@ const HOLES: [(u32, u32, u32, u8, u32, bool); 13] = [
 
 /// Whether a routine of this code has these holes.
 fn has_holes(alloc: Global, code: &[u32], holes: &[Hole]) -> Result<bool, Memory> {
-    let mut routine = empty(alloc);
+    let mut routine = empty(alloc)?;
     put_names(alloc, &mut routine)?;
     put_code(alloc, &mut routine, code, holes)?;
     Ok(routine.has_holes())

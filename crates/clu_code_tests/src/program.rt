@@ -12,7 +12,7 @@
 //! - `input TEXT` is the input of the run, and `steps COUNT` how many steps it has.
 
 use crate::regions::add_region;
-use crate::steps::step;
+use crate::steps::{put, put_step};
 use crate::text::{first_word, number, number_at, small_at};
 use crate::word_code::Made;
 use clu_base::{Bytes, Const, ObjConst};
@@ -41,19 +41,14 @@ pub struct Program {
 
 impl Program {
     /// No routine.
-    pub fn new(alloc: Global) -> Program {
-        let flat = FlatRoutine {
-            name: Bytes::from_vec(Vec::new(alloc)),
-            frame: 0,
-            code: Vec::new(alloc),
-            nodes: 1,
-            uses: Vec::new(alloc),
-            constants: Vec::new(alloc),
-            types: Vec::new(alloc),
-        };
+    pub fn new(alloc: Global) -> Result<Box<Program>, Fail> {
+        Ok(Box::new(alloc, Program::empty(alloc))?)
+    }
+
+    fn empty(alloc: Global) -> Program {
         Program {
             alloc,
-            flat,
+            flat: no_routine(alloc),
             regions: Regions::new(alloc),
             objects: Vec::new(alloc),
             is_refused: false,
@@ -156,62 +151,80 @@ impl Program {
         if first_word(text) == "show" {
             return self.show(small_at(text, 1), small_at(text, 2));
         }
-        let step = step(self.alloc, text)?;
-        self.flat.code.push(step)?;
-        Ok(())
+        put_step(self.alloc, &mut self.flat.code, text)
     }
 
     /// A step over expressions.
     fn expression(&mut self, name: &str, rest: &str) -> Result<(), Fail> {
         let (numbers, words) = split_numbers(name, rest);
-        let mut made = Made::new(self.alloc);
+        let mut made = Made::new(self.alloc)?;
         made.read(words)?;
-        let value = made.one()?;
         let first = small_at(numbers, 0);
-        let step = match name {
-            "sets" => Flat::Set(first, value),
-            "puts" => Flat::Put(made.one()?, i32::try_from(first).unwrap_or(0), value),
-            _ => Flat::Branch(value, number_at(numbers, 1) == 1, first),
-        };
-        self.flat.code.push(step)?;
-        Ok(())
+        let value = made.boxed()?;
+        match name {
+            "sets" => self.put(Flat::Set(first, Box::into_inner(value))),
+            "puts" => {
+                let distance = i32::try_from(first).unwrap_or(0);
+                let address = made.boxed()?;
+                let step = Flat::Put(Box::into_inner(address), distance, Box::into_inner(value));
+                self.put(step)
+            }
+            _ => {
+                let sense = number_at(numbers, 1) == 1;
+                self.put(Flat::Branch(Box::into_inner(value), sense, first))
+            }
+        }
+    }
+
+    fn put(&mut self, step: Flat) -> Result<(), Fail> {
+        put(&mut self.flat.code, step)
     }
 
     /// A routine without a frame.
     fn leaf(&mut self, name: &str, rest: &str) -> Result<(), Fail> {
         let (numbers, words) = split_numbers(name, rest);
-        let mut made = Made::new(self.alloc);
+        let mut made = Made::new(self.alloc)?;
         made.read(words)?;
-        let value = made.one()?;
-        let deed = match name {
-            "gives" => WDeed::Value(value),
-            _ => WDeed::Put(made.one()?, small_at(numbers, 0), value),
-        };
-        let leaf = WLeaf {
-            name: self.flat.name.copy(self.alloc)?,
-            deed,
-            constants: copied(self.alloc, self.flat.constants.as_slice())?,
-        };
-        match select_leaf(self.alloc, &leaf) {
-            Ok(object) => self.objects.push(object)?,
-            Err(SelectError::NotYet) => self.is_refused = true,
-            Err(SelectError::Memory) => return Err("out of memory")?,
+        let value = made.boxed()?;
+        if name == "gives" {
+            return self.deed(WDeed::Value(Box::into_inner(value)));
         }
-        Ok(())
+        let address = made.boxed()?;
+        let distance = small_at(numbers, 0);
+        self.deed(WDeed::Put(Box::into_inner(address), distance, Box::into_inner(value)))
+    }
+
+    fn deed(&mut self, deed: WDeed) -> Result<(), Fail> {
+        let deed = Box::new(self.alloc, deed)?;
+        let name = self.flat.name.copy(self.alloc)?;
+        let constants = copied(self.alloc, self.flat.constants.as_slice())?;
+        let leaf = WLeaf {
+            name,
+            deed: Box::into_inner(deed),
+            constants,
+        };
+        let selected = select_leaf(self.alloc, &leaf);
+        self.keep(selected)
+    }
+
+    /// Keeps a routine that was selected, or that one is refused.
+    fn keep(&mut self, selected: Result<ObjRoutine, SelectError>) -> Result<(), Fail> {
+        match selected {
+            Ok(object) => Ok(self.objects.push(object)?),
+            Err(SelectError::NotYet) => {
+                self.is_refused = true;
+                Ok(())
+            }
+            Err(SelectError::Memory) => Err("out of memory")?,
+        }
     }
 
     fn show(&mut self, slot: u32, work: u32) -> Result<(), Fail> {
-        let steps = [
-            Flat::Set(work, WExpr::Word(1)),
-            Flat::Prim(Primitive::Allocate.number(), work),
-            Flat::Put(WExpr::Slot(work), 0, WExpr::Slot(slot)),
-            Flat::Set(work.saturating_add(1), WExpr::Word(8)),
-            Flat::Prim(Primitive::Write.number(), work),
-        ];
-        for step in steps {
-            self.flat.code.push(step)?;
-        }
-        Ok(())
+        self.put(Flat::Set(work, WExpr::Word(1)))?;
+        self.put(Flat::Prim(Primitive::Allocate.number(), work))?;
+        self.put(Flat::Put(WExpr::Slot(work), 0, WExpr::Slot(slot)))?;
+        self.put(Flat::Set(work.saturating_add(1), WExpr::Word(8)))?;
+        self.put(Flat::Prim(Primitive::Write.number(), work))
     }
 
     /// Selects the routine that was begun last, if there is one.
@@ -219,12 +232,20 @@ impl Program {
         if self.flat.code.is_empty() {
             return Ok(());
         }
-        match select(self.alloc, &self.flat, &self.regions) {
-            Ok(object) => self.objects.push(object)?,
-            Err(SelectError::NotYet) => self.is_refused = true,
-            Err(SelectError::Memory) => return Err("out of memory")?,
-        }
-        Ok(())
+        let selected = select(self.alloc, &self.flat, &self.regions);
+        self.keep(selected)
+    }
+}
+
+fn no_routine(alloc: Global) -> FlatRoutine {
+    FlatRoutine {
+        name: Bytes::from_vec(Vec::new(alloc)),
+        frame: 0,
+        code: Vec::new(alloc),
+        nodes: 1,
+        uses: Vec::new(alloc),
+        constants: Vec::new(alloc),
+        types: Vec::new(alloc),
     }
 }
 

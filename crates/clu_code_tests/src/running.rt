@@ -13,7 +13,7 @@ use std::test::Fail;
 /// How the program of a text ends and the words that it wrote, or ` not yet` where the selection refuses a routine.
 pub fn outcome(alloc: Global, text: &str) -> Result<String, Fail> {
     let mut found = String::new(alloc);
-    let mut program = Program::new(alloc);
+    let mut program = Program::new(alloc)?;
     program.read(text)?;
     put_outcome(&mut found, &program)?;
     Ok(found)
@@ -46,11 +46,18 @@ pub fn put_end(
     source: &mut MemSource,
     sink: &mut MemSink,
 ) -> Result<(), Fail> {
-    let limits = Limits::new(4096, 4096).ok_or("no limits")?;
-    let mut machine = Machine::new(alloc, image, limits)?;
+    let mut machine = started(alloc, image)?;
     match machine.run(steps, source, sink) {
         Ending::Failure { at, count } => put_failure(found, machine.text(at, count)),
         ending => Ok(put_ending(found, ending)?),
+    }
+}
+
+/// A machine with the image, and the smallest store and stack.
+pub fn started(alloc: Global, image: &Image) -> Result<Box<Machine>, Fail> {
+    match Limits::new(4096, 4096) {
+        Some(limits) => Ok(Box::new(alloc, Machine::new(alloc, image, limits)?)?),
+        None => Err("no limits")?,
     }
 }
 

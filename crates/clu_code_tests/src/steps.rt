@@ -2,7 +2,7 @@
 
 use crate::text::{first_word, kind, number_at, operation, small, small_at};
 use clu_frames::Flat;
-use clu_wir::{Primitive, Trap, WExpr};
+use clu_wir::{Primitive, Trap, WExpr, WOp};
 use std::alloc::Global;
 use std::test::Fail;
 
@@ -43,7 +43,7 @@ enum Name {
     Prim,
 }
 
-const NAMES: [(&str, Name); 22] = [
+static NAMES: [(&str, Name); 22] = [
     ("move", Name::Move),
     ("word", Name::Word),
     ("load", Name::Load),
@@ -69,16 +69,16 @@ const NAMES: [(&str, Name); 22] = [
 ];
 
 fn name_of(word: &str) -> Option<Name> {
-    for (known, name) in NAMES {
-        if known == word {
-            return Some(name);
+    for (known, name) in &NAMES {
+        if *known == word {
+            return Some(*name);
         }
     }
     None
 }
 
-/// The step of a text.
-pub fn step(alloc: Global, text: &str) -> Result<Flat, Fail> {
+/// Appends the step of a text.
+pub fn put_step(alloc: Global, code: &mut Vec<Flat>, text: &str) -> Result<(), Fail> {
     let name = first_word(text);
     let word = number_at(text, 2);
     let numbers = Numbers {
@@ -88,30 +88,39 @@ pub fn step(alloc: Global, text: &str) -> Result<Flat, Fail> {
         word,
     };
     match name_of(name) {
-        Some(Name::Load | Name::Byte | Name::Need) => loading(alloc, name, numbers),
-        Some(name) => Ok(plain(name, numbers)),
-        None => named(alloc, name, numbers),
+        Some(Name::Load) => load(alloc, code, numbers),
+        Some(Name::Byte) => byte(alloc, code, numbers),
+        Some(Name::Need) => need(alloc, code, numbers.first),
+        Some(name) => put(code, plain(name, numbers)),
+        None => named(alloc, code, name, numbers),
     }
 }
 
-/// The step that loads by the address in a slot, or tests a slot.
-fn loading(alloc: Global, name: &str, numbers: Numbers) -> Result<Flat, Fail> {
-    let Numbers {
-        first,
-        second,
-        third,
-        ..
-    } = numbers;
-    let value = match name {
-        "load" => WExpr::Load(boxed(alloc, second)?, third),
-        "byte" => WExpr::Byte(boxed(alloc, second)?),
-        _ => WExpr::Check(
-            boxed(alloc, first)?,
-            Trap::Uninitialized,
-            boxed(alloc, first)?,
-        ),
-    };
-    Ok(Flat::Set(first, value))
+/// Appends a step.
+pub fn put(code: &mut Vec<Flat>, step: Flat) -> Result<(), Fail> {
+    code.push(step)?;
+    Ok(())
+}
+
+/// The step that loads a word by the address in a slot.
+fn load(alloc: Global, code: &mut Vec<Flat>, numbers: Numbers) -> Result<(), Fail> {
+    let slot = boxed(alloc, numbers.second)?;
+    let value = WExpr::Load(slot, numbers.third);
+    put(code, Flat::Set(numbers.first, value))
+}
+
+/// The step that loads a byte by the address in a slot.
+fn byte(alloc: Global, code: &mut Vec<Flat>, numbers: Numbers) -> Result<(), Fail> {
+    let slot = boxed(alloc, numbers.second)?;
+    put(code, Flat::Set(numbers.first, WExpr::Byte(slot)))
+}
+
+/// The step that tests a slot.
+fn need(alloc: Global, code: &mut Vec<Flat>, slot: u32) -> Result<(), Fail> {
+    let tested = boxed(alloc, slot)?;
+    let value = boxed(alloc, slot)?;
+    let check = WExpr::Check(tested, Trap::Uninitialized, value);
+    put(code, Flat::Set(slot, check))
 }
 
 fn boxed(alloc: Global, slot: u32) -> Result<Box<WExpr>, Fail> {
@@ -155,27 +164,28 @@ fn plain(name: Name, numbers: Numbers) -> Flat {
 }
 
 /// The step whose name is that of an operation, of a kind of hole or of a primitive.
-fn named(alloc: Global, name: &str, numbers: Numbers) -> Result<Flat, Fail> {
-    let Numbers {
-        first,
-        second,
-        third,
-        ..
-    } = numbers;
+fn named(alloc: Global, code: &mut Vec<Flat>, name: &str, numbers: Numbers) -> Result<(), Fail> {
     if let Some(op) = operation(name) {
-        let left = boxed(alloc, second)?;
-        return Ok(Flat::Set(first, WExpr::Binary(op, left, boxed(alloc, third)?)));
+        return binary(alloc, code, op, numbers);
     }
+    let Numbers { first, second, .. } = numbers;
     if let Some(kind) = kind(name) {
-        return Ok(Flat::Set(first, WExpr::Hole(kind, second)));
+        return put(code, Flat::Set(first, WExpr::Hole(kind, second)));
     }
     match primitive(name) {
-        Some(primitive) => Ok(Flat::Prim(primitive.number(), first)),
+        Some(primitive) => put(code, Flat::Prim(primitive.number(), first)),
         None => Err("no step")?,
     }
 }
 
-const PRIMITIVES: [(&str, Primitive); 5] = [
+fn binary(alloc: Global, code: &mut Vec<Flat>, op: WOp, numbers: Numbers) -> Result<(), Fail> {
+    let left = boxed(alloc, numbers.second)?;
+    let right = boxed(alloc, numbers.third)?;
+    let value = WExpr::Binary(op, left, right);
+    put(code, Flat::Set(numbers.first, value))
+}
+
+static PRIMITIVES: [(&str, Primitive); 5] = [
     ("allocate", Primitive::Allocate),
     ("write", Primitive::Write),
     ("take_byte", Primitive::TakeByte),
@@ -184,9 +194,9 @@ const PRIMITIVES: [(&str, Primitive); 5] = [
 ];
 
 fn primitive(name: &str) -> Option<Primitive> {
-    for (known, primitive) in PRIMITIVES {
-        if known == name {
-            return Some(primitive);
+    for (known, primitive) in &PRIMITIVES {
+        if *known == name {
+            return Some(*primitive);
         }
     }
     None

@@ -52,7 +52,7 @@ pub fn small_at(text: &str, place: usize) -> u32 {
     small(number_at(text, place))
 }
 
-const OPERATIONS: [(&str, WOp); 19] = [
+static OPERATIONS: [(&str, WOp); 19] = [
     ("add", WOp::Add),
     ("sub", WOp::Sub),
     ("sll", WOp::Sll),
@@ -76,15 +76,15 @@ const OPERATIONS: [(&str, WOp); 19] = [
 
 /// The operation of this name.
 pub fn operation(name: &str) -> Option<WOp> {
-    for (known, operation) in OPERATIONS {
-        if known == name {
-            return Some(operation);
+    for (known, operation) in &OPERATIONS {
+        if *known == name {
+            return Some(*operation);
         }
     }
     None
 }
 
-const KINDS: [(&str, HoleKind); 5] = [
+static KINDS: [(&str, HoleKind); 5] = [
     ("entry", HoleKind::Entry),
     ("descriptor", HoleKind::Descriptor),
     ("constant", HoleKind::Constant),
@@ -94,15 +94,15 @@ const KINDS: [(&str, HoleKind); 5] = [
 
 /// The kind of hole of this name.
 pub fn kind(name: &str) -> Option<HoleKind> {
-    for (known, kind) in KINDS {
-        if known == name {
-            return Some(kind);
+    for (known, kind) in &KINDS {
+        if *known == name {
+            return Some(*kind);
         }
     }
     None
 }
 
-const NAMES: [(&str, Trap); 6] = [
+static NAMES: [(&str, Trap); 6] = [
     ("overflow", Trap::Overflow),
     ("zero_divide", Trap::ZeroDivide),
     ("bounds", Trap::Bounds),
@@ -113,9 +113,9 @@ const NAMES: [(&str, Trap); 6] = [
 
 /// The trap of this name.
 pub fn trap(name: &str) -> Option<Trap> {
-    for (known, trap) in NAMES {
-        if known == name {
-            return Some(trap);
+    for (known, trap) in &NAMES {
+        if *known == name {
+            return Some(*trap);
         }
     }
     None

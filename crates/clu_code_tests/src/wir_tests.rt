@@ -1,8 +1,8 @@
 //! Numbers of holes and primitives, and how wide word code is.
 
-use crate::word_code::Made;
+use crate::word_code::{Made, statements};
 use clu_base::Bytes;
-use clu_wir::{HoleKind, Primitive, Room, WRoutine, WStmt};
+use clu_wir::{HoleKind, Primitive, Room, WRoutine};
 use std::alloc::Global;
 use std::test::Fail;
 
@@ -37,31 +37,31 @@ fn primitives_have_their_numbers(rt: HostRuntime) {
 
 /// How many words of code the expression of a text takes, and how many slots there must be for it.
 fn taken(alloc: Global, text: &str) -> Result<(u64, u64), Fail> {
-    let mut made = Made::new(alloc);
+    let mut made = Made::new(alloc)?;
     made.read(text)?;
-    let value = made.one()?;
+    let value = made.boxed()?;
     Ok((value.words(), value.slots()))
 }
 
-/// A routine with an argument and this body.
-fn routine(alloc: Global, slots: u32, body: Vec<WStmt>) -> WRoutine {
-    WRoutine {
+/// A routine with an argument and two slots, whose body a text says.
+fn routine(alloc: Global, text: &str) -> Result<Box<WRoutine>, Fail> {
+    let (body, _) = statements(alloc, text)?;
+    let routine = WRoutine {
         name: Bytes::from_vec(Vec::new(alloc)),
         args: 1,
-        slots,
+        slots: 2,
         body,
         nodes: 10,
         uses: Vec::new(alloc),
         constants: Vec::new(alloc),
         types: Vec::new(alloc),
-    }
+    };
+    Ok(Box::new(alloc, routine)?)
 }
 
 /// How many words a routine of two slots needs whose body a text says.
 fn width(alloc: Global, text: &str) -> Result<u32, Fail> {
-    let mut made = Made::new(alloc);
-    made.read(text)?;
-    Ok(routine(alloc, 2, made.statements).width())
+    Ok(routine(alloc, text)?.width())
 }
 
 /// A slot takes 3 words, a known one 1 or 6, a hole 4, what is bound 1.
@@ -103,9 +103,7 @@ fn a_routine_is_as_wide_as_its_widest_statement(rt: HostRuntime) -> Result<(), F
 
 /// What a routine may take whose body a text says.
 fn room(alloc: Global, text: &str) -> Result<Room, Fail> {
-    let mut made = Made::new(alloc);
-    made.read(text)?;
-    Ok(routine(alloc, 2, made.statements).room())
+    Ok(routine(alloc, text)?.room())
 }
 
 /// To begin and to end, a routine with one argument has 26 words of code, and a descriptor, a cell and an empty table have 56

@@ -11,25 +11,35 @@ use std::test::Fail;
 #[derive(Drop)]
 pub struct Made {
     alloc: Global,
-    pub values: Vec<WExpr>,
-    pub statements: Vec<WStmt>,
+    values: Vec<WExpr>,
+    statements: Vec<WStmt>,
     arms: Vec<WArm>,
     /// At which statement each list begins that nothing has taken.
     begun: Vec<usize>,
     /// How many statements, expressions, arms and slots were made.
-    pub parts: usize,
+    parts: usize,
+}
+
+/// The statements of a text, and of how many parts they are made.
+pub fn statements(alloc: Global, text: &str) -> Result<(Vec<WStmt>, usize), Fail> {
+    let mut made = Made::new(alloc)?;
+    made.read(text)?;
+    let parts = made.parts;
+    Ok((Box::into_inner(made).statements, parts))
 }
 
 impl Made {
-    pub fn new(alloc: Global) -> Made {
-        Made {
+    /// Nothing.
+    pub fn new(alloc: Global) -> Result<Box<Made>, Fail> {
+        let made = Made {
             alloc,
             values: Vec::new(alloc),
             statements: Vec::new(alloc),
             arms: Vec::new(alloc),
             begun: Vec::new(alloc),
             parts: 0,
-        }
+        };
+        Ok(Box::new(alloc, made)?)
     }
 
     /// Makes what a text says.
@@ -54,7 +64,8 @@ impl Made {
             "arm" => self.arm(item),
             "set" | "put" | "break" | "continue" => self.simple(name, item),
             "bind" => self.bind(small_at(item, 1)),
-            "call" | "prim" => self.call(name, item),
+            "call" => self.call(item),
+            "prim" => self.prim(item),
             "if" | "loop" | "iterate" | "guard" | "resignal" => self.nest(name, item),
             "yield" | "exit" | "return" => self.leave(name, item),
             "raise" | "signal" => self.signal(name, item),
@@ -73,13 +84,19 @@ impl Made {
     }
 
     fn value(&mut self, name: &str, number: u64) -> Result<(), Fail> {
-        let value = match name {
-            "slot" => WExpr::Slot(small(number)),
-            "word" => WExpr::Word(number),
-            "bound" => WExpr::Bound(small(number)),
-            _ => WExpr::Hole(kind(name).ok_or("no value")?, small(number)),
-        };
-        self.put_value(value)
+        match name {
+            "slot" => self.put_value(WExpr::Slot(small(number))),
+            "word" => self.put_value(WExpr::Word(number)),
+            "bound" => self.put_value(WExpr::Bound(small(number))),
+            _ => self.hole(name, small(number)),
+        }
+    }
+
+    fn hole(&mut self, name: &str, number: u32) -> Result<(), Fail> {
+        match kind(name) {
+            Some(kind) => self.put_value(WExpr::Hole(kind, number)),
+            None => Err("no value")?,
+        }
     }
 
     fn put_value(&mut self, value: WExpr) -> Result<(), Fail> {
@@ -125,14 +142,9 @@ impl Made {
     }
 
     /// The last value, in a box.
-    fn boxed(&mut self) -> Result<Box<WExpr>, Fail> {
-        Ok(Box::new(self.alloc, self.one()?)?)
-    }
-
-    /// The last value.
-    pub fn one(&mut self) -> Result<WExpr, Fail> {
+    pub fn boxed(&mut self) -> Result<Box<WExpr>, Fail> {
         match self.values.pop() {
-            Some(value) => Ok(value),
+            Some(value) => Ok(Box::new(self.alloc, value)?),
             None => Err("no value")?,
         }
     }
@@ -180,34 +192,35 @@ impl Made {
     }
 
     fn set(&mut self, slot: u32) -> Result<(), Fail> {
-        let value = self.one()?;
-        self.put(WStmt::Set(slot, value))
+        let value = self.boxed()?;
+        self.put(WStmt::Set(slot, Box::into_inner(value)))
     }
 
     fn store(&mut self, distance: u32) -> Result<(), Fail> {
         let value = self.boxed()?;
-        let address = self.one()?;
-        self.put(WStmt::Put(address, distance, Box::into_inner(value)))
+        let address = self.boxed()?;
+        self.put(WStmt::Put(Box::into_inner(address), distance, Box::into_inner(value)))
     }
 
     fn bind(&mut self, slot: u32) -> Result<(), Fail> {
-        let value = self.one()?;
-        let number = self.one()?;
-        self.put(WStmt::Bind(number, value, slot))
+        let value = self.boxed()?;
+        let number = self.boxed()?;
+        self.put(WStmt::Bind(Box::into_inner(number), Box::into_inner(value), slot))
     }
 
-    /// `call ARGUMENTS SLOT ..` or `prim NUMBER ARGUMENTS SLOT ..`
-    fn call(&mut self, name: &str, item: &str) -> Result<(), Fail> {
-        let statement = if name == "call" {
-            let results = self.slots(item, 2)?;
-            let arguments = self.last(number_at(item, 1))?;
-            WStmt::Call(self.one()?, arguments, results)
-        } else {
-            let results = self.slots(item, 3)?;
-            let arguments = self.last(number_at(item, 2))?;
-            WStmt::Prim(small_at(item, 1), arguments, results)
-        };
-        self.put(statement)
+    /// `call ARGUMENTS SLOT ..`
+    fn call(&mut self, item: &str) -> Result<(), Fail> {
+        let results = self.slots(item, 2)?;
+        let arguments = self.last(number_at(item, 1))?;
+        let routine = self.boxed()?;
+        self.put(WStmt::Call(Box::into_inner(routine), arguments, results))
+    }
+
+    /// `prim NUMBER ARGUMENTS SLOT ..`
+    fn prim(&mut self, item: &str) -> Result<(), Fail> {
+        let results = self.slots(item, 3)?;
+        let arguments = self.last(number_at(item, 2))?;
+        self.put(WStmt::Prim(small_at(item, 1), arguments, results))
     }
 
     fn nest(&mut self, name: &str, item: &str) -> Result<(), Fail> {
@@ -223,8 +236,8 @@ impl Made {
     fn choice(&mut self) -> Result<(), Fail> {
         let other = self.list()?;
         let then = self.list()?;
-        let condition = self.one()?;
-        self.put(WStmt::If(condition, then, other))
+        let condition = self.boxed()?;
+        self.put(WStmt::If(Box::into_inner(condition), then, other))
     }
 
     fn repeat(&mut self) -> Result<(), Fail> {
@@ -237,8 +250,8 @@ impl Made {
         let slots = self.slots(item, 2)?;
         let arguments = self.last(number_at(item, 1))?;
         let body = self.list()?;
-        let iterator = self.one()?;
-        self.put(WStmt::Iterate(iterator, arguments, slots, body))
+        let iterator = self.boxed()?;
+        self.put(WStmt::Iterate(Box::into_inner(iterator), arguments, slots, body))
     }
 
     /// `resignal NAME ..`
@@ -267,29 +280,27 @@ impl Made {
             names.push(Bytes::from_slice(self.alloc, name.as_bytes())?)?;
         }
         let slots = self.slots(item, 2)?;
-        let arm = WArm {
+        let body = self.list()?;
+        self.count(1);
+        self.arms.push(WArm {
             names,
             others: name == "*",
             slots,
-            body: self.list()?,
-        };
-        self.count(1);
-        self.arms.push(arm)?;
+            body,
+        })?;
         Ok(())
     }
 
     /// `yield ARGUMENTS`, `return RESULTS` or `exit GUARDS ARM OBJECTS`
     fn leave(&mut self, name: &str, item: &str) -> Result<(), Fail> {
         let first = number_at(item, 1);
-        let statement = match name {
-            "yield" => WStmt::Yield(self.last(first)?),
-            "return" => WStmt::Return(self.last(first)?),
-            _ => {
-                let arm = small_at(item, 2);
-                WStmt::Exit(small(first), arm, self.last(number_at(item, 3))?)
-            }
-        };
-        self.put(statement)
+        let place = if name == "exit" { 3 } else { 1 };
+        let objects = self.last(number_at(item, place))?;
+        match name {
+            "yield" => self.put(WStmt::Yield(objects)),
+            "return" => self.put(WStmt::Return(objects)),
+            _ => self.put(WStmt::Exit(small(first), small_at(item, 2), objects)),
+        }
     }
 
     /// `raise NAME OBJECTS` or `signal NAME OBJECTS`

@@ -9,7 +9,7 @@ use std::alloc::Global;
 use std::test::Fail;
 
 /// Bytes, and where their fields start. What stands in parentheses is one field.
-#[derive(Debug, Drop)]
+#[derive(Drop)]
 pub struct Fields {
     pub bytes: Vec<u8>,
     pub starts: Vec<usize>,
@@ -20,14 +20,15 @@ pub struct Fields {
 }
 
 impl Fields {
-    pub fn of(alloc: Global, row: &str) -> Result<Fields, Fail> {
-        let mut fields = Fields {
+    pub fn of(alloc: Global, row: &str) -> Result<Box<Fields>, Fail> {
+        let fields = Fields {
             bytes: Vec::new(alloc),
             starts: Vec::new(alloc),
             wrong: 0,
             inner: Vec::new(alloc),
             is_open: false,
         };
+        let mut fields = Box::new(alloc, fields)?;
         fields.add_all(alloc, row)?;
         Ok(fields)
     }
@@ -99,16 +100,27 @@ impl Fields {
 /// The bytes of a field.
 fn field(alloc: Global, sort: u8, rest: &[u8], word: &[u8]) -> Result<Bytes, Fail> {
     let mut out = Vec::new(alloc);
+    field_add(alloc, &mut out, sort, rest, word)?;
+    Ok(Bytes::from_vec(out))
+}
+
+fn field_add(
+    alloc: Global,
+    out: &mut Vec<u8>,
+    sort: u8,
+    rest: &[u8],
+    word: &[u8],
+) -> Result<(), Fail> {
     match sort {
         b'b' => out.push(byte(rest)?)?,
-        b'w' => u32_add(&mut out, number(rest)?)?,
-        b'q' => u64_add(&mut out, u64::from(number(rest)?))?,
-        b'a' => letters_add(alloc, &mut out, number(rest)?)?,
-        b'\'' => text16_add(&mut out, rest)?,
-        b'"' => text_add(alloc, &mut out, rest)?,
+        b'w' => u32_add(out, number(rest)?)?,
+        b'q' => u64_add(out, u64::from(number(rest)?))?,
+        b'a' => letters_add(alloc, out, number(rest)?)?,
+        b'\'' => text16_add(out, rest)?,
+        b'"' => text_add(alloc, out, rest)?,
         _ => out.extend_from_slice(word)?,
     }
-    Ok(Bytes::from_vec(out))
+    Ok(())
 }
 
 fn letters_add(alloc: Global, out: &mut Vec<u8>, count: u32) -> Result<(), Memory> {

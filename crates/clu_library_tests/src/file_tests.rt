@@ -2,9 +2,9 @@
 
 use crate::fields::Fields;
 use crate::file_rows;
-use clu_base::FormatError;
+use clu_base::{Bytes, FormatError, Memory};
 use clu_library::Library;
-use clu_object::{is_object, read, write};
+use clu_object::{Object, is_object, read, write};
 use std::alloc::Global;
 use std::test::Fail;
 
@@ -18,23 +18,43 @@ enum Reading {
 /// Reads and writes an object.
 fn object(alloc: Global, b: &[u8]) -> Result<Reading, Fail> {
     match read(alloc, b) {
-        Ok(object) => {
-            if !is_object(alloc, &object)? {
-                return Err("what was read is no object")?;
-            }
-            Ok(Reading::Written(write(alloc, &object)?.into_vec()))
-        }
-        Err(FormatError::Bad(at)) => Ok(Reading::Bad(at)),
-        Err(FormatError::Memory) => Err("no memory")?,
+        Ok(object) => rewritten(alloc, &object),
+        Err(error) => refusal(error),
     }
+}
+
+fn rewritten(alloc: Global, object: &Object) -> Result<Reading, Fail> {
+    if is_object(alloc, object)? {
+        written(write(alloc, object))
+    } else {
+        Err("what was read is no object")?
+    }
+}
+
+fn written(bytes: Result<Bytes, Memory>) -> Result<Reading, Fail> {
+    match bytes {
+        Ok(bytes) => Ok(Reading::Written(bytes.into_vec())),
+        Err(_) => Err("no memory")?,
+    }
+}
+
+fn refusal(error: FormatError) -> Result<Reading, Fail> {
+    match error {
+        FormatError::Bad(at) => Ok(Reading::Bad(at)),
+        FormatError::Memory => Err("no memory")?,
+    }
+}
+
+/// The library of a file.
+pub fn read_library(alloc: Global, b: &[u8]) -> Result<Box<Library>, FormatError> {
+    Ok(Box::new(alloc, Library::read(alloc, b)?)?)
 }
 
 /// Reads and writes a library.
 fn library(alloc: Global, b: &[u8]) -> Result<Reading, Fail> {
-    match Library::read(alloc, b) {
-        Ok(library) => Ok(Reading::Written(library.write(alloc)?.into_vec())),
-        Err(FormatError::Bad(at)) => Ok(Reading::Bad(at)),
-        Err(FormatError::Memory) => Err("no memory")?,
+    match read_library(alloc, b) {
+        Ok(library) => written(library.write(alloc)),
+        Err(error) => refusal(error),
     }
 }
 
@@ -47,16 +67,32 @@ fn outcome(alloc: Global, is_object: bool, b: &[u8]) -> Result<Reading, Fail> {
     }
 }
 
+/// What a row came to in place of what is due.
+fn differs(alloc: Global, found: &str, row: &str) -> Result<(), Fail> {
+    Err(format!(in alloc; "{found}: {row}")?)?
+}
+
+fn is_bad_at(alloc: Global, at: u64, due: u64, row: &str) -> Result<(), Fail> {
+    if at == due {
+        Ok(())
+    } else {
+        Err(format!(in alloc; "bad at {at}, not {due}: {row}")?)?
+    }
+}
+
 /// A file is refused at this place.
 fn keep_refusal(alloc: Global, is_object: bool, b: &[u8], due: u64, row: &str) -> Result<(), Fail> {
     match outcome(alloc, is_object, b)? {
-        Reading::Bad(at) => {
-            if at != due {
-                return Err(format!(in alloc; "bad at {at}, not {due}: {row}")?)?;
-            }
-            Ok(())
-        }
-        Reading::Written(_) => Err(format!(in alloc; "not bad at {due}: {row}")?)?,
+        Reading::Bad(at) => is_bad_at(alloc, at, due, row),
+        Reading::Written(_) => differs(alloc, "not bad", row),
+    }
+}
+
+fn is_written_as(alloc: Global, bytes: &[u8], due: &[u8], row: &str) -> Result<(), Fail> {
+    if bytes == due {
+        Ok(())
+    } else {
+        differs(alloc, "written otherwise", row)
     }
 }
 
@@ -69,13 +105,8 @@ fn keep_written(
     row: &str,
 ) -> Result<(), Fail> {
     match outcome(alloc, is_object, b)? {
-        Reading::Written(bytes) => {
-            if bytes.as_slice() != due {
-                return Err(format!(in alloc; "written otherwise: {row}")?)?;
-            }
-            Ok(())
-        }
-        Reading::Bad(at) => Err(format!(in alloc; "bad at {at}: {row}")?)?,
+        Reading::Written(bytes) => is_written_as(alloc, bytes.as_slice(), due, row),
+        Reading::Bad(_) => differs(alloc, "bad", row),
     }
 }
 
@@ -107,12 +138,7 @@ fn keep_complements(
 
 fn keep_altered(alloc: Global, is_object: bool, b: &[u8], row: &str) -> Result<(), Fail> {
     match outcome(alloc, is_object, b)? {
-        Reading::Written(bytes) => {
-            if bytes.as_slice() != b {
-                return Err(format!(in alloc; "altered and written otherwise: {row}")?)?;
-            }
-            Ok(())
-        }
+        Reading::Written(bytes) => is_written_as(alloc, bytes.as_slice(), b, row),
         Reading::Bad(_) => Ok(()),
     }
 }

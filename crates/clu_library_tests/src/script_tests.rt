@@ -1,8 +1,9 @@
 //! The table of scripts, run.
 
-use crate::file_tests::counted;
+use crate::file_tests::{counted, read_library};
 use crate::script_rows;
 use crate::scripts::step;
+use clu_base::Bytes;
 use clu_library::Library;
 use std::alloc::Global;
 use std::test::Fail;
@@ -29,20 +30,23 @@ fn keep_lines(library: &mut Library, alloc: Global, row: &str) -> Result<(), Fai
 /// The library is written, read and written again as the same bytes.
 fn keep_file(library: &Library, alloc: Global, row: &str) -> Result<(), Fail> {
     let file = library.write(alloc)?;
-    match Library::read(alloc, file.as_slice()) {
-        Ok(again) => {
-            if again.write(alloc)? != file {
-                return Err(format!(in alloc; "written otherwise: {row}")?)?;
-            }
-            Ok(())
-        }
+    match read_library(alloc, file.as_slice()) {
+        Ok(again) => keep_again(&again, alloc, &file, row),
         Err(_) => Err(format!(in alloc; "not read again: {row}")?)?,
     }
 }
 
-fn keep_script(library: &mut Library, alloc: Global, row: &str) -> Result<(), Fail> {
-    keep_lines(library, alloc, row)?;
-    keep_file(library, alloc, row)
+fn keep_again(library: &Library, alloc: Global, file: &Bytes, row: &str) -> Result<(), Fail> {
+    if library.write(alloc)? != *file {
+        return Err(format!(in alloc; "written otherwise: {row}")?)?;
+    }
+    Ok(())
+}
+
+fn keep_script(alloc: Global, row: &str) -> Result<(), Fail> {
+    let mut library = Box::new(alloc, Library::empty(alloc))?;
+    keep_lines(&mut library, alloc, row)?;
+    keep_file(&library, alloc, row)
 }
 
 #[test]
@@ -50,8 +54,7 @@ fn scripts(rt: HostRuntime) -> Result<(), Fail> {
     let mut count = 0usize;
     for row in script_rows::SCRIPTS.split_terminator('\0') {
         if !row.starts_with('%') {
-            let mut library = Library::empty(rt.alloc());
-            keep_script(&mut library, rt.alloc(), row)?;
+            keep_script(rt.alloc(), row)?;
             count = count.saturating_add(1);
         }
     }

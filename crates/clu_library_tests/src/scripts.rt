@@ -4,6 +4,7 @@
 //! why a body is stale, `u` which specification is not met besides these; `w` tells all that is kept.
 
 use crate::fields::Fields;
+use crate::file_tests::read_library;
 use clu_base::{Bytes, Memory, Sequence};
 use clu_library::{Body, EnterError, Library, Program, StaleBy};
 use clu_object::Object;
@@ -37,13 +38,19 @@ fn name_error(error: EnterError) -> &'static str {
     }
 }
 
-fn enter(library: &mut Library, alloc: Global, text: &str) -> Result<&'static str, Fail> {
+/// The specification of a text.
+fn spec(alloc: Global, text: &str) -> Result<Box<Spec>, Fail> {
     match read_spec(alloc, text.as_bytes()) {
-        Ok(spec) => match library.enter_spec(alloc, spec) {
-            Ok(()) => Ok("ok"),
-            Err(error) => Ok(name_error(error)),
-        },
+        Ok(spec) => Ok(Box::new(alloc, spec)?),
         Err(_) => Err(format!(in alloc; "no specification: {text}")?)?,
+    }
+}
+
+fn enter(library: &mut Library, alloc: Global, text: &str) -> Result<&'static str, Fail> {
+    let spec = spec(alloc, text)?;
+    match library.enter_spec(alloc, Box::into_inner(spec)) {
+        Ok(()) => Ok("ok"),
+        Err(error) => Ok(name_error(error)),
     }
 }
 
@@ -59,9 +66,9 @@ fn enter_many(library: &mut Library, alloc: Global, count: &str) -> Result<&'sta
 
 fn read_fields(library: &mut Library, alloc: Global, row: &str) -> Result<&'static str, Fail> {
     let fields = Fields::of(alloc, row)?;
-    match Library::read(alloc, fields.bytes.as_slice()) {
+    match read_library(alloc, fields.bytes.as_slice()) {
         Ok(read) => {
-            *library = read;
+            *library = Box::into_inner(read);
             Ok("ok")
         }
         Err(_) => Ok("bad"),
@@ -69,31 +76,37 @@ fn read_fields(library: &mut Library, alloc: Global, row: &str) -> Result<&'stat
 }
 
 fn replace(library: &mut Library, alloc: Global, text: &str) -> Result<&'static str, Fail> {
-    match read_spec(alloc, text.as_bytes()) {
-        Ok(spec) => match library.replace_spec(alloc, spec) {
-            Ok(true) => Ok("true"),
-            Ok(false) => Ok("false"),
-            Err(error) => Ok(name_error(error)),
-        },
-        Err(_) => Err(format!(in alloc; "no specification: {text}")?)?,
+    let spec = spec(alloc, text)?;
+    match library.replace_spec(alloc, Box::into_inner(spec)) {
+        Ok(true) => Ok("true"),
+        Ok(false) => Ok("false"),
+        Err(error) => Ok(name_error(error)),
     }
 }
 
+/// The modules that a text names; none for `*`, which is all.
+fn listed(alloc: Global, named: &str) -> Result<Option<Sequence<Bytes>>, Memory> {
+    if named == "*" {
+        return Ok(None);
+    }
+    Ok(Some(Sequence::from_vec(names(alloc, named)?)))
+}
+
 /// A body without routines, whose text names these modules.
-fn body(alloc: Global, name: &str, named: &str) -> Result<Body, Memory> {
-    let listed = match named {
-        "*" => None,
-        _ => Some(Sequence::from_vec(names(alloc, named)?)),
-    };
-    Ok(Body {
-        text: bytes(alloc, "text")?,
-        names: listed,
+fn body(alloc: Global, name: &str, named: &str) -> Result<Box<Body>, Memory> {
+    let module = bytes(alloc, name)?;
+    let text = bytes(alloc, "text")?;
+    let names = listed(alloc, named)?;
+    let body = Body {
+        text,
+        names,
         checked: 77,
         object: Object {
-            module: bytes(alloc, name)?,
+            module,
             routines: Sequence::from_vec(Vec::new(alloc)),
         },
-    })
+    };
+    Ok(Box::new(alloc, body)?)
 }
 
 fn enter_body(library: &mut Library, alloc: Global, text: &str) -> Result<&'static str, Fail> {
@@ -103,35 +116,39 @@ fn enter_body(library: &mut Library, alloc: Global, text: &str) -> Result<&'stat
         return Ok("no specification");
     }
     let body = body(alloc, name, named)?;
-    library.enter_body(alloc, &module, body)?;
+    library.enter_body(alloc, &module, Box::into_inner(body))?;
     Ok("ok")
 }
 
 /// The image of one instruction and nothing else.
-fn image(alloc: Global) -> Result<Option<Image>, Memory> {
+fn image(alloc: Global) -> Result<Box<Image>, Fail> {
     let code = vec![in alloc; 0x73]?;
-    Ok(Image::new(0, code, Vec::new(alloc), Vec::new(alloc)))
+    match Image::new(0, code, Vec::new(alloc), Vec::new(alloc)) {
+        Some(image) => Ok(Box::new(alloc, image)?),
+        None => Err("no image")?,
+    }
+}
+
+fn program(alloc: Global, name: &str, listed: &str) -> Result<Box<Program>, Fail> {
+    let name = bytes(alloc, name)?;
+    let start = bytes(alloc, "p")?;
+    let modules = Sequence::from_vec(names(alloc, listed)?);
+    let image = image(alloc)?;
+    let program = Program {
+        name,
+        start,
+        modules,
+        image: Box::into_inner(image),
+    };
+    Ok(Box::new(alloc, program)?)
 }
 
 fn enter_program(library: &mut Library, alloc: Global, text: &str) -> Result<&'static str, Fail> {
     let (name, listed) = text.split_once(' ').unwrap_or((text, ""));
-    let modules = Sequence::from_vec(names(alloc, listed)?);
-    let name = bytes(alloc, name)?;
-    let start = bytes(alloc, "p")?;
-    match image(alloc)? {
-        Some(image) => {
-            let program = Program {
-                name,
-                start,
-                modules,
-                image,
-            };
-            match library.enter_program(program) {
-                Ok(()) => Ok("ok"),
-                Err(error) => Ok(name_error(error)),
-            }
-        }
-        None => Err("no image")?,
+    let program = program(alloc, name, listed)?;
+    match library.enter_program(Box::into_inner(program)) {
+        Ok(()) => Ok("ok"),
+        Err(error) => Ok(name_error(error)),
     }
 }
 
@@ -140,12 +157,11 @@ fn tell(out: &mut String, name: &Bytes) -> Result<(), Fail> {
     Ok(())
 }
 
-fn tell_reason(out: &mut String, found: Option<StaleBy>) -> Result<(), Fail> {
+fn tell_reason(out: &mut String, found: &Option<StaleBy>) -> Result<(), Fail> {
     match found {
         Some(stale) => {
             tell(out, &stale.by)?;
-            write!(out, " {} {}", stale.changed, stale.checked)?;
-            Ok(())
+            Ok(write!(out, " {} {}", stale.changed, stale.checked)?)
         }
         None => Ok(out.push_str("-")?),
     }
@@ -154,7 +170,7 @@ fn tell_reason(out: &mut String, found: Option<StaleBy>) -> Result<(), Fail> {
 fn tell_stale(out: &mut String, library: &Library, alloc: Global, name: &str) -> Result<(), Fail> {
     let name = bytes(alloc, name)?;
     let found = library.stale(alloc, &name)?;
-    tell_reason(out, found)
+    tell_reason(out, &found)
 }
 
 fn tell_unmet(
@@ -206,6 +222,11 @@ fn tell_all(out: &mut String, library: &Library, alloc: Global) -> Result<(), Fa
     tell_programs(out, library, alloc)
 }
 
+fn tell_word(out: &mut String, word: Result<&'static str, Fail>) -> Result<(), Fail> {
+    out.push_str(word?)?;
+    Ok(())
+}
+
 /// Does a step, and appends what comes of it.
 pub fn step(
     out: &mut String,
@@ -215,12 +236,12 @@ pub fn step(
     text: &str,
 ) -> Result<(), Fail> {
     match sort.as_bytes() {
-        [b's'] => Ok(out.push_str(enter(library, alloc, text)?)?),
-        [b'r'] => Ok(out.push_str(replace(library, alloc, text)?)?),
-        [b'b'] => Ok(out.push_str(enter_body(library, alloc, text)?)?),
-        [b'p'] => Ok(out.push_str(enter_program(library, alloc, text)?)?),
-        [b'm'] => Ok(out.push_str(enter_many(library, alloc, text)?)?),
-        [b'f'] => Ok(out.push_str(read_fields(library, alloc, text)?)?),
+        [b's'] => tell_word(out, enter(library, alloc, text)),
+        [b'r'] => tell_word(out, replace(library, alloc, text)),
+        [b'b'] => tell_word(out, enter_body(library, alloc, text)),
+        [b'p'] => tell_word(out, enter_program(library, alloc, text)),
+        [b'm'] => tell_word(out, enter_many(library, alloc, text)),
+        [b'f'] => tell_word(out, read_fields(library, alloc, text)),
         [b't'] => tell_stale(out, library, alloc, text),
         [b'u'] => tell_unmet(out, library, alloc, text),
         [b'w'] => tell_all(out, library, alloc),

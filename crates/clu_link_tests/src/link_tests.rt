@@ -57,40 +57,47 @@ fn routine_with(alloc: Global, name: &[u8], parts: Parts<'_>) -> Result<ObjRouti
         kind: 1,
         number: 0,
     };
+    let constants = vec![in alloc; constant]?;
+    let name = Bytes::from_slice(alloc, name)?;
+    let code = CODE.to_vec(alloc)?;
+    let holes = vec![in alloc; hole]?;
+    let uses = texts(alloc, uses)?;
+    let types = types(alloc, named)?;
     Ok(ObjRoutine {
-        name: Bytes::from_slice(alloc, name)?,
+        name,
         nodes,
-        code: Sequence::from_vec(CODE.to_vec(alloc)?),
-        holes: Sequence::from_vec(vec![in alloc; hole]?),
-        uses: texts(alloc, uses)?,
-        constants: Sequence::from_vec(vec![in alloc; constant]?),
-        types: types(alloc, named)?,
+        code: Sequence::from_vec(code),
+        holes: Sequence::from_vec(holes),
+        uses,
+        constants: Sequence::from_vec(constants),
+        types,
         regions: none(alloc),
     })
 }
 
-fn object_with(alloc: Global, name: &[u8], parts: Parts<'_>) -> Result<Object, Memory> {
-    let routine = routine_with(alloc, name, parts)?;
-    let routines = vec![in alloc; routine]?;
-    Ok(Object {
-        module: Bytes::from_slice(alloc, name)?,
-        routines: Sequence::from_vec(routines),
-    })
+fn body_with(alloc: Global, name: &[u8], parts: Parts<'_>) -> Result<Box<Body>, Memory> {
+    let module = Bytes::from_slice(alloc, name)?;
+    let routines = vec![in alloc; routine_with(alloc, name, parts)?]?;
+    let body = Body {
+        text: Bytes::from_vec(Vec::new(alloc)),
+        names: None,
+        checked: 0,
+        object: Object {
+            module,
+            routines: Sequence::from_vec(routines),
+        },
+    };
+    Ok(Box::new(alloc, body)?)
 }
 
 /// Enters the body of a module whose specification is there.
 fn keep(library: &mut Library, alloc: Global, name: &[u8], parts: Parts<'_>) -> Result<(), Memory> {
     let module = Bytes::from_slice(alloc, name)?;
-    let body = Body {
-        text: Bytes::from_vec(Vec::new(alloc)),
-        names: None,
-        checked: 0,
-        object: object_with(alloc, name, parts)?,
-    };
+    let body = body_with(alloc, name, parts)?;
     if library.spec(&module).is_none() {
         return Err(Memory);
     }
-    library.enter_body(alloc, &module, body)
+    library.enter_body(alloc, &module, Box::into_inner(body))
 }
 
 /// Enters `p` with a body of so many nodes, this use and a string, `q` without a body, and an iterator `i`.
@@ -221,7 +228,7 @@ fn enter_row(library: &mut Library, alloc: Global, row: &str) -> Result<(), Ente
 
 fn row_holds(alloc: Global, row: &str) -> Result<bool, Memory> {
     let (given, due) = parts_of(row);
-    let mut library = Library::empty(alloc);
+    let mut library = Box::new(alloc, Library::empty(alloc))?;
     match enter_row(&mut library, alloc, given) {
         Ok(()) => comes_to(alloc, &library, "p", due),
         Err(_) => Ok(false),
@@ -279,7 +286,7 @@ fn enter_two(library: &mut Library, alloc: Global, row: &str) -> Result<(), Ente
 
 fn two_hold(alloc: Global, row: &str) -> Result<bool, Memory> {
     let (given, due) = parts_of(row);
-    let mut library = Library::empty(alloc);
+    let mut library = Box::new(alloc, Library::empty(alloc))?;
     match enter_two(&mut library, alloc, given) {
         Ok(()) => comes_to(alloc, &library, "p", due),
         Err(_) => Ok(false),
@@ -312,7 +319,7 @@ const ALONE: &str = "\
 
 fn alone_holds(alloc: Global, row: &str) -> Result<bool, Memory> {
     let (given, due) = parts_of(row);
-    let mut library = Library::empty(alloc);
+    let mut library = Box::new(alloc, Library::empty(alloc))?;
     match enter_p(&mut library, alloc, number(given, 0), word(given, 1)) {
         Ok(()) => comes_to(alloc, &library, word(given, 2), due),
         Err(_) => Ok(false),
@@ -353,19 +360,18 @@ fn has_text(linked: &Linked) -> bool {
     }
 }
 
-fn linked_p(alloc: Global, start: &Bytes) -> Result<Linked, LinkError> {
-    let mut library = Library::empty(alloc);
-    match enter_p(&mut library, alloc, 9, "p") {
-        Ok(()) => link(alloc, &library, start),
-        Err(_) => Err(LinkError::NotYet),
-    }
+/// Whether an image has the code and the string of `p` and no words of its own, and its only module is the start.
+fn is_image(linked: &Linked, start: &Bytes) -> bool {
+    has_code(linked)
+        && has_text(linked)
+        && linked.image.area.is_empty()
+        && matches!(linked.modules.as_slice(), [only] if *only == *start)
 }
 
-fn traced_p(alloc: Global, start: &Bytes) -> Result<Traced, LinkError> {
-    let mut library = Library::empty(alloc);
-    match enter_p(&mut library, alloc, 9, "p") {
-        Ok(()) => link_traced(alloc, &library, start),
-        Err(_) => Err(LinkError::NotYet),
+fn links_to_image(alloc: Global, library: &Library, start: &Bytes) -> bool {
+    match &link(alloc, library, start) {
+        Ok(linked) => is_image(linked, start),
+        Err(_) => false,
     }
 }
 
@@ -391,35 +397,35 @@ fn tells_first(traced: &Traced) -> bool {
     }
 }
 
-#[test]
-fn a_traced_program_has_the_same_image(rt: HostRuntime) -> Result<(), Fail> {
-    let alloc = rt.alloc();
-    let start = Bytes::from_slice(alloc, b"p")?;
-    match linked_p(alloc, &start) {
-        Ok(linked) => match traced_p(alloc, &start) {
-            Ok(traced) => {
-                assert!(rt; are_same(&linked, &traced.linked));
-                assert!(rt; tells_p(&traced, &start));
-                Ok(())
-            }
-            Err(_) => Err("not linked with a map".into()),
-        },
-        Err(_) => Err("not linked".into()),
+/// Whether linking with a map gives the same image, and a map that tells `p`.
+fn traces_same(alloc: Global, library: &Library, start: &Bytes, linked: &Linked) -> bool {
+    match &link_traced(alloc, library, start) {
+        Ok(traced) => are_same(linked, &traced.linked) && tells_p(traced, start),
+        Err(_) => false,
+    }
+}
+
+fn links_and_traces(alloc: Global, library: &Library, start: &Bytes) -> bool {
+    match &link(alloc, library, start) {
+        Ok(linked) => traces_same(alloc, library, start, linked),
+        Err(_) => false,
     }
 }
 
 #[test]
+fn a_traced_program_has_the_same_image(rt: HostRuntime) -> Result<(), Fail> {
+    let start = Bytes::from_slice(rt.alloc(), b"p")?;
+    let mut library = Box::new(rt.alloc(), Library::empty(rt.alloc()))?;
+    assert!(rt; enter_p(&mut library, rt.alloc(), 9, "p").is_ok());
+    assert!(rt; links_and_traces(rt.alloc(), &library, &start));
+    Ok(())
+}
+
+#[test]
 fn an_image_has_the_code_and_the_strings(rt: HostRuntime) -> Result<(), Fail> {
-    let alloc = rt.alloc();
-    let start = Bytes::from_slice(alloc, b"p")?;
-    match linked_p(alloc, &start) {
-        Ok(linked) => {
-            assert!(rt; has_code(&linked));
-            assert!(rt; has_text(&linked));
-            assert!(rt; linked.image.area.is_empty());
-            assert!(rt; matches!(linked.modules.as_slice(), [only] if *only == start));
-            Ok(())
-        }
-        Err(_) => Err("not linked".into()),
-    }
+    let start = Bytes::from_slice(rt.alloc(), b"p")?;
+    let mut library = Box::new(rt.alloc(), Library::empty(rt.alloc()))?;
+    assert!(rt; enter_p(&mut library, rt.alloc(), 9, "p").is_ok());
+    assert!(rt; links_to_image(rt.alloc(), &library, &start));
+    Ok(())
 }

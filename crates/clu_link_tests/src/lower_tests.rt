@@ -5,7 +5,7 @@ use clu_core::Checked;
 use clu_lexer::lex;
 use clu_lower_ctl::lower;
 use clu_parser::parse;
-use clu_types::{Form, Heading, OpSpec, Spec, Term, TypeArena};
+use clu_types::{Form, Heading, OpSpec, Spec, Term, TypeArena, TypeId};
 use clu_wir::WRoutine;
 use std::alloc::Global;
 use std::test::Fail;
@@ -16,23 +16,24 @@ const SOURCE: &str = "p = proc (b: bool, i: int) returns (int) signals (e) \
     while b do if b cand true then continue elseif false then break else x, i := z, x end end \
     if i then signal e end return (y) end p";
 
-/// The file that has no specification but that of p.
-fn file(alloc: Global) -> Result<Checked, Fail> {
+/// The file of the source, of which nothing is found yet.
+fn file(alloc: Global) -> Result<Box<Checked>, Fail> {
     let source = SOURCE.as_bytes();
     if source.len() > 1_048_576 {
         return Err("the source is too long")?;
     }
-    let spec = spec(alloc)?;
     let tokens = lex(alloc, source)?;
     let tree = parse(alloc, source, tokens.as_slice())?;
-    let mut checked = Checked::new(alloc, tree).ok().ok_or("no memory")?;
-    note(&mut checked, spec)?;
-    Ok(checked)
+    match Checked::new(alloc, tree) {
+        Ok(checked) => Ok(Box::new(alloc, checked)?),
+        Err(_) => Err("no memory")?,
+    }
 }
 
 /// Notes the only specification and the types of the nodes.
-fn note(checked: &mut Checked, spec: Spec) -> Result<(), Fail> {
-    checked.specs.push(spec)?;
+fn note(alloc: Global, checked: &mut Checked) -> Result<(), Fail> {
+    let spec = spec(alloc)?;
+    checked.specs.push(Box::into_inner(spec))?;
     note_types(checked)
 }
 
@@ -48,51 +49,82 @@ fn note_types(checked: &mut Checked) -> Result<(), Fail> {
     Ok(())
 }
 
+fn numbers(alloc: Global, of: &[TypeId]) -> Result<Sequence<TypeId>, Fail> {
+    Ok(Sequence::from_vec(of.to_vec(alloc)?))
+}
+
 /// p = proc(int,int)returns(int)
-fn spec(alloc: Global) -> Result<Spec, Fail> {
-    let mut types = TypeArena::new(alloc);
-    let int = types.intern(Term::Int)?;
-    let heading = Heading {
-        args: Sequence::from_vec([int, int].to_vec(alloc)?),
-        results: Sequence::from_vec([int].to_vec(alloc)?),
-        signals: Sequence::from_vec(Vec::new(alloc)),
-    };
-    let op = OpSpec {
-        name: Bytes::from_slice(alloc, b"p")?,
+fn operation(alloc: Global, int: TypeId) -> Result<OpSpec, Fail> {
+    let name = Bytes::from_slice(alloc, b"p")?;
+    let args = numbers(alloc, &[int, int])?;
+    let results = numbers(alloc, &[int])?;
+    Ok(OpSpec {
+        name,
         iter: false,
-        heading,
+        heading: Heading {
+            args,
+            results,
+            signals: Sequence::from_vec(Vec::new(alloc)),
+        },
         demands: Sequence::from_vec(Vec::new(alloc)),
-    };
-    Ok(Spec {
-        name: Bytes::from_slice(alloc, b"p")?,
-        kinds: Sequence::from_vec(Vec::new(alloc)),
-        types,
-        form: Form::Routine(op),
     })
 }
 
-/// The only routine of the file.
-fn routine(alloc: Global, checked: &Checked) -> Result<WRoutine, Fail> {
-    let module = checked.tree.modules().first().copied().ok_or("no module")?;
-    let mut routines = lower(alloc, checked, module)?;
-    Ok(routines.pop().ok_or("no routine")?)
+fn spec(alloc: Global) -> Result<Box<Spec>, Fail> {
+    let name = Bytes::from_slice(alloc, b"p")?;
+    let mut types = Box::new(alloc, TypeArena::new(alloc))?;
+    let int = types.intern(Term::Int)?;
+    let op = Box::new(alloc, operation(alloc, int)?)?;
+    let spec = Spec {
+        name,
+        kinds: Sequence::from_vec(Vec::new(alloc)),
+        types: Box::into_inner(types),
+        form: Form::Routine(Box::into_inner(op)),
+    };
+    Ok(Box::new(alloc, spec)?)
+}
+
+/// The routines of the file.
+fn routines(alloc: Global, checked: &Checked) -> Result<Vec<WRoutine>, Fail> {
+    match checked.tree.modules().first() {
+        Some(module) => Ok(lower(alloc, checked, *module)?),
+        None => Err("no module")?,
+    }
+}
+
+/// Whether the only routine has its name and no more slots than it needs: two arguments, two variables with whether they
+/// name an object, one with its first object, and two values that are kept until both are known.
+fn is_as_wide(p: &WRoutine) -> bool {
+    p.name.as_slice() == b"p".as_slice()
+        && p.args == 2
+        && p.slots == 9
+        && p.width() <= p.nodes.saturating_mul(2)
+}
+
+/// Whether it names the signal, and the name and the text of the failure after the last statement, and its own type.
+fn has_names(p: &WRoutine) -> bool {
+    match p.types.as_slice() {
+        [own] => {
+            p.uses.is_empty()
+                && p.constants.len() == 3
+                && own.as_slice() == b"proctype(int,int)returns(int)".as_slice()
+        }
+        _ => false,
+    }
+}
+
+fn is_lowered(routines: &[WRoutine]) -> bool {
+    match routines {
+        [p] => is_as_wide(p) && has_names(p),
+        _ => false,
+    }
 }
 
 #[test]
 fn lowers_a_procedure(rt: HostRuntime) -> Result<(), Fail> {
-    let checked = file(rt.alloc())?;
-    let p = routine(rt.alloc(), &checked)?;
-    assert_eq!(rt; p.name.as_slice(), b"p".as_slice());
-    assert_eq!(rt; p.args, 2);
-    // Two arguments, two variables with whether they name an object, one with its first object, and two values that
-    // are kept until both are known.
-    assert_eq!(rt; p.slots, 9);
-    assert!(rt; p.width() <= p.nodes.saturating_mul(2));
-    assert_eq!(rt; p.uses.len(), 0);
-    // The signal, and the name and the text of the failure after the last statement.
-    assert_eq!(rt; p.constants.len(), 3);
-    let own = p.types.first().ok_or("no own type")?;
-    assert_eq!(rt; own.as_slice(), b"proctype(int,int)returns(int)".as_slice());
-    assert_eq!(rt; p.types.len(), 1);
+    let mut checked = file(rt.alloc())?;
+    note(rt.alloc(), &mut checked)?;
+    let routines = routines(rt.alloc(), &checked)?;
+    assert!(rt; is_lowered(routines.as_slice()));
     Ok(())
 }

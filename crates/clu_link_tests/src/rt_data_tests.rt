@@ -1,6 +1,6 @@
 //! The operations of arrays, sequences and types with components in word code.
 
-use crate::word_rows::{put_code, put_name, words_of};
+use crate::word_rows::{counted, put_code, put_name, same, words_of};
 use clu_base::{Bytes, Const, Memory, Sequence};
 use clu_rt_data::{force_code, scheme, select_operation, word_code};
 use clu_types::{Field, Term, TypeArena, TypeId};
@@ -56,30 +56,34 @@ fn type_named(types: &mut TypeArena, word: &str) -> Result<TypeId, Memory> {
 
 /// The code of the operation that a row begins with.
 fn code(alloc: Global, of: &str, op: &str) -> Result<Option<WCode>, Memory> {
-    let mut types = TypeArena::new(alloc);
+    let op = Bytes::from_slice(alloc, op.as_bytes())?;
+    let mut types = Box::new(alloc, TypeArena::new(alloc))?;
     let of = type_named(&mut types, of)?;
-    word_code(alloc, &types, of, &Bytes::from_slice(alloc, op.as_bytes())?)
+    word_code(alloc, &types, of, &op)
 }
 
 /// Writes the operation that a row begins with, the number of its arguments and its constants, as the row has them.
 fn put_row(alloc: Global, text: &mut String, row: &str) -> Result<(), Fail> {
     let (of, op) = words_of(row);
     write!(text, "{of} {op} ")?;
-    let code = code(alloc, of, op)?;
-    put_code(text, &code)
+    put_code(text, &code(alloc, of, op)?)
+}
+
+/// What is written of a row is the row.
+fn keep_row(alloc: Global, row: &str) -> Result<(), Fail> {
+    let mut text = String::new(alloc);
+    put_row(alloc, &mut text, row)?;
+    same(text, row)
 }
 
 #[test]
 fn rows(rt: HostRuntime) -> Result<(), Fail> {
-    let mut rows = 0u32;
+    let mut rows = 0usize;
     for row in ROWS.split('\0') {
-        let mut text = String::new(rt.alloc());
-        put_row(rt.alloc(), &mut text, row)?;
-        assert_eq!(rt; text.as_str(), row);
+        keep_row(rt.alloc(), row)?;
         rows = rows.saturating_add(1);
     }
-    assert_eq!(rt; rows, 32);
-    Ok(())
+    counted(rt.alloc(), rows, 32)
 }
 
 /// Two components, of one type.
@@ -115,8 +119,8 @@ fn number_of(types: &mut TypeArena, term: Term) -> Result<TypeId, Fail> {
 /// The type with two components, each an int, that a word names.
 fn pair_named(alloc: Global, types: &mut TypeArena, word: &str) -> Result<TypeId, Fail> {
     let int = types.intern(Term::Int)?;
-    let pair = type_of(word, two(alloc, int)?);
-    number_of(types, pair)
+    let fields = two(alloc, int)?;
+    number_of(types, type_of(word, fields))
 }
 
 /// Rows that each end with byte 0: an operation that uses those of two components, by its type and name, and how many
@@ -137,9 +141,9 @@ variant copy1 -";
 
 /// The scheme that a row begins with.
 fn scheme_named(alloc: Global, of: &str, op: &str) -> Result<Option<WRoutine>, Fail> {
-    let mut types = TypeArena::new(alloc);
-    let of = pair_named(alloc, &mut types, of)?;
     let name = Bytes::from_slice(alloc, op.as_bytes())?;
+    let mut types = Box::new(alloc, TypeArena::new(alloc))?;
+    let of = pair_named(alloc, &mut types, of)?;
     Ok(scheme(alloc, &types, of, &name)?)
 }
 
@@ -166,24 +170,27 @@ fn put_scheme(text: &mut String, code: &WRoutine) -> Result<(), Fail> {
 fn put_scheme_row(alloc: Global, text: &mut String, row: &str) -> Result<(), Fail> {
     let (of, op) = words_of(row);
     write!(text, "{of} {op} ")?;
-    match scheme_named(alloc, of, op)? {
-        None => text.push_str("-")?,
-        Some(code) => put_scheme(text, &code)?,
+    match &scheme_named(alloc, of, op)? {
+        None => Ok(text.push_str("-")?),
+        Some(code) => put_scheme(text, code),
     }
-    Ok(())
+}
+
+/// What is written of a row is the row.
+fn keep_scheme(alloc: Global, row: &str) -> Result<(), Fail> {
+    let mut text = String::new(alloc);
+    put_scheme_row(alloc, &mut text, row)?;
+    same(text, row)
 }
 
 #[test]
 fn schemes_of_two_components(rt: HostRuntime) -> Result<(), Fail> {
-    let mut rows = 0u32;
+    let mut rows = 0usize;
     for row in SCHEMES.split('\0') {
-        let mut text = String::new(rt.alloc());
-        put_scheme_row(rt.alloc(), &mut text, row)?;
-        assert_eq!(rt; text.as_str(), row);
+        keep_scheme(rt.alloc(), row)?;
         rows = rows.saturating_add(1);
     }
-    assert_eq!(rt; rows, 12);
-    Ok(())
+    counted(rt.alloc(), rows, 12)
 }
 
 /// Writes what is known of a type where an operation is done: the distance of a component and the words of the
@@ -191,13 +198,12 @@ fn schemes_of_two_components(rt: HostRuntime) -> Result<(), Fail> {
 fn put_known(alloc: Global, text: &mut String, row: &str) -> Result<(), Fail> {
     let (of, op) = words_of(row);
     let name = Bytes::from_slice(alloc, op.as_bytes())?;
-    let mut types = TypeArena::new(alloc);
+    let mut types = Box::new(alloc, TypeArena::new(alloc))?;
     let number = pair_named(alloc, &mut types, of)?;
-    match select_operation(alloc, &types, number, &name)? {
-        None => text.push_str(" .")?,
-        Some(selected) => put_numbers(text, selected.known.as_slice())?,
+    match &select_operation(alloc, &types, number, &name)? {
+        None => Ok(text.push_str(" .")?),
+        Some(selected) => put_numbers(text, selected.known.as_slice()),
     }
-    Ok(())
 }
 
 fn put_numbers(text: &mut String, known: &[Const]) -> Result<(), Fail> {
@@ -209,20 +215,36 @@ fn put_numbers(text: &mut String, known: &[Const]) -> Result<(), Fail> {
     Ok(())
 }
 
+const KNOWN: &str = "\
+struct get_b gives 16 3\0\
+variant change_b gives 1\0\
+struct get_c gives .";
+
+fn keep_known(alloc: Global, row: &str) -> Result<(), Fail> {
+    let (given, due) = row.split_once(" gives").unwrap_or((row, ""));
+    let mut text = String::new(alloc);
+    put_known(alloc, &mut text, given)?;
+    same(text, due)
+}
+
 #[test]
 fn what_is_known_of_a_type(rt: HostRuntime) -> Result<(), Fail> {
-    let alloc = rt.alloc();
-    for (row, due) in [
-        ("struct get_b", " 16 3"),
-        ("variant change_b", " 1"),
-        ("struct get_c", " ."),
-    ] {
-        let mut text = String::new(alloc);
-        put_known(alloc, &mut text, row)?;
-        assert_eq!(rt; text.as_str(), due, "{row}");
+    let mut rows = 0usize;
+    for row in KNOWN.split('\0') {
+        keep_known(rt.alloc(), row)?;
+        rows = rows.saturating_add(1);
     }
-    let force = force_code(alloc)?;
-    assert!(rt; force.width() <= 32);
-    assert_eq!(rt; force.constants.len(), 1);
-    Ok(())
+    counted(rt.alloc(), rows, 3)
+}
+
+fn has_force_code(alloc: Global) -> bool {
+    match &force_code(alloc) {
+        Ok(force) => force.width() <= 32 && force.constants.len() == 1,
+        Err(_) => false,
+    }
+}
+
+#[test]
+fn force(rt: HostRuntime) {
+    assert!(rt; has_force_code(rt.alloc()));
 }

@@ -1,6 +1,6 @@
 //! The operations of null, bool, int, char, string and stream in word code.
 
-use crate::word_rows::{put_code, words_of};
+use crate::word_rows::{counted, put_code, same, words_of};
 use clu_base::{Bytes, Memory};
 use clu_rt_text::word_code;
 use clu_types::{Term, TypeArena, TypeId};
@@ -74,28 +74,32 @@ fn type_named(types: &mut TypeArena, word: &str) -> Result<TypeId, Memory> {
 
 /// The code of the operation that a row begins with.
 fn code(alloc: Global, of: &str, op: &str) -> Result<Option<WCode>, Memory> {
-    let mut types = TypeArena::new(alloc);
+    let op = Bytes::from_slice(alloc, op.as_bytes())?;
+    let mut types = Box::new(alloc, TypeArena::new(alloc))?;
     let of = type_named(&mut types, of)?;
-    word_code(alloc, &types, of, &Bytes::from_slice(alloc, op.as_bytes())?)
+    word_code(alloc, &types, of, &op)
 }
 
 /// Writes the operation that a row begins with, the number of its arguments and its constants, as the row has them.
 fn put_row(alloc: Global, text: &mut String, row: &str) -> Result<(), Fail> {
     let (of, op) = words_of(row);
     write!(text, "{of} {op} ")?;
-    let code = code(alloc, of, op)?;
-    put_code(text, &code)
+    put_code(text, &code(alloc, of, op)?)
+}
+
+/// What is written of a row is the row.
+fn keep_row(alloc: Global, row: &str) -> Result<(), Fail> {
+    let mut text = String::new(alloc);
+    put_row(alloc, &mut text, row)?;
+    same(text, row)
 }
 
 #[test]
 fn rows(rt: HostRuntime) -> Result<(), Fail> {
-    let mut rows = 0u32;
+    let mut rows = 0usize;
     for row in ROWS.split('\0') {
-        let mut text = String::new(rt.alloc());
-        put_row(rt.alloc(), &mut text, row)?;
-        assert_eq!(rt; text.as_str(), row);
+        keep_row(rt.alloc(), row)?;
         rows = rows.saturating_add(1);
     }
-    assert_eq!(rt; rows, 47);
-    Ok(())
+    counted(rt.alloc(), rows, 47)
 }

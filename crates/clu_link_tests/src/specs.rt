@@ -30,15 +30,16 @@ fn spec_of(
     name: &[u8],
     iter: bool,
     kinds: Sequence<ParamKind>,
-) -> Result<Spec, Memory> {
+) -> Result<Box<Spec>, Memory> {
     let own = Bytes::from_slice(alloc, name)?;
     let name = Bytes::from_slice(alloc, name)?;
-    Ok(Spec {
+    let spec = Spec {
         name,
         kinds,
         types: TypeArena::new(alloc),
         form: Form::Routine(operation(alloc, own, iter)),
-    })
+    };
+    Ok(Box::new(alloc, spec)?)
 }
 
 /// Enters a specification, of which it is asked first whether it is whole.
@@ -53,7 +54,7 @@ pub fn enter(
     if !is_whole(&spec) {
         return Err(EnterError::Memory);
     }
-    library.enter_spec(alloc, spec)
+    library.enter_spec(alloc, Box::into_inner(spec))
 }
 
 /// Enters the specification of a procedure or an iterator without parameters.

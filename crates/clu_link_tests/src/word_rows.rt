@@ -2,17 +2,17 @@
 
 use clu_base::{Bytes, Const, ObjConst};
 use clu_wir::{WCode, WDeed, WLeaf, WRoutine};
+use std::alloc::Global;
 use std::fmt::Write;
 use std::test::Fail;
 
 /// Writes what an operation's code is, or the number of its arguments, and its constants, or `-` where there is none.
 pub fn put_code(text: &mut String, code: &Option<WCode>) -> Result<(), Fail> {
     match code {
-        None => text.push_str("-")?,
-        Some(WCode::Leaf(leaf)) => put_leaf(text, leaf)?,
-        Some(WCode::Routine(code)) => put_routine(text, code)?,
+        None => Ok(text.push_str("-")?),
+        Some(WCode::Leaf(leaf)) => put_leaf(text, leaf),
+        Some(WCode::Routine(code)) => put_routine(text, code),
     }
-    Ok(())
 }
 
 fn put_leaf(text: &mut String, leaf: &WLeaf) -> Result<(), Fail> {
@@ -47,6 +47,23 @@ pub fn put_name(text: &mut String, name: &Bytes) -> Result<(), Fail> {
     text.push_str(",")?;
     text.push_str(str::from_utf8(name.as_slice())?)?;
     Ok(())
+}
+
+/// There are as many rows as a table says.
+pub fn counted(alloc: Global, rows: usize, due: usize) -> Result<(), Fail> {
+    if rows != due {
+        return Err(format!(in alloc; "{rows} rows, but {due} are due")?)?;
+    }
+    Ok(())
+}
+
+/// What was found is what is due of a row.
+pub fn same(found: String, due: &str) -> Result<(), Fail> {
+    if found.as_str() == due {
+        Ok(())
+    } else {
+        Err(found)?
+    }
 }
 
 /// The type and the operation that a row begins with.
