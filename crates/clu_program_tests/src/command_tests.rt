@@ -66,10 +66,12 @@ fn writes_before_fault(alloc: Global, piece: usize, failing: u64, due: &[u8]) ->
     Ok(outside.call(alloc, "exec a")? == 23 && outside.output.bytes() == due)
 }
 
+/// The size of the pieces, the number of the write that fails, and what is written before it.
+const WRITES: [(usize, u64, &[u8]); 4] = [(64, 0, b""), (1, 0, b""), (1, 1, b"h"), (1, 2, b"hi")];
+
 #[test]
 fn each_write_fails_in_turn(rt: HostRuntime) -> Result<(), Fail> {
-    let rows: [(usize, u64, &[u8]); 4] = [(64, 0, b""), (1, 0, b""), (1, 1, b"h"), (1, 2, b"hi")];
-    for (piece, failing, due) in rows {
+    for (piece, failing, due) in WRITES {
         let is_due = writes_before_fault(rt.alloc(), piece.max(1), failing, due)?;
         assert!(rt; is_due, "{failing}");
     }

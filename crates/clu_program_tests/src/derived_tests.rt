@@ -2,28 +2,14 @@
 
 use crate::derived_texts::{TEXT_COUNT, TEXTS};
 use crate::rows::{counted, same};
+use crate::trees::tree_of;
 use clu_base::{Bytes, Memory};
-use clu_lexer::lex;
-use clu_parser::parse;
 use clu_rt_data::derived;
 use clu_tree::Tree;
 use clu_types::{Term, TypeArena, TypeId};
 use clu_wir::WRoutine;
 use std::alloc::Global;
 use std::test::Fail;
-
-/// The tree of a text.
-fn tree_of(alloc: Global, text: &str) -> Result<Box<Tree>, Fail> {
-    let source = text.as_bytes();
-    if source.len() > 1000 {
-        return Err("a text too long".into());
-    }
-    let tokens = lex(alloc, source)?;
-    match parse(alloc, source, tokens.as_slice()) {
-        Ok(tree) => Ok(Box::new(alloc, tree)?),
-        Err(_) => Err("no text of a file")?,
-    }
-}
 
 /// The count of the only routine.
 fn count_of(tree: &Tree) -> Option<u32> {
@@ -50,7 +36,7 @@ fn type_named(types: &mut TypeArena, word: &str) -> Result<TypeId, Memory> {
 
 /// The routine of an operation.
 fn routine_of(alloc: Global, of: &str, op: &str) -> Result<Box<WRoutine>, Fail> {
-    let mut types = TypeArena::new(alloc);
+    let mut types = Box::new(alloc, TypeArena::new(alloc))?;
     let of = type_named(&mut types, of)?;
     let op = Bytes::from_slice(alloc, op.as_bytes())?;
     match derived(alloc, &types, of, &op)? {

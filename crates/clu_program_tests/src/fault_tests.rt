@@ -34,7 +34,8 @@ const COMMANDS: [(&str, u8); 8] = [
 /// How many calls of the store these make.
 const CALLS: u64 = 19;
 
-fn put_sources(alloc: Global, outside: &mut Outside) -> Result<(), Fail> {
+/// Puts the sources.
+pub fn put_sources(alloc: Global, outside: &mut Outside) -> Result<(), Fail> {
     for (name, source) in SOURCES {
         outside.files.put(alloc, name, source.as_bytes())?;
     }

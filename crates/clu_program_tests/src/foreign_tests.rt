@@ -11,7 +11,7 @@ use clu_specs::read_spec;
 use std::alloc::Global;
 use std::test::Fail;
 
-fn text(alloc: Global, text: &str) -> Result<Bytes, Fail> {
+pub fn text(alloc: Global, text: &str) -> Result<Bytes, Fail> {
     Ok(Bytes::from_slice(alloc, text.as_bytes())?)
 }
 
@@ -104,32 +104,52 @@ fn regions(alloc: Global, first: u32, count: u32) -> Result<Sequence<Region>, Fa
     Ok(Sequence::from_vec(made))
 }
 
-/// The routine of a line.
-fn routine(alloc: Global, line: &str) -> Result<ObjRoutine, Fail> {
+/// A routine of no nodes.
+fn empty_routine(alloc: Global) -> Result<Box<ObjRoutine>, Fail> {
+    let routine = ObjRoutine {
+        name: Bytes::from_vec(Vec::new(alloc)),
+        nodes: 0,
+        code: Sequence::from_vec(Vec::new(alloc)),
+        holes: Sequence::from_vec(Vec::new(alloc)),
+        uses: Sequence::from_vec(Vec::new(alloc)),
+        constants: Sequence::from_vec(Vec::new(alloc)),
+        types: Sequence::from_vec(Vec::new(alloc)),
+        regions: Sequence::from_vec(Vec::new(alloc)),
+    };
+    Ok(Box::new(alloc, routine)?)
+}
+
+/// Writes the code of a line into a routine, with its holes and regions.
+fn put_code(alloc: Global, routine: &mut ObjRoutine, line: &str) -> Result<(), Fail> {
     let listed = items(alloc, part(line, ' ', 3))?;
     let more = number(part(line, ' ', 7));
-    let words = code(alloc, listed.len(), more)?;
-    let behind = u32::try_from(words.as_slice().len())
+    routine.code = code(alloc, listed.len(), more)?;
+    routine.holes = holes(alloc, &listed)?;
+    let behind = u32::try_from(routine.code.as_slice().len())
         .unwrap_or(0)
         .saturating_sub(more);
-    Ok(ObjRoutine {
-        name: text(alloc, part(line, ' ', 1))?,
-        nodes: number(part(line, ' ', 2)),
-        code: words,
-        holes: holes(alloc, &listed)?,
-        uses: texts(alloc, part(line, ' ', 4))?,
-        constants: constants(alloc, part(line, ' ', 5))?,
-        types: texts(alloc, part(line, ' ', 6))?,
-        regions: regions(alloc, behind, more)?,
-    })
+    routine.regions = regions(alloc, behind, more)?;
+    Ok(())
+}
+
+/// The routine of a line.
+fn routine(alloc: Global, line: &str) -> Result<Box<ObjRoutine>, Fail> {
+    let mut routine = empty_routine(alloc)?;
+    routine.nodes = number(part(line, ' ', 2));
+    routine.name = text(alloc, part(line, ' ', 1))?;
+    routine.uses = texts(alloc, part(line, ' ', 4))?;
+    routine.constants = constants(alloc, part(line, ' ', 5))?;
+    routine.types = texts(alloc, part(line, ' ', 6))?;
+    put_code(alloc, &mut routine, line)?;
+    Ok(routine)
 }
 
 /// The object of a module, with those of the routines that are its.
-fn object(alloc: Global, module: &str, lines: &str) -> Result<Box<Object>, Fail> {
+pub fn object(alloc: Global, module: &str, lines: &str) -> Result<Box<Object>, Fail> {
     let mut routines = Vec::new(alloc);
     for line in lines.split(';') {
         if part(line, ' ', 0) == module {
-            routines.push(routine(alloc, line)?)?;
+            routines.push(Box::into_inner(routine(alloc, line)?))?;
         }
     }
     let object = Object {
@@ -152,15 +172,16 @@ fn enter_spec(alloc: Global, library: &mut Library, spec: &str) -> Result<(), Fa
 /// Enters the body of a module whose specification is there.
 fn enter_body(alloc: Global, library: &mut Library, module: &str, lines: &str) -> Result<(), Fail> {
     let name = text(alloc, module)?;
-    let body = Body {
-        text: text(alloc, "")?,
-        names: None,
-        checked: 0,
-        object: Box::into_inner(object(alloc, module, lines)?),
-    };
+    let object = object(alloc, module, lines)?;
     if library.spec(&name).is_none() {
         return Err("no specification")?;
     }
+    let body = Body {
+        text: Bytes::from_vec(Vec::new(alloc)),
+        names: None,
+        checked: 0,
+        object: Box::into_inner(object),
+    };
     Ok(library.enter_body(alloc, &name, body)?)
 }
 

@@ -2,24 +2,16 @@
 //! the objects that are kept.
 
 use crate::command_tests::HI_IMAGE;
+use crate::foreign_tests::{object, text};
 use crate::outside::Outside;
 use clu_base::{Bytes, Sequence, Store};
 use clu_image::load;
 use clu_library::{Body, Library, Program};
-use clu_object::{ObjRoutine, Object};
 use std::alloc::Global;
 use std::test::Fail;
 
 /// A procedure that writes `p`.
 const WRITES_P: &[u8] = b"p = proc () stream$putl(stream$primary_output(), \"p\") end p";
-
-fn text(alloc: Global, text: &str) -> Result<Bytes, Fail> {
-    Ok(Bytes::from_slice(alloc, text.as_bytes())?)
-}
-
-fn no_items<T>(alloc: Global) -> Sequence<T> {
-    Sequence::from_vec(Vec::new(alloc))
-}
 
 /// An outside in which the procedure was compiled into the library `L`.
 fn compiled(alloc: Global) -> Result<Box<Outside>, Fail> {
@@ -80,42 +72,27 @@ fn the_kept_image_is_run(rt: HostRuntime) -> Result<(), Fail> {
     put(alloc, &mut outside, &library)?;
     let status = outside.call(alloc, "run L g")?;
     let short = outside.call(alloc, "run --steps 6 L g")?;
-    assert_eq!(rt; status, 0);
-    assert_eq!(rt; short, 5);
-    assert_eq!(rt; outside.output.bytes(), b"hi\nhi\n".as_slice());
+    let written = outside.output.bytes() == b"hi\nhi\n".as_slice();
+    assert!(rt; status == 0 && short == 5 && written, "{status} {short}");
     Ok(())
 }
 
-/// The object of a module `p` that uses an operation which no type has.
-fn misfit(alloc: Global) -> Result<Box<Object>, Fail> {
-    let routine = ObjRoutine {
-        name: text(alloc, "p")?,
-        nodes: 2,
-        code: Sequence::from_vec(vec![in alloc; 0x0000_0073]?),
-        holes: no_items(alloc),
-        uses: Sequence::from_vec(vec![in alloc; text(alloc, "int$zork")?]?),
-        constants: no_items(alloc),
-        types: Sequence::from_vec(vec![in alloc; text(alloc, "proctype()")?]?),
-        regions: no_items(alloc),
-    };
-    let object = Object {
-        module: text(alloc, "p")?,
-        routines: Sequence::from_vec(vec![in alloc; routine]?),
-    };
-    Ok(Box::new(alloc, object)?)
-}
+/// The routine of a module `p` that uses an operation which no type has.
+const MISFIT: &str = "p p 2 - int$zork - proctype() 0";
 
 fn enter_misfit(alloc: Global, library: &mut Library) -> Result<(), Fail> {
-    let body = Body {
-        text: Bytes::from_slice(alloc, WRITES_P)?,
-        names: Some(no_items(alloc)),
-        checked: 0,
-        object: Box::into_inner(misfit(alloc)?),
-    };
     let name = text(alloc, "p")?;
+    let source = Bytes::from_slice(alloc, WRITES_P)?;
+    let object = object(alloc, "p", MISFIT)?;
     if library.spec(&name).is_none() {
         return Err("no specification")?;
     }
+    let body = Body {
+        text: source,
+        names: Some(Sequence::from_vec(Vec::new(alloc))),
+        checked: 0,
+        object: Box::into_inner(object),
+    };
     Ok(library.enter_body(alloc, &name, body)?)
 }
 
@@ -127,7 +104,7 @@ fn the_kept_object_is_linked(rt: HostRuntime) -> Result<(), Fail> {
     enter_misfit(alloc, &mut library)?;
     put(alloc, &mut outside, &library)?;
     let status = outside.call(alloc, "link L g p")?;
-    assert_eq!(rt; status, 31);
-    assert_eq!(rt; outside.errors.bytes(), b"object misfit: p\n".as_slice());
+    let told = outside.errors.bytes() == b"object misfit: p\n".as_slice();
+    assert!(rt; status == 31 && told, "{status}");
     Ok(())
 }

@@ -73,4 +73,6 @@ mod text_rows;
 #[cfg(test)]
 mod trace_rows;
 #[cfg(test)]
+mod trees;
+#[cfg(test)]
 mod walk_rows;

@@ -2,6 +2,7 @@
 
 use clu_base::{Bytes, MemSink, MemSource, MemStore, Memory, Store};
 use clu_driver::clu;
+use clu_session::session;
 use std::alloc::Global;
 use std::test::Fail;
 
@@ -95,18 +96,27 @@ impl Outside {
 
     /// The status of a call with these words, which have blanks between them.
     pub fn call(&mut self, alloc: Global, words: &str) -> Result<u8, Fail> {
-        let mut list = Vec::new(alloc);
-        for word in words.split(' ') {
-            list.push(String::from_str(alloc, word)?)?;
-        }
+        let words = words_of(alloc, words)?;
         Ok(clu(
             alloc,
-            &list,
+            &words,
             &mut self.input,
             &mut self.output,
             &mut self.errors,
             &mut self.files,
         ))
+    }
+
+    /// The statuses of calls with these lists of words, one after the other.
+    pub fn session(&mut self, alloc: Global, runs: &[Vec<String>]) -> Result<Vec<u8>, Memory> {
+        session(
+            alloc,
+            runs,
+            &mut self.input,
+            &mut self.output,
+            &mut self.errors,
+            &mut self.files,
+        )
     }
 
     /// Whether a call of this status left `IMAGE` as it was, if it is a refusal before the put.
@@ -116,4 +126,13 @@ impl Outside {
             _ => true,
         }
     }
+}
+
+/// The words of a line, which has blanks between them.
+pub fn words_of(alloc: Global, line: &str) -> Result<Vec<String>, Memory> {
+    let mut words = Vec::new(alloc);
+    for word in line.split(' ') {
+        words.push(String::from_str(alloc, word)?)?;
+    }
+    Ok(words)
 }

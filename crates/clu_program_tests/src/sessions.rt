@@ -28,13 +28,14 @@ struct Session {
 }
 
 impl Session {
-    fn new(alloc: Global) -> Result<Session, Fail> {
-        Ok(Session {
+    fn new(alloc: Global) -> Result<Box<Session>, Fail> {
+        let session = Session {
             outside: Outside::new(alloc, b"", b"", "")?,
             name: String::new(alloc),
             content: String::new(alloc),
             found: String::new(alloc),
-        })
+        };
+        Ok(Box::new(alloc, session)?)
     }
 
     /// Does what a line says, and notes the line with what came of it.
@@ -166,5 +167,5 @@ pub fn keep_session(alloc: Global, text: &str) -> Result<(), Fail> {
     for line in text.split_terminator('\n') {
         session.do_line(alloc, line)?;
     }
-    same(text, session.found)
+    same(text, Box::into_inner(session).found)
 }

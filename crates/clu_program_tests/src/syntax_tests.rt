@@ -2,6 +2,7 @@
 
 ghost use Rattle.std.specs.Prelude.{◌≤◌, length};
 
+use crate::rows::counted;
 use crate::syntax_rows::{COUNT, ROWS};
 use clu_base::Place;
 use clu_lexer::lex;
@@ -33,25 +34,23 @@ fn refused_at(alloc: Global, source: &[u8]) -> Result<Option<Place>, Fail>
     }
 }
 
+/// Whether the source of a row is refused at its mark.
+fn is_refused(alloc: Global, row: &[u8]) -> Result<bool, Fail> {
+    let (source, col) = source_of(alloc, row)?;
+    if source.len() > 1000 {
+        return Err("a row too long".into());
+    }
+    Ok(refused_at(alloc, source.as_slice())? == Some(Place { line: 1, col }))
+}
+
 #[test]
 fn sources_are_refused_at_the_first_token_that_no_file_has(rt: HostRuntime) -> Result<(), Fail> {
-    let alloc = rt.alloc();
     let mut rows = 0usize;
-    for row in ROWS.as_bytes().split(|byte| *byte == 0) {
-        if row.first() != Some(&b'%') && !row.is_empty() {
-            let (source, col) = source_of(alloc, row)?;
-            if source.len() > 1000 {
-                return Err("a row too long".into());
-            }
-            let place = Place { line: 1, col };
-            let found = refused_at(alloc, source.as_slice())?;
-            if found != Some(place) {
-                println!(rt; "row {rows} col {col}")?;
-            }
-            assert_eq!(rt; found, Some(place));
+    for row in ROWS.split_terminator('\0') {
+        if row.as_bytes().first() != Some(&b'%') {
+            assert!(rt; is_refused(rt.alloc(), row.as_bytes())?, "{row}");
             rows = rows.saturating_add(1);
         }
     }
-    assert_eq!(rt; rows, COUNT);
-    Ok(())
+    counted(rt.alloc(), rows, COUNT)
 }
