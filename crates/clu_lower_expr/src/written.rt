@@ -11,6 +11,7 @@ use clu_tree::{Node, NodeKind};
 use clu_types::{Exception, Heading, TypeId};
 use indexmap::IndexMap;
 use std::alloc::Global;
+use std::boxed::Box;
 
 /// The name of the exception that belongs to every routine.
 const FAILURE: &[u8] = b"failure";
@@ -24,7 +25,7 @@ pub fn written_heading(
     sealed: Sealed,
 ) -> Result<Seen, LowerError> {
     let mut reading = Reading { alloc, c, sealed };
-    let heading = reading.heading(routine)?;
+    let heading = Box::new(alloc, reading.heading(routine)?)?;
     let Reading { sealed, .. } = reading;
     let Sealed { types, .. } = sealed;
     Ok(Seen { types, heading })
