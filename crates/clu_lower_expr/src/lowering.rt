@@ -284,12 +284,10 @@ pub fn only_word(list: &mut Vec<WStmt>, slot: u32) -> Option<WExpr> {
 
 /// The expression to which the last statement of a list sets a slot; the statement goes.
 fn last_word(list: &mut Vec<WStmt>) -> Option<WExpr> {
-    let word = match list.last_mut() {
-        Some(WStmt::Set(_, word)) => mem::replace(word, WExpr::Word(0)),
-        _ => return None,
-    };
-    let _set = list.pop();
-    Some(word)
+    match list.pop() {
+        Some(WStmt::Set(_, word)) => Some(word),
+        _ => None,
+    }
 }
 
 /// A number in a table of a routine.

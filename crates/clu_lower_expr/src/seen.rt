@@ -145,19 +145,38 @@ pub fn carried(
 ) -> Result<Heading, LowerError> {
     let args = carried_types(alloc, types, from, heading.args.as_slice(), actuals)?;
     let results = carried_types(alloc, types, from, heading.results.as_slice(), actuals)?;
-    let mut signals = Vec::new(alloc);
-    for signal in heading.signals.as_slice() {
-        let objects = carried_types(alloc, types, from, signal.objects.as_slice(), actuals)?;
-        signals.push(Exception {
-            name: signal.name.copy(alloc)?,
-            objects,
-        })?;
-    }
+    let signals = carried_signals(alloc, types, from, heading.signals.as_slice(), actuals)?;
     Ok(Heading {
         args,
         results,
-        signals: Sequence::from_vec(signals),
+        signals,
     })
+}
+
+fn carried_signals(
+    alloc: Global,
+    types: &mut TypeArena,
+    from: &TypeArena,
+    signals: &[Exception],
+    actuals: &[Actual],
+) -> Result<Sequence<Exception>, LowerError> {
+    let mut made = Vec::new(alloc);
+    for signal in signals {
+        made.push(carried_signal(alloc, types, from, signal, actuals)?)?;
+    }
+    Ok(Sequence::from_vec(made))
+}
+
+fn carried_signal(
+    alloc: Global,
+    types: &mut TypeArena,
+    from: &TypeArena,
+    signal: &Exception,
+    actuals: &[Actual],
+) -> Result<Exception, LowerError> {
+    let name = signal.name.copy(alloc)?;
+    let objects = carried_types(alloc, types, from, signal.objects.as_slice(), actuals)?;
+    Ok(Exception { name, objects })
 }
 
 fn carried_types(
