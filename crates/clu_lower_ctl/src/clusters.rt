@@ -21,6 +21,7 @@ use clu_tree::{Node, NodeKind};
 use clu_types::{Spec, Term, TypeArena, TypeId};
 use clu_wir::{HoleKind, WRoutine, WStmt};
 use std::alloc::Global;
+use std::boxed::Box;
 
 /// The name of the routine that sets up a cluster's own variables.
 const SET_UP: &[u8] = b"own";
@@ -160,7 +161,7 @@ impl Cluster<'_> {
 
     /// The text of the use of the setting up of the own variables.
     fn set_up_text(&self, alloc: Global) -> Result<Bytes> {
-        let mut types = TypeArena::new(alloc);
+        let mut types = Box::new(alloc, TypeArena::new(alloc))?;
         let own = self.cluster_type(alloc, &mut types)?;
         if !types.contains(own) {
             return Err(LowerError::NotYet);
@@ -177,7 +178,7 @@ impl Cluster<'_> {
 
     /// The heading of a routine as callers see it.
     fn seen(&self, alloc: Global, c: &Checked, node: &Node) -> Result<Seen> {
-        let mut types = TypeArena::new(alloc);
+        let mut types = Box::new(alloc, TypeArena::new(alloc))?;
         let of = self.cluster_type(alloc, &mut types)?;
         let sealed = Sealed {
             types,

@@ -219,7 +219,10 @@ fn bind_objects(out: &mut Lowering, listed: &[Declared<'_>], slots: &mut Vec<u32
         if declared.is_any {
             bind_object(out, *slot, types, distance)?;
         }
-        distance = distance.checked_add(WORD).ok_or(LowerError::NotYet)?;
+        distance = match distance.checked_add(WORD) {
+            Some(after) => after,
+            None => return Err(LowerError::NotYet),
+        };
     }
     slots.push(types)?;
     Ok(())
@@ -249,7 +252,7 @@ fn take_name(out: &mut Lowering, c: &Checked, arm: &Node) -> Result<Vec<u32>> {
 
 /// Binds the string in a slot to type any.
 fn bind_string(out: &mut Lowering, slot: u32) -> Result<()> {
-    let mut types = TypeArena::new(out.alloc);
+    let mut types = Box::new(out.alloc, TypeArena::new(out.alloc))?;
     let string = intern(&mut types, Term::Str)?;
     let _word = bind(out, &types, WExpr::Slot(slot), string, true, slot)?;
     Ok(())

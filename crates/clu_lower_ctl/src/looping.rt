@@ -38,7 +38,9 @@ fn leave_unless(out: &mut Lowering, c: &Checked, n: u32) -> Result<()> {
 #[cycle(statements)]
 pub fn for_loop(out: &mut Lowering, c: &Checked, node: &Node, depth: u32) -> Result<()> {
     let taken = out.taken();
-    let n = child_of(c, node, NodeKind::Call)?.ok_or(LowerError::NotYet)?;
+    let Some(n) = child_of(c, node, NodeKind::Call)? else {
+        return Err(LowerError::NotYet);
+    };
     let call = begin_iteration(out, c, n)?;
     out.release(taken);
     let outer = out.open();

@@ -3,25 +3,30 @@
 use crate::Result;
 use clu_equates::{intern, term};
 use clu_lower_expr::{LowerError, Lowering, Seen, carried, text_of, texts_of};
-use clu_types::{Exception, OpSpec, Term, TypeArena, TypeId};
+use clu_types::{Exception, Heading, OpSpec, Term, TypeArena, TypeId};
+use std::boxed::Box;
 
 /// Notes the types of a routine by its specification, whose types are in this arena.
 pub fn note_operation(out: &mut Lowering, from: &TypeArena, op: &OpSpec) -> Result<()> {
-    let mut types = TypeArena::new(out.alloc);
+    let mut types = Box::new(out.alloc, TypeArena::new(out.alloc))?;
     let heading = carried(out.alloc, &mut types, from, &op.heading, &[])?;
+    let heading = Box::new(out.alloc, heading)?;
     note_types(out, Seen { types, heading }, op.iter)
 }
 
 /// Notes the types of a routine with this heading.
 pub fn note_types(out: &mut Lowering, seen: Seen, iter: bool) -> Result<()> {
     let Seen { mut types, heading } = seen;
-    let own = if iter {
+    let own = intern(&mut types, routine_term(Box::into_inner(heading), iter))?;
+    note_type(out, &types, own)
+}
+
+fn routine_term(heading: Heading, iter: bool) -> Term {
+    if iter {
         Term::Iter(heading)
     } else {
         Term::Proc(heading)
-    };
-    let own = intern(&mut types, own)?;
-    note_type(out, &types, own)
+    }
 }
 
 /// The routine's own type is the first of its table.

@@ -29,8 +29,10 @@ pub fn type_of(c: &Checked, n: u32) -> Result<TypeId, LowerError> {
 pub fn denoted_type(out: &Lowering, c: &Checked, n: u32) -> Result<TypeId, LowerError> {
     match c.denoted.get(n as usize) {
         Some(Some(of)) => Ok(*of),
-        _ if is_cvt(node_at(&c.tree, n)?) => out.body.rep.ok_or(LowerError::NotYet),
-        _ => Err(LowerError::NotYet),
+        _ => match out.body.rep {
+            Some(rep) if is_cvt(node_at(&c.tree, n)?) => Ok(rep),
+            _ => Err(LowerError::NotYet),
+        },
     }
 }
 

@@ -195,7 +195,9 @@ fn allocate(out: &mut Lowering, slot: u32, words: u64) -> Result<(), LowerError>
 
 /// Puts a value into a word of the object whose address is in a slot.
 fn put_word(out: &mut Lowering, slot: u32, place: usize, value: WExpr) -> Result<(), LowerError> {
-    let distance = u32::try_from(place.saturating_mul(8)).or(Err(LowerError::NotYet))?;
+    let Ok(distance) = u32::try_from(place.saturating_mul(8)) else {
+        return Err(LowerError::NotYet);
+    };
     out.push(WStmt::Put(WExpr::Slot(slot), distance, value))
 }
 

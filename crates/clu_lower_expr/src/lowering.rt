@@ -11,6 +11,7 @@ use clu_base::{Bytes, Const, ObjConst};
 use clu_wir::{HoleKind, WExpr, WRoutine, WStmt};
 use indexmap::{IndexMap, IndexSet};
 use std::alloc::Global;
+use std::boxed::Box;
 use std::hash::Hash;
 use std::mem;
 
@@ -70,24 +71,32 @@ impl Lowering {
         if !is_bounded(&routine) {
             return Err(LowerError::NotYet);
         }
-        Ok(routine)
+        Ok(Box::into_inner(routine))
     }
 
-    fn made(&mut self, name: Bytes, args: u32, nodes: u32) -> Result<WRoutine, LowerError>
-        ensures { IfOk result (IsNamed name args nodes) }
+    fn made(&mut self, name: Bytes, args: u32, nodes: u32) -> Result<Box<WRoutine>, LowerError>
+        ensures { IfOk result (λ made. IsNamed name args nodes made.value) }
     {
-        let uses = listed(self.alloc, &mut self.uses)?;
-        let constants = listed(self.alloc, &mut self.constants)?;
-        Ok(WRoutine {
+        let mut made = Box::new(self.alloc, self.begun(name, args, nodes))?;
+        list(&mut made.uses, &mut self.uses)?;
+        list(&mut made.constants, &mut self.constants)?;
+        Ok(made)
+    }
+
+    /// A routine of the statements and the types, which are taken out. What it uses, and its constants, come next.
+    fn begun(&mut self, name: Bytes, args: u32, nodes: u32) -> WRoutine
+        ensures { IsNamed name args nodes result }
+    {
+        WRoutine {
             name,
             args,
             slots: self.most,
             body: mem::replace(&mut self.statements, Vec::new(self.alloc)),
             nodes,
-            uses,
-            constants,
+            uses: Vec::new(self.alloc),
+            constants: Vec::new(self.alloc),
             types: mem::replace(&mut self.types, Vec::new(self.alloc)),
-        })
+        }
     }
 
     /// Adds a statement.
@@ -151,7 +160,10 @@ impl Lowering {
     /// Takes a slot.
     pub fn take(&mut self) -> Result<u32, LowerError> {
         let slot = self.taken;
-        self.taken = slot.checked_add(1).ok_or(LowerError::NotYet)?;
+        let Some(taken) = slot.checked_add(1) else {
+            return Err(LowerError::NotYet);
+        };
+        self.taken = taken;
         self.most = self.most.max(self.taken);
         Ok(slot)
     }
@@ -228,7 +240,10 @@ impl Lowering {
 
     /// The variable of this name.
     pub fn variable(&self, name: &Bytes) -> Result<Variable, LowerError> {
-        self.variables.get(name).copied().ok_or(LowerError::NotYet)
+        match self.variables.get(name) {
+            Some(variable) => Ok(*variable),
+            None => Err(LowerError::NotYet),
+        }
     }
 
     /// Brings a variable into scope.
@@ -277,17 +292,19 @@ fn last_word(list: &mut Vec<WStmt>) -> Option<WExpr> {
 
 /// A number in a table of a routine.
 fn place(number: usize) -> Result<u32, LowerError> {
-    u32::try_from(number).or(Err(LowerError::NotYet))
+    match u32::try_from(number) {
+        Ok(place) => Ok(place),
+        Err(_) => Err(LowerError::NotYet),
+    }
 }
 
-/// The items of a set, in their order, taken out.
-fn listed<T: Eq + Hash + Drop>(
-    alloc: Global,
+/// Adds the items of a set to a list, in their order; they are taken out.
+fn list<T: Eq + Hash + Drop>(
+    listed: &mut Vec<T>,
     items: &mut IndexSet<T>,
-) -> Result<Vec<T>, LowerError> {
-    let mut list = Vec::new(alloc);
+) -> Result<(), LowerError> {
     for item in items.drain(..) {
-        list.push(item)?;
+        listed.push(item)?;
     }
-    Ok(list)
+    Ok(())
 }

@@ -11,12 +11,13 @@ use clu_core::{Checked, OpRef};
 use clu_equates::{carry, term};
 use clu_types::{Actual, Exception, Heading, Term, TypeArena, TypeId};
 use std::alloc::Global;
+use std::boxed::Box;
 
 /// A heading with the arena of its types.
 #[derive(Drop)]
 pub struct Seen {
-    pub types: TypeArena,
-    pub heading: Heading,
+    pub types: Box<TypeArena>,
+    pub heading: Box<Heading>,
 }
 
 /// The heading of the operation that the sugar at a node invokes; None for one of a built-in type.
@@ -46,15 +47,22 @@ pub fn seen_of(
 
 /// What a where clause gives, with the parameters as they are.
 fn given(out: &Lowering, param: u32, op: &Bytes) -> Result<Seen, LowerError> {
-    let mut types = TypeArena::new(out.alloc);
-    let wanted = out.body.given(param, op).ok_or(LowerError::NotYet)?;
-    let of = carry(out.alloc, &mut types, &out.body.given_types, wanted, &[])?;
-    let heading = match term(&types, of)? {
-        Term::Proc(heading) => heading.copy(out.alloc)?,
-        Term::Iter(heading) => heading.copy(out.alloc)?,
-        _ => return Err(LowerError::NotYet),
+    let Some(wanted) = out.body.given(param, op) else {
+        return Err(LowerError::NotYet);
     };
+    let mut types = Box::new(out.alloc, TypeArena::new(out.alloc))?;
+    let of = carry(out.alloc, &mut types, &out.body.given_types, wanted, &[])?;
+    let heading = copied_heading(out.alloc, &types, of)?;
     Ok(Seen { types, heading })
+}
+
+/// The heading of a routine's type.
+fn copied_heading(alloc: Global, types: &TypeArena, of: TypeId) -> Result<Box<Heading>, LowerError> {
+    match term(types, of)? {
+        Term::Proc(heading) => Ok(Box::new(alloc, heading.copy(alloc)?)?),
+        Term::Iter(heading) => Ok(Box::new(alloc, heading.copy(alloc)?)?),
+        _ => Err(LowerError::NotYet),
+    }
 }
 
 /// An operation that is exported is in the cluster's specification, any other in the cluster's text.
@@ -78,22 +86,20 @@ fn of_cluster(
 /// The type of a cluster in an arena of its own.
 #[derive(Drop)]
 pub struct Sealed {
-    pub types: TypeArena,
+    pub types: Box<TypeArena>,
     pub of: TypeId,
     pub name: Bytes,
     pub actuals: Vec<Actual>,
 }
 
 fn sealed_type(alloc: Global, from: &TypeArena, of: TypeId) -> Result<Sealed, LowerError> {
-    let mut types = TypeArena::new(alloc);
+    let mut types = Box::new(alloc, TypeArena::new(alloc))?;
     let of = carry(alloc, &mut types, from, of, &[])?;
-    let (name, actuals) = match term(&types, of)? {
-        Term::Cluster(name, actuals) => (
-            name.copy(alloc)?,
-            copied_actuals(alloc, actuals.as_slice())?,
-        ),
-        _ => return Err(LowerError::NotYet),
+    let Term::Cluster(name, actuals) = term(&types, of)? else {
+        return Err(LowerError::NotYet);
     };
+    let name = name.copy(alloc)?;
+    let actuals = copied_actuals(alloc, actuals.as_slice())?;
     Ok(Sealed {
         types,
         of,
@@ -116,6 +122,7 @@ impl Sealed {
             ..
         } = self;
         let heading = carried(alloc, &mut types, from, heading, actuals.as_slice())?;
+        let heading = Box::new(alloc, heading)?;
         Ok(Seen { types, heading })
     }
 }
@@ -138,19 +145,38 @@ pub fn carried(
 ) -> Result<Heading, LowerError> {
     let args = carried_types(alloc, types, from, heading.args.as_slice(), actuals)?;
     let results = carried_types(alloc, types, from, heading.results.as_slice(), actuals)?;
-    let mut signals = Vec::new(alloc);
-    for signal in heading.signals.as_slice() {
-        let objects = carried_types(alloc, types, from, signal.objects.as_slice(), actuals)?;
-        signals.push(Exception {
-            name: signal.name.copy(alloc)?,
-            objects,
-        })?;
-    }
+    let signals = carried_signals(alloc, types, from, heading.signals.as_slice(), actuals)?;
     Ok(Heading {
         args,
         results,
-        signals: Sequence::from_vec(signals),
+        signals,
     })
+}
+
+fn carried_signals(
+    alloc: Global,
+    types: &mut TypeArena,
+    from: &TypeArena,
+    signals: &[Exception],
+    actuals: &[Actual],
+) -> Result<Sequence<Exception>, LowerError> {
+    let mut made = Vec::new(alloc);
+    for signal in signals {
+        made.push(carried_signal(alloc, types, from, signal, actuals)?)?;
+    }
+    Ok(Sequence::from_vec(made))
+}
+
+fn carried_signal(
+    alloc: Global,
+    types: &mut TypeArena,
+    from: &TypeArena,
+    signal: &Exception,
+    actuals: &[Actual],
+) -> Result<Exception, LowerError> {
+    let name = signal.name.copy(alloc)?;
+    let objects = carried_types(alloc, types, from, signal.objects.as_slice(), actuals)?;
+    Ok(Exception { name, objects })
 }
 
 fn carried_types(

@@ -38,13 +38,26 @@ pub fn note_operator(
         NodeKind::Prefix => k == 0,
         _ => false,
     };
-    if is_place {
-        let _operation = node_operation(out, c, n)?;
-        if is_negated(node) {
-            let seen = seen_at(out, c, n)?;
-            let _negation = not_operation(out, c, n, seen.as_ref())?;
-        }
+    if !is_place {
+        return Ok(());
     }
+    note_operation(out, c, n)?;
+    if is_negated(node) {
+        note_negation(out, c, n)
+    } else {
+        Ok(())
+    }
+}
+
+fn note_operation(out: &mut Lowering, c: &Checked, n: u32) -> Result<(), LowerError> {
+    let _operation = node_operation(out, c, n)?;
+    Ok(())
+}
+
+/// Notes the use of `not` by an operator that negates a comparison.
+fn note_negation(out: &mut Lowering, c: &Checked, n: u32) -> Result<(), LowerError> {
+    let seen = seen_at(out, c, n)?;
+    let _negation = not_operation(out, c, n, seen.as_ref())?;
     Ok(())
 }
 

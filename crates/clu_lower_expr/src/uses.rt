@@ -12,6 +12,7 @@ use clu_specs::{Target, use_text};
 use clu_types::{Term, TypeArena, TypeId};
 use clu_wir::WExpr;
 use std::alloc::Global;
+use std::boxed::Box;
 
 /// The descriptor of the operation that was found for a node.
 pub fn node_operation(out: &mut Lowering, c: &Checked, n: u32) -> Result<WExpr, LowerError> {
@@ -27,7 +28,7 @@ pub fn node_operation(out: &mut Lowering, c: &Checked, n: u32) -> Result<WExpr, 
 
 /// The descriptor of the operation of this name that a where clause gives of a type parameter.
 fn given_operation(out: &mut Lowering, param: u32, op: &Bytes) -> Result<WExpr, LowerError> {
-    let mut types = TypeArena::new(out.alloc);
+    let mut types = Box::new(out.alloc, TypeArena::new(out.alloc))?;
     let of = intern(&mut types, Term::Param(param))?;
     type_operation(out, &types, of, op.as_slice())
 }

@@ -160,7 +160,10 @@ fn end(
 }
 
 fn only_value(mut values: Vec<WExpr>) -> Result<WExpr, LowerError> {
-    values.pop().ok_or(LowerError::NotYet)
+    match values.pop() {
+        Some(value) => Ok(value),
+        None => Err(LowerError::NotYet),
+    }
 }
 
 /// After both sides of `cand` or `cor`: the statements of the right side are done where the left side doesn't tell.

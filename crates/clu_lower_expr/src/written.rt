@@ -11,6 +11,7 @@ use clu_tree::{Node, NodeKind};
 use clu_types::{Exception, Heading, TypeId};
 use indexmap::IndexMap;
 use std::alloc::Global;
+use std::boxed::Box;
 
 /// The name of the exception that belongs to every routine.
 const FAILURE: &[u8] = b"failure";
@@ -24,7 +25,7 @@ pub fn written_heading(
     sealed: Sealed,
 ) -> Result<Seen, LowerError> {
     let mut reading = Reading { alloc, c, sealed };
-    let heading = reading.heading(routine)?;
+    let heading = Box::new(alloc, reading.heading(routine)?)?;
     let Reading { sealed, .. } = reading;
     let Sealed { types, .. } = sealed;
     Ok(Seen { types, heading })
@@ -44,20 +45,32 @@ impl Reading<'_> {
         let mut args = Vec::new(self.alloc);
         let mut results = Vec::new(self.alloc);
         let mut signals = IndexMap::new(self.alloc);
-        for child in node.children.as_slice() {
-            let child = node_at(&self.c.tree, *child)?;
-            match child.kind {
-                NodeKind::Decl => self.add_args(child, &mut args)?,
-                NodeKind::Results => self.add_types(child, &mut results)?,
-                NodeKind::Signals => self.add_signals(child, &mut signals)?,
-                _ => {}
-            }
-        }
+        self.add_parts(node, &mut args, &mut results, &mut signals)?;
+        let signals = ascending(self.alloc, signals)?;
         Ok(Heading {
             args: Sequence::from_vec(args),
             results: Sequence::from_vec(results),
-            signals: Sequence::from_vec(ascending(self.alloc, signals)?),
+            signals: Sequence::from_vec(signals),
         })
+    }
+
+    fn add_parts(
+        &mut self,
+        node: &Node,
+        args: &mut Vec<TypeId>,
+        results: &mut Vec<TypeId>,
+        signals: &mut IndexMap<Bytes, Vec<TypeId>>,
+    ) -> Result<(), LowerError> {
+        for child in node.children.as_slice() {
+            let child = node_at(&self.c.tree, *child)?;
+            match child.kind {
+                NodeKind::Decl => self.add_args(child, args)?,
+                NodeKind::Results => self.add_types(child, results)?,
+                NodeKind::Signals => self.add_signals(child, signals)?,
+                _ => {}
+            }
+        }
+        Ok(())
     }
 
     fn add_args(&mut self, decl: &Node, args: &mut Vec<TypeId>) -> Result<(), LowerError> {
@@ -78,7 +91,6 @@ impl Reading<'_> {
         Ok(())
     }
 
-    /// `failure` is no exception of a type.
     fn add_signals(
         &mut self,
         node: &Node,
@@ -86,13 +98,24 @@ impl Reading<'_> {
     ) -> Result<(), LowerError> {
         for child in node.children.as_slice() {
             let exception = node_at(&self.c.tree, *child)?;
-            let name = first_name(exception)?;
-            if name.as_slice() != FAILURE {
-                let mut objects = Vec::new(self.alloc);
-                self.add_types(exception, &mut objects)?;
-                signals.insert(name.copy(self.alloc)?, objects)?;
-            }
+            self.add_signal(exception, signals)?;
         }
+        Ok(())
+    }
+
+    /// `failure` is no exception of a type.
+    fn add_signal(
+        &mut self,
+        exception: &Node,
+        signals: &mut IndexMap<Bytes, Vec<TypeId>>,
+    ) -> Result<(), LowerError> {
+        let name = first_name(exception)?;
+        if name.as_slice() == FAILURE {
+            return Ok(());
+        }
+        let mut objects = Vec::new(self.alloc);
+        self.add_types(exception, &mut objects)?;
+        signals.insert(name.copy(self.alloc)?, objects)?;
         Ok(())
     }
 
