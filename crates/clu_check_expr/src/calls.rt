@@ -7,7 +7,7 @@ use crate::routines::{is_iter, raise_signals, results_of, shape_fault};
 use clu_base::Rule;
 use clu_core::{Context, OpRef};
 use clu_equates::{CheckError, node_at, refuse};
-use clu_tree::{NodeKind, Tree};
+use clu_tree::{Node, NodeKind, Tree};
 use clu_types::TypeId;
 
 /// The rules at a call that is an expression; notes its type.
@@ -40,11 +40,7 @@ fn invoke_object(
         return Err(CheckError::NotYet);
     };
     let of = noted(c, *callee)?;
-    let args = noted_types(c, given)?;
-    match shape_fault(&c.types, of, &args, one)? {
-        Some(rule) => return refuse(rule, node.place),
-        None => {}
-    }
+    ask_shape(c, node, of, given, one)?;
     if !in_loop && is_iter(&c.types, of)? {
         return refuse(Rule::IteratorUse, node.place);
     }
@@ -52,6 +48,21 @@ fn invoke_object(
     let op = callee_op(c, tree, *callee)?;
     c.note_op(n, op);
     results_of(c, of)
+}
+
+/// V12 to V14 of a call whose arguments are these nodes.
+fn ask_shape(
+    c: &Context,
+    node: &Node,
+    of: TypeId,
+    given: &[u32],
+    one: bool,
+) -> Result<(), CheckError> {
+    let args = noted_types(c, given)?;
+    match shape_fault(&c.types, of, &args, one)? {
+        Some(rule) => refuse(rule, node.place),
+        None => Ok(()),
+    }
 }
 
 /// The operation that a call invokes: the one that its callee names, else a routine object.

@@ -1,8 +1,9 @@
 //! Headings of specifications, brought into the arena of a check with actual parameters put in.
 
+use crate::routines::type_with;
 use clu_base::Sequence;
-use clu_equates::{CheckError, carry, intern};
-use clu_types::{Actual, Exception, Heading, OpSpec, Term, TypeArena, TypeId};
+use clu_equates::{CheckError, carry};
+use clu_types::{Actual, Exception, Heading, OpSpec, TypeArena, TypeId};
 use std::alloc::Global;
 
 /// The type of a routine of a specification whose types are in `from`.
@@ -21,11 +22,7 @@ pub fn routine_type(
         results,
         signals,
     };
-    if op.iter {
-        intern(types, Term::Iter(heading))
-    } else {
-        intern(types, Term::Proc(heading))
-    }
+    type_with(types, op.iter, heading)
 }
 
 fn carry_all(

@@ -24,7 +24,7 @@ pub enum CallUse {
 }
 
 /// What is wanted where a node stands.
-#[derive(Clone, Copy, Debug, PartialEq, Eq)]
+#[derive(Clone, Copy)]
 pub enum Role {
     /// An expression with exactly one result.
     Operand,

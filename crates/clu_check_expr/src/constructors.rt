@@ -25,25 +25,29 @@ pub fn ask_field(c: &Context, node: &Node, seen: &mut IndexSet<Bytes>) -> Result
 pub fn ask_fields(c: &mut Context, tree: &Tree, n: u32) -> Result<(), CheckError> {
     let node = node_at(tree, n)?;
     let of = first_denoted(c, node)?;
-    let Some(fields) = components_of(&c.types, of)? else {
-        return refuse(Rule::Selectors, node.place);
-    };
+    match components_of(&c.types, of)? {
+        Some(fields) => ask_parts(c, tree, node, fields)?,
+        None => return refuse(Rule::Selectors, node.place),
+    }
+    c.note_type(n, of);
+    Ok(())
+}
+
+fn ask_parts(c: &Context, tree: &Tree, node: &Node, fields: &[Field]) -> Result<(), CheckError> {
     let mut known = 0usize;
     let mut foreign = false;
     for part in node.children.as_slice().iter().skip(1) {
-        let part = node_at(tree, *part)?;
-        let found = fit_part(c, part, fields)?;
-        match found {
+        match fit_part(c, node_at(tree, *part)?, fields)? {
             Fit::Fits(names) => known = known.saturating_add(names),
             Fit::Foreign => foreign = true,
             Fit::Misfits => return refuse(Rule::ArgumentType, node.place),
         }
     }
     if foreign || known != fields.len() {
-        return refuse(Rule::Selectors, node.place);
+        refuse(Rule::Selectors, node.place)
+    } else {
+        Ok(())
     }
-    c.note_type(n, of);
-    Ok(())
 }
 
 /// How a part of a constructor fits the components of its type.
@@ -103,6 +107,13 @@ fn component_named(fields: &[Field], name: &Bytes) -> Option<TypeId> {
 pub fn ask_elems(c: &mut Context, tree: &Tree, n: u32) -> Result<(), CheckError> {
     let node = node_at(tree, n)?;
     let of = first_denoted(c, node)?;
+    ask_elements(c, node, of)?;
+    raise_failure(c)?;
+    c.note_type(n, of);
+    Ok(())
+}
+
+fn ask_elements(c: &Context, node: &Node, of: TypeId) -> Result<(), CheckError> {
     let [_, parts @ ..] = node.children.as_slice() else {
         return Err(CheckError::NotYet);
     };
@@ -125,8 +136,6 @@ pub fn ask_elems(c: &mut Context, tree: &Tree, n: u32) -> Result<(), CheckError>
     if has_low && !is_array(&c.types, of)? {
         return refuse(Rule::Selectors, node.place);
     }
-    raise_failure(c)?;
-    c.note_type(n, of);
     Ok(())
 }
 

@@ -2,17 +2,18 @@
 
 use crate::carried::routine_type;
 use crate::found::{Instance, given as first_given, instance_of, op_named, op_with, seen_spec};
+use crate::routines::type_with;
 use clu_base::{Bytes, Rule};
 use clu_builtin::{Need, heading};
 use clu_core::{Context, SetDemand};
-use clu_equates::{CheckError, carry, included, intern, term};
+use clu_equates::{CheckError, carry, included, term};
 use clu_types::{Actual, Demand, Form, OpSpec, Spec, Specs, Term, TypeArena, TypeId};
 use indexmap::IndexSet;
 use std::alloc::Global;
 
 /// What was found of a type: it has an operation of a type included in the wanted one, and what that
 /// operation asks is met.
-#[derive(Debug, Drop, PartialEq, Eq, Hash)]
+#[derive(Drop, PartialEq, Eq, Hash)]
 struct Met {
     of: TypeId,
     op: Bytes,
@@ -155,13 +156,10 @@ fn asked_of_builtin(
     let Some(builtin) = heading(alloc, types, of, op)? else {
         return Ok(None);
     };
-    let routine = if builtin.iter {
-        intern(types, Term::Iter(builtin.heading))?
-    } else {
-        intern(types, Term::Proc(builtin.heading))?
-    };
+    let needs = builtin.needs;
+    let routine = type_with(types, builtin.iter, builtin.heading)?;
     if included(types, routine, wanted)? {
-        Ok(Some(builtin.needs.into_vec()))
+        Ok(Some(needs.into_vec()))
     } else {
         Ok(None)
     }
@@ -241,7 +239,7 @@ pub fn are_met(
     specs: &Specs,
     types: &mut TypeArena,
 ) -> Result<bool, CheckError> {
-    let mut met = IndexSet::new(alloc);
+    let mut met = Box::new(alloc, IndexSet::new(alloc))?;
     for need in needs {
         if !is_need_met(alloc, need, given, specs, types, &mut met)? {
             return Ok(false);
@@ -258,18 +256,21 @@ pub fn is_met(
     routine: &Bytes,
     actuals: &[Actual],
 ) -> Result<Option<Rule>, CheckError> {
+    let asked = demands_put(c, module, routine, actuals)?;
+    broken_by(c, module, routine, asked.as_slice())
+}
+
+fn broken_by(
+    c: &mut Context,
+    module: &Bytes,
+    routine: &Bytes,
+    demands: &[Demanded],
+) -> Result<Option<Rule>, CheckError> {
     let mut broken = None;
-    let mut met = IndexSet::new(c.alloc);
-    for asked in &demands_put(c, module, routine, actuals)? {
-        let given = c.unit.demands.as_slice();
-        if !is_need_met(
-            c.alloc,
-            &asked.need,
-            given,
-            &c.specs,
-            &mut c.types,
-            &mut met,
-        )? {
+    // In a box, so that a proof about who owns it need not follow each part.
+    let mut met = Box::new(c.alloc, IndexSet::new(c.alloc))?;
+    for asked in demands {
+        if !is_demand_met(c, asked, &mut met)? {
             if !is_in_set(c, module, routine, asked)? {
                 return Ok(Some(Rule::WhereNotMet));
             }
@@ -279,8 +280,17 @@ pub fn is_met(
     Ok(broken)
 }
 
+fn is_demand_met(
+    c: &mut Context,
+    asked: &Demanded,
+    met: &mut IndexSet<Met>,
+) -> Result<bool, CheckError> {
+    let given = c.unit.demands.as_slice();
+    is_need_met(c.alloc, &asked.need, given, &c.specs, &mut c.types, met)
+}
+
 /// A demand with actual parameters put in, and the number of the parameter that it is made of.
-#[derive(Debug, Drop)]
+#[derive(Drop)]
 struct Demanded {
     param: u32,
     need: Need,

@@ -11,6 +11,7 @@ use clu_equates::{
     settle_declared, settle_equates,
 };
 use clu_tree::{Node, NodeKind, Tree};
+use clu_types::TypeArena;
 use indexmap::IndexMap;
 use std::alloc::Global;
 
@@ -78,8 +79,9 @@ fn check_settled(
     places: &[usize],
     variable: u32,
     depth: u32,
-) -> Result<Answers, CheckError> {
-    let mut answers = Answers::new(c.alloc);
+) -> Result<Box<Answers>, CheckError> {
+    // In a box, so that a proof about who owns them need not follow each part.
+    let mut answers = Box::new(c.alloc, Answers::new(c.alloc))?;
     for place in places {
         let right = right_side(tree, scope, *place)?;
         let checked = check_right_side(c, tree, scope, right, variable, depth);
@@ -92,7 +94,7 @@ fn check_settled(
 
 /// What came of right sides that were checked, by their nodes: where one is refused, by which rule and at
 /// which place.
-#[derive(Debug, Drop)]
+#[derive(Drop)]
 struct Answers {
     refusals: IndexMap<u32, Option<Refused>>,
 }
@@ -178,13 +180,21 @@ fn ask_length(
     wanted: Wanted,
 ) -> Result<(), CheckError> {
     let value = known_value(c, tree, scope, n, wanted)?;
-    if !scope.is_too_long(&c.types, &value)? {
+    ask_length_of(&c.types, scope, node_at(tree, n)?, &value)
+}
+
+fn ask_length_of(
+    types: &TypeArena,
+    scope: &mut Scope,
+    node: &Node,
+    value: &Value,
+) -> Result<(), CheckError> {
+    if !scope.is_too_long(types, value)? {
         return Ok(());
     }
-    let place = node_at(tree, n)?.place;
     match value {
-        Value::Of(_) => refuse(Rule::NotType, place),
-        _ => refuse(Rule::NotConstant, place),
+        Value::Of(_) => refuse(Rule::NotType, node.place),
+        _ => refuse(Rule::NotConstant, node.place),
     }
 }
 
@@ -221,21 +231,36 @@ fn check_inside(
     let inner = variable.saturating_add(1);
     let places = settle_equates(c.alloc, tree, scope, &mut c.types, equates.as_slice())?;
     let answers = check_settled(c, tree, scope, places.as_slice(), inner, depth)?;
-    let mut asks = Asks::new(c.alloc);
+    let mut asks = Box::new(c.alloc, Asks::new(c.alloc))?;
     for child in set.children.as_slice() {
-        let part = node_at(tree, *child)?;
-        if part.kind == NodeKind::Equate {
-            let right = only_child(part)?;
-            // Not a second time, since sets stand in sets.
-            match answers.of(right) {
-                Some(checked) => checked?,
-                None => check_right_side(c, tree, scope, right, inner, depth)?,
-            }
-            ask_defined(scope, *child, part)?;
-        } else {
-            let of = check_type(c, tree, scope, only_child(part)?)?;
-            ask_oper(c, part, of, &mut asks)?;
-        }
+        check_part(c, tree, scope, *child, inner, depth, &answers, &mut asks)?;
     }
     Ok(())
+}
+
+/// An Equate or an Oper in a type set.
+#[cycle(right_sides)]
+fn check_part(
+    c: &mut Context,
+    tree: &Tree,
+    scope: &mut Scope,
+    n: u32,
+    variable: u32,
+    depth: u32,
+    answers: &Answers,
+    asks: &mut Asks,
+) -> Result<(), CheckError> {
+    let part = node_at(tree, n)?;
+    let child = only_child(part)?;
+    if part.kind == NodeKind::Equate {
+        // Not a second time, since sets stand in sets.
+        match answers.of(child) {
+            Some(checked) => checked?,
+            None => check_right_side(c, tree, scope, child, variable, depth)?,
+        }
+        ask_defined(scope, n, part)
+    } else {
+        let of = check_type(c, tree, scope, child)?;
+        ask_oper(c, part, of, asks)
+    }
 }

@@ -2,17 +2,18 @@
 
 use crate::carried::routine_type;
 use crate::invoked::Operation;
+use crate::routines::type_with;
 use crate::type_rules::constant_kind;
 use clu_base::{Bytes, Sequence};
-use clu_builtin::{Need, heading};
+use clu_builtin::{Builtin, Need, heading};
 use clu_core::{Context, OpRef, Unit};
-use clu_equates::{CheckError, intern, term};
+use clu_equates::{CheckError, term};
 use clu_types::{Actual, Demand, Form, OpSpec, ParamKind, Spec, Specs, Term, TypeArena, TypeId};
 use std::alloc::Global;
 use std::cmp::Ordering;
 
 /// What an operation asks of its type.
-#[derive(Debug, Drop)]
+#[derive(Drop)]
 pub enum Asked {
     Nothing,
     /// What a built-in operation needs of the types of the parts.
@@ -22,30 +23,31 @@ pub enum Asked {
 }
 
 /// An operation that was found.
-#[derive(Debug, Drop)]
+#[derive(Drop)]
 pub struct Found {
     pub operation: Operation,
     pub asked: Asked,
 }
 
 /// A cluster's name and its actual parameters.
-#[derive(Debug, Drop)]
+#[derive(Drop)]
 pub struct Instance {
     pub name: Bytes,
     pub actuals: Sequence<Actual>,
 }
 
-/// The instance that a cluster type is.
+/// The instance that a cluster type is. In a box, so that a proof about who owns it need not follow each part.
 pub fn instance_of(
     alloc: Global,
     types: &TypeArena,
     of: TypeId,
-) -> Result<Option<Instance>, CheckError> {
+) -> Result<Option<Box<Instance>>, CheckError> {
     match term(types, of)? {
-        Term::Cluster(name, actuals) => Ok(Some(Instance {
-            name: name.copy(alloc)?,
-            actuals: Sequence::from_vec(copied(alloc, actuals.as_slice())?),
-        })),
+        Term::Cluster(name, actuals) => {
+            let name = name.copy(alloc)?;
+            let actuals = Sequence::from_vec(copied(alloc, actuals.as_slice())?);
+            Ok(Some(Box::new(alloc, Instance { name, actuals })?))
+        }
         _ => Ok(None),
     }
 }
@@ -75,17 +77,21 @@ pub fn find_operation(
     }
 }
 
-/// In a box, so that a proof about who owns it need not follow each part.
-fn boxed(alloc: Global, of: TypeId, op: OpRef, asked: Asked) -> Result<Box<Found>, CheckError> {
+fn boxed(
+    alloc: Global,
+    of: TypeId,
+    op: OpRef,
+    asked: Asked,
+) -> Result<Option<Box<Found>>, CheckError> {
     let operation = Operation { of, op };
-    Ok(Box::new(alloc, Found { operation, asked })?)
+    Ok(Some(Box::new(alloc, Found { operation, asked })?))
 }
 
 fn find_given(c: &Context, n: u32, op: &Bytes) -> Result<Option<Box<Found>>, CheckError> {
     match given(c.unit.demands.as_slice(), n, op) {
         Some(demand) => {
-            let op = OpRef::Param(n, op.copy(c.alloc)?);
-            Ok(Some(boxed(c.alloc, demand.wanted, op, Asked::Nothing)?))
+            let op = op.copy(c.alloc)?;
+            boxed(c.alloc, demand.wanted, OpRef::Param(n, op), Asked::Nothing)
         }
         None => Ok(None),
     }
@@ -109,16 +115,32 @@ fn find_in_cluster(
     let Some(instance) = instance_of(c.alloc, &c.types, of)? else {
         return Ok(None);
     };
-    let Some(spec) = seen_spec(&c.unit, &c.specs, &instance.name) else {
+    let spec = seen_spec(&c.unit, &c.specs, &instance.name);
+    match type_in(c.alloc, &mut c.types, spec, &instance, op)? {
+        Some(routine) => {
+            let op = op.copy(c.alloc)?;
+            boxed(c.alloc, routine, OpRef::Cluster(of, op), Asked::Where)
+        }
+        None => Ok(None),
+    }
+}
+
+/// The type of the routine of this name of an instance of a cluster.
+fn type_in(
+    alloc: Global,
+    types: &mut TypeArena,
+    spec: Option<&Spec>,
+    instance: &Instance,
+    op: &Bytes,
+) -> Result<Option<TypeId>, CheckError> {
+    let Some(spec) = spec else {
         return Ok(None);
     };
     let actuals = instance.actuals.as_slice();
-    let Some(routine) = op_with(spec, actuals, op) else {
-        return Ok(None);
-    };
-    let routine = routine_type(c.alloc, &mut c.types, &spec.types, routine, actuals)?;
-    let op = OpRef::Cluster(of, op.copy(c.alloc)?);
-    Ok(Some(boxed(c.alloc, routine, op, Asked::Where)?))
+    match op_with(spec, actuals, op) {
+        Some(routine) => Ok(Some(routine_type(alloc, types, &spec.types, routine, actuals)?)),
+        None => Ok(None),
+    }
 }
 
 /// The specification of a module as it is seen from the unit: the unit's own cluster has all its routines.
@@ -178,14 +200,20 @@ fn find_builtin(c: &mut Context, of: TypeId, op: &Bytes) -> Result<Option<Box<Fo
     if !c.types.contains(of) {
         return Err(CheckError::NotYet);
     }
-    let Some(builtin) = heading(c.alloc, &mut c.types, of, op)? else {
-        return Ok(None);
-    };
-    let routine = if builtin.iter {
-        intern(&mut c.types, Term::Iter(builtin.heading))?
-    } else {
-        intern(&mut c.types, Term::Proc(builtin.heading))?
-    };
-    let op = OpRef::Builtin(of, op.copy(c.alloc)?);
-    Ok(Some(boxed(c.alloc, routine, op, Asked::Needs(builtin.needs))?))
+    match heading(c.alloc, &mut c.types, of, op)? {
+        Some(builtin) => found_builtin(c, of, op, builtin),
+        None => Ok(None),
+    }
+}
+
+fn found_builtin(
+    c: &mut Context,
+    of: TypeId,
+    op: &Bytes,
+    builtin: Builtin,
+) -> Result<Option<Box<Found>>, CheckError> {
+    let asked = Asked::Needs(builtin.needs);
+    let routine = type_with(&mut c.types, builtin.iter, builtin.heading)?;
+    let op = op.copy(c.alloc)?;
+    boxed(c.alloc, routine, OpRef::Builtin(of, op), asked)
 }

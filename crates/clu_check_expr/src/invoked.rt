@@ -4,7 +4,7 @@ use clu_core::OpRef;
 use clu_types::TypeId;
 
 /// An operation of a type.
-#[derive(Debug, Drop)]
+#[derive(Drop)]
 pub struct Operation {
     /// Its type: a proctype or itertype.
     pub of: TypeId,

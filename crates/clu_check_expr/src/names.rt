@@ -3,7 +3,7 @@
 use crate::carried::routine_type;
 use crate::check::type_of;
 use crate::operations::operation;
-use crate::routines::raise_failure;
+use crate::routines::{raise_failure, type_with};
 use crate::type_rules::{actuals_of, constant_term};
 use clu_base::{Bytes, Place, Rule, Sequence};
 use clu_core::{Context, OpRef};
@@ -12,6 +12,7 @@ use clu_equates::{
 };
 use clu_tree::{Node, Tree};
 use clu_types::{Actual, Exception, Form, Heading, Term, TypeId};
+use std::alloc::Global;
 
 /// The rules at a Name that stands for an object or a routine.
 pub fn ask_name(c: &mut Context, scope: &Scope, n: u32, node: &Node) -> Result<(), CheckError> {
@@ -112,19 +113,21 @@ fn note_module(
     name: &Bytes,
     actuals: Vec<Actual>,
 ) -> Result<(), CheckError> {
+    let of = module_type(c, name, actuals.as_slice())?;
+    c.note_type(n, of);
+    let module = name.copy(c.alloc)?;
+    c.note_op(n, OpRef::Module(module, Sequence::from_vec(actuals)));
+    Ok(())
+}
+
+fn module_type(c: &mut Context, name: &Bytes, actuals: &[Actual]) -> Result<TypeId, CheckError> {
     let Some(spec) = c.specs.get(name) else {
         return Err(CheckError::NotYet);
     };
     match &spec.form {
-        Form::Cluster(_, _) => return Err(CheckError::NotYet),
-        Form::Routine(op) => {
-            let of = routine_type(c.alloc, &mut c.types, &spec.types, op, actuals.as_slice())?;
-            c.note_type(n, of);
-        }
+        Form::Routine(op) => routine_type(c.alloc, &mut c.types, &spec.types, op, actuals),
+        Form::Cluster(_, _) => Err(CheckError::NotYet),
     }
-    let module = name.copy(c.alloc)?;
-    c.note_op(n, OpRef::Module(module, Sequence::from_vec(actuals)));
-    Ok(())
 }
 
 /// The rules at the name under an Index that gives it actual parameters.
@@ -193,21 +196,21 @@ pub fn ask_force(c: &mut Context, tree: &Tree, n: u32) -> Result<(), CheckError>
     let node = node_at(tree, n)?;
     let of = first_denoted(c, node)?;
     let any = intern(&mut c.types, Term::Any)?;
-    let mut args = Vec::new(c.alloc);
-    args.push(any)?;
-    let mut results = Vec::new(c.alloc);
-    results.push(of)?;
-    let mut signals = Vec::new(c.alloc);
-    signals.push(Exception {
-        name: Bytes::from_slice(c.alloc, b"wrong_type".as_slice())?,
-        objects: Sequence::from_vec(Vec::new(c.alloc)),
-    })?;
-    let heading = Heading {
+    let heading = force_heading(c.alloc, any, of)?;
+    let routine = type_with(&mut c.types, false, heading)?;
+    c.note_type(n, routine);
+    Ok(())
+}
+
+fn force_heading(alloc: Global, any: TypeId, of: TypeId) -> Result<Heading, CheckError> {
+    let args = vec![in alloc; any]?;
+    let results = vec![in alloc; of]?;
+    let name = Bytes::from_slice(alloc, b"wrong_type".as_slice())?;
+    let objects = Sequence::from_vec(Vec::new(alloc));
+    let signals = vec![in alloc; Exception { name, objects }]?;
+    Ok(Heading {
         args: Sequence::from_vec(args),
         results: Sequence::from_vec(results),
         signals: Sequence::from_vec(signals),
-    };
-    let routine = intern(&mut c.types, Term::Proc(heading))?;
-    c.note_type(n, routine);
-    Ok(())
+    })
 }

@@ -5,6 +5,7 @@ use crate::found::{Asked, Found, find_operation, instance_of};
 use crate::invoked::Operation;
 use crate::routines::{is_iter, raise_signals, results_of, shape_fault};
 use clu_base::{Bytes, Place, Rule};
+use clu_builtin::Need;
 use clu_core::{Context, OpRef};
 use clu_equates::{CheckError, refuse};
 use clu_types::TypeId;
@@ -107,20 +108,26 @@ pub fn sugar_fault(
 fn asked_fault(c: &mut Context, found: &Found) -> Result<Option<Rule>, CheckError> {
     match &found.asked {
         Asked::Nothing => Ok(None),
-        Asked::Needs(needs) => {
-            let given = c.unit.demands.as_slice();
-            if are_met(c.alloc, needs.as_slice(), given, &c.specs, &mut c.types)? {
-                Ok(None)
-            } else {
-                Ok(Some(Rule::WhereNotMet))
-            }
-        }
-        Asked::Where => match &found.operation.op {
-            OpRef::Cluster(of, op) => match instance_of(c.alloc, &c.types, *of)? {
-                Some(instance) => is_met(c, &instance.name, op, instance.actuals.as_slice()),
-                None => Err(CheckError::NotYet),
-            },
-            _ => Err(CheckError::NotYet),
-        },
+        Asked::Needs(needs) => needs_fault(c, needs.as_slice()),
+        Asked::Where => where_fault(c, &found.operation.op),
+    }
+}
+
+fn needs_fault(c: &mut Context, needs: &[Need]) -> Result<Option<Rule>, CheckError> {
+    let given = c.unit.demands.as_slice();
+    match are_met(c.alloc, needs, given, &c.specs, &mut c.types) {
+        Ok(true) => Ok(None),
+        Ok(false) => Ok(Some(Rule::WhereNotMet)),
+        Err(error) => Err(error),
+    }
+}
+
+fn where_fault(c: &mut Context, op: &OpRef) -> Result<Option<Rule>, CheckError> {
+    let OpRef::Cluster(of, op) = op else {
+        return Err(CheckError::NotYet);
+    };
+    match instance_of(c.alloc, &c.types, *of)? {
+        Some(instance) => is_met(c, &instance.name, op, instance.actuals.as_slice()),
+        None => Err(CheckError::NotYet),
     }
 }

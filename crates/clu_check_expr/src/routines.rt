@@ -4,6 +4,8 @@ use clu_base::{Bytes, Rule, Sequence};
 use clu_core::Context;
 use clu_equates::{CheckError, included, intern, term};
 use clu_types::{Exception, Heading, Term, TypeArena, TypeId};
+use indexmap::IndexSet;
+use std::alloc::Global;
 
 /// The heading of a routine type; None of any other type.
 pub fn heading_of(types: &TypeArena, id: TypeId) -> Result<Option<&Heading>, CheckError> {
@@ -11,6 +13,19 @@ pub fn heading_of(types: &TypeArena, id: TypeId) -> Result<Option<&Heading>, Che
         Term::Proc(heading) => Ok(Some(heading)),
         Term::Iter(heading) => Ok(Some(heading)),
         _ => Ok(None),
+    }
+}
+
+/// The type of a routine with this heading.
+pub fn type_with(
+    types: &mut TypeArena,
+    iter: bool,
+    heading: Heading,
+) -> Result<TypeId, CheckError> {
+    if iter {
+        intern(types, Term::Iter(heading))
+    } else {
+        intern(types, Term::Proc(heading))
     }
 }
 
@@ -73,14 +88,20 @@ pub fn results_of(c: &Context, of: TypeId) -> Result<Vec<TypeId>, CheckError> {
 pub fn raise_signals(c: &mut Context, of: TypeId) -> Result<(), CheckError> {
     raise_failure(c)?;
     match heading_of(&c.types, of)? {
-        Some(heading) => {
-            for signal in heading.signals.as_slice() {
-                if !c.raises.contains(signal) {
-                    c.raises.insert(signal.copy(c.alloc)?)?;
-                }
-            }
+        Some(heading) => add_signals(c.alloc, &mut c.raises, heading.signals.as_slice()),
+        None => Ok(()),
+    }
+}
+
+fn add_signals(
+    alloc: Global,
+    raises: &mut IndexSet<Exception>,
+    signals: &[Exception],
+) -> Result<(), CheckError> {
+    for signal in signals {
+        if !raises.contains(signal) {
+            raises.insert(signal.copy(alloc)?)?;
         }
-        None => {}
     }
     Ok(())
 }

@@ -10,7 +10,7 @@ use std::alloc::Global;
 use std::collections::BTreeMap;
 
 /// What a type set asks so far, by the names of operations.
-#[derive(Debug, Drop)]
+#[derive(Drop)]
 pub struct Asks {
     wanted: BTreeMap<Bytes, TypeId>,
 }
@@ -25,7 +25,7 @@ impl Asks {
 }
 
 /// A type set whose inside is being checked.
-#[derive(Debug, Drop)]
+#[derive(Drop)]
 pub struct BegunSet {
     /// How many names were in scope before it.
     base: usize,

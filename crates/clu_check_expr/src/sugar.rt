@@ -125,16 +125,25 @@ pub fn ask_infix(c: &mut Context, n: u32, node: &Node) -> Result<(), CheckError>
     let Some(operator) = operator_spelled(spelled) else {
         return Err(CheckError::NotYet);
     };
+    let given = infix_type(c, n, node, operator)?;
+    c.note_type(n, given);
+    Ok(())
+}
+
+fn infix_type(
+    c: &mut Context,
+    n: u32,
+    node: &Node,
+    operator: &Operator,
+) -> Result<TypeId, CheckError> {
     let args = noted_types(c, node.children.as_slice())?;
     let op = Bytes::from_slice(c.alloc, operator.op)?;
     let of = first_type(c, node)?;
-    let given = if operator.negated {
-        invoke_negated(c, n, node, of, &op, &args)?
+    if operator.negated {
+        invoke_negated(c, n, node, of, &op, &args)
     } else {
-        invoke_single(c, n, node.place, of, &op, &args)?
-    };
-    c.note_type(n, given);
-    Ok(())
+        invoke_single(c, n, node.place, of, &op, &args)
+    }
 }
 
 fn operator_spelled(spelled: &[u8]) -> Option<&'static Operator> {

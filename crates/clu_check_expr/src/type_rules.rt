@@ -54,18 +54,23 @@ fn ask_once(
 
 /// V26 of `failure`, which has one string.
 fn ask_failure(c: &Context, node: &Node) -> Result<(), CheckError> {
-    if first_name(node)?.as_slice() != b"failure".as_slice() {
-        return Ok(());
-    }
-    match node.children.as_slice() {
-        [object] if is_string(c, *object)? => Ok(()),
-        _ => refuse(Rule::SignalTypes, node.place),
+    if !is_failure(first_name(node)?) || has_one_string(c, node)? {
+        Ok(())
+    } else {
+        refuse(Rule::SignalTypes, node.place)
     }
 }
 
-fn is_string(c: &Context, n: u32) -> Result<bool, CheckError> {
-    match c.denoted_type(n) {
-        Some(id) => Ok(*term(&c.types, id)? == Term::Str),
+fn is_failure(name: &Bytes) -> bool {
+    name.as_slice() == b"failure".as_slice()
+}
+
+fn has_one_string(c: &Context, node: &Node) -> Result<bool, CheckError> {
+    let [object] = node.children.as_slice() else {
+        return Ok(false);
+    };
+    match c.denoted_type(*object) {
+        Some(id) => Ok(matches!(term(&c.types, id)?, Term::Str)),
         None => Ok(false),
     }
 }

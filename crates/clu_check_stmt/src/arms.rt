@@ -1,5 +1,6 @@
 //! The `when` arms round a statement, to which an `exit` in it may go.
 
+use crate::raised::add_place;
 use clu_base::{Bytes, Memory};
 use clu_check_expr::check_type;
 use clu_core::Context;
@@ -66,13 +67,7 @@ impl Arms {
         let place = self.arms.len();
         self.arms.push(arm)?;
         for name in names {
-            match self.by_name.get_mut(name) {
-                Some(places) => places.push(place)?,
-                None => {
-                    let places = vec![in alloc; place]?;
-                    self.by_name.insert(name.copy(alloc)?, places)?;
-                }
-            }
+            add_place(alloc, &mut self.by_name, name, place)?;
         }
         Ok(())
     }
@@ -126,15 +121,27 @@ fn arm_of(c: &mut Context, tree: &Tree, scope: &Scope, when: &Node) -> Result<Op
         if decl.kind != NodeKind::Decl {
             break;
         }
-        let of = type_if_any(c, tree, scope, only_child(decl)?)?;
-        for _ in decl.names.as_slice() {
-            types.push(of)?;
-        }
+        add_types(c, tree, scope, decl, &mut types)?;
     }
     Ok(OpenArm {
         drops: when.value_token.is_some(),
         types,
     })
+}
+
+/// The type of a Decl, once for each of its names.
+fn add_types(
+    c: &mut Context,
+    tree: &Tree,
+    scope: &Scope,
+    decl: &Node,
+    types: &mut Vec<Option<TypeId>>,
+) -> Result<(), CheckError> {
+    let of = type_if_any(c, tree, scope, only_child(decl)?)?;
+    for _ in decl.names.as_slice() {
+        types.push(of)?;
+    }
+    Ok(())
 }
 
 /// The type that a node denotes, None where it violates a rule.

@@ -7,6 +7,7 @@ use clu_equates::{CheckError, Means, Scope, included, node_at, refuse};
 use clu_rules::{ask_lengths, is_stream};
 use clu_tree::{Node, NodeKind, Tree};
 use clu_types::TypeId;
+use std::alloc::Global;
 
 /// The types of expressions.
 pub fn check_exprs(
@@ -92,12 +93,17 @@ pub fn check_set_field(
     let of = check_expr(c, tree, scope, *object)?;
     let given = check_expr(c, tree, scope, *value)?;
     ask_lengths(node)?;
-    let mut op = b"set_".to_vec(c.alloc)?;
+    let op = setter(c.alloc, node)?;
+    invoke(c, n, node.place, of, op.as_slice(), &[of, given])?;
+    Ok(())
+}
+
+fn setter(alloc: Global, node: &Node) -> Result<Vec<u8>, CheckError> {
+    let mut op = b"set_".to_vec(alloc)?;
     for selector in node.names.as_slice() {
         op.extend_from_slice(selector.as_slice())?;
     }
-    invoke(c, n, node.place, of, op.as_slice(), &[of, given])?;
-    Ok(())
+    Ok(op)
 }
 
 /// `a[i] := e`: the operation store of the type of a.

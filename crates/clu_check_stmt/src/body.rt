@@ -16,6 +16,7 @@ use clu_equates::{CheckError, Scope, node_at};
 use clu_tree::{Node, NodeKind, Tree};
 use clu_types::{Exception, TypeId};
 use indexmap::IndexSet;
+use std::alloc::Global;
 use std::mem;
 
 /// How many levels of nodes are walked: no node of a tree is deeper than 200.
@@ -32,17 +33,32 @@ pub fn check_body(
 ) -> Result<Vec<Exception>, CheckError> {
     let names = scope.len();
     let before = mem::replace(&mut c.raises, IndexSet::new(c.alloc));
-    let mut arms = Arms::new(c.alloc);
-    for child in node_at(tree, node)?.children.as_slice() {
-        check_part(c, tree, scope, &mut arms, *child)?;
-    }
+    check_parts(c, tree, scope, node)?;
     scope.leave(names);
-    let mut raises = mem::replace(&mut c.raises, before);
-    let mut listed = Vec::new(c.alloc);
+    let raises = mem::replace(&mut c.raises, before);
+    listed(c.alloc, raises)
+}
+
+fn listed(alloc: Global, mut raises: IndexSet<Exception>) -> Result<Vec<Exception>, CheckError> {
+    let mut listed = Vec::new(alloc);
     for exception in raises.drain(..) {
         listed.push(exception)?;
     }
     Ok(listed)
+}
+
+fn check_parts(
+    c: &mut Context,
+    tree: &Tree,
+    scope: &mut Scope,
+    node: u32,
+) -> Result<(), CheckError> {
+    // In a box, so that a proof about who owns it need not follow each part.
+    let mut arms = Box::new(c.alloc, Arms::new(c.alloc))?;
+    for child in node_at(tree, node)?.children.as_slice() {
+        check_part(c, tree, scope, &mut arms, *child)?;
+    }
+    Ok(())
 }
 
 /// A child of a Routine; those of its heading are done.

@@ -68,13 +68,13 @@ fn is_formal(scope: &Scope, node: &Node) -> bool {
 }
 
 /// The variables of a Declare, an Init or an Own, after all its rules but V37. They are not in scope
-/// yet.
+/// yet. In a box, so that a proof about who owns them need not follow each part.
 pub fn declared(
     c: &mut Context,
     tree: &Tree,
     scope: &Scope,
     node: &Node,
-) -> Result<Variables, CheckError> {
+) -> Result<Box<Variables>, CheckError> {
     match (node.names.as_slice(), node.children.as_slice()) {
         ([name], [of, value]) => one_variable(c, tree, scope, node, name, *of, *value),
         _ => several_variables(c, tree, scope, node),
@@ -90,7 +90,7 @@ fn one_variable(
     name: &Bytes,
     of: u32,
     value: u32,
-) -> Result<Variables, CheckError> {
+) -> Result<Box<Variables>, CheckError> {
     let of = check_type(c, tree, scope, of)?;
     let given = check_expr(c, tree, scope, value)?;
     ask_lengths(node)?;
@@ -100,7 +100,7 @@ fn one_variable(
     if !included(&c.types, given, of)? {
         return refuse(Rule::AssignType, node.place);
     }
-    let mut variables = IndexMap::new(c.alloc);
+    let mut variables = Box::new(c.alloc, IndexMap::new(c.alloc))?;
     variables.insert(name.copy(c.alloc)?, of)?;
     Ok(variables)
 }
@@ -111,21 +111,28 @@ fn several_variables(
     tree: &Tree,
     scope: &Scope,
     node: &Node,
-) -> Result<Variables, CheckError> {
-    let mut variables = IndexMap::new(c.alloc);
-    let mut given = None;
+) -> Result<Box<Variables>, CheckError> {
+    let mut variables = Box::new(c.alloc, IndexMap::new(c.alloc))?;
     for child in node.children.as_slice() {
-        if node_at(tree, *child)?.kind == NodeKind::Decl {
-            check_decl(c, tree, scope, *child, &mut variables)?;
-        } else {
-            given = Some(check_call(c, tree, scope, *child, CallUse::Several)?);
-        }
-    }
-    match given {
-        Some(given) => check_given(c, &variables, given.as_slice(), node.place)?,
-        None => {}
+        check_one_of_several(c, tree, scope, node, *child, &mut variables)?;
     }
     Ok(variables)
+}
+
+/// A Decl, or the Call after all of them.
+fn check_one_of_several(
+    c: &mut Context,
+    tree: &Tree,
+    scope: &Scope,
+    node: &Node,
+    child: u32,
+    variables: &mut Variables,
+) -> Result<(), CheckError> {
+    if node_at(tree, child)?.kind == NodeKind::Decl {
+        return check_decl(c, tree, scope, child, variables);
+    }
+    let given = check_call(c, tree, scope, child, CallUse::Several)?;
+    check_given(c, variables, given.as_slice(), node.place)
 }
 
 /// Asks the rules at a Decl and below it: V4, and V6 where the module or an earlier Decl of the same

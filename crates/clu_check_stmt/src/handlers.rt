@@ -7,7 +7,7 @@ use clu_core::Context;
 use clu_equates::{CheckError, Scope, included, intern, refuse};
 use clu_rules::ask_lengths;
 use clu_tree::Node;
-use clu_types::{Term, TypeId};
+use clu_types::{Exception, Term, TypeId};
 use indexmap::IndexSet;
 
 /// The rules at a When after its body: V4, V23 and V24. Notes its names as taken.
@@ -20,23 +20,43 @@ pub fn check_when(
     ask_lengths(when)?;
     let names = distinct(c, when)?;
     if when.value_token.is_none() {
-        for name in names.as_slice() {
-            if !takes_raised(c, name, variables, frame)? {
-                return refuse(Rule::ArmTypes, when.place);
-            }
+        ask_variables(c, when, names.as_slice(), variables, frame)?;
+    }
+    note_taken(c, when, names.as_slice(), &mut frame.seen)
+}
+
+fn ask_variables(
+    c: &Context,
+    when: &Node,
+    names: &[Bytes],
+    variables: &[TypeId],
+    frame: &Frame,
+) -> Result<(), CheckError> {
+    for name in names {
+        if !takes_raised(c, name, variables, frame)? {
+            return refuse(Rule::ArmTypes, when.place);
         }
     }
-    for name in names.as_slice() {
-        if !frame.seen.insert(name.copy(c.alloc)?)? {
+    Ok(())
+}
+
+fn note_taken(
+    c: &Context,
+    when: &Node,
+    names: &[Bytes],
+    taken: &mut IndexSet<Bytes>,
+) -> Result<(), CheckError> {
+    for name in names {
+        if !taken.insert(name.copy(c.alloc)?)? {
             return refuse(Rule::ArmTwice, when.place);
         }
     }
     Ok(())
 }
 
-/// The names of a node, each once.
-fn distinct(c: &Context, node: &Node) -> Result<IndexSet<Bytes>, CheckError> {
-    let mut names = IndexSet::new(c.alloc);
+/// The names of a node, each once. In a box, so that a proof about who owns them need not follow each part.
+fn distinct(c: &Context, node: &Node) -> Result<Box<IndexSet<Bytes>>, CheckError> {
+    let mut names = Box::new(c.alloc, IndexSet::new(c.alloc))?;
     for name in node.names.as_slice() {
         names.insert(name.copy(c.alloc)?)?;
     }
@@ -88,7 +108,7 @@ pub fn end_except(c: &mut Context, frame: &mut Frame) -> Result<(), CheckError> 
     if frame.takes_all {
         return Ok(());
     }
-    frame.raised.pass_on(c, &frame.seen)
+    frame.raised.pass_on(&mut c.raises, &frame.seen)
 }
 
 /// The rules at a Resignal after its statement: V4, V25 and V26. What it doesn't name goes on.
@@ -96,17 +116,32 @@ pub fn end_resignal(c: &mut Context, node: &Node, frame: &mut Frame) -> Result<(
     frame.raised.exchange(c);
     ask_lengths(node)?;
     let names = distinct(c, node)?;
-    for name in names.as_slice() {
+    ask_listed(c, node, names.as_slice())?;
+    ask_objects(c, node, &names, frame.raised.all())?;
+    frame.raised.pass_on(&mut c.raises, &names)
+}
+
+fn ask_listed(c: &Context, node: &Node, names: &[Bytes]) -> Result<(), CheckError> {
+    for name in names {
         if !is_listed(c, name)? {
             return refuse(Rule::SignalNotListed, node.place);
         }
     }
-    for exception in frame.raised.all() {
+    Ok(())
+}
+
+fn ask_objects(
+    c: &mut Context,
+    node: &Node,
+    names: &IndexSet<Bytes>,
+    raised: &[Exception],
+) -> Result<(), CheckError> {
+    for exception in raised {
         if names.contains(&exception.name)
             && !fits_signal(c, &exception.name, exception.objects.as_slice())?
         {
             return refuse(Rule::SignalTypes, node.place);
         }
     }
-    frame.raised.pass_on(c, &names)
+    Ok(())
 }

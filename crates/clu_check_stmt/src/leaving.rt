@@ -11,6 +11,7 @@ use clu_core::{Context, RoutineUnit};
 use clu_equates::{CheckError, Scope, refuse};
 use clu_rules::{ask_in_loop, ask_lengths};
 use clu_tree::{Node, Tree};
+use clu_types::TypeId;
 
 /// The routine round the node.
 fn routine(c: &Context) -> Result<&RoutineUnit, CheckError> {
@@ -28,20 +29,21 @@ pub fn check_return(
     node: &Node,
 ) -> Result<(), CheckError> {
     let given = check_exprs(c, tree, scope, node.children.as_slice())?;
+    ask_return(c, node, given.as_slice())
+}
+
+fn ask_return(c: &Context, node: &Node, given: &[TypeId]) -> Result<(), CheckError> {
     let routine = routine(c)?;
     let fits = if routine.iter {
         given.is_empty()
     } else {
-        fit(
-            &c.types,
-            given.as_slice(),
-            routine.heading.results.as_slice(),
-        )?
+        fit(&c.types, given, routine.heading.results.as_slice())?
     };
-    if !fits {
-        return refuse(Rule::ReturnValues, node.place);
+    if fits {
+        Ok(())
+    } else {
+        refuse(Rule::ReturnValues, node.place)
     }
-    Ok(())
 }
 
 /// V29 and V30 of a yield.
@@ -52,15 +54,19 @@ pub fn check_yield(
     node: &Node,
 ) -> Result<(), CheckError> {
     let given = check_exprs(c, tree, scope, node.children.as_slice())?;
+    ask_yield(c, node, given.as_slice())
+}
+
+fn ask_yield(c: &Context, node: &Node, given: &[TypeId]) -> Result<(), CheckError> {
     let routine = routine(c)?;
     if !routine.iter {
         return refuse(Rule::NotInIterator, node.place);
     }
-    let wanted = routine.heading.results.as_slice();
-    if !fit(&c.types, given.as_slice(), wanted)? {
-        return refuse(Rule::ReturnValues, node.place);
+    if fit(&c.types, given, routine.heading.results.as_slice())? {
+        Ok(())
+    } else {
+        refuse(Rule::ReturnValues, node.place)
     }
-    Ok(())
 }
 
 /// The name of a signal or an exit.
@@ -79,15 +85,20 @@ pub fn check_signal(
     node: &Node,
 ) -> Result<(), CheckError> {
     let given = check_exprs(c, tree, scope, node.children.as_slice())?;
+    ask_signal(c, node, given.as_slice())
+}
+
+fn ask_signal(c: &mut Context, node: &Node, given: &[TypeId]) -> Result<(), CheckError> {
     let name = name_of(node)?;
     ask_lengths(node)?;
     if !is_listed(c, name)? {
         return refuse(Rule::SignalNotListed, node.place);
     }
-    if !fits_signal(c, name, given.as_slice())? {
-        return refuse(Rule::SignalTypes, node.place);
+    if fits_signal(c, name, given)? {
+        Ok(())
+    } else {
+        refuse(Rule::SignalTypes, node.place)
     }
-    Ok(())
 }
 
 /// V4, V26 and V27 of an exit.
@@ -99,15 +110,20 @@ pub fn check_exit(
     node: &Node,
 ) -> Result<(), CheckError> {
     let given = check_exprs(c, tree, scope, node.children.as_slice())?;
+    ask_exit(c, arms, node, given.as_slice())
+}
+
+fn ask_exit(c: &Context, arms: &Arms, node: &Node, given: &[TypeId]) -> Result<(), CheckError> {
     let name = name_of(node)?;
     ask_lengths(node)?;
     let Some(arm) = arms.find(name) else {
         return refuse(Rule::ExitNoArm, node.place);
     };
-    if !arm.takes(&c.types, given.as_slice())? {
-        return refuse(Rule::SignalTypes, node.place);
+    if arm.takes(&c.types, given)? {
+        Ok(())
+    } else {
+        refuse(Rule::SignalTypes, node.place)
     }
-    Ok(())
 }
 
 /// V28 of a break or continue.

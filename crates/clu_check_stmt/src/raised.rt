@@ -16,6 +16,21 @@ pub struct Raised {
     by_name: IndexMap<Bytes, Vec<usize>>,
 }
 
+/// Adds a place to those of a name.
+pub fn add_place(
+    alloc: Global,
+    by_name: &mut IndexMap<Bytes, Vec<usize>>,
+    name: &Bytes,
+    place: usize,
+) -> Result<(), Memory> {
+    if let Some(places) = by_name.get_mut(name) {
+        places.push(place)?;
+        return Ok(());
+    }
+    by_name.insert(name.copy(alloc)?, vec![in alloc; place]?)?;
+    Ok(())
+}
+
 impl Raised {
     /// Nothing.
     pub fn new(alloc: Global) -> Raised {
@@ -38,13 +53,7 @@ impl Raised {
     /// Makes exceptions found by name.
     pub fn index(&mut self, alloc: Global) -> Result<(), Memory> {
         for (at, exception) in self.all.as_slice().iter().enumerate() {
-            match self.by_name.get_mut(&exception.name) {
-                Some(places) => places.push(at)?,
-                None => {
-                    let places = vec![in alloc; at]?;
-                    self.by_name.insert(exception.name.copy(alloc)?, places)?;
-                }
-            }
+            add_place(alloc, &mut self.by_name, &exception.name, at)?;
         }
         Ok(())
     }
@@ -63,10 +72,14 @@ impl Raised {
     }
 
     /// Adds all but those of the given names to what the context notes as raised.
-    pub fn pass_on(&mut self, c: &mut Context, taken: &IndexSet<Bytes>) -> Result<(), CheckError> {
+    pub fn pass_on(
+        &mut self,
+        raises: &mut IndexSet<Exception>,
+        taken: &IndexSet<Bytes>,
+    ) -> Result<(), CheckError> {
         for exception in self.all.drain(..) {
             if !taken.contains(&exception.name) {
-                c.raises.insert(exception)?;
+                raises.insert(exception)?;
             }
         }
         Ok(())

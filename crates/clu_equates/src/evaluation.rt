@@ -87,7 +87,7 @@ fn simple(
     wanted: Wanted,
 ) -> Result<Value, CheckError> {
     match simple_term(node.value.as_slice()) {
-        Some(term) => Ok(Value::Of(intern(types, term)?)),
+        Some(term) => type_value(types, term),
         None if node.value.as_slice() == b"rep".as_slice() => {
             match meaning_of(
                 asked.alloc,
@@ -123,6 +123,11 @@ fn simple_term(word: &[u8]) -> Option<Term> {
     }
 }
 
+/// The value that is the type of this term.
+fn type_value(types: &mut TypeArena, term: Term) -> Result<Value, CheckError> {
+    Ok(Value::Of(intern(types, term)?))
+}
+
 /// The type that a node denotes.
 #[cycle(evaluation)]
 fn one_type(asked: Asked, types: &mut TypeArena, n: u32, depth: u32) -> Result<TypeId, CheckError> {
@@ -156,12 +161,11 @@ fn list_type(
     depth: u32,
 ) -> Result<Value, CheckError> {
     let of = one_type(asked, types, only_child(node)?, depth)?;
-    let term = if node.value.as_slice() == b"array".as_slice() {
-        Term::Array(of)
+    if node.value.as_slice() == b"array".as_slice() {
+        type_value(types, Term::Array(of))
     } else {
-        Term::Sequence(of)
-    };
-    Ok(Value::Of(intern(types, term)?))
+        type_value(types, Term::Sequence(of))
+    }
 }
 
 /// A record, struct, oneof or variant type. That a selector stands twice is not asked here.
@@ -172,16 +176,27 @@ fn fields_type(
     node: &Node,
     depth: u32,
 ) -> Result<Value, CheckError> {
-    let mut fields = BTreeMap::new(asked.alloc);
+    // In a box, so that a proof about who owns it need not follow each part.
+    let mut fields = Box::new(asked.alloc, BTreeMap::new(asked.alloc))?;
     for n in node.children.as_slice() {
         let field = node_at(asked.tree, *n)?;
         let of = one_type(asked, types, only_child(field)?, depth)?;
-        for name in field.names.as_slice() {
-            fields.insert(name.copy(asked.alloc)?, of)?;
-        }
+        note_field(asked.alloc, field, of, &mut fields)?;
     }
-    let fields = ascending_fields(asked.alloc, fields)?;
-    Ok(Value::Of(intern(types, fields_term(node.value.as_slice(), fields))?))
+    let fields = ascending_fields(asked.alloc, Box::into_inner(fields))?;
+    type_value(types, fields_term(node.value.as_slice(), fields))
+}
+
+fn note_field(
+    alloc: Global,
+    field: &Node,
+    of: TypeId,
+    fields: &mut BTreeMap<Bytes, TypeId>,
+) -> Result<(), CheckError> {
+    for name in field.names.as_slice() {
+        fields.insert(name.copy(alloc)?, of)?;
+    }
+    Ok(())
 }
 
 fn ascending_fields(
@@ -215,32 +230,51 @@ fn routine_type(
     node: &Node,
     depth: u32,
 ) -> Result<Value, CheckError> {
-    let mut args = Vec::new(asked.alloc);
-    let mut results = Sequence::from_vec(Vec::new(asked.alloc));
-    let mut signals = Sequence::from_vec(Vec::new(asked.alloc));
+    let mut parts = no_parts(asked.alloc)?;
     for n in node.children.as_slice() {
         let part = node_at(asked.tree, *n)?;
+        let below = part.children.as_slice();
         match part.kind {
-            NodeKind::Results => {
-                results = type_list(asked, types, part.children.as_slice(), depth)?;
-            }
-            NodeKind::Signals => {
-                signals = signal_list(asked, types, part.children.as_slice(), depth)?;
-            }
-            _ => args.push(one_type(asked, types, *n, depth)?)?,
+            NodeKind::Results => parts.results = type_list(asked, types, below, depth)?,
+            NodeKind::Signals => parts.signals = signal_list(asked, types, below, depth)?,
+            _ => parts.args.push(one_type(asked, types, *n, depth)?)?,
         }
     }
-    let heading = Heading {
-        args: Sequence::from_vec(args),
-        results,
-        signals,
+    type_value(
+        types,
+        routine_term(node.value.as_slice(), Box::into_inner(parts)),
+    )
+}
+
+/// What the heading of a routine type has so far.
+#[derive(Drop)]
+struct Parts {
+    args: Vec<TypeId>,
+    results: Sequence<TypeId>,
+    signals: Sequence<Exception>,
+}
+
+/// In a box, so that a proof about who owns it need not follow each part.
+fn no_parts(alloc: Global) -> Result<Box<Parts>, CheckError> {
+    let parts = Parts {
+        args: Vec::new(alloc),
+        results: Sequence::from_vec(Vec::new(alloc)),
+        signals: Sequence::from_vec(Vec::new(alloc)),
     };
-    let term = if node.value.as_slice() == b"proctype".as_slice() {
+    Ok(Box::new(alloc, parts)?)
+}
+
+fn routine_term(word: &[u8], parts: Parts) -> Term {
+    let heading = Heading {
+        args: Sequence::from_vec(parts.args),
+        results: parts.results,
+        signals: parts.signals,
+    };
+    if word == b"proctype".as_slice() {
         Term::Proc(heading)
     } else {
         Term::Iter(heading)
-    };
-    Ok(Value::Of(intern(types, term)?))
+    }
 }
 
 /// Exceptions, ascending by name; `failure` belongs to every routine and is left out.
@@ -251,16 +285,33 @@ fn signal_list(
     nodes: &[u32],
     depth: u32,
 ) -> Result<Sequence<Exception>, CheckError> {
-    let mut signals = BTreeMap::new(asked.alloc);
+    let mut signals = Box::new(asked.alloc, BTreeMap::new(asked.alloc))?;
     for n in nodes {
         let signal = node_at(asked.tree, *n)?;
         let objects = type_list(asked, types, signal.children.as_slice(), depth)?;
-        let name = first_name(signal)?;
-        if name.as_slice() != b"failure".as_slice() {
-            signals.insert(name.copy(asked.alloc)?, objects)?;
-        }
+        note_signal(asked.alloc, signal, objects, &mut signals)?;
     }
-    let mut ascending = Vec::new(asked.alloc);
+    ascending_signals(asked.alloc, Box::into_inner(signals))
+}
+
+fn note_signal(
+    alloc: Global,
+    signal: &Node,
+    objects: Sequence<TypeId>,
+    signals: &mut BTreeMap<Bytes, Sequence<TypeId>>,
+) -> Result<(), CheckError> {
+    let name = first_name(signal)?;
+    if name.as_slice() != b"failure".as_slice() {
+        signals.insert(name.copy(alloc)?, objects)?;
+    }
+    Ok(())
+}
+
+fn ascending_signals(
+    alloc: Global,
+    signals: BTreeMap<Bytes, Sequence<TypeId>>,
+) -> Result<Sequence<Exception>, CheckError> {
+    let mut ascending = Vec::new(alloc);
     for (name, objects) in signals {
         ascending.push(Exception { name, objects })?;
     }
@@ -283,12 +334,21 @@ fn instance(
     match meaning_of(asked.alloc, asked.scope, types, name, node.place, wanted)? {
         Named::Cluster => {
             let actuals = actual_list(asked, types, actuals, depth)?;
-            let name = name.copy(asked.alloc)?;
-            Ok(Value::Of(intern(types, Term::Cluster(name, actuals))?))
+            cluster_type(asked.alloc, types, name, actuals)
         }
         Named::Value(value) => wanted_value(value, wanted, place),
         Named::Nothing => refuse(wanted.rule(), place),
     }
+}
+
+fn cluster_type(
+    alloc: Global,
+    types: &mut TypeArena,
+    name: &Bytes,
+    actuals: Sequence<Actual>,
+) -> Result<Value, CheckError> {
+    let name = name.copy(alloc)?;
+    type_value(types, Term::Cluster(name, actuals))
 }
 
 /// Actual parameters: types and constants.
@@ -301,15 +361,19 @@ fn actual_list(
 ) -> Result<Sequence<Actual>, CheckError> {
     let mut actuals = Vec::new(asked.alloc);
     for n in nodes {
-        let actual = match evaluate(asked, types, *n, Wanted::Constant, depth)? {
-            Value::Of(id) => Actual::Of(id),
-            Value::Const(constant) => Actual::Const(constant),
-            Value::ConstParam(n, _) => Actual::ConstParam(n),
-            Value::Set(_) => return refuse(Rule::NotType, node_at(asked.tree, *n)?.place),
-        };
-        actuals.push(actual)?;
+        let value = evaluate(asked, types, *n, Wanted::Constant, depth)?;
+        actuals.push(as_actual(value, node_at(asked.tree, *n)?.place)?)?;
     }
     Ok(Sequence::from_vec(actuals))
+}
+
+fn as_actual(value: Value, place: Place) -> Result<Actual, CheckError> {
+    match value {
+        Value::Of(id) => Ok(Actual::Of(id)),
+        Value::Const(constant) => Ok(Actual::Const(constant)),
+        Value::ConstParam(n, _) => Ok(Actual::ConstParam(n)),
+        Value::Set(_) => refuse(Rule::NotType, place),
+    }
 }
 
 /// `a[i]`: an instance of a cluster where `a` is a type, else no constant.

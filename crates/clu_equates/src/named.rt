@@ -9,7 +9,7 @@ use clu_types::{Term, TypeArena};
 use std::alloc::Global;
 
 /// What a name stands for.
-#[derive(Debug, Drop)]
+#[derive(Drop)]
 pub enum Named {
     Value(Value),
     /// A cluster, which is a type with its actual parameters.

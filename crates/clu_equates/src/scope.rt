@@ -12,7 +12,7 @@ use indexmap::IndexMap;
 use std::alloc::Global;
 
 /// What a name denotes. Nodes are numbers of the tree, parameters are numbered from 1.
-#[derive(Clone, Copy, Debug, PartialEq, Eq)]
+#[derive(Clone, Copy)]
 pub enum Means {
     /// The Equate node that defines it.
     Equate(u32),
@@ -29,7 +29,7 @@ pub enum Means {
 }
 
 /// What the unfolding of an equate came to.
-#[derive(Debug, Drop, PartialEq, Eq)]
+#[derive(Drop)]
 pub enum Settled {
     /// A type, a type set or a constant.
     Value(Value),
@@ -40,7 +40,7 @@ pub enum Settled {
 }
 
 /// A name in scope.
-#[derive(Debug, Drop)]
+#[derive(Drop)]
 pub struct Bound {
     pub name: Bytes,
     /// What it denotes.
@@ -54,7 +54,7 @@ pub struct Bound {
 }
 
 /// Names in the order in which they came into scope. The last one of a name hides the others.
-#[derive(Debug, Drop)]
+#[derive(Drop)]
 pub struct Scope {
     names: Vec<Bound>,
     /// For each name the place in the list, from 1, of the last one of that name; 0 if there is none.
@@ -136,9 +136,11 @@ impl Scope {
     /// the equate was not brought into scope.
     pub fn defined_before(&self, name: &Bytes, equate: u32) -> bool {
         match self.find(name) {
-            Some(bound) => {
-                !matches!(bound.means, Means::Module(_)) && bound.means != Means::Equate(equate)
-            }
+            Some(bound) => match bound.means {
+                Means::Module(_) => false,
+                Means::Equate(node) => node != equate,
+                _ => true,
+            },
             None => false,
         }
     }

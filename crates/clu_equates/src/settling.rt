@@ -84,7 +84,7 @@ fn steps_at_most(tree: &Tree) -> u64 {
 }
 
 /// How far an equate is settled.
-#[derive(Clone, Copy, Debug, PartialEq, Eq)]
+#[derive(Clone, Copy)]
 enum State {
     New,
     /// What it names is being settled.
@@ -95,7 +95,7 @@ enum State {
 }
 
 /// An equate that is being settled.
-#[derive(Clone, Copy, Debug)]
+#[derive(Clone, Copy)]
 struct Begun {
     equate: u32,
     /// How many names were noted before its own.
@@ -105,7 +105,7 @@ struct Begun {
 }
 
 /// The settling of the equates from the place `first` on; they are numbered from 0.
-#[derive(Debug, Drop)]
+#[derive(Drop)]
 struct Settling {
     first: usize,
     states: Vec<State>,

@@ -13,7 +13,7 @@ use std::alloc::Global;
 
 /// The lengths of the texts of an arena's types, in bytes, for the types that were asked for so far
 /// and those before them.
-#[derive(Debug, Drop)]
+#[derive(Drop)]
 pub struct TextLengths {
     lengths: Vec<u64>,
 }

@@ -9,7 +9,7 @@ use clu_types::{TypeArena, TypeId};
 use std::alloc::Global;
 
 /// What a type, a type set or a constant expression denotes.
-#[derive(Debug, Drop, PartialEq, Eq)]
+#[derive(Drop)]
 pub enum Value {
     /// A type.
     Of(TypeId),
@@ -34,7 +34,7 @@ impl Value {
 }
 
 /// What is wanted where a name or an expression stands.
-#[derive(Clone, Copy, Debug, PartialEq, Eq)]
+#[derive(Clone, Copy)]
 pub enum Wanted {
     /// A constant, or a type where both may stand: what is none is V8.
     Constant,

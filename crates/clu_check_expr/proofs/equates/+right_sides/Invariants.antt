@@ -12,3 +12,6 @@ decreases-check_inside l = 5 * l.depth + 2
 
 abbrev pub decreases-check_set : goal.decreases-check_set
 decreases-check_set l = 5 * l.depth + 3
+
+abbrev pub decreases-check_part : goal.decreases-check_part
+decreases-check_part l = 5 * l.depth + 1
