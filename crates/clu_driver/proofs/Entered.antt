@@ -6,7 +6,7 @@ use Rattle.clu_base.specs.declared.tokens.Token.{Token}
 use Rattle.clu_library.specs.Contents.{Contents}
 use Rattle.clu_tree.specs.declared.node.Node.{Node}
 use Rattle.clu_driver.specs.Found.{IsFound, IsUnder, NotHad}
-use Rattle.clu_driver.specs.Held.{HasLibrary, IsLibrary, IsUnreadable, NotLibrary}
+use Rattle.clu_driver.specs.Held.{HasLibrary, IsLibraryFile, IsUnreadable, NotLibrary}
 use Rattle.clu_driver.specs.Libraries.{CompileShows, CompiledShows, LinkShows, LinkedShows, NotBeside, NotGathered, SpecifiedShows, SpecifyShows}
 use Rattle.clu_driver.specs.Shows.{Reported}
 use Rattle.clu_driver.specs.declared.specifying.Kept.{Kept}
@@ -22,7 +22,7 @@ not_got (outcome.Refused n r) library file files faults faults' why = elim why [
 not_got _ library file files faults faults' why = why
 
 pub not_source : (how : Outcome) (library file bytes : List ℕ) (files : Option Files) (faults faults' : ℕ)
-    → IsUnder files library IsLibrary → IsFound files file (λ b. b ≡ bytes) → NotSource how file bytes → NotBeside how library file files faults faults'
+    → IsUnder files library IsLibraryFile → IsFound files file (λ b. b ≡ bytes) → NotSource how file bytes → NotBeside how library file files faults faults'
 not_source (outcome.Refused n r) library file bytes files faults faults' known found why = (known, not_parsed (outcome.Refused n r) file bytes files faults faults' found why)
 not_source outcome.Memory library file bytes files faults faults' known found why = tt
 not_source _ library file bytes files faults faults' known found why = elim why [ ]
@@ -60,14 +60,14 @@ link_shows how library program start known kept files read files' faults between
 -- a library or a source that was not got, or is none, is not gathered
 pub not_read : (how : Outcome) (library file bytes : List ℕ) (content : Option (List ℕ)) (files : Option Files) (faults between faults' : ℕ)
     → faults ≤ between → IsUnder files library (λ c. c ≡ content) → IsFound files file (λ b. b ≡ bytes)
-    → IsUnreadable how content ⊎ (IsLibrary content × NotSource how file bytes) → NotGathered how library file files faults faults'
+    → IsUnreadable how content ⊎ (IsLibraryFile content × NotSource how file bytes) → NotGathered how library file files faults faults'
 not_read how library file bytes content files faults between faults' counts held found (inl why) = inl (unreadable how library files faults faults' content held why)
 not_read how library file bytes content files faults between faults' counts held found (inr why) =
-    inr (between, counts, not_source how library file bytes files between faults' (under_with IsLibrary files library content held why.0) found why.1)
+    inr (between, counts, not_source how library file bytes files between faults' (under_with IsLibraryFile files library content held why.0) found why.1)
 
 pub gathered_refused : {X : Type 0} (result : Result X Outcome) (library file bytes : List ℕ) (content : Option (List ℕ)) (files read : Option Files) (faults between faults' : ℕ)
     → read ≡ files → faults ≤ between → IsUnder files library (λ c. c ≡ content) → IsFound read file (λ b. b ≡ bytes)
-    → IfErr result (λ how. IsUnreadable how content ⊎ (IsLibrary content × NotSource how file bytes)) → IfErr result (λ how. NotGathered how library file files faults faults')
+    → IfErr result (λ how. IsUnreadable how content ⊎ (IsLibraryFile content × NotSource how file bytes)) → IfErr result (λ how. NotGathered how library file files faults faults')
 gathered_refused (Ok both) library file bytes content files read faults between faults' same counts held found why = tt
 gathered_refused (Err how) library file bytes content files read faults between faults' same counts held found why =
     let P : Option Files → Type 0 = λ f. IsFound f file (λ b. b ≡ bytes) in

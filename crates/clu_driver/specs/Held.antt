@@ -16,8 +16,8 @@ library_of (Some bytes) = offset_of (length bytes) (library_read bytes)
 abbrev pub IsLibraryOf : Option (List ℕ) → Contents → Type 0
 IsLibraryOf content library = library_of content ≡ Ok (library_seen library)
 
-abbrev pub IsLibrary : Option (List ℕ) → Type 0
-IsLibrary content = (library : Contents) × IsLibraryOf content library
+abbrev pub IsLibraryFile : Option (List ℕ) → Type 0
+IsLibraryFile content = (library : Contents) × IsLibraryOf content library
 
 -- where files are told, this is the library under the name
 abbrev pub HasLibrary : Option Files → List ℕ → Contents → Type 0

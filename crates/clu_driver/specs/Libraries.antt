@@ -12,7 +12,7 @@ use Rattle.clu_tree.specs.Nodes.{modules}
 use Rattle.clu_tree.specs.declared.node.Node.{Node}
 use Rattle.clu_words.specs.Command.{Limits}
 use Rattle.clu_driver.specs.Found.{IsFound, IsUnder}
-use Rattle.clu_driver.specs.Held.{HasLibrary, IsLibrary, NotLibrary}
+use Rattle.clu_driver.specs.Held.{HasLibrary, IsLibraryFile, NotLibrary}
 use Rattle.clu_driver.specs.Puts.{IsPut, NotPut}
 use Rattle.clu_driver.specs.Refusals.{NotEntered, NotLinked, NotSpecified}
 use Rattle.clu_driver.specs.Shows.{RunShows, TextShows}
@@ -24,7 +24,7 @@ use Rattle.clu_driver.specs.declared.specifying.Kept.{Kept}
 
 -- why a source is not read beside a library: its content is not got, or it breaks a rule and the library is one
 abbrev pub NotBeside : Outcome → List ℕ → List ℕ → Option Files → ℕ → ℕ → Type 0
-NotBeside (outcome.Refused n r) library file files faults faults' = IsUnder files library IsLibrary × NotParsed (outcome.Refused n r) file files faults faults'
+NotBeside (outcome.Refused n r) library file files faults faults' = IsUnder files library IsLibraryFile × NotParsed (outcome.Refused n r) file files faults faults'
 NotBeside how library file files faults faults' = NotGot how file files faults faults'
 
 -- why there is no library with a source, of which the library's file is read first
@@ -47,7 +47,7 @@ IsUnwritable _ = ⊥
 -- the bytes of this library were put, which are read again as one, or why they were not
 abbrev pub LibraryShows : Outcome → List ℕ → Contents → Option Files → Option Files → ℕ → ℕ → Type 0
 LibraryShows how name kept files files' faults faults' =
-    (IsUnwritable how × (files' ≡ files)) ⊎ (IsLibrary (Some (library_bytes kept)) × BytesShow how name (library_bytes kept) files files' faults faults')
+    (IsUnwritable how × (files' ≡ files)) ⊎ (IsLibraryFile (Some (library_bytes kept)) × BytesShow how name (library_bytes kept) files files' faults faults')
 
 -- those of some library were
 abbrev pub KeptShows : Outcome → List ℕ → Option Files → Option Files → ℕ → ℕ → Type 0

@@ -2,7 +2,7 @@
 
 ghost use Rattle.std.specs.Prelude.{◌≡◌, ◌≤◌, ◌⊎◌, IfErr, IfOk, length, option_map};
 ghost use Rattle.clu_driver.specs.Found.{IsFound};
-ghost use Rattle.clu_driver.specs.Held.{HasLibrary, IsLibrary, IsLibraryOf, IsUnreadable};
+ghost use Rattle.clu_driver.specs.Held.{HasLibrary, IsLibraryFile, IsLibraryOf, IsUnreadable};
 ghost use Rattle.clu_driver.specs.Libraries.{NotGathered};
 ghost use Rattle.clu_driver.specs.Sources.{IsSource, NotSource};
 
@@ -56,7 +56,7 @@ fn read_both<'a>(
     ensures library { IfOk result (λ g. IsLibraryOf (option_map (λ v. v.items) content) g.library.value) }
     ensures same { IfOk result (λ g. g.source.value.bytes.items ≡ bytes.items) }
     ensures parsed { IfOk result (λ g. IsSource g.source.value.bytes.items g.source.value.tokens.items g.source.value.tree) }
-    ensures refused { IfErr result (λ how. IsUnreadable how (option_map (λ v. v.items) content) ⊎ (IsLibrary (option_map (λ v. v.items) content) × NotSource how name.now bytes.items)) }
+    ensures refused { IfErr result (λ how. IsUnreadable how (option_map (λ v. v.items) content) ⊎ (IsLibraryFile (option_map (λ v. v.items) content) × NotSource how name.now bytes.items)) }
 {
     let library = library_of(alloc, content)?;
     let source = boxed(alloc, name, bytes)?;

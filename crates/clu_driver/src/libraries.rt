@@ -2,7 +2,7 @@
 
 ghost use Rattle.std.specs.Prelude.{◌≡◌, ◌≤◌, IfErr, IfOk, List, OnOk, Option, Some, option_map, ℕ};
 ghost use Rattle.clu_library.specs.LibraryFile.{library_bytes};
-ghost use Rattle.clu_driver.specs.Held.{HasLibrary, IsLibrary, IsLibraryOf, IsUnreadable, NotLibrary};
+ghost use Rattle.clu_driver.specs.Held.{HasLibrary, IsLibraryFile, IsLibraryOf, IsUnreadable, NotLibrary};
 ghost use Rattle.clu_driver.specs.Libraries.{BytesShow, IsUnwritable, LibraryShows};
 ghost use Rattle.clu_driver.specs.Shows.{Reported};
 
@@ -79,7 +79,7 @@ pub fn put_library<E: Sink, F: Store>(
 // The file of a library. No contract shows yet that every library is read again: it is tried.
 fn file_of<'a>(alloc: Global, library: &Library) -> Result<Bytes, Outcome<'a>>
     ensures bytes { IfOk result (λ b. b ≡ library_bytes library.now) }
-    ensures read { OnOk result (IsLibrary (Some (library_bytes library.now))) }
+    ensures read { OnOk result (IsLibraryFile (Some (library_bytes library.now))) }
     ensures refused { IfErr result IsUnwritable }
 {
     match library.write(alloc) {
