@@ -2,7 +2,7 @@
 //! the command that they say.
 #![tactic(auto)]
 
-use clu_base::{Memory, Sink, Source, Store};
+use clu_base::{Memory, Sink};
 use clu_driver::clu;
 use clu_host::{Disk, InputStream, OutputStream};
 use clu_outcome::{Outcome, report};
@@ -17,28 +17,18 @@ fn main(rt: HostRuntime) -> ExitCode {
     let mut output = OutputStream::new(rt.stdout());
     let mut errors = OutputStream::new(rt.stderr());
     let mut files = Disk::new(&rt);
-    ExitCode::from(status(
-        &rt,
-        &mut input,
-        &mut output,
-        &mut errors,
-        &mut files,
-    ))
-}
-
-/// The status of the command that the arguments say. What it works on is lent, since a function that owns it is dear to
-/// prove.
-fn status<R: Env + AllocGlobal, S: Source, K: Sink, E: Sink, F: Store>(
-    rt: &R,
-    input: &mut S,
-    output: &mut K,
-    errors: &mut E,
-    files: &mut F,
-) -> u8 {
-    match words(rt) {
-        Ok(words) => clu(rt.alloc(), &words, input, output, errors, files),
-        Err(Memory) => report(errors, &Outcome::Memory),
-    }
+    let status = match words(&rt) {
+        Ok(words) => clu(
+            rt.alloc(),
+            &words,
+            &mut input,
+            &mut output,
+            &mut errors,
+            &mut files,
+        ),
+        Err(Memory) => report(&mut errors, &Outcome::Memory),
+    };
+    ExitCode::from(status)
 }
 
 /// The program's arguments without its own name. None are handed in where one is not UTF-8.
