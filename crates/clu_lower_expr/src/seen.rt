@@ -57,7 +57,11 @@ fn given(out: &Lowering, param: u32, op: &Bytes) -> Result<Seen, LowerError> {
 }
 
 /// The heading of a routine's type.
-fn copied_heading(alloc: Global, types: &TypeArena, of: TypeId) -> Result<Box<Heading>, LowerError> {
+fn copied_heading(
+    alloc: Global,
+    types: &TypeArena,
+    of: TypeId,
+) -> Result<Box<Heading>, LowerError> {
     match term(types, of)? {
         Term::Proc(heading) => Ok(Box::new(alloc, heading.copy(alloc)?)?),
         Term::Iter(heading) => Ok(Box::new(alloc, heading.copy(alloc)?)?),

@@ -16,15 +16,26 @@ pub(crate) fn combine(
     right: Operand,
     scope: Scope,
 ) -> Result<Operand, SelectError> {
-    if let Operand::Known(word) = right {
-        if let Some((numbered, number)) = with_number(op, word.cast_signed()) {
-            let left = left.register(words, scope.free()?)?;
-            return by_number(words, op, left, numbered, number, scope);
+    match known_number(op, right) {
+        Some((numbered, number)) => {
+            let to = scope.free()?;
+            let left = left.register(words, to)?;
+            by_number(words, op, left, numbered, number, to)
         }
+        None => by_registers(words, op, left, right, &scope),
     }
-    let left = left.register(words, scope.keeping(right).free()?)?;
-    let kept = scope.keeping(Operand::At(left));
-    let right = right.register(words, kept.free()?)?;
+}
+
+/// The same by an instruction on two registers. Words are equal where the difference is 0.
+fn by_registers(
+    words: &mut Words,
+    op: WOp,
+    left: Operand,
+    right: Operand,
+    scope: &Scope,
+) -> Result<Operand, SelectError> {
+    let left = left.register(words, scope.free_beside(right)?)?;
+    let right = right.register(words, scope.free_beside(Operand::At(left))?)?;
     let to = scope.free()?;
     words.three(instruction(op), to, left, right)?;
     if op == WOp::Equal {
@@ -40,9 +51,8 @@ fn by_number(
     left: Register,
     numbered: Op,
     number: i32,
-    scope: Scope,
+    to: Register,
 ) -> Result<Operand, SelectError> {
-    let to = scope.free()?;
     if op != WOp::Equal {
         words.imm(numbered, to, left, number)?;
         return Ok(Operand::At(to));
@@ -54,6 +64,14 @@ fn by_number(
     words.imm(numbered, to, left, number)?;
     words.imm(Op::Sltiu, to, to, 1)?;
     Ok(Operand::At(to))
+}
+
+/// The instruction with a number that does an operation with a right word, if that is known and fits.
+fn known_number(op: WOp, right: Operand) -> Option<(Op, i32)> {
+    match right {
+        Operand::Known(word) => with_number(op, word.cast_signed()),
+        Operand::At(_) => None,
+    }
 }
 
 /// The instruction with a number, and this number, that does an operation with a known right word; of Equal the difference.

@@ -59,28 +59,25 @@ impl Scope {
     }
 
     /// The first register of work that may change.
-    pub fn free(self) -> Result<Register, SelectError> {
-        for register in WORK {
-            if self.kept & bit(register) == 0 {
-                return Ok(register);
-            }
-        }
-        Err(SelectError::NotYet)
+    pub fn free(&self) -> Result<Register, SelectError> {
+        first_free(self.kept)
+    }
+
+    /// The same, where the register of a word is to be left too.
+    pub fn free_beside(&self, operand: Operand) -> Result<Register, SelectError> {
+        first_free(self.kept | bit_of(operand))
     }
 
     /// The same, where the register of a word is to be left too.
     pub fn keeping(self, operand: Operand) -> Scope {
-        match operand {
-            Operand::At(register) => Scope {
-                kept: self.kept | bit(register),
-                ..self
-            },
-            Operand::Known(_) => self,
+        Scope {
+            kept: self.kept | bit_of(operand),
+            ..self
         }
     }
 
     /// The word that is bound by this number.
-    pub fn bound(self, number: u32) -> Result<Operand, SelectError> {
+    pub fn bound(&self, number: u32) -> Result<Operand, SelectError> {
         match self.bound.get(number as usize) {
             Some(operand) => Ok(*operand),
             None => Err(SelectError::NotYet),
@@ -102,6 +99,24 @@ impl Scope {
             }
             None => Err(SelectError::NotYet),
         }
+    }
+}
+
+/// The first register of work whose bit is not in the set.
+fn first_free(kept: u32) -> Result<Register, SelectError> {
+    for register in WORK {
+        if kept & bit(register) == 0 {
+            return Ok(register);
+        }
+    }
+    Err(SelectError::NotYet)
+}
+
+/// The bit of the register that holds a word, if one does.
+fn bit_of(operand: Operand) -> u32 {
+    match operand {
+        Operand::At(register) => bit(register),
+        Operand::Known(_) => 0,
     }
 }
 
