@@ -275,19 +275,20 @@ impl Made {
     /// `arm NAME SLOT ..`, where `*` is an arm for all names.
     fn arm(&mut self, item: &str) -> Result<(), Fail> {
         let name = item.split(' ').nth(1).ok_or("no name")?;
-        let mut names = Vec::new(self.alloc);
-        if name != "*" {
-            names.push(Bytes::from_slice(self.alloc, name.as_bytes())?)?;
-        }
+        let names = arm_names(self.alloc, name)?;
         let slots = self.slots(item, 2)?;
         let body = self.list()?;
-        self.count(1);
-        self.arms.push(WArm {
+        self.put_arm(WArm {
             names,
             others: name == "*",
             slots,
             body,
-        })?;
+        })
+    }
+
+    fn put_arm(&mut self, arm: WArm) -> Result<(), Fail> {
+        self.count(1);
+        self.arms.push(arm)?;
         Ok(())
     }
 
@@ -321,6 +322,15 @@ fn put_slots(slots: &mut Vec<u32>, item: &str, place: usize) -> Result<(), Fail>
         slots.push(small(number(word)))?;
     }
     Ok(())
+}
+
+/// The name of an arm, or no name where it is for all.
+fn arm_names(alloc: Global, name: &str) -> Result<Vec<Bytes>, Fail> {
+    let mut names = Vec::new(alloc);
+    if name != "*" {
+        names.push(Bytes::from_slice(alloc, name.as_bytes())?)?;
+    }
+    Ok(names)
 }
 
 /// Appends the words of a text after the first one.
