@@ -1,5 +1,5 @@
-//! Tests of the back end's forms of code: word code, flat code, objects, regions, the selection of instructions and the
-//! machine that runs them. It has tests alone, so that no crate below is proved twice.
+//! Tests of the back end's forms of code: word code, flat code, shorter flat code, objects, regions, the selection of
+//! instructions and the machine that runs them. It has tests alone, so that no crate below is proved twice.
 #![tactic(auto)]
 
 #[cfg(test)]
@@ -26,6 +26,12 @@ mod machine_rows;
 mod machine_tests;
 #[cfg(test)]
 mod object_tests;
+#[cfg(test)]
+mod peep_rows;
+#[cfg(test)]
+mod peep_tests;
+#[cfg(test)]
+mod peep_text;
 #[cfg(test)]
 mod program;
 #[cfg(test)]

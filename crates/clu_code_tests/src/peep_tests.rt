@@ -1,7 +1,7 @@
 //! Flat code that is shortened, reckoned by hand.
 
 use crate::peep_rows::{COUNT, ROWS};
-use crate::text::{add_region, put_step};
+use crate::peep_text::{add_region, put_step};
 use clu_base::{Bytes, Memory};
 use clu_frames::{Flat, FlatRoutine};
 use clu_handlers::{Region, Regions};

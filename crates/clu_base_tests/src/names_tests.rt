@@ -2,7 +2,7 @@
 
 use crate::bindings::{parsed, told};
 use crate::guards::{self, surroundings};
-use crate::rows;
+use crate::names_rows;
 use std::alloc::Global;
 use std::test::Fail;
 
