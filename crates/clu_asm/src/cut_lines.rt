@@ -11,7 +11,7 @@ use itoa::Buffer;
 use rv_isa::decode;
 
 /// What can stand in the place of an operand.
-#[derive(Clone, Copy, Debug, PartialEq, Eq)]
+#[derive(Clone, Copy, PartialEq, Eq)]
 pub(crate) enum Kind {
     Register,
     Immediate,
@@ -23,7 +23,7 @@ pub(crate) enum Kind {
 }
 
 /// Numbers: so many of them, so far apart, the lowest `-low`.
-#[derive(Clone, Copy, Debug)]
+#[derive(Clone, Copy)]
 struct Range {
     count: u32,
     step: u32,

@@ -181,7 +181,7 @@ fn read_rows<'a>(
 }
 
 /// Which lines can come next.
-#[derive(Clone, Copy, Debug)]
+#[derive(Clone, Copy)]
 struct Next {
     code: bool,
     fixed: bool,

@@ -8,7 +8,7 @@ use crate::errors::Memory;
 use std::alloc::Global;
 
 /// A constant value.
-#[derive(Debug, Drop, PartialEq, Eq, Hash)]
+#[derive(Drop, PartialEq, Eq, Hash)]
 pub enum Const {
     Null,
     Bool(bool),
@@ -33,7 +33,7 @@ impl Const {
 }
 
 /// A constant as the code of a parameterized module names it.
-#[derive(Debug, Drop, PartialEq, Eq, Hash)]
+#[derive(Drop, PartialEq, Eq, Hash)]
 pub enum ObjConst {
     Value(Const),
     /// The module's constant parameter of this number, from 1.

@@ -90,7 +90,7 @@ fn first_bytes(alloc: Global, bytes: &[u8], most: usize) -> Result<Vec<u8>, Stor
 }
 
 /// A store in memory, which fails at chosen calls.
-#[derive(Debug, Drop)]
+#[derive(Drop)]
 pub struct MemStore {
     files: BTreeMap<String, Vec<u8>>,
     failing: Vec<u64>,

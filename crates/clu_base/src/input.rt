@@ -30,7 +30,7 @@ pub trait Source {
 }
 
 /// A source over bytes in memory, which gives them in pieces and fails at chosen calls.
-#[derive(Debug, Drop)]
+#[derive(Drop)]
 pub struct MemSource {
     bytes: Bytes,
     at: usize,

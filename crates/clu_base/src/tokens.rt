@@ -29,7 +29,7 @@ pub enum Kind {
 }
 
 /// A token: the bytes of the source from `start` up to and not including `end`.
-#[derive(Clone, Copy, Debug, PartialEq, Eq)]
+#[derive(Clone, Copy, PartialEq, Eq)]
 pub struct Token {
     pub kind: Kind,
     pub start: u32,

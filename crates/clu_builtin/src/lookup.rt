@@ -20,7 +20,7 @@ use clu_types::{Field, Heading, Term, TypeArena, TypeId};
 use std::alloc::Global;
 
 /// A built-in operation of a type: procedure or iterator, its heading, and what it needs of the types of the parts.
-#[derive(Debug, Drop, PartialEq, Eq)]
+#[derive(Drop, PartialEq, Eq)]
 pub struct Builtin {
     pub iter: bool,
     pub heading: Heading,
@@ -84,7 +84,7 @@ pub fn heading(
 
 /// Of a type with components: the row of the selector that the operation is for, if there is one, with the
 /// selector's type; and the types of all components.
-#[derive(Debug, Drop)]
+#[derive(Drop)]
 struct Components {
     chosen: Option<(Row, TypeId)>,
     parts: Sequence<TypeId>,

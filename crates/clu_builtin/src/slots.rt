@@ -10,7 +10,7 @@ use clu_types::{Exception, Heading, Term, TypeArena, TypeId};
 use std::alloc::Global;
 
 /// The numbers of the types that a row may name.
-#[derive(Clone, Copy, Debug)]
+#[derive(Clone, Copy)]
 pub struct Slots {
     pub own: TypeId,
     pub part: TypeId,

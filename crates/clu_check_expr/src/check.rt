@@ -13,7 +13,7 @@ use indexmap::IndexSet;
 pub const DEPTH: u32 = 201;
 
 /// Where a call stands.
-#[derive(Clone, Copy, Debug, PartialEq, Eq)]
+#[derive(Clone, Copy, PartialEq, Eq)]
 pub enum CallUse {
     /// It is a statement: any number of results.
     Statement,

@@ -10,7 +10,7 @@ use clu_types::{Spec, TypeArena, TypeId};
 use std::alloc::Global;
 
 /// A file with what its check found.
-#[derive(Debug, Drop)]
+#[derive(Drop)]
 pub struct Checked {
     pub tree: Tree,
     pub types: TypeArena,
@@ -30,7 +30,7 @@ pub struct Checked {
 }
 
 /// Why there is no checked file; the tree is handed back.
-#[derive(Debug, Drop)]
+#[derive(Drop)]
 pub enum CoreError {
     Memory(Tree),
 }

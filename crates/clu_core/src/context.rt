@@ -9,7 +9,7 @@ use indexmap::{IndexMap, IndexSet};
 use std::alloc::Global;
 
 /// A demand that an `in` clause alone makes.
-#[derive(Debug, Drop, PartialEq, Eq, Hash)]
+#[derive(Drop, PartialEq, Eq, Hash)]
 pub struct SetDemand {
     /// The module that makes it.
     pub module: Bytes,
@@ -22,7 +22,7 @@ pub struct SetDemand {
 }
 
 /// What the rules at a node ask. The tree stands beside it.
-#[derive(Debug, Drop)]
+#[derive(Drop)]
 pub struct Context {
     pub alloc: Global,
     pub types: TypeArena,

@@ -7,7 +7,7 @@ use clu_types::{Actual, TypeId};
 use std::alloc::Global;
 
 /// Which operation a name, an operator or an invocation stands for.
-#[derive(Debug, Drop, PartialEq, Eq)]
+#[derive(Drop, PartialEq, Eq)]
 pub enum OpRef {
     /// An operation of a built-in type.
     Builtin(TypeId, Bytes),

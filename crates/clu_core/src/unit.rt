@@ -5,7 +5,7 @@ use clu_types::{Demand, Heading, ParamKind, Spec, TypeId};
 use std::alloc::Global;
 
 /// The module whose text is checked.
-#[derive(Debug, Drop)]
+#[derive(Drop)]
 pub struct Unit {
     pub name: Bytes,
     /// The kinds of its parameters.
@@ -31,7 +31,7 @@ impl Unit {
 }
 
 /// The cluster round the node.
-#[derive(Debug, Drop)]
+#[derive(Drop)]
 pub struct ClusterUnit {
     /// Its type, with its own parameters as actuals.
     pub own: TypeId,
@@ -43,7 +43,7 @@ pub struct ClusterUnit {
 }
 
 /// The routine round the node.
-#[derive(Debug, Drop)]
+#[derive(Drop)]
 pub struct RoutineUnit {
     pub iter: bool,
     /// Its heading as its body sees it: `cvt` is `rep`. The types are of the context's arena.

@@ -67,7 +67,7 @@ const _: () = prove!(FOOT <= 16);
 pub const OUTER_MARK: u32 = 3;
 
 /// A routine in flat code.
-#[derive(Debug, Drop)]
+#[derive(Drop)]
 pub struct FlatRoutine {
     pub name: Bytes,
     /// How many slots its frame has.

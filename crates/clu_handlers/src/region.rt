@@ -7,7 +7,7 @@ use clu_base::Bytes;
 use clu_wir::Arm;
 
 /// The places of a routine's code from `first` to `last`, both of them in it, whose exceptions its arms handle.
-#[derive(Debug, Drop)]
+#[derive(Drop)]
 pub struct Region {
     pub first: u32,
     pub last: u32,
@@ -18,14 +18,14 @@ pub struct Region {
 }
 
 /// An arm, by the numbers of its region and of it among the region's arms.
-#[derive(Clone, Copy, Debug, PartialEq, Eq)]
+#[derive(Clone, Copy, PartialEq, Eq)]
 pub struct Found {
     pub region: u32,
     pub arm: u32,
 }
 
 /// A place from which on another region may be the innermost.
-#[derive(Clone, Copy, Debug, PartialEq, Eq)]
+#[derive(Clone, Copy, PartialEq, Eq)]
 pub struct Cut {
     pub from: u32,
     /// The number of the innermost region from there on, or `NO_REGION`.

@@ -12,7 +12,7 @@ use std::alloc::Global;
 use std::marker::Model;
 
 /// The regions of a routine, each before those inside it. A region has a number, which counts from 0.
-#[derive(Debug, Drop)]
+#[derive(Drop)]
 pub struct Regions {
     items: Vec<Region>,
 }

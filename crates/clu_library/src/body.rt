@@ -10,7 +10,7 @@ use clu_object::Object;
 use std::alloc::Global;
 
 /// The text of a module, and what was made of it.
-#[derive(Debug, Drop)]
+#[derive(Drop)]
 pub struct Body {
     /// The slice of the source file from the module's first token to its last.
     pub text: Bytes,
@@ -22,7 +22,7 @@ pub struct Body {
 }
 
 /// A body with the name of its module.
-#[derive(Debug, Drop)]
+#[derive(Drop)]
 pub struct ModuleBody {
     pub name: Bytes,
     pub body: Body,
@@ -37,7 +37,7 @@ impl Named for ModuleBody {
 }
 
 /// The revision at which the specification of a module was replaced last.
-#[derive(Debug, Drop)]
+#[derive(Drop)]
 pub struct Change {
     pub name: Bytes,
     pub revision: u32,

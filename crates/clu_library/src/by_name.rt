@@ -24,7 +24,7 @@ pub trait Named {
 }
 
 /// Items of differing names, in ascending order of these.
-#[derive(Debug, Drop)]
+#[derive(Drop)]
 pub struct ByName<T: Named> {
     pub(crate) items: Vec<T>,
 }

@@ -18,7 +18,7 @@ use std::alloc::Global;
 /// For each kept module the latest revision at which a module was replaced that its specification leads to, or it itself.
 /// That these are bounds, and that each is reached, is asked of the table when it is made, so nothing rests on how it is
 /// made.
-#[derive(Debug, Drop)]
+#[derive(Drop)]
 pub struct Latest {
     table: Table,
     are_bounds: bool,
@@ -26,7 +26,7 @@ pub struct Latest {
 }
 
 /// Modules are numbered in ascending order of their names.
-#[derive(Debug, Drop)]
+#[derive(Drop)]
 pub struct Table {
     modules: IndexSet<Bytes>,
     /// The modules whose specifications name the module.

@@ -19,7 +19,7 @@ use std::marker::Model;
 pub const LIMIT: u32 = 4096;
 
 /// What is kept of modules, and programs.
-#[derive(Debug, Drop)]
+#[derive(Drop)]
 pub struct Library {
     pub(crate) revision: u32,
     pub(crate) specs: Specs,

@@ -11,7 +11,7 @@ use indexmap::IndexSet;
 use rv_isa::Image;
 
 /// A program.
-#[derive(Debug, Drop)]
+#[derive(Drop)]
 pub struct Program {
     /// Its name, of 1 to 200 bytes.
     pub name: Bytes,

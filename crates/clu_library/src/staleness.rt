@@ -20,7 +20,7 @@ use indexmap::IndexSet;
 use std::alloc::Global;
 
 /// Why a body is stale.
-#[derive(Debug, Drop, PartialEq, Eq)]
+#[derive(Drop, PartialEq, Eq)]
 pub struct StaleBy {
     /// The least name of a module that the body rests on and whose specification was replaced after the body was checked.
     pub by: Bytes,

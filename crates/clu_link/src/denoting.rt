@@ -18,7 +18,7 @@ use clu_types::{Actual, ParamKind, Term, TypeArena, TypeId};
 use std::alloc::Global;
 
 /// A use that denotes something.
-#[derive(Debug, Drop)]
+#[derive(Drop)]
 pub enum Use {
     /// A routine of a module, the setting up of a cluster's own variables, or an operation that uses others: one that is
     /// defined by a text, or uses those of its type's components.
@@ -28,14 +28,14 @@ pub enum Use {
 }
 
 /// Which of the two a use is.
-#[derive(Clone, Copy, Debug, PartialEq, Eq)]
+#[derive(Clone, Copy, PartialEq, Eq)]
 enum Sort {
     Instance,
     Operation,
 }
 
 /// Whether it is asked that the operations are there which a built-in operation needs.
-#[derive(Clone, Copy, Debug, PartialEq, Eq)]
+#[derive(Clone, Copy, PartialEq, Eq)]
 pub enum Needs {
     Asked,
     /// It was asked of the operation whose code has the use, and that needs no less.

@@ -24,7 +24,7 @@ use std::alloc::Global;
 use std::boxed::Box;
 
 /// A program that was linked.
-#[derive(Debug, Drop)]
+#[derive(Drop)]
 pub struct Linked {
     pub image: Image,
     /// The modules whose bodies it has, ascending.
@@ -32,7 +32,7 @@ pub struct Linked {
 }
 
 /// A program that was linked, with the map by which a run of it is traced.
-#[derive(Debug, Drop)]
+#[derive(Drop)]
 pub struct Traced {
     pub linked: Linked,
     pub map: TraceMap,

@@ -4,7 +4,7 @@ use clu_base::{Bytes, Sequence};
 use clu_types::{Actual, TypeId};
 
 /// A routine with all that it is applied to: what a use names, as a key of tables.
-#[derive(Debug, Drop, PartialEq, Eq, Hash)]
+#[derive(Drop, PartialEq, Eq, Hash)]
 pub enum Member {
     /// A module that is a routine, with its actual parameters.
     Module(Bytes, Sequence<Actual>),

@@ -8,7 +8,7 @@ use clu_types::{Term, TypeArena, TypeId};
 use std::alloc::Global;
 
 /// The kinds of types whose operations have a code each.
-#[derive(Clone, Copy, Debug, PartialEq, Eq, Hash)]
+#[derive(Clone, Copy, PartialEq, Eq, Hash)]
 pub enum Family {
     Null,
     Bool,
@@ -28,7 +28,7 @@ pub enum Family {
 }
 
 /// A code by the kind of its type and its name there.
-#[derive(Debug, Drop, PartialEq, Eq, Hash)]
+#[derive(Drop, PartialEq, Eq, Hash)]
 pub struct CodeName {
     pub family: Family,
     pub name: Bytes,

@@ -12,7 +12,7 @@ use std::alloc::Global;
 pub const SET_UP: &[u8] = b"own";
 
 /// A routine of a module with its actual parameters.
-#[derive(Debug, Drop)]
+#[derive(Drop)]
 pub struct Kept {
     pub module: Bytes,
     pub routine: Bytes,
@@ -22,7 +22,7 @@ pub struct Kept {
 }
 
 /// Where the code of an instance comes from.
-#[derive(Debug, Drop)]
+#[derive(Drop)]
 pub enum Origin {
     /// From what is kept of a module.
     Module(Kept),

@@ -11,7 +11,7 @@ use std::alloc::Global;
 const BASE: u64 = 0x10000;
 
 /// Addresses of the parts of a program.
-#[derive(Debug, Drop)]
+#[derive(Drop)]
 pub struct Places {
     /// For each code that of its first word.
     pub codes: Vec<u64>,

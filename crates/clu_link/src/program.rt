@@ -8,7 +8,7 @@ use clu_types::{Actual, TypeArena, TypeId};
 use indexmap::IndexSet;
 
 /// Code that stands once in a program.
-#[derive(Debug, Drop)]
+#[derive(Drop)]
 pub enum Code<'a> {
     /// That of a module's routine, as the library keeps it.
     Kept(&'a ObjRoutine),
@@ -26,7 +26,7 @@ impl Code<'_> {
 }
 
 /// What has a descriptor and a link table.
-#[derive(Debug, Drop)]
+#[derive(Drop)]
 pub struct Callable {
     /// The number of its code.
     pub code: usize,
@@ -43,7 +43,7 @@ pub struct Callable {
 }
 
 /// A program before its parts have addresses.
-#[derive(Debug, Drop)]
+#[derive(Drop)]
 pub struct Program<'a> {
     pub types: TypeArena,
     /// The start part, the search part, the routines of modules and the operations.

@@ -30,7 +30,7 @@ use std::boxed::Box;
 const MAX_INSTANCES: usize = 4096;
 
 /// A routine whose code stands once in a program, whatever its instances.
-#[derive(Debug, Drop, PartialEq, Eq, Hash)]
+#[derive(Drop, PartialEq, Eq, Hash)]
 pub enum RoutineName {
     /// A routine of a module.
     Kept(Bytes, Bytes),
@@ -41,7 +41,7 @@ pub enum RoutineName {
 }
 
 /// What a use comes to.
-#[derive(Clone, Copy, Debug, PartialEq, Eq)]
+#[derive(Clone, Copy, PartialEq, Eq)]
 pub enum Callee {
     /// The instance of this number.
     Instance(usize),
@@ -50,7 +50,7 @@ pub enum Callee {
 }
 
 /// A routine with its actual parameters.
-#[derive(Debug, Drop)]
+#[derive(Drop)]
 pub struct Instance {
     /// The number of its routine.
     pub routine: usize,
@@ -63,7 +63,7 @@ pub struct Instance {
 }
 
 /// What a program consists of.
-#[derive(Debug, Drop)]
+#[derive(Drop)]
 pub struct Reached<'a> {
     /// The types that uses name.
     pub types: TypeArena,

@@ -17,7 +17,7 @@ pub const FAILURE: &[u8] = b"failure";
 pub const UNHANDLED: &[u8] = b"unhandled exception: ";
 
 /// The word of a constant.
-#[derive(Clone, Copy, Debug, PartialEq, Eq)]
+#[derive(Clone, Copy, PartialEq, Eq)]
 pub enum Cell {
     /// This word.
     Word(u64),
@@ -26,14 +26,14 @@ pub enum Cell {
 }
 
 /// The strings of a trap, by their numbers.
-#[derive(Clone, Copy, Debug)]
+#[derive(Clone, Copy)]
 pub struct TrapTexts {
     pub name: usize,
     pub object: Option<usize>,
 }
 
 /// The strings of a program, and the constants of its code.
-#[derive(Debug, Drop)]
+#[derive(Drop)]
 pub struct Texts {
     /// Each string once, in the order in which it is met first.
     pub strings: IndexSet<Bytes>,

@@ -8,7 +8,7 @@ use indexmap::IndexSet;
 use std::alloc::Global;
 
 /// Whose an own variable is.
-#[derive(Clone, Copy, Debug, PartialEq, Eq, Hash)]
+#[derive(Clone, Copy, PartialEq, Eq, Hash)]
 pub enum Owner {
     /// A routine's: the instance of this number.
     Routine(usize),
@@ -19,7 +19,7 @@ pub enum Owner {
 }
 
 /// An own variable, by its owner and its number there.
-#[derive(Clone, Copy, Debug, PartialEq, Eq, Hash)]
+#[derive(Clone, Copy, PartialEq, Eq, Hash)]
 pub struct Variable {
     pub owner: Owner,
     pub number: u32,

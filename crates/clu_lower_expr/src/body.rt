@@ -10,7 +10,7 @@ use indexmap::IndexMap;
 use std::alloc::Global;
 
 /// An own variable: its kind and number in the link table.
-#[derive(Clone, Copy, Debug, PartialEq, Eq)]
+#[derive(Clone, Copy, PartialEq, Eq)]
 pub struct OwnVariable {
     pub kind: HoleKind,
     pub number: u32,
@@ -19,7 +19,7 @@ pub struct OwnVariable {
 }
 
 /// An arm round a statement, as an exit sees it.
-#[derive(Debug, Drop)]
+#[derive(Drop)]
 pub struct OpenArm {
     /// The names by which an exit goes to it.
     pub names: Vec<Bytes>,
@@ -30,7 +30,7 @@ pub struct OpenArm {
 }
 
 /// Where an arm is: how many guards are inside of its own, and its number in that guard.
-#[derive(Clone, Copy, Debug, PartialEq, Eq)]
+#[derive(Clone, Copy, PartialEq, Eq)]
 pub struct ArmPlace {
     pub inside: u32,
     pub arm: u32,

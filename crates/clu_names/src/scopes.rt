@@ -8,7 +8,7 @@ use clu_syntax::Round;
 use clu_tree::{NodeKind, Tree};
 
 /// A declared name with its scope.
-#[derive(Debug, Drop)]
+#[derive(Drop)]
 pub struct Declared {
     pub name: Bytes,
     /// The node that declares it. Of a module it is the Routine or Cluster, of the variable of a type set or an arm the

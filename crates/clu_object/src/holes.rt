@@ -42,7 +42,7 @@ fn are_holes(code: &[u32], holes: &[Hole]) -> bool
 }
 
 /// How many items of each kind that is counted a routine has.
-#[derive(Clone, Copy, Debug)]
+#[derive(Clone, Copy)]
 struct Counts {
     uses: usize,
     constants: usize,

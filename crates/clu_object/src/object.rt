@@ -4,7 +4,7 @@ use clu_base::{Bytes, ObjConst, Sequence};
 use clu_wir::Arm;
 
 /// The code of a module.
-#[derive(Debug, Drop, PartialEq, Eq)]
+#[derive(Drop, PartialEq, Eq)]
 pub struct Object {
     /// The module's name.
     pub module: Bytes,
@@ -12,7 +12,7 @@ pub struct Object {
 }
 
 /// The code of a routine. Its words stand once in an image, whatever its instances.
-#[derive(Debug, Drop, PartialEq, Eq)]
+#[derive(Drop, PartialEq, Eq)]
 pub struct ObjRoutine {
     /// The routine's name; `own` for the setting up of a cluster's own variables.
     pub name: Bytes,
@@ -33,7 +33,7 @@ pub struct ObjRoutine {
 }
 
 /// A LUI and after it an ADDI of the same register, which are to give a number that the linker knows.
-#[derive(Clone, Copy, Debug, PartialEq, Eq)]
+#[derive(Clone, Copy, PartialEq, Eq)]
 pub struct Hole {
     /// The code word of the LUI, counted from 0.
     pub at: u32,
@@ -44,7 +44,7 @@ pub struct Hole {
 }
 
 /// A part of a routine's code in which arms handle what is raised.
-#[derive(Debug, Drop, PartialEq, Eq)]
+#[derive(Drop, PartialEq, Eq)]
 pub struct Region {
     /// Its first code word, counted from 0.
     pub first: u32,

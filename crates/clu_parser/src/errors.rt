@@ -26,7 +26,7 @@ impl From<Memory> for ParseError {
 }
 
 /// Why reading stopped.
-#[derive(Clone, Copy, Debug, PartialEq, Eq)]
+#[derive(Clone, Copy, PartialEq, Eq)]
 pub enum ReadError {
     /// The symbols before the one of this number begin a file, and with it they begin none.
     Syntax(usize),

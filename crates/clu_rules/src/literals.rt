@@ -8,7 +8,7 @@ use clu_tree::Node;
 const GREATEST: &[u8; 19] = b"9223372036854775807";
 
 /// What a literal is, by its spelling.
-#[derive(Clone, Copy, Debug, PartialEq, Eq)]
+#[derive(Clone, Copy, PartialEq, Eq)]
 pub enum LiteralKind {
     Nil,
     Truth,

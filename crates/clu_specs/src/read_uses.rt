@@ -19,7 +19,7 @@ use clu_types::{Actual, Term, TypeArena, TypeId};
 use std::alloc::Global;
 
 /// What a use names.
-#[derive(Debug, Drop)]
+#[derive(Drop)]
 pub enum Target {
     /// A module that is a routine, with its actual parameters.
     Module(Bytes, Sequence<Actual>),

@@ -121,7 +121,7 @@ pub enum TypeExpression<'a> {
 }
 
 /// An actual parameter, or the right side of an equate.
-#[derive(Clone, Copy, Debug)]
+#[derive(Clone, Copy)]
 pub enum Constant {
     Expression(u32),
     Type(u32),

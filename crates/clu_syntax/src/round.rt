@@ -22,7 +22,7 @@ pub enum Role {
 
 /// What surrounds a node of a tree. Nodes are given by their numbers. Nodes come after their children, in the order of
 /// the text, so what stands in a body is a range of numbers.
-#[derive(Clone, Copy, Debug)]
+#[derive(Clone, Copy)]
 pub struct Round {
     /// The node whose child it is.
     pub parent: Option<u32>,

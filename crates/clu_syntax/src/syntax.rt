@@ -22,7 +22,7 @@ use clu_tree::{Node, NodeKind, Tree};
 use std::marker::Model;
 
 /// A tree whose nodes are made as the grammar says, like each tree that was parsed.
-#[derive(Debug, Drop)]
+#[derive(Drop)]
 pub struct Syntax {
     tree: Tree,
 }

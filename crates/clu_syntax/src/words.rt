@@ -7,7 +7,7 @@ use clu_base::Kind;
 use clu_lexer::{Symbol, symbol_of};
 
 /// The infix operators (CLU Reference Manual, section 10.15).
-#[derive(Clone, Copy, Debug, PartialEq, Eq)]
+#[derive(Clone, Copy, PartialEq, Eq)]
 pub enum Operator {
     /// `**`
     Power,
@@ -54,7 +54,7 @@ pub enum Operator {
 }
 
 /// The prefix operators.
-#[derive(Clone, Copy, Debug, PartialEq, Eq)]
+#[derive(Clone, Copy, PartialEq, Eq)]
 pub enum Sign {
     /// `~`
     Not,
@@ -63,7 +63,7 @@ pub enum Sign {
 }
 
 /// The types that are one word.
-#[derive(Clone, Copy, Debug, PartialEq, Eq)]
+#[derive(Clone, Copy, PartialEq, Eq)]
 pub enum SimpleType {
     Null,
     Bool,
@@ -79,14 +79,14 @@ pub enum SimpleType {
 }
 
 /// The types that are made of one other.
-#[derive(Clone, Copy, Debug, PartialEq, Eq)]
+#[derive(Clone, Copy, PartialEq, Eq)]
 pub enum ListType {
     Array,
     Sequence,
 }
 
 /// The types that are made of selectors with their types.
-#[derive(Clone, Copy, Debug, PartialEq, Eq)]
+#[derive(Clone, Copy, PartialEq, Eq)]
 pub enum FieldsType {
     Record,
     Struct,
@@ -95,7 +95,7 @@ pub enum FieldsType {
 }
 
 /// What a routine or a type of routines is.
-#[derive(Clone, Copy, Debug, PartialEq, Eq)]
+#[derive(Clone, Copy, PartialEq, Eq)]
 pub enum RoutineKind {
     /// `proc`, `proctype`
     Procedure,
@@ -104,7 +104,7 @@ pub enum RoutineKind {
 }
 
 /// A literal; a number, character or string as it is spelled.
-#[derive(Clone, Copy, Debug)]
+#[derive(Clone, Copy)]
 pub enum Literal<'a> {
     Nil,
     True,

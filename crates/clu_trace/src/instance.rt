@@ -3,7 +3,7 @@
 use clu_base::Sequence;
 
 /// An instance of a program.
-#[derive(Debug, Drop)]
+#[derive(Drop)]
 pub struct Instance {
     /// The address of its link table, which no other has.
     pub table: u64,

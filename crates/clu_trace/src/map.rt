@@ -13,7 +13,7 @@ use rv_isa::Image;
 const CODE_START: u64 = 0x1_0000;
 
 /// The entry of a program's search part, its instances and their names.
-#[derive(Debug, Drop)]
+#[derive(Drop)]
 pub struct TraceMap {
     /// The address of the word where the part of the runtime that searches for arms is entered.
     pub search: u64,

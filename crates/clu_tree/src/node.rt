@@ -124,7 +124,7 @@ pub enum NodeKind {
 }
 
 /// A node of a syntax tree. Nodes are named by their numbers in the tree.
-#[derive(Debug, Drop)]
+#[derive(Drop)]
 pub struct Node {
     pub kind: NodeKind,
     /// Where a fault at this node is reported.

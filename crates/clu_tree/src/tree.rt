@@ -11,7 +11,7 @@ use std::marker::Model;
 
 /// A list of nodes in which each child comes before its parent and no node has two parents.
 /// Nodes are named by their numbers, from 0.
-#[derive(Debug, Drop)]
+#[derive(Drop)]
 pub struct Tree {
     nodes: Vec<Node>,
     counts: Vec<u32>,

@@ -5,7 +5,7 @@ use crate::term::{Heading, TypeId};
 use clu_base::{Bytes, Sequence};
 
 /// What an actual parameter of a module is: a type, or a constant of this type.
-#[derive(Clone, Copy, Debug, PartialEq, Eq)]
+#[derive(Clone, Copy, PartialEq, Eq)]
 pub enum ParamKind {
     OfType,
     Null,
@@ -16,7 +16,7 @@ pub enum ParamKind {
 }
 
 /// What a where clause asks of a type parameter, numbered from 1: an operation of this name and type.
-#[derive(Debug, Drop, PartialEq, Eq)]
+#[derive(Drop, PartialEq, Eq)]
 pub struct Demand {
     pub param: u32,
     pub op: Bytes,
@@ -24,7 +24,7 @@ pub struct Demand {
 }
 
 /// A procedure or an iterator, alone or as an operation of a cluster, with its own demands.
-#[derive(Debug, Drop, PartialEq, Eq)]
+#[derive(Drop, PartialEq, Eq)]
 pub struct OpSpec {
     pub name: Bytes,
     pub iter: bool,
@@ -33,14 +33,14 @@ pub struct OpSpec {
 }
 
 /// What a module is: one routine, or a cluster with its demands and its exported operations.
-#[derive(Debug, Drop, PartialEq, Eq)]
+#[derive(Drop, PartialEq, Eq)]
 pub enum Form {
     Routine(OpSpec),
     Cluster(Sequence<Demand>, Sequence<OpSpec>),
 }
 
 /// The specification of a module (CLU Reference Manual, section 4). The types that it names are in an arena of its own.
-#[derive(Debug, Drop)]
+#[derive(Drop)]
 pub struct Spec {
     pub name: Bytes,
     pub kinds: Sequence<ParamKind>,

@@ -13,7 +13,7 @@ use std::cmp::Ordering;
 use std::marker::Model;
 
 /// Specifications of differing names, in ascending order of these.
-#[derive(Debug, Drop)]
+#[derive(Drop)]
 pub struct Specs {
     items: Vec<Spec>,
 }

@@ -3,25 +3,25 @@
 use clu_base::{Bytes, Const, Sequence};
 
 /// The number of a type in its arena.
-#[derive(Clone, Copy, Debug, PartialEq, Eq, Hash)]
+#[derive(Clone, Copy, PartialEq, Eq, Hash)]
 pub struct TypeId(pub u64);
 
 /// A component of a record or struct, or a tag of a oneof or variant, with its type.
-#[derive(Debug, Drop, PartialEq, Eq, Hash)]
+#[derive(Drop, PartialEq, Eq, Hash)]
 pub struct Field {
     pub name: Bytes,
     pub of: TypeId,
 }
 
 /// An exception that a routine may signal, with the types of its objects.
-#[derive(Debug, Drop, PartialEq, Eq, Hash)]
+#[derive(Drop, PartialEq, Eq, Hash)]
 pub struct Exception {
     pub name: Bytes,
     pub objects: Sequence<TypeId>,
 }
 
 /// What a routine takes, gives and signals. `failure(string)` belongs to every routine and is not listed.
-#[derive(Debug, Drop, PartialEq, Eq, Hash)]
+#[derive(Drop, PartialEq, Eq, Hash)]
 pub struct Heading {
     pub args: Sequence<TypeId>,
     pub results: Sequence<TypeId>,
@@ -29,7 +29,7 @@ pub struct Heading {
 }
 
 /// An actual parameter of a module: a type, a constant, or a constant parameter of the module round it.
-#[derive(Debug, Drop, PartialEq, Eq, Hash)]
+#[derive(Drop, PartialEq, Eq, Hash)]
 pub enum Actual {
     Of(TypeId),
     Const(Const),

@@ -5,7 +5,7 @@ ghost use Rattle.std.specs.Prelude.{◌≡◌};
 ghost use Rattle.clu_wir.specs.Costs.{cost_words};
 
 /// What takes words of code, beside the evaluation of expressions.
-#[derive(Clone, Copy, Debug, PartialEq, Eq)]
+#[derive(Clone, Copy, PartialEq, Eq)]
 pub enum Cost {
     /// A word from a register to a slot or to an address.
     Save,

@@ -4,7 +4,7 @@ ghost use Rattle.std.specs.Prelude.{◌≡◌, slice_get};
 ghost use Rattle.clu_wir.specs.Numbers.{primitive_number, primitives};
 
 /// The primitives that word code calls by their number. Arguments and results are words.
-#[derive(Clone, Copy, Debug, PartialEq, Eq)]
+#[derive(Clone, Copy, PartialEq, Eq)]
 pub enum Primitive {
     /// The number of words that are wanted to the address of the first of them, which lie after those
     /// taken before. Where the store has no room for them the run ends.

@@ -5,7 +5,7 @@ use std::alloc::{AllocError, AllocFailed, Global};
 use thiserror::Error;
 
 /// An arm of a region: where it goes on when an exception of this name is raised in the region.
-#[derive(Debug, Drop, PartialEq, Eq)]
+#[derive(Drop, PartialEq, Eq)]
 pub struct Arm {
     /// The exception's name; empty for all others.
     pub name: Bytes,

@@ -5,7 +5,7 @@ use crate::statement::WStmt;
 use clu_base::{Bytes, ObjConst};
 
 /// A routine.
-#[derive(Debug, Drop)]
+#[derive(Drop)]
 pub struct WRoutine {
     pub name: Bytes,
     /// How many arguments it takes; they come in the first slots.
@@ -25,7 +25,7 @@ pub struct WRoutine {
 
 /// A routine without a frame. The slots of its expressions are its arguments, and what it raises is raised where it was
 /// called.
-#[derive(Debug, Drop)]
+#[derive(Drop)]
 pub struct WLeaf {
     pub name: Bytes,
     pub deed: WDeed,
@@ -34,7 +34,7 @@ pub struct WLeaf {
 }
 
 /// What a routine without a frame does.
-#[derive(Debug, Drop)]
+#[derive(Drop)]
 pub enum WDeed {
     /// Its result is the value.
     Value(WExpr),
@@ -43,7 +43,7 @@ pub enum WDeed {
 }
 
 /// The code of an operation: with a frame of its own, or without.
-#[derive(Debug, Drop)]
+#[derive(Drop)]
 pub enum WCode {
     Leaf(WLeaf),
     Routine(WRoutine),

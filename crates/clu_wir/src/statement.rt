@@ -4,7 +4,7 @@ use crate::expression::WExpr;
 use clu_base::Bytes;
 
 /// A statement. Lists of expressions are evaluated from left to right.
-#[derive(Debug, Drop)]
+#[derive(Drop)]
 #[cycle(statements)]
 pub enum WStmt {
     /// Puts a word into a slot.

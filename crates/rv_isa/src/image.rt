@@ -5,7 +5,7 @@ ghost use Rattle.std.specs.Prelude.{◌≡◌, ◌↔◌, IsSome, IfSome};
 use std::marker::Model;
 
 /// A program as the machine starts it. Contracts see it as its contents.
-#[derive(Debug, Drop)]
+#[derive(Drop)]
 pub struct Image {
     /// The code word at which the program starts, counted from 0.
     pub entry: u32,

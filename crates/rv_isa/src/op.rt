@@ -3,7 +3,7 @@
 
 ghost use Rattle.std.specs.Prelude.{◌≡◌};
 /// The mnemonics, other than those that are a form of `Instr` alone.
-#[derive(Clone, Copy, Debug, PartialEq, Eq)]
+#[derive(Clone, Copy, PartialEq, Eq)]
 pub enum Op {
     Lui,
     Auipc,
@@ -68,7 +68,7 @@ pub enum Op {
 }
 
 /// How the operands of an instruction stand in its word, and which fields name it.
-#[derive(Clone, Copy, Debug, PartialEq, Eq)]
+#[derive(Clone, Copy, PartialEq, Eq)]
 pub(crate) enum Form {
     /// A register and the upper 20 bits of a number; named by the opcode.
     Upper,
@@ -89,7 +89,7 @@ pub(crate) enum Form {
 }
 
 /// A row of the instruction table. A field that does not name the form's instructions is 0.
-#[derive(Clone, Copy, Debug)]
+#[derive(Clone, Copy)]
 pub(crate) struct Row {
     pub form: Form,
     /// Bits 6:0.

@@ -1,7 +1,7 @@
 //! How a run ends.
 
 /// How a run ended, or that it has not ended in the given number of steps.
-#[derive(Clone, Copy, Debug, PartialEq, Eq)]
+#[derive(Clone, Copy, PartialEq, Eq)]
 pub enum Ending {
     /// The program returned.
     Returned,

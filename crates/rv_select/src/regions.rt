@@ -8,7 +8,7 @@ use clu_wir::Arm;
 use std::alloc::Global;
 
 /// The regions so far, and the number that each region of steps has among them.
-#[derive(Debug, Drop)]
+#[derive(Drop)]
 struct Mapped {
     regions: Vec<Region>,
     numbers: Vec<Option<u32>>,
