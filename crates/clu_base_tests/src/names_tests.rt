@@ -28,13 +28,13 @@ fn keep_row(alloc: Global, row: &str) -> Result<(), Fail> {
 #[test]
 fn names(rt: HostRuntime) -> Result<(), Fail> {
     let mut count = 0usize;
-    for row in rows::ROWS.split_terminator('\0') {
+    for row in names_rows::ROWS.split_terminator('\0') {
         if !row.starts_with('%') {
             keep_row(rt.alloc(), row)?;
             count = count.saturating_add(1);
         }
     }
-    if count != rows::COUNT {
+    if count != names_rows::COUNT {
         return Err("another number of rows")?;
     }
     Ok(())
