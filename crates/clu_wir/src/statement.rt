@@ -48,7 +48,7 @@ pub enum WStmt {
 }
 
 /// An arm of a Guard.
-#[derive(Debug, Drop)]
+#[derive(Drop)]
 #[cycle(statements)]
 pub struct WArm {
     /// The names that it takes.
