@@ -1,9 +1,9 @@
 //! The names of a source with the places of their declarations, as text.
 
-ghost use Rattle.std.specs.Prelude.{◌≡◌, ◌<◌, ◌≤◌, length};
+ghost use Rattle.std.specs.Prelude.{◌≡◌, ◌<◌, length};
 ghost use Rattle.clu_names.specs.Denotes.{bound_to, starts_to};
 
-use clu_base::{Bytes, Place, Token};
+use clu_base::{Bytes, Place};
 use clu_lexer::lex;
 use clu_names::{Names, names_of};
 use clu_parser::parse;
@@ -13,23 +13,20 @@ use std::alloc::Global;
 use std::fmt::Write;
 use std::test::Fail;
 
-fn tree_of(alloc: Global, source: &[u8], tokens: &[Token]) -> Result<Box<Tree>, Fail>
-    requires { length source.now ≤ 1_048_576 }
-{
-    match parse(alloc, source, tokens) {
-        Ok(tree) => Ok(Box::new(alloc, tree)?),
-        Err(_) => Err("the source is not parsed")?,
-    }
-}
+/// The most bytes of a source.
+const SOURCE_LIMIT: usize = 1_048_576;
 
 /// The tree of a source.
 pub fn parsed(alloc: Global, source: &str) -> Result<Box<Tree>, Fail> {
     let source = source.as_bytes();
-    if source.len() > 1_048_576 {
+    if source.len() > SOURCE_LIMIT {
         return Err("the source is too long")?;
     }
     match lex(alloc, source) {
-        Ok(tokens) => tree_of(alloc, source, tokens.as_slice()),
+        Ok(tokens) => match parse(alloc, source, tokens.as_slice()) {
+            Ok(tree) => Ok(Box::new(alloc, tree)?),
+            Err(_) => Err("the source is not parsed")?,
+        },
         Err(_) => Err("no tokens")?,
     }
 }

@@ -82,7 +82,7 @@ pub fn target(
 }
 
 fn use_again(alloc: Global, types: &mut TypeArena, text: &[u8]) -> Result<Bytes, FormatError> {
-    let target = target(alloc, types, text)?;
+    let target = read_use(alloc, types, text)?;
     Ok(use_text(alloc, types, &target)?)
 }
 

@@ -8,7 +8,7 @@ use crate::{
     rules_examples, rules_expressions, rules_instances, rules_leaving, rules_limits, rules_names,
     rules_operations, rules_order, rules_results, rules_selectors, rules_signals, rules_statements,
 };
-use clu_base::{Place, Rule, Token};
+use clu_base::{Place, Rule};
 use clu_check_mod::check;
 use clu_equates::CheckError;
 use clu_lexer::{LexError, lex};
@@ -48,29 +48,19 @@ fn refusal_of_tree(alloc: Global, tree: Tree, specs: &Specs) -> Result<String, F
     }
 }
 
-fn refusal_of_tokens(
-    alloc: Global,
-    bytes: &[u8],
-    tokens: &[Token],
-    specs: &Specs,
-) -> Result<String, Fail>
+fn refusal_in(alloc: Global, bytes: &[u8], specs: &Specs) -> Result<String, Fail>
     requires { length bytes.now ≤ 1_048_576 }
 {
-    match parse(alloc, bytes, tokens) {
+    let tokens = match lex(alloc, bytes) {
+        Ok(tokens) => tokens,
+        Err(LexError::Token(place)) => return refusal(alloc, Rule::Token, place),
+        Err(LexError::Memory) => return word(alloc, "memory"),
+    };
+    match parse(alloc, bytes, tokens.as_slice()) {
         Ok(tree) => refusal_of_tree(alloc, tree, specs),
         Err(ParseError::Syntax(place)) => refusal(alloc, Rule::Syntax, place),
         Err(ParseError::TooDeep(place)) => refusal(alloc, Rule::TooDeep, place),
         Err(_) => word(alloc, "not parsed"),
-    }
-}
-
-fn refusal_in(alloc: Global, bytes: &[u8], specs: &Specs) -> Result<String, Fail>
-    requires { length bytes.now ≤ 1_048_576 }
-{
-    match lex(alloc, bytes) {
-        Ok(tokens) => refusal_of_tokens(alloc, bytes, tokens.as_slice(), specs),
-        Err(LexError::Token(place)) => refusal(alloc, Rule::Token, place),
-        Err(LexError::Memory) => word(alloc, "memory"),
     }
 }
 
