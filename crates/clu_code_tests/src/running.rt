@@ -46,7 +46,8 @@ pub fn put_end(
     source: &mut MemSource,
     sink: &mut MemSink,
 ) -> Result<(), Fail> {
-    let mut machine = started(alloc, image)?;
+    let limits = Limits::new(4096, 4096).ok_or("no limits")?;
+    let mut machine = Machine::new(alloc, image, limits)?;
     match machine.run(steps, source, sink) {
         Ending::Failure { at, count } => put_failure(found, machine.text(at, count)),
         ending => Ok(put_ending(found, ending)?),
