@@ -38,19 +38,13 @@ fn name_error(error: EnterError) -> &'static str {
     }
 }
 
-/// The specification of a text.
-fn spec(alloc: Global, text: &str) -> Result<Box<Spec>, Fail> {
-    match read_spec(alloc, text.as_bytes()) {
-        Ok(spec) => Ok(Box::new(alloc, spec)?),
-        Err(_) => Err(format!(in alloc; "no specification: {text}")?)?,
-    }
-}
-
 fn enter(library: &mut Library, alloc: Global, text: &str) -> Result<&'static str, Fail> {
-    let spec = spec(alloc, text)?;
-    match library.enter_spec(alloc, Box::into_inner(spec)) {
-        Ok(()) => Ok("ok"),
-        Err(error) => Ok(name_error(error)),
+    match read_spec(alloc, text.as_bytes()) {
+        Ok(spec) => match library.enter_spec(alloc, spec) {
+            Ok(()) => Ok("ok"),
+            Err(error) => Ok(name_error(error)),
+        },
+        Err(_) => Err(format!(in alloc; "no specification: {text}")?)?,
     }
 }
 
@@ -76,11 +70,13 @@ fn read_fields(library: &mut Library, alloc: Global, row: &str) -> Result<&'stat
 }
 
 fn replace(library: &mut Library, alloc: Global, text: &str) -> Result<&'static str, Fail> {
-    let spec = spec(alloc, text)?;
-    match library.replace_spec(alloc, Box::into_inner(spec)) {
-        Ok(true) => Ok("true"),
-        Ok(false) => Ok("false"),
-        Err(error) => Ok(name_error(error)),
+    match read_spec(alloc, text.as_bytes()) {
+        Ok(spec) => match library.replace_spec(alloc, spec) {
+            Ok(true) => Ok("true"),
+            Ok(false) => Ok("false"),
+            Err(error) => Ok(name_error(error)),
+        },
+        Err(_) => Err(format!(in alloc; "no specification: {text}")?)?,
     }
 }
 
