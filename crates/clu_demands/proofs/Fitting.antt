@@ -1,25 +1,44 @@
 -- Actual parameters: their kinds, and the one of a number.
 use Rattle.std.proofs.Common.{◌≡◌, ℕ, zero, suc, List, [], ◌∷◌, Option, Some, None, slice_get, refl, sym}
-use Rattle.std.specs.Prelude.{◌↔◌}
+use Rattle.std.specs.Bool.{Decides}
 use Rattle.clu_types.specs.CluType.{CluType, Actuals}
-use Rattle.clu_types.specs.Arena.{type_at, actual_at, actuals_at}
+use Rattle.clu_types.specs.Arena.{type_at, actuals_at}
 use Rattle.clu_types.specs.Actual.{nth}
 use Rattle.clu_types.specs.declared.spec.ParamKind.{ParamKind}
+use Rattle.clu_types.specs.declared.spec.ParamKind.TheVariants as kind
+use Rattle.clu_types.specs.contracts.spec.ParamKindPartialEq.TheImpl as kinds
 use Rattle.clu_types.specs.declared.term.Actual.{Actual}
 use Rattle.clu_types.specs.declared.term.Actual.TheVariants as actual
-use Rattle.clu_demands.specs.Kinds.{MayBe, MayBeOf}
+use Rattle.clu_demands.specs.Kinds.{MayBe, MayBeAll, MayBeOf}
 use Rattle.clu_demands.specs.Meeting.{type_in, type_numbered}
 
--- one more may be of its kind
-pub next_may_be : (types : List CluType) (a : Actual) (rest : Actuals) (k : ParamKind) (kinds : List ParamKind) → MayBeOf (actual_at types a rest) (k ∷ kinds) ↔ (MayBe a k × MayBeOf rest kinds)
-next_may_be types (actual.Of id) rest k kinds = (λ h. h, λ h. h)
-next_may_be types (actual.Const c) rest k kinds = (λ h. h, λ h. h)
-next_may_be types (actual.ConstParam n) rest k kinds = (λ h. h, λ h. h)
+pub same_kind : (a b : ParamKind) → Decides ((kinds.ghosts).eq a b) (a ≡ b)
+same_kind kind.OfType kind.OfType = (λ e. refl, λ e. refl)
+same_kind kind.Null kind.Null = (λ e. refl, λ e. refl)
+same_kind kind.Bool kind.Bool = (λ e. refl, λ e. refl)
+same_kind kind.Int kind.Int = (λ e. refl, λ e. refl)
+same_kind kind.Char kind.Char = (λ e. refl, λ e. refl)
+same_kind kind.Str kind.Str = (λ e. refl, λ e. refl)
+same_kind _ _ = (λ e. cc, λ e. cc)
 
-pub none_may_be : (types : List CluType) (a : Actual) (rest : Actuals) → MayBeOf (actual_at types a rest) [] → ⊥
-none_may_be types (actual.Of id) rest h = h
-none_may_be types (actual.Const c) rest h = h
-none_may_be types (actual.ConstParam n) rest h = h
+-- what actual parameters may be of, told of those of a type
+pub fits_seen : (types : List CluType) (actuals : List Actual) (ks : List ParamKind) → MayBeAll actuals ks → MayBeOf (actuals_at types actuals) ks
+fits_seen types [] [] h = tt
+fits_seen types [] (k ∷ ks) h = h
+fits_seen types (a ∷ rest) [] h = absurd h
+fits_seen types (actual.Of id ∷ rest) (k ∷ ks) h = (h.0, fits_seen types rest ks h.1)
+fits_seen types (actual.Const c ∷ rest) (k ∷ ks) h = (h.0, fits_seen types rest ks h.1)
+fits_seen types (actual.ConstParam n ∷ rest) (k ∷ ks) h = (h.0, fits_seen types rest ks h.1)
+
+pub seen_fits : (types : List CluType) (actuals : List Actual) (ks : List ParamKind) → MayBeOf (actuals_at types actuals) ks → MayBeAll actuals ks
+seen_fits types [] [] h = tt
+seen_fits types [] (k ∷ ks) h = h
+seen_fits types (actual.Of id ∷ rest) [] h = h
+seen_fits types (actual.Const c ∷ rest) [] h = h
+seen_fits types (actual.ConstParam n ∷ rest) [] h = h
+seen_fits types (actual.Of id ∷ rest) (k ∷ ks) h = (h.0, seen_fits types rest ks h.1)
+seen_fits types (actual.Const c ∷ rest) (k ∷ ks) h = (h.0, seen_fits types rest ks h.1)
+seen_fits types (actual.ConstParam n ∷ rest) (k ∷ ks) h = (h.0, seen_fits types rest ks h.1)
 
 -- the type of a number
 abbrev pub type_by : List CluType → Option Actual → Option CluType

@@ -38,6 +38,12 @@ MayBe (actual.Of id) k = k ≡ kind.OfType
 MayBe (actual.Const c) k = k ≡ kind_of_value c
 MayBe (actual.ConstParam n) k = k ≡ kind.OfType → ⊥
 
+abbrev pub MayBeAll : List Actual → List ParamKind → Type 0
+MayBeAll [] [] = Unit {0}
+MayBeAll [] (k ∷ kinds) = ⊥
+MayBeAll (a ∷ actuals) [] = ⊥
+MayBeAll (a ∷ actuals) (k ∷ kinds) = MayBe a k × MayBeAll actuals kinds
+
 -- the same of the actual parameters of a type
 abbrev pub MayBeOf : Actuals → List ParamKind → Type 0
 MayBeOf no_actuals [] = Unit {0}

@@ -1,11 +1,10 @@
 //! What an exported operation of a cluster asks. Of a cluster these alone count, inside it too.
 
-ghost use Rattle.std.specs.Prelude.{◌≡◌, ◌↔◌, ◌<◌, List, length, IfOk, IsTrue, Some};
+ghost use Rattle.std.specs.Prelude.{◌≡◌, ◌↔◌, ◌<◌, length, IfOk, IsTrue, Some};
 ghost use Rattle.clu_types.specs.Arena.{type_at, types_of, actuals_at, ActualsBelow, Grows};
-ghost use Rattle.clu_types.specs.CluType.{CluType};
 ghost use Rattle.clu_specs.specs.Specifications.{DemandsBelow, OpBelow};
 ghost use Rattle.clu_demands.specs.Asking.{AreBelowIf, IsBelowIf, IsBelow, Answers, seen_if, asked_if, asked_seen};
-ghost use Rattle.clu_demands.specs.Kinds.{MayBeOf};
+ghost use Rattle.clu_demands.specs.Kinds.{MayBeAll};
 ghost use Rattle.clu_demands.specs.Meeting.{AsksOfCluster, AsksOfSpec, AsksOfNamed, AsksOfRoutine, all_demanded, demanded, demanded_of};
 
 use crate::carried::carried_type;
@@ -60,7 +59,7 @@ fn asked_of_spec(
 }
 
 fn fits(actuals: &[Actual], spec: &Spec) -> bool
-    ensures { (types : List CluType) → IsTrue result ↔ MayBeOf (actuals_at types actuals.now) spec.now.kinds }
+    ensures { IsTrue result ↔ MayBeAll actuals.now spec.now.kinds }
 {
     may_be_of(actuals, spec.kinds.as_slice())
 }

@@ -1,9 +1,8 @@
 //! The kinds of actual parameters.
 
-ghost use Rattle.std.specs.Prelude.{◌≡◌, ◌↔◌, List, IsTrue, Some};
-ghost use Rattle.clu_types.specs.CluType.{CluType};
-ghost use Rattle.clu_types.specs.Arena.{actuals_at};
-ghost use Rattle.clu_demands.specs.Kinds.{kind_of_value, kind_at, kind_of, AreOfKinds, MayBe, MayBeOf};
+ghost use Rattle.std.specs.Prelude.{◌≡◌, ◌↔◌, IsTrue, Some};
+ghost use Rattle.std.specs.Option.{option_copied};
+ghost use Rattle.clu_demands.specs.Kinds.{kind_of_value, kind_at, kind_of, AreOfKinds, MayBe, MayBeAll};
 
 use clu_base::Const;
 use clu_types::{Actual, ParamKind};
@@ -36,25 +35,36 @@ pub fn kind_of(own: &[ParamKind], actual: &Actual) -> Option<ParamKind>
 fn kind_at(own: &[ParamKind], number: u32) -> Option<ParamKind>
     ensures { result ≡ kind_at own.now number }
 {
-    if number == 0 {
-        return None;
-    }
-    match own.get(number as usize - 1) {
+    match nth_kind(own, number) {
         Some(kind) => Some(*kind),
         None => None,
     }
+}
+
+fn nth_kind(own: &[ParamKind], number: u32) -> Option<&ParamKind>
+    ensures { option_copied result ≡ kind_at own.now number }
+{
+    if number == 0 {
+        return None;
+    }
+    own.get(number as usize - 1)
 }
 
 /// Whether actual parameters in a module with parameters of the kinds `own` are of these kinds.
 pub fn are_of_kinds(own: &[ParamKind], actuals: &[Actual], kinds: &[ParamKind]) -> bool
     ensures { IsTrue result ↔ AreOfKinds own.now actuals.now kinds.now }
 {
-    match (actuals, kinds) {
-        ([], []) => true,
-        ([actual, others @ ..], [kind, more @ ..]) => {
-            is_of_kind(own, actual, *kind) && are_of_kinds(own, others, more)
-        }
-        _ => false,
+    match actuals {
+        [] => match kinds {
+            [] => true,
+            [_, ..] => false,
+        },
+        [actual, others @ ..] => match kinds {
+            [] => false,
+            [kind, more @ ..] => {
+                is_of_kind(own, actual, *kind) && are_of_kinds(own, others, more)
+            }
+        },
     }
 }
 
@@ -62,21 +72,30 @@ fn is_of_kind(own: &[ParamKind], actual: &Actual, kind: ParamKind) -> bool
     ensures { IsTrue result ↔ (kind_of own.now actual.now ≡ Some kind) }
 {
     match kind_of(own, actual) {
-        Some(found) => found == kind,
+        Some(found) => is_same(found, kind),
         None => false,
     }
 }
 
+fn is_same(a: ParamKind, b: ParamKind) -> bool
+    ensures { IsTrue result ↔ (a ≡ b) }
+{
+    a == b
+}
+
 /// Whether actual parameters may be of these kinds, whatever module they stand in.
 pub fn may_be_of(actuals: &[Actual], kinds: &[ParamKind]) -> bool
-    ensures { (types : List CluType) → IsTrue result ↔ MayBeOf (actuals_at types actuals.now) kinds.now }
+    ensures { IsTrue result ↔ MayBeAll actuals.now kinds.now }
 {
-    match (actuals, kinds) {
-        ([], []) => true,
-        ([actual, others @ ..], [kind, more @ ..]) => {
-            may_be(actual, *kind) && may_be_of(others, more)
-        }
-        _ => false,
+    match actuals {
+        [] => match kinds {
+            [] => true,
+            [_, ..] => false,
+        },
+        [actual, others @ ..] => match kinds {
+            [] => false,
+            [kind, more @ ..] => may_be(actual, *kind) && may_be_of(others, more),
+        },
     }
 }
 
@@ -85,8 +104,8 @@ fn may_be(actual: &Actual, kind: ParamKind) -> bool
     ensures { IsTrue result ↔ MayBe actual.now kind }
 {
     match actual {
-        Actual::Of(_) => kind == ParamKind::OfType,
-        Actual::Const(value) => kind == kind_of_value(value),
-        Actual::ConstParam(_) => kind != ParamKind::OfType,
+        Actual::Of(_) => is_same(kind, ParamKind::OfType),
+        Actual::Const(value) => is_same(kind, kind_of_value(value)),
+        Actual::ConstParam(_) => !is_same(kind, ParamKind::OfType),
     }
 }
