@@ -6,4 +6,4 @@ pub mod Seen
 pub mod Once
 pub mod Answering
 pub mod Exporting
-pub mod Meeting
+pub mod Closing

@@ -5,7 +5,7 @@ use Rattle.clu_specs.specs.Seen.{demand_seen}
 use Rattle.clu_demands.specs.Asking.{AreBelowAll, IsFrontOf}
 use Rattle.clu_demands.proofs.Lists.{was_false, was_true}
 use Rattle.clu_demands.proofs.Seen.{more_below}
-use Rattle.clu_demands.proofs.Meeting.{asking_first, asking_more, asking_all, asking_none, asked_from, none_from, given_below}
+use Rattle.clu_demands.proofs.Closing.{asking_first, asking_more, asking_all, asking_none, asked_from, none_from, given_below}
 use Rattle.clu_demands.proofs.meeting.are_met_from.Goals as goal
 
 pub loop-n-init : goal.loop-n-init

@@ -1,7 +1,7 @@
 use Rattle.std.proofs.Common.{map}
 use Rattle.clu_types.specs.Arena.{types_of}
 use Rattle.clu_specs.specs.Seen.{demand_seen}
-use Rattle.clu_demands.proofs.Meeting.{Asking}
+use Rattle.clu_demands.proofs.Closing.{Asking}
 use Rattle.clu_demands.proofs.meeting.are_met_from.Given as goal
 
 abbrev pub invariant-loop-n : goal.invariant-loop-n

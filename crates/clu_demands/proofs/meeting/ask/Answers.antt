@@ -2,7 +2,7 @@ use Rattle.std.proofs.Common.{map, sym}
 use Rattle.clu_types.specs.Arena.{types_of}
 use Rattle.clu_specs.specs.Seen.{demand_seen}
 use Rattle.clu_demands.proofs.Seen.{below_at}
-use Rattle.clu_demands.proofs.Meeting.{asked_found, none_found, none_there}
+use Rattle.clu_demands.proofs.Closing.{asked_found, none_found, none_there}
 use Rattle.clu_demands.proofs.meeting.ask.Goals as goal
 
 pub asked_by-requires-clause-need_in : goal.asked_by-requires-clause-need_in

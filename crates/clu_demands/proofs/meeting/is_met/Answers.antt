@@ -1,7 +1,7 @@
 use Rattle.std.proofs.Common.{map, true≢false, length, arith, refl, sym, ◌∙◌}
 use Rattle.clu_types.specs.Arena.{types_of}
 use Rattle.clu_specs.specs.Seen.{demand_seen}
-use Rattle.clu_demands.proofs.Meeting.{begun_answered, begun_below, is_met, is_not_met, met_left, left_closed, left_below}
+use Rattle.clu_demands.proofs.Closing.{begun_answered, begun_below, is_met, is_not_met, met_left, left_closed, left_below}
 use Rattle.clu_demands.proofs.meeting.is_met.Goals as goal
 
 pub are_met_from-requires-clause-few : goal.are_met_from-requires-clause-few

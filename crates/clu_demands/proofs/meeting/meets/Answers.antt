@@ -1,7 +1,7 @@
 use Rattle.std.proofs.Common.{map}
 use Rattle.clu_types.specs.Arena.{types_of}
 use Rattle.clu_specs.specs.Seen.{demand_seen}
-use Rattle.clu_demands.proofs.Meeting.{none_closed, none_below}
+use Rattle.clu_demands.proofs.Closing.{none_closed, none_below}
 use Rattle.clu_demands.proofs.meeting.meets.Goals as goal
 
 pub is_met-requires-clause-met_in : goal.is_met-requires-clause-met_in
