@@ -96,16 +96,15 @@ module _ (from : List Term) (actuals : List Actual) (old : List Term) where
   pub signals_none : AreSignalsCarried old [] []
   signals_none = record { grows = ([], sym (append-nil old)); within = tt; signals = refl }
 
-  pub signals_more_carried : (now newer : List Term) (ss made : List Exception) (i : ℕ) (d new : Exception) → i < length ss → ActualsBelow (length old) actuals
-      → AreSignalsCarried now (take i ss) made → Grows now newer → new.name ≡ (get_or ss i d).name → AreBelow (length newer) new.objects
-      → types_at (types_of newer) new.objects ≡ types_substituted (actuals_at (types_of now) actuals) (types_at (types_of from) (get_or ss i d).objects) → AreSignalsCarried newer (take (i + 1) ss) (made ++ new ∷ [])
-  signals_more_carried now newer ss made i d new lt below so_far g named within of_types =
-      let s : Exception = get_or ss i d in
+  pub signals_more_carried : (now newer : List Term) (ss made : List Exception) (i : ℕ) (s new : Exception) → i < length ss → s ≡ get_or ss i s → ActualsBelow (length old) actuals
+      → AreSignalsCarried now (take i ss) made → Grows now newer → new.name ≡ s.name → AreBelow (length newer) new.objects
+      → types_at (types_of newer) new.objects ≡ types_substituted (actuals_at (types_of now) actuals) (types_at (types_of from) s.objects) → AreSignalsCarried newer (take (i + 1) ss) (made ++ new ∷ [])
+  signals_more_carried now newer ss made i s new lt is below so_far g named within of_types =
       let longer = length_grows now newer g in
       let same : actuals_at (types_of now) actuals ≡ given = given_grown old now so_far.grows actuals below in
       let kept : signals_at (types_of newer) made ≡ signals_at (types_of now) made = signals_same (types_of newer) (types_of now) (length now) (types_grown now newer g) made so_far.within in
       let this : types_at (types_of newer) new.objects ≡ types_substituted given (types_at (types_of from) s.objects) = of_types ∙ ap (λ (a : Actuals). types_substituted a (types_at (types_of from) s.objects)) same in
-      let whole : take (i + 1) ss ≡ take i ss ++ s ∷ [] = take_more ss i d lt in
+      let whole : take (i + 1) ss ≡ take i ss ++ s ∷ [] = take_more ss i s lt ∙ ap (λ (x : Exception). take i ss ++ x ∷ []) (sym is) in
       record {
         grows = grows_on old now newer so_far.grows g;
         within = signals_below-push (length newer) made new (signals_more (length now) (length newer) longer made so_far.within) within;
@@ -159,3 +158,7 @@ module _ (from : List Term) (actuals : List Actual) (old a b c : List Term) (ga 
 -- what is of a type is of an equal one
 pub typed_as : (r : Result TypeId Memory) (types : List CluType) (a b : CluType) → a ≡ b → IfOk r (λ id. type_at types id ≡ a) → IfOk r (λ id. type_at types id ≡ b)
 typed_as r types a b e h = subst (λ (t : CluType). IfOk r (λ id. type_at types id ≡ t)) e h
+
+-- the objects of a signal are of the arena
+pub signal_here : (n : ℕ) (ss : List Exception) (i : ℕ) (s : Exception) → s ≡ get_or ss i s → SignalsBelow n ss → i < length ss → AreBelow n s.objects
+signal_here n ss i s is below lt = subst (λ (x : Exception). AreBelow n x.objects) (sym is) (signal_below n ss i s below lt)

@@ -102,10 +102,13 @@ left_here [] i d lt = absurd (omega arith)
 left_here (x ∷ xs) zero d lt = refl
 left_here (x ∷ xs) (suc i) d lt = left_here xs i d (omega arith)
 
-pub demand_below : (n : ℕ) (ds : List Demand) (i : ℕ) (d : Demand) → DemandsBelow n ds → i < length ds → (get_or ds i d).wanted.0 < n
+demand_below : (n : ℕ) (ds : List Demand) (i : ℕ) (d : Demand) → DemandsBelow n ds → i < length ds → (get_or ds i d).wanted.0 < n
 demand_below n [] i d b lt = absurd (omega arith)
 demand_below n (x ∷ xs) zero d b lt = b.0
 demand_below n (x ∷ xs) (suc i) d b lt = demand_below n xs i d b.1 (omega arith)
+
+pub demand_here : (n : ℕ) (ds : List Demand) (i : ℕ) (d : Demand) → d ≡ get_or ds i d → DemandsBelow n ds → i < length ds → d.wanted.0 < n
+demand_here n ds i d is below lt = subst (λ (x : Demand). x.wanted.0 < n) (sym is) (demand_below n ds i d below lt)
 
 seen-push : (types : List CluType) (made : List Asked) (a : Asked) → all_seen types (made ++ a ∷ []) ≡ all_seen types made ++ asked_seen types a ∷ []
 seen-push types [] a = refl
@@ -132,17 +135,17 @@ module _ (from : List Term) (actuals : List Actual) (old : List Term) where
     rest_is = behind_none (all_demanded (types_of from) put all);
   }
 
-  module _ (all : List Demand) (now newer : List Term) (i : ℕ) (d : Demand) (made : List Asked) (lt : i < length all) (actuals_in : ActualsBelow (length old) actuals)
+  module _ (all : List Demand) (now newer : List Term) (i : ℕ) (d : Demand) (made : List Asked) (lt : i < length all) (here : d ≡ get_or all i d) (actuals_in : ActualsBelow (length old) actuals)
       (so_far : AreDemanded all now (drop i all) made) (g : Grows now newer) where
-    this : (found : Option Needed) → found ≡ demanded (types_of from) (actuals_at (types_of now) actuals) (get_or all i d)
+    this : (found : Option Needed) → found ≡ demanded (types_of from) (actuals_at (types_of now) actuals) d
         → behind (all_seen (types_of now) made) (with_first found (all_demanded (types_of from) put (drop (suc i) all))) ≡ all_demanded (types_of from) put all
     this found is =
-        let same : found ≡ demanded (types_of from) put (get_or all i d) = is ∙ ap (λ (a : Actuals). demanded (types_of from) a (get_or all i d)) (given_grown old now so_far.grows actuals actuals_in) in
+        let same : found ≡ demanded (types_of from) put (get_or all i d) = is ∙ ap (λ (a : Actuals). demanded (types_of from) a d) (given_grown old now so_far.grows actuals actuals_in) ∙ ap (demanded (types_of from) put) here in
         ap (λ (o : Option Needed). behind (all_seen (types_of now) made) (with_first o (all_demanded (types_of from) put (drop (suc i) all)))) same
         ∙ ap (λ (l : List Demand). behind (all_seen (types_of now) made) (all_demanded (types_of from) put l)) (sym (left_here all i d lt))
         ∙ so_far.rest_is
 
-    pub demanded_more : (a : Asked) → IsBelow (length newer) a → Some (asked_seen (types_of newer) a) ≡ demanded (types_of from) (actuals_at (types_of now) actuals) (get_or all i d)
+    pub demanded_more : (a : Asked) → IsBelow (length newer) a → Some (asked_seen (types_of newer) a) ≡ demanded (types_of from) (actuals_at (types_of now) actuals) d
         → AreDemanded all newer (drop (i + 1) all) (made ++ a ∷ [])
     demanded_more a below is =
         let next : suc i ≡ i + 1 = omega arith in
@@ -159,7 +162,7 @@ module _ (from : List Term) (actuals : List Actual) (old : List Term) where
         }
 
     -- one of them is of no type
-    pub demanded_none : None ≡ demanded (types_of from) (actuals_at (types_of now) actuals) (get_or all i d) → None ≡ all_demanded (types_of from) put all
+    pub demanded_none : None ≡ demanded (types_of from) (actuals_at (types_of now) actuals) d → None ≡ all_demanded (types_of from) put all
     demanded_none is = this None is
 
   pub demanded_all : (all : List Demand) (now : List Term) (i : ℕ) (made : List Asked) → length all ≤ i → AreDemanded all now (drop i all) made → Some (all_seen (types_of now) made) ≡ all_demanded (types_of from) put all

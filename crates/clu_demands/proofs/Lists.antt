@@ -1,5 +1,5 @@
 -- Lists of needs: items at places, and items that are added unless they are there.
-use Rattle.std.proofs.Common.{◌≡◌, ◌⊎◌, inl, inr, ℕ, ◌+◌, ◌<◌, ◌≤◌, zero, suc, Bool, true, false, List, [], ◌∷◌, ◌++◌, Contains, length, take, get_or, slice_get, Option, Some, None, is_some, unwrap_or, not, refl, sym, ap, ◌∙◌, subst, append_assoc, arith}
+use Rattle.std.proofs.Common.{◌≡◌, ◌⊎◌, inl, inr, ℕ, ◌+◌, ◌<◌, ◌≤◌, zero, suc, Bool, true, false, List, [], ◌∷◌, ◌++◌, Contains, length, take, get_or, slice_get, Option, Some, None, is_some, unwrap_or, refl, sym, ap, ◌∙◌, subst, append_assoc, arith}
 use Rattle.std.specs.Bool.{Decides}
 use Rattle.std.specs.List.{list_any}
 use Rattle.std.specs.Vec.Iter.{into_iter_items, into_iter_steps}
@@ -25,14 +25,6 @@ none_is_not x e = absurd (false≢true (ap is_some e))
 
 pub same_item : {X : Type 0} (x y : X) → Some x ≡ Some y → x ≡ y
 same_item x y e = ap (λ o. unwrap_or o x) e
-
-pub was_false : (b : Bool) → not b ≡ true → b ≡ false
-was_false true e = sym e
-was_false false e = refl
-
-pub was_true : (b : Bool) → not b ≡ false → b ≡ true
-was_true true e = refl
-was_true false e = sym e
 
 -- ---- items at places
 

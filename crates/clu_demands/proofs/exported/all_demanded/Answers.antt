@@ -1,38 +1,30 @@
-use Rattle.std.proofs.Common.{[], Some, sym, ◌∙◌, ap, arith}
+use Rattle.std.proofs.Common.{sym, ◌∙◌, ap, arith}
 use Rattle.clu_types.specs.Arena.{types_of}
-use Rattle.clu_types.specs.declared.spec.Demand.{Demand}
-use Rattle.clu_types.specs.declared.term.TypeId.{TypeId}
 use Rattle.clu_types.proofs.Carrying.{given_more}
 use Rattle.clu_demands.specs.Asking.{asked_if}
-use Rattle.clu_demands.proofs.Exporting.{demand_below, demanded_first, demanded_more, demanded_none, demanded_all}
+use Rattle.clu_demands.proofs.Exporting.{demand_here, demanded_first, demanded_more, demanded_none, demanded_all}
 use Rattle.clu_demands.proofs.exported.all_demanded.Goals as goal
 
-abbrev first_id : TypeId
-first_id = record { 0 = 0 }
-
-abbrev some_demand : Demand
-some_demand = record { param = 0; op = []; wanted = first_id }
-
 pub loop-demand-init : goal.loop-demand-init
-loop-demand-init c = rw c.new.ensures.items (demanded_first c.args.from.now c.args.actuals.now c.args.types.now c.args.demands.now)
+loop-demand-init c = rw c.new-made.ensures.items (demanded_first c.args.from.now c.args.actuals.now c.args.types.now c.args.demands.now)
 
 pub demanded-requires-clause-demand_in : goal.demanded-requires-clause-demand_in
-demanded-requires-clause-demand_in c = demand_below _ _ _ some_demand c.requires.demands_in c.loop-demand-test.true
+demanded-requires-clause-demand_in c = demand_here _ _ _ c.demand-item.result c.demand-item.is c.requires.demands_in c.loop-demand-test.true
 
 pub demanded-requires-clause-actuals_in : goal.demanded-requires-clause-actuals_in
 demanded-requires-clause-actuals_in c = given_more _ _ c.loop-demand.invariant.grows _ c.requires.actuals_in
 
 pub loop-demand-preserved : goal.loop-demand-preserved
 loop-demand-preserved c =
-    rw c.in_ok-push.ensures.items
-    (demanded_more c.args.from.now c.args.actuals.now c.args.types.now c.args.demands.now c.loop-demand.types c.demanded.new.types c.loop-demand.demand-index some_demand c.loop-demand.made.items c.loop-demand-test.true
-    c.requires.actuals_in c.loop-demand.invariant c.in_ok-next.ensures.kept c.in-Some.asked c.in_ok-next.ensures.within (ap (asked_if (types_of c.demanded.new.types)) (sym c.in-Some.is) ∙ c.in_ok-next.ensures.demanded))
+    rw c.in_ok-push-in-Some.ensures.items
+    (demanded_more c.args.from.now c.args.actuals.now c.args.types.now c.args.demands.now c.loop-demand.types c.demanded.new.types c.loop-demand.demand-index c.demand-item.result c.loop-demand.made.items c.loop-demand-test.true
+    c.demand-item.is c.requires.actuals_in c.loop-demand.invariant c.in_ok-next.ensures.kept c.in-Some.asked c.in_ok-next.ensures.within (ap (asked_if (types_of c.demanded.new.types)) (sym c.in-Some.is) ∙ c.in_ok-next.ensures.demanded))
 
 pub returns-in-None-clause-demanded : goal.returns-in-None-clause-demanded
 returns-in-None-clause-demanded c =
-    demanded_none c.args.from.now c.args.actuals.now c.args.types.now c.args.demands.now c.loop-demand.types c.demanded.new.types c.loop-demand.demand-index some_demand c.loop-demand.made.items c.loop-demand-test.true
-    c.requires.actuals_in c.loop-demand.invariant c.in_ok-next.ensures.kept (ap (asked_if (types_of c.demanded.new.types)) (sym c.in-None.is) ∙ c.in_ok-next.ensures.demanded)
+    demanded_none c.args.from.now c.args.actuals.now c.args.types.now c.args.demands.now c.loop-demand.types c.demanded.new.types c.loop-demand.demand-index c.demand-item.result c.loop-demand.made.items c.loop-demand-test.true
+    c.demand-item.is c.requires.actuals_in c.loop-demand.invariant c.in_ok-next.ensures.kept (ap (asked_if (types_of c.demanded.new.types)) (sym c.in-None.is) ∙ c.in_ok-next.ensures.demanded)
 
 pub returns-clause-demanded : goal.returns-clause-demanded
 returns-clause-demanded c =
-    demanded_all c.args.from.now c.args.actuals.now c.args.types.now c.args.demands.now c.loop-demand.types c.loop-demand.demand-index c.loop-demand.made.items (omega (arith, c.loop-demand-test.false)) c.loop-demand.invariant
+    demanded_all c.args.from.now c.args.actuals.now c.args.types.now c.args.demands.now c.loop-demand.types c.loop-demand.demand-index c.loop-demand.made.items (omega arith) c.loop-demand.invariant

@@ -3,7 +3,6 @@ use Rattle.clu_types.specs.Arena.{types_of}
 use Rattle.clu_types.proofs.Carrying.{grows_on, length_grows}
 use Rattle.clu_specs.specs.Seen.{demand_seen}
 use Rattle.clu_demands.specs.Asking.{AreBelowAll, IsFrontOf}
-use Rattle.clu_demands.proofs.Lists.{was_false, was_true}
 use Rattle.clu_demands.proofs.Seen.{more_below}
 use Rattle.clu_demands.proofs.Closing.{asking_first, asking_more, asking_all, asking_none, asked_from, none_from, given_below}
 use Rattle.clu_demands.proofs.meeting.are_met_from.Goals as goal
@@ -26,9 +25,9 @@ returns-then-n-len c = record {
   kept = c.loop-n.invariant.grows;
 }
 
-pub returns-then-is_answered : goal.returns-then-is_answered
-returns-then-is_answered c =
-    let no = was_false c.in_ok-is_answered.is_answered c.if-is_answered.true in
+pub returns-then-not-is_answered : goal.returns-then-not-is_answered
+returns-then-not-is_answered c =
+    let no = c.if-not-is_answered.true in
     let same = c.in_ok-is_answered.ensures.same no in
     record {
       all = λ e. absurd (true≢false (sym e));
@@ -41,7 +40,7 @@ returns-then-is_answered c =
 
 pub loop-n-preserved : goal.loop-n-preserved
 loop-n-preserved c =
-    let yes = was_true c.in_ok-is_answered.is_answered c.if-is_answered.false in
+    let yes = c.if-not-is_answered.false in
     asking_more (map (demand_seen (types_of c.args.types.now)) c.args.given.now) c.args.specs.now c.args.types.now c.args.met.now.keys c.args.before c.loop-n.types c.loop-n.met.keys c.loop-n.n c.loop-n.invariant (omega (arith, c.if-n-len.false, c.len.ensures.len)) (omega (arith, c.if-n-len.false, c.len.ensures.small)) c.ask.new.types c.ask.new.met.keys c.in_ok-is_answered.ensures.kept
     (asked_from c.args.given.now c.args.specs.now c.args.types.now c.loop-n.types c.ask.new.types c.loop-n.invariant.grows c.requires.given_in c.loop-n.met.keys c.ask.new.met.keys c.loop-n.n (c.in_ok-is_answered.ensures.more yes))
 
