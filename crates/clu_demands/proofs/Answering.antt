@@ -25,7 +25,7 @@ use Rattle.clu_specs.specs.Seen.{Demanded, demand_seen}
 use Rattle.clu_specs.specs.Specifications.{DemandsBelow}
 use Rattle.clu_demands.specs.declared.needs.Asked.{Asked}
 use Rattle.clu_demands.specs.declared.needs.Instance.{Instance}
-use Rattle.clu_demands.specs.Asking.{asked_seen, all_seen, AreBelowAll, IsBelow, as_asked, Answers, parameter_of, instance_of, HasNone}
+use Rattle.clu_demands.specs.Asking.{asked_seen, all_seen, AreBelowAll, IsBelow, as_asked, Answers, parameter_of, instance_with, instance_of, HasNone}
 use Rattle.clu_demands.specs.Meeting.{AsksOf, AsksOfBuiltin, AsksOfOperation, AsksOfParameter, routine_type}
 use Rattle.clu_demands.proofs.Lists.{none_is_not, same_item}
 
@@ -70,8 +70,7 @@ type_of_instance types i = cluster_of i.name (actuals_at types i.actuals)
 
 pub instance_type : (types : List CluType) (t : Term) (i : Instance) → Some i ≡ instance_of t → type_of types t ≡ cluster_of i.name (actuals_at types i.actuals)
 instance_type types (term.Cluster name actuals) i e =
-    let made : Instance = record { name = name; actuals = actuals } in
-    ap (type_of_instance types) (same_item made i (sym e))
+    ap (type_of_instance types) (same_item (instance_with name actuals) i (sym e))
 instance_type types term.Null i e = none_is_not i (sym e)
 instance_type types term.Bool i e = none_is_not i (sym e)
 instance_type types term.Int i e = none_is_not i (sym e)
@@ -91,8 +90,7 @@ instance_type types (term.Param n) i e = none_is_not i (sym e)
 
 pub instance_in : (n m : ℕ) → n ≤ m → (t : Term) (i : Instance) → Some i ≡ instance_of t → PartsBelow n t → ActualsBelow m i.actuals
 instance_in n m le (term.Cluster name actuals) i e b =
-    let made : Instance = record { name = name; actuals = actuals } in
-    subst (λ (x : Instance). ActualsBelow m x.actuals) (same_item made i (sym e)) (actuals_more n m le actuals b)
+    subst (λ (x : Instance). ActualsBelow m x.actuals) (same_item (instance_with name actuals) i (sym e)) (actuals_more n m le actuals b)
 instance_in n m le term.Null i e b = none_is_not i (sym e)
 instance_in n m le term.Bool i e b = none_is_not i (sym e)
 instance_in n m le term.Int i e b = none_is_not i (sym e)
@@ -130,7 +128,7 @@ module _ (given : List Demanded) (specs : List Spec) (types : List CluType) (op 
   other_asks (term.Variant fs) p c = (λ h. h, λ h. h)
   other_asks (term.Proc h) p c = (λ h. h, λ h. h)
   other_asks (term.Iter h) p c = (λ h. h, λ h. h)
-  other_asks (term.Cluster name actuals) p c = none_is_not (record { name = name; actuals = actuals }) c
+  other_asks (term.Cluster name actuals) p c = none_is_not (instance_with name actuals) c
   other_asks (term.Param n) p c = none_is_not n (sym p)
 
 -- a type that is neither a parameter nor of a cluster has the built-in operations

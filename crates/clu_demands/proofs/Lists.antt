@@ -81,27 +81,33 @@ same_asked a b =
     (λ e. (ap (λ (a : Asked). a.of) e, (ap (λ (a : Asked). a.op) e, ap (λ (a : Asked). a.wanted) e)))
     (Decides-and _ _ (same_id a.of b.of) (Decides-and _ _ (bytes_eq-Decides a.op b.op) (same_id a.wanted b.wanted)))
 
-abbrev pub with_one : List Asked → Asked → List Asked
-with_one xs x = insert_key (needs.ghosts).eq xs x
-
-module _ (xs : List Asked) (x : Asked) where
-  pub one_front : IsFrontOf xs (with_one xs x)
-  one_front = by (list_any ((needs.ghosts).eq x) xs) refl
+module _ (eq : Asked → Asked → Bool) (xs : List Asked) (x : Asked) where
+  front_by : IsFrontOf xs (insert_key eq xs x)
+  front_by = by (list_any (eq x) xs) refl
     where
-      by : (b : Bool) → list_any ((needs.ghosts).eq x) xs ≡ b → IsFrontOf xs (with_one xs x)
+      by : (b : Bool) → list_any (eq x) xs ≡ b → IsFrontOf xs (insert_key eq xs x)
       by true e = ([], rw e (sym (append-nil xs)))
       by false e = (x ∷ [], rw e refl)
 
-  pub one_here : Contains (with_one xs x) x
-  one_here = Contains-insert_key (needs.ghosts).eq (λ a b e. (same_asked a b).0 e) xs x
-
-  -- what comes after the others is this one
-  pub one_from : (j : ℕ) (m : Asked) → length xs ≤ j → slice_get (with_one xs x) j ≡ Some m → x ≡ m
-  one_from j m le = by (list_any ((needs.ghosts).eq x) xs) refl
+  from_by : (j : ℕ) (m : Asked) → length xs ≤ j → slice_get (insert_key eq xs x) j ≡ Some m → x ≡ m
+  from_by j m le = by (list_any (eq x) xs) refl
     where
-      by : (b : Bool) → list_any ((needs.ghosts).eq x) xs ≡ b → slice_get (with_one xs x) j ≡ Some m → x ≡ m
+      by : (b : Bool) → list_any (eq x) xs ≡ b → slice_get (insert_key eq xs x) j ≡ Some m → x ≡ m
       by true e = rw e (λ at. absurd (omega (arith, slice_get_within xs j m at)))
       by false e = rw e (λ at. at_seam xs x m j le at)
+
+abbrev pub with_one : List Asked → Asked → List Asked
+with_one xs x = insert_key (needs.ghosts).eq xs x
+
+pub one_front : (xs : List Asked) (x : Asked) → IsFrontOf xs (with_one xs x)
+one_front xs x = front_by (needs.ghosts).eq xs x
+
+pub one_here : (xs : List Asked) (x : Asked) → Contains (with_one xs x) x
+one_here xs x = Contains-insert_key (needs.ghosts).eq (λ a b e. (same_asked a b).0 e) xs x
+
+-- what comes after the others is this one
+pub one_from : (xs : List Asked) (x : Asked) (j : ℕ) (m : Asked) → length xs ≤ j → slice_get (with_one xs x) j ≡ Some m → x ≡ m
+one_from xs x = from_by (needs.ghosts).eq xs x
 
 -- ---- many more
 
@@ -155,6 +161,8 @@ adding_all old all left now none h = record {
     here : (a : Asked) → Contains now a ⊎ Contains left a → Contains now a
     here a (inl there) = there
     here a (inr later) = in_none a (subst (λ (l : List Asked). Contains l a) none later)
+
+pub ruleset addings = (adding_first, adding_all)
 
 -- what the iterator of a vector gives
 pub next_item : {A Z : Type 0} (s t : IntoIter A Z) (r : Option A) (x : A) → r ≡ Some x → into_iter_steps s r t → into_iter_items s ≡ x ∷ into_iter_items t

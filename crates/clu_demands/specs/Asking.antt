@@ -3,6 +3,7 @@ use Rattle.std.specs.Prelude.{◌≡◌, ℕ, ◌<◌, ◌≤◌, List, [], ◌�
 use Rattle.clu_types.specs.CluType.{CluType}
 use Rattle.clu_types.specs.Arena.{type_at, types_of}
 use Rattle.clu_types.specs.declared.spec.Spec.{Spec}
+use Rattle.clu_types.specs.declared.term.Actual.{Actual}
 use Rattle.clu_types.specs.declared.term.TypeId.{TypeId}
 use Rattle.clu_types.specs.declared.term.Term.{Term}
 use Rattle.clu_types.specs.declared.term.Term.TheVariants as term
@@ -62,8 +63,11 @@ abbrev pub parameter_of : Term → Option ℕ
 parameter_of (term.Param n) = Some n
 parameter_of _ = None
 
+abbrev pub instance_with : List ℕ → List Actual → Instance
+instance_with name actuals = record { name = name; actuals = actuals }
+
 abbrev pub instance_of : Term → Option Instance
-instance_of (term.Cluster name actuals) = Some (record { name = name; actuals = actuals })
+instance_of (term.Cluster name actuals) = Some (instance_with name actuals)
 instance_of _ = None
 
 -- the term of a number has none such

@@ -5,7 +5,7 @@ ghost use Rattle.clu_types.specs.Arena.{type_at, types_of, actuals_at, ActualsBe
 ghost use Rattle.clu_builtin.specs.Built.{operation_at, NeedsBelow};
 ghost use Rattle.clu_specs.specs.Seen.{Demanded, demand_seen};
 ghost use Rattle.clu_specs.specs.Specifications.{DemandsBelow};
-ghost use Rattle.clu_demands.specs.Asking.{as_asked, IsBelow, AreBelowIf, Answers, HasNone, parameter_of, instance_of};
+ghost use Rattle.clu_demands.specs.Asking.{as_asked, IsBelow, AreBelowIf, Answers, HasNone, parameter_of, instance_with, instance_of};
 ghost use Rattle.clu_demands.specs.Meeting.{AsksOf, AsksOfBuiltin, AsksOfCluster, AsksOfOperation, AsksOfParameter};
 
 use crate::carried::intern_routine;
@@ -108,8 +108,7 @@ fn instance_of(alloc: Global, term: &Term) -> Result<Option<Instance>, Memory>
 }
 
 fn cluster_type(alloc: Global, name: &Bytes, actuals: &[Actual]) -> Result<Instance, Memory>
-    ensures name { IfOk result (λ made. made.name ≡ name.now) }
-    ensures actuals { IfOk result (λ made. made.actuals ≡ actuals.now) }
+    ensures { IfOk result (λ made. made ≡ instance_with name.now actuals.now) }
 {
     let name = name.copy(alloc)?;
     let actuals = Sequence::from_vec(copied(alloc, actuals)?);

@@ -9,3 +9,6 @@ is_met-requires-clause-met_in c = none_below _ _ c.new-met.ensures.empty
 
 pub is_met-requires-clause-closed : goal.is_met-requires-clause-closed
 is_met-requires-clause-closed c = none_closed _ _ _ _ c.new-met.ensures.empty
+
+pub returns-clause-met : goal.returns-clause-met
+returns-clause-met c = rw (← c.in_ok-op.ensures) c.is_met.ensures.met
