@@ -18,4 +18,4 @@ pub use crate::found::{given, op_named, type_actual};
 pub use crate::kinds::{are_of_kinds, kind_of, kind_of_value, may_be_of};
 pub use crate::meeting::{is_met, meets};
 pub use crate::needs::Asked;
-pub use crate::whole::{is_whole, is_whole_op};
+pub use crate::whole::{holds_demands, is_whole, is_whole_op};

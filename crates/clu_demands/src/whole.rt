@@ -46,7 +46,8 @@ fn holds_heading(types: &TypeArena, heading: &Heading) -> bool
         && holds_signals(types, heading.signals.as_slice())
 }
 
-fn holds_demands(types: &TypeArena, demands: &[Demand]) -> bool
+/// Whether the wanted types are those of the arena.
+pub fn holds_demands(types: &TypeArena, demands: &[Demand]) -> bool
     ensures { IsTrue result ↔ DemandsBelow (length types.now) demands.now }
 {
     match demands {
