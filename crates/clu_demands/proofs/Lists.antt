@@ -162,8 +162,13 @@ adding_all old all left now none h = record {
     here a (inl there) = there
     here a (inr later) = in_none a (subst (λ (l : List Asked). Contains l a) none later)
 
-pub ruleset addings = (adding_first, adding_all)
-
 -- what the iterator of a vector gives
 pub next_item : {A Z : Type 0} (s t : IntoIter A Z) (r : Option A) (x : A) → r ≡ Some x → into_iter_steps s r t → into_iter_items s ≡ x ∷ into_iter_items t
 next_item {A} {Z} s t r x is steps = (subst (λ (o : Option A). into_iter_steps s o t) is steps).0
+
+no_items : {A : Type 0} (xs : List A) → length xs ≡ 0 → xs ≡ []
+no_items [] e = refl
+no_items (x ∷ xs) e = absurd (omega arith)
+
+pub none_left : {A Z : Type 0} (s t : IntoIter A Z) (r : Option A) → r ≡ None → into_iter_steps s r t → into_iter_items s ≡ []
+none_left {A} {Z} s t r is steps = no_items (into_iter_items s) (sym s.rest.ok.0 ∙ (subst (λ (o : Option A). into_iter_steps s o t) is steps).0)

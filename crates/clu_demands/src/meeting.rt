@@ -138,7 +138,6 @@ fn add_found(met: &mut IndexSet<Asked>, found: Option<Sequence<Asked>>) -> Resul
     }
 }
 
-#[tactic(auto, using(crate::proofs::Lists::addings))]
 fn add_all(met: &mut IndexSet<Asked>, asked: Sequence<Asked>) -> Result<(), Memory>
     ensures { OnOk result (HasAdded met.old.keys asked met.new.keys) }
 {

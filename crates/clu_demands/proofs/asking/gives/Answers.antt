@@ -1,4 +1,4 @@
-use Rattle.std.proofs.Common.{false}
+use Rattle.std.proofs.Common.{true≢false, sym}
 use Rattle.clu_types.specs.Arena.{type_at, types_of}
 use Rattle.clu_demands.proofs.Answering.{found_below, gives_some, gives_none}
 use Rattle.clu_demands.proofs.asking.gives.Goals as goal
@@ -12,4 +12,4 @@ returns-in-Some c =
 
 pub returns-in-None : goal.returns-in-None
 returns-in-None c =
-    (λ h. absurd (cc), λ h. absurd (gives_none (types_of c.args.types.now) c.args.given.now c.args.n c.args.op.now (type_at (types_of c.args.types.now) c.args.wanted) c.in-None.ensures h))
+    (λ h. absurd (true≢false (sym h)), λ h. absurd (gives_none (types_of c.args.types.now) c.args.given.now c.args.n c.args.op.now (type_at (types_of c.args.types.now) c.args.wanted) c.in-None.ensures h))

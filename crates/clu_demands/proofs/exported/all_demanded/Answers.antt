@@ -1,4 +1,4 @@
-use Rattle.std.proofs.Common.{sym, ◌∙◌, ap, arith}
+use Rattle.std.proofs.Common.{sym, ◌∙◌, ap}
 use Rattle.clu_types.specs.Arena.{types_of}
 use Rattle.clu_types.proofs.Carrying.{given_more}
 use Rattle.clu_demands.specs.Asking.{asked_if}
@@ -27,4 +27,5 @@ returns-in-None-clause-demanded c =
 
 pub returns-clause-demanded : goal.returns-clause-demanded
 returns-clause-demanded c =
-    demanded_all c.args.from.now c.args.actuals.now c.args.types.now c.args.demands.now c.loop-demand.types c.loop-demand.demand-index c.loop-demand.made.items (omega arith) c.loop-demand.invariant
+    rw c.from_vec.ensures
+    (demanded_all c.args.from.now c.args.actuals.now c.args.types.now c.args.demands.now c.loop-demand.types c.loop-demand.demand-index c.loop-demand.made.items c.loop-demand-test.false c.loop-demand.invariant)
