@@ -100,7 +100,8 @@ module _ (given : List Demanded) (specs : List Spec) (start : List Term) (first 
             let at : slice_get found k ≡ Some a = at_front found new h.added.front k a (omega arith) e in
             let same : h.need ≡ a = same_item h.need a (sym h.at ∙ ap (slice_get found) (sym here) ∙ at) in
             let of_need : asked_seen (types_of now) h.need ≡ asked_seen (types_of newer) a = ap (asked_seen (types_of now)) same ∙ sym (seen_now k a (omega arith) e) in
-            subst (IsAnswered given specs (all_seen (types_of newer) new)) of_need (all_seen (types_of newer) h.asked, h.asks, added)
+            let that : IsAnswered given specs (all_seen (types_of newer) new) (asked_seen (types_of now) h.need) = (all_seen (types_of newer) h.asked, h.asks, added) in
+            subst (IsAnswered given specs (all_seen (types_of newer) new)) of_need that
 
         due : (needs : List Needed) → IsClosed given specs needs → HasFrom (types_of start) first before needs → (k : ℕ) (a : Asked) → before ≤ k → slice_get new k ≡ Some a → (b : Bool) → ltb k (length found) ≡ b → Contains needs (asked_seen (types_of newer) a)
         due needs closed has k a le e true earlier =

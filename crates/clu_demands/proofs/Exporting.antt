@@ -20,7 +20,7 @@ use Rattle.clu_builtin.specs.Operation.{Needed}
 use Rattle.clu_specs.specs.Specifications.{DemandsBelow, OpBelow}
 use Rattle.clu_demands.specs.declared.needs.Asked.{Asked}
 use Rattle.clu_demands.specs.Kinds.{MayBeOf}
-use Rattle.clu_demands.specs.Asking.{asked_seen, all_seen, AreBelowAll, IsBelow, Answers, seen_if, asked_if}
+use Rattle.clu_demands.specs.Asking.{need_seen, asked_seen, all_seen, AreBelowAll, IsBelow, Answers, seen_if, asked_if}
 use Rattle.clu_demands.specs.Meeting.{AsksOfCluster, AsksOfSpec, AsksOfNamed, AsksOfRoutine, op_named, op_type, all_demanded, demanded, demanded_of, with_first}
 use Rattle.clu_demands.proofs.Lists.{none_is_not, same_item}
 use Rattle.clu_demands.proofs.Seen.{more_below, all_same}
@@ -77,9 +77,9 @@ module _ (s : Spec) (actuals : List Actual) (o : OpSpec) (old new : List Term) (
 
 -- ---- a demand
 
-pub one_demanded : (old new : List Term) → Grows old new → (of : TypeId) → of.0 < length old → (op name : List ℕ) → op ≡ name → (wanted : TypeId) (w : CluType) → type_at (types_of new) wanted ≡ w
-    → (let n : Needed = record { of = type_at (types_of new) of; op = op; wanted = type_at (types_of new) wanted } in Some n) ≡ Some (record { of = type_at (types_of old) of; op = name; wanted = w })
-one_demanded old new g of of_in op name named wanted w is =
+pub one_demanded : (from : List CluType) (put : Actuals) (d : Demand) (old new : List Term) → Grows old new → (of : TypeId) → of.0 < length old → (op : List ℕ) → op ≡ d.op
+    → (wanted : TypeId) → type_at (types_of new) wanted ≡ substituted put (type_at from d.wanted) → Some (need_seen (types_of new) of op wanted) ≡ demanded_of from put d (Some (type_at (types_of old) of))
+one_demanded from put d old new g of of_in op named wanted is =
     join3 (λ (x : CluType) (o : List ℕ) (y : CluType). let n : Needed = record { of = x; op = o; wanted = y } in Some n) (types_grown old new g of of_in) named is
 
 -- ---- demands, one after the other

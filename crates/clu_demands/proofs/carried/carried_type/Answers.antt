@@ -3,8 +3,8 @@ use Rattle.clu_types.proofs.Carrying.{grows_on, given_more, ids_grown}
 use Rattle.clu_demands.proofs.Bringing.{heading_is, typed_as}
 use Rattle.clu_demands.proofs.carried.carried_type.Goals as goal
 
-pub carry_ids-2-requires-clause-actuals_in : goal.carry_ids-2-requires-clause-actuals_in
-carry_ids-2-requires-clause-actuals_in c = given_more _ _ c.in_ok-args.ensures.kept _ c.requires.actuals_in
+pub carry_ids-requires-2-clause-actuals_in : goal.carry_ids-requires-2-clause-actuals_in
+carry_ids-requires-2-clause-actuals_in c = given_more _ _ c.in_ok-args.ensures.kept _ c.requires.actuals_in
 
 pub carry_exceptions-requires-clause-actuals_in : goal.carry_exceptions-requires-clause-actuals_in
 carry_exceptions-requires-clause-actuals_in c = given_more _ _ c.in_ok-results.ensures.kept _ (given_more _ _ c.in_ok-args.ensures.kept _ c.requires.actuals_in)
