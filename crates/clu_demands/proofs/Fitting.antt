@@ -1,5 +1,5 @@
 -- Actual parameters: their kinds, and the one of a number.
-use Rattle.std.proofs.Common.{◌≡◌, ℕ, zero, suc, List, [], ◌∷◌, Option, Some, None, slice_get, refl, sym}
+use Rattle.std.proofs.Common.{◌≡◌, ◌↔◌, Bool, true, false, not, true≢false, IsTrue, ℕ, zero, suc, List, [], ◌∷◌, Option, Some, None, slice_get, refl, sym}
 use Rattle.std.specs.Bool.{Decides}
 use Rattle.clu_types.specs.CluType.{CluType, Actuals}
 use Rattle.clu_types.specs.Arena.{type_at, actuals_at}
@@ -20,6 +20,11 @@ same_kind kind.Int kind.Int = (λ e. refl, λ e. refl)
 same_kind kind.Char kind.Char = (λ e. refl, λ e. refl)
 same_kind kind.Str kind.Str = (λ e. refl, λ e. refl)
 same_kind _ _ = (λ e. cc, λ e. cc)
+
+-- what isn't so
+pub is_not : (r : Bool) (P : Type 0) → (IsTrue r ↔ P) → IsTrue (not r) ↔ (P → ⊥)
+is_not true P h = (λ t. absurd (true≢false (sym t)), λ n. absurd (n (h.0 refl)))
+is_not false P h = (λ t p. true≢false (sym (h.1 p)), λ n. refl)
 
 -- what actual parameters may be of, told of those of a type
 pub fits_seen : (types : List CluType) (actuals : List Actual) (ks : List ParamKind) → MayBeAll actuals ks → MayBeOf (actuals_at types actuals) ks
