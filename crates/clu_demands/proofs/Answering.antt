@@ -202,7 +202,7 @@ module _ (old new : List Term) (g : Grows old new) (b : Builtin) (wanted routine
       (both_included _ _ _ _ is (types_grown old new g wanted wanted_in) h, ap (all_seen (types_of new)) made_is ∙ seen_needs old new g b.needs needs_in)
 
   pub operation_lacks : (Included (type_at (types_of new) routine) (type_at (types_of new) wanted) → ⊥) → (asks : List Needed) → AsksOfOperation (operation_at (types_of old) b) (type_at (types_of old) wanted) asks → ⊥
-  operation_lacks no asks h = no (both_included _ _ _ _ (sym is) (sym (types_grown old new g wanted wanted_in)) h.0)
+  operation_lacks apart asks h = apart (both_included _ _ _ _ (sym is) (sym (types_grown old new g wanted wanted_in)) h.0)
 
 module _ (old new : List Term) (g : Grows old new) (of wanted : TypeId) (op : List ℕ) (found : Option Builtin) (is : found_at (types_of new) found ≡ operation (type_at (types_of old) of) op) where
   pub builtin_some : wanted.0 < length old → (b : Builtin) → found ≡ Some b → (types : List CluType) (r : Result (Option (List Asked)) Memory)

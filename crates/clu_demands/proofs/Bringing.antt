@@ -20,7 +20,7 @@ use Rattle.clu_types.proofs.Parts.{ids_more, signals_more, types_same, signals_s
 
 -- ---- lists that get one item more at their end
 
-snoc : CluTypes → CluType → CluTypes
+abbrev snoc : CluTypes → CluType → CluTypes
 snoc no_types t = type_and t no_types
 snoc (type_and x ts) t = type_and x (snoc ts t)
 
@@ -36,7 +36,7 @@ below-push : (n : ℕ) (ids : List TypeId) (id : TypeId) → AreBelow n ids → 
 below-push n [] id b lt = (lt, tt)
 below-push n (x ∷ ids) id b lt = (b.0, below-push n ids id b.1 lt)
 
-signal_snoc : Signals → List ℕ → CluTypes → Signals
+abbrev signal_snoc : Signals → List ℕ → CluTypes → Signals
 signal_snoc no_signals name ts = signal_and name ts no_signals
 signal_snoc (signal_and n os ss) name ts = signal_and n os (signal_snoc ss name ts)
 

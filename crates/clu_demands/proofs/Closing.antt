@@ -1,10 +1,11 @@
 -- Needs that are asked one after the other, each of which adds what it asks.
-use Rattle.std.proofs.Common.{◌≡◌, ◌⊎◌, inl, inr, ℕ, ◌+◌, ◌<◌, ◌≤◌, Bool, true, false, List, [], ◌∷◌, ◌++◌, Contains, length, map, take, slice_get, Option, Some, None, refl, sym, ap, ◌∙◌, subst, append_assoc, arith, length-append}
+use Rattle.std.proofs.Common.{◌≡◌, ◌⊎◌, inl, inr, ℕ, ◌+◌, ◌<◌, ◌≤◌, Bool, true, false, List, [], ◌∷◌, ◌++◌, Contains, length, map, take, slice_get, Option, Some, None, Result, Ok, Err, IfOk, refl, sym, ap, ◌∙◌, subst, append_assoc, arith, length-append}
 use Rattle.std.proofs.Math.Dec.{ltb}
 use borrow.Author.Tests.{ltb-true, ltb-false}
 use Rattle.std.proofs.lemmas.List.{append-nil}
 use Rattle.std.proofs.lemmas.List.Elements.{Contains-append_left}
 use Rattle.std.proofs.lemmas.Option.{slice_get_within}
+use Rattle.clu_base.specs.declared.errors.Memory.{Memory}
 use Rattle.clu_types.specs.CluType.{CluType}
 use Rattle.clu_types.specs.Arena.{types_of, Grows}
 use Rattle.clu_types.specs.declared.spec.Demand.{Demand}
@@ -191,6 +192,16 @@ module _ (given : List Demanded) (specs : List Spec) (old new : List Term) (keys
   none_found (Some asked) a none other there = none_is_not asked (sym none)
   none_found None a none other there =
       subst (λ (x : Asked). (asks : List Needed) → Asks given specs (asked_seen (types_of old) x) asks → ⊥) (same_item need other (sym at ∙ there)) a
+
+  pub asked_if_ok : (found : Option (List Asked)) → Answers (Asks given specs (asked_seen (types_of old) need)) (types_of new) found → AreBelowIf (length new) found → (r : Result Bool Memory)
+      → IfOk r (λ b. b ≡ true → HasFound found keys newer) → IfOk r (λ b. b ≡ true → HasAsked given specs old new keys newer n)
+  asked_if_ok found a w (Ok b) h = λ e. asked_found found a w (h e)
+  asked_if_ok found a w (Err x) h = h
+
+  pub none_if_ok : (found : Option (List Asked)) → Answers (Asks given specs (asked_seen (types_of old) need)) (types_of new) found → (r : Result Bool Memory)
+      → IfOk r (λ b. b ≡ false → found ≡ None) → IfOk r (λ b. b ≡ false → AsksNone given specs (types_of old) keys n)
+  none_if_ok found a (Ok b) h = λ e. none_found found a (h e)
+  none_if_ok found a (Err x) h = h
 
 pub none_there : (given : List Demanded) (specs : List Spec) (types : List CluType) (keys : List Asked) (n : ℕ) → None ≡ slice_get keys n → AsksNone given specs types keys n
 none_there given specs types keys n none need there = none_is_not need (none ∙ there)

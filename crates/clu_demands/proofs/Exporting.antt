@@ -61,8 +61,8 @@ module _ (s : Spec) (actuals : List Actual) (o : OpSpec) (old new : List Term) (
   same_wanted = types_grown old new g wanted wanted_in
 
   pub routine_lacks : (Included (type_at (types_of new) of) (type_at (types_of new) wanted) → ⊥) → (asks : List Needed) → AsksOfRoutine s given o (type_at (types_of old) wanted) asks → ⊥
-  routine_lacks no asks q =
-      no (subst (λ (t : CluType). Included t (type_at (types_of new) wanted)) (sym is) (subst (λ (w : CluType). Included (substituted given (op_type (types_of s.types) o)) w) (sym same_wanted) q.1))
+  routine_lacks apart asks q =
+      apart (subst (λ (t : CluType). Included t (type_at (types_of new) wanted)) (sym is) (subst (λ (w : CluType). Included (substituted given (op_type (types_of s.types) o)) w) (sym same_wanted) q.1))
 
   routine_answers : Included (type_at (types_of new) of) (type_at (types_of new) wanted) → (types : List CluType) (made : Option (List Asked)) → seen_if types made ≡ all_demanded (types_of s.types) given o.demands
       → Answers (AsksOfRoutine s given o (type_at (types_of old) wanted)) types made

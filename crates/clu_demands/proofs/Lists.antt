@@ -64,7 +64,7 @@ is_there xs k m e = (k, slice_get_within xs k m e, get_or_from_slice_get xs k m 
 
 pub take_front : {X : Type 0} (xs ys : List X) → take (length xs) (xs ++ ys) ≡ xs
 take_front [] ys = refl
-take_front (x ∷ xs) ys = ap (λ (l : List X). x ∷ l) (take_front xs ys)
+take_front (x ∷ xs) ys = ap (λ l. x ∷ l) (take_front xs ys)
 
 -- what comes after a list
 at_seam : {X : Type 0} (xs : List X) (y x : X) (j : ℕ) → length xs ≤ j → slice_get (xs ++ y ∷ []) j ≡ Some x → y ≡ x

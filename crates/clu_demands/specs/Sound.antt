@@ -77,12 +77,12 @@ AreDemandsMet given specs s demands actuals =
     DemandsBelow (length s.types) demands × ((asks : List Needed) × (all_demanded (types_of s.types) actuals demands ≡ Some asks) × ((a : Needed) → Contains asks a → Meets given specs a))
 
 abbrev pub IsFormInstanceMet : List Demanded → List Spec → Spec → Actuals → Form → Type 0
-IsFormInstanceMet given specs s actuals (form.Cluster demands ops) = AreDemandsMet given specs s demands actuals
-IsFormInstanceMet given specs s actuals (form.Routine o) = ⊥
+IsFormInstanceMet given specs s inner (form.Cluster demands ops) = AreDemandsMet given specs s demands inner
+IsFormInstanceMet given specs s inner (form.Routine o) = ⊥
 
 abbrev pub IsInstanceMet : List Demanded → List Spec → Actuals → Option Spec → Type 0
-IsInstanceMet given specs actuals None = ⊥
-IsInstanceMet given specs actuals (Some s) = IsFormInstanceMet given specs s actuals s.form
+IsInstanceMet given specs inner None = ⊥
+IsInstanceMet given specs inner (Some s) = IsFormInstanceMet given specs s inner s.form
 
 -- of each cluster among the parts of a type
 abbrev pub IsTypeMet : List Demanded → List Spec → CluType → Type 0

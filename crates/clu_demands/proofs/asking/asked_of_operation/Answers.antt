@@ -13,7 +13,7 @@ pub returns-then-included-clause-within : goal.returns-then-included-clause-with
 returns-then-included-clause-within c =
     subst (AreBelowAll (length c.intern_routine.new.types)) (sym c.in_ok-asked.ensures) (needs_below _ _ (length_grows _ _ c.in_ok-routine.ensures.kept) _ c.requires.needs_in)
 
-pub returns-else-included-clause-asks : goal.returns-else-included-clause-asks
-returns-else-included-clause-asks c =
+pub returns-clause-asks : goal.returns-clause-asks
+returns-clause-asks c =
     operation_lacks c.args.types.now c.intern_routine.new.types c.in_ok-routine.ensures.kept c.args.builtin c.args.wanted c.in_ok-routine.routine c.requires.wanted_in c.in_ok-routine.ensures.of_type
     (λ e. let found = c.included.ensures.1 e in let none = c.if-included.false in cc)
