@@ -1,0 +1,4 @@
+pub mod Asking
+pub mod Kinds
+pub mod Meeting
+pub mod Sound

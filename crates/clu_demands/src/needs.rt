@@ -1,0 +1,19 @@
+//! What is asked of types.
+
+use clu_base::{Bytes, Sequence};
+use clu_types::{Actual, TypeId};
+
+/// A need: the type has an operation of this name, of a type included in the wanted one.
+#[derive(Debug, Drop, PartialEq, Eq, Hash)]
+pub struct Asked {
+    pub of: TypeId,
+    pub op: Bytes,
+    pub wanted: TypeId,
+}
+
+/// A type of a cluster: the name of its module and its actual parameters.
+#[derive(Debug, Drop)]
+pub struct Instance {
+    pub name: Bytes,
+    pub actuals: Sequence<Actual>,
+}
