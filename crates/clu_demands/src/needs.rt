@@ -4,7 +4,7 @@ use clu_base::{Bytes, Sequence};
 use clu_types::{Actual, TypeId};
 
 /// A need: the type has an operation of this name, of a type included in the wanted one.
-#[derive(Debug, Drop, PartialEq, Eq, Hash)]
+#[derive(Drop, PartialEq, Eq, Hash)]
 pub struct Asked {
     pub of: TypeId,
     pub op: Bytes,
@@ -12,7 +12,7 @@ pub struct Asked {
 }
 
 /// A type of a cluster: the name of its module and its actual parameters.
-#[derive(Debug, Drop)]
+#[derive(Drop)]
 pub struct Instance {
     pub name: Bytes,
     pub actuals: Sequence<Actual>,
