@@ -5,7 +5,7 @@ use Rattle.clu_frames.specs.declared.errors.FrameError.TheVariants as frame
 use Rattle.clu_library.specs.Contents.{Contents, spec_of}
 use Rattle.clu_library.specs.declared.errors.EnterError.{EnterError}
 use Rattle.clu_library.specs.declared.errors.EnterError.TheVariants as enter
-use Rattle.clu_link.specs.Starts as starts
+use Rattle.clu_link.specs.Causes.{IsRefusalOf}
 use Rattle.clu_link.specs.declared.errors.LinkError.{LinkError}
 use Rattle.clu_link.specs.declared.errors.LinkError.TheVariants as link
 use Rattle.clu_lower_expr.specs.declared.errors.LowerError.{LowerError}
@@ -72,16 +72,16 @@ of_entering enter.Memory start kept = tt
 of_entering enter.Differs start kept = tt
 
 -- what the linker's refusals say of it
-pub of_linking : (e : LinkError) (start : List ℕ) (kept : Option Spec) → starts.IsStartRefusal e start kept → IsOfProgram (of_link e) start kept
-of_linking (link.NoModule name) start kept is = is
-of_linking (link.BadStart name) start kept is = is
-of_linking link.TooManyInstances start kept is = tt
-of_linking (link.NoBody name) start kept is = tt
-of_linking (link.Stale name by changed checked) start kept is = tt
-of_linking (link.Misfit name) start kept is = tt
-of_linking link.ProgramTooLarge start kept is = tt
-of_linking link.Memory start kept is = tt
-of_linking link.NotYet start kept is = tt
+pub of_linking : (e : LinkError) (library : Contents) (start : List ℕ) → IsRefusalOf e library start → IsOfProgram (of_link e) start (spec_of library start)
+of_linking (link.NoModule name) library start is = is
+of_linking (link.BadStart name) library start is = is
+of_linking link.TooManyInstances library start is = tt
+of_linking (link.NoBody name) library start is = tt
+of_linking (link.Stale name by changed checked) library start is = tt
+of_linking (link.Misfit name) library start is = tt
+of_linking link.ProgramTooLarge library start is = tt
+of_linking link.Memory library start is = tt
+of_linking link.NotYet library start is = tt
 
 pub ruleset programs = (of_entering, of_linking)
 

@@ -1,4 +1,7 @@
--- Numbers that a program has, what uses and parameters are, what an instance takes, and what a program may start with.
+-- Numbers that a program has, what uses and parameters are, what an instance takes, what a program may start with, and why it
+-- is refused.
+pub mod Causes
+pub mod Found
 pub mod Numbers
 pub mod Parameters
 pub mod Starts

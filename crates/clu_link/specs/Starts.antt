@@ -31,13 +31,6 @@ IsRefusal (error.BadStart name) start kept = (name ≡ start) × IsBadStart kept
 IsRefusal error.Memory start kept = Unit {0}
 IsRefusal _ start kept = ⊥
 
--- among all refusals of linking: no module is kept of the name only where none is, and a start is bad only where it is
--- none; of the others nothing is said
-abbrev pub IsStartRefusal : LinkError → List ℕ → Option Spec → Type 0
-IsStartRefusal (error.NoModule name) start kept = (name ≡ start) × (kept ≡ None)
-IsStartRefusal (error.BadStart name) start kept = (name ≡ start) × IsBadStart kept
-IsStartRefusal _ start kept = Unit {0}
-
 -- no own variable of these bytes names an object
 abbrev pub AreUnset : List ℕ → Type 0
 AreUnset bytes = All (λ b. b ≡ 0) bytes

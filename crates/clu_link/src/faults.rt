@@ -1,7 +1,13 @@
 //! What is found wrong with a program while it is reached, and which of it is refused first.
 
+ghost use Rattle.std.specs.Prelude.{◌≡◌, ◌↔◌, ℕ, IfOk, IfSome, IsTrue, List, OnOk};
+ghost use Rattle.clu_library.specs.Contents.{Contents, body_of};
+ghost use Rattle.clu_library.specs.Staleness.{AreStale, IsStale};
+ghost use Rattle.clu_link.specs.Causes.{HasBody, IsRefusalOf};
+ghost use Rattle.clu_link.specs.Found.{AreFaults, IsStaleModule};
+
 use crate::errors::LinkError;
-use clu_base::Bytes;
+use clu_base::{Bytes, Memory};
 use clu_library::{Library, StaleBy};
 use indexmap::IndexSet;
 use std::alloc::Global;
@@ -23,73 +29,93 @@ pub struct Faults {
     stale: Option<StaleModule>,
     misfit: Option<Bytes>,
     weight: u64,
-    /// The modules whose bodies are stale, once it was asked.
-    stale_modules: Option<IndexSet<Bytes>>,
+    /// The modules of the library whose bodies are stale.
+    stale_modules: IndexSet<Bytes>,
 }
 
 impl Faults {
-    pub fn new() -> Faults {
+    /// No faults; these are the modules whose bodies are stale.
+    pub fn new(stale_modules: IndexSet<Bytes>) -> Faults
+        ensures { (library : Contents) → AreStale library stale_modules.keys → AreFaults library result }
+    {
         Faults {
             no_body: None,
             stale: None,
             misfit: None,
             weight: 0,
-            stale_modules: None,
+            stale_modules,
         }
     }
 
     /// No body is kept of the module.
-    pub fn add_bodiless(&mut self, module: Bytes) {
-        self.no_body.get_or_insert(module);
+    pub fn add_bodiless(&mut self, module: Bytes)
+        ensures { (library : Contents) → body_of library module ≡ None → AreFaults library self.old → AreFaults library self.new }
+    {
+        if self.no_body.is_some() {
+            return;
+        }
+        self.no_body = Some(module);
     }
 
     /// The module's object does not fit what is kept.
-    pub fn add_misfit(&mut self, module: Bytes) {
-        self.misfit.get_or_insert(module);
+    pub fn add_misfit(&mut self, module: Bytes)
+        ensures { (library : Contents) → HasBody library module → AreFaults library self.old → AreFaults library self.new }
+    {
+        if self.misfit.is_some() {
+            return;
+        }
+        self.misfit = Some(module);
     }
 
-    pub fn add_weight(&mut self, weight: u64) {
+    pub fn add_weight(&mut self, weight: u64)
+        ensures { (library : Contents) → AreFaults library self.old → AreFaults library self.new }
+    {
         self.weight = self.weight.saturating_add(weight);
     }
 
-    /// Whether the kept body of a module is stale. All that are stale are searched for once.
+    /// Whether the kept body of a module is stale. Why, is told of the first one.
+    #[tactic(auto, using(crate::proofs::Keeping::causes))]
     pub fn is_stale(
         &mut self,
         alloc: Global,
         lib: &Library,
         module: &Bytes,
-    ) -> Result<bool, LinkError> {
-        if self.stale_modules.is_none() {
-            self.stale_modules = Some(lib.stale_modules(alloc)?);
-        }
-        if !self.is_among_stale(module) {
-            return Ok(false);
-        }
-        self.add_stale(alloc, lib, module)?;
-        Ok(true)
+    ) -> Result<bool, Memory>
+        requires { AreFaults lib.now self.old }
+        ensures found { OnOk result (AreFaults lib.now self.new) }
+        ensures stale { IfOk result (λ stale. IsTrue stale ↔ IsStale lib.now module.now) }
+    {
+        let is_stale = self.stale_modules.contains(module);
+        self.add_stale(alloc, lib, module, is_stale)?;
+        Ok(is_stale)
     }
 
-    fn is_among_stale(&self, module: &Bytes) -> bool {
-        match &self.stale_modules {
-            Some(found) => found.contains(module),
-            None => false,
-        }
-    }
-
-    /// The module's body is stale; why, is told of the first one.
-    fn add_stale(&mut self, alloc: Global, lib: &Library, module: &Bytes) -> Result<(), LinkError> {
-        if self.stale.is_some() {
+    fn add_stale(
+        &mut self,
+        alloc: Global,
+        lib: &Library,
+        module: &Bytes,
+        is_stale: bool,
+    ) -> Result<(), Memory>
+        requires { AreFaults lib.now self.old }
+        ensures { OnOk result (AreFaults lib.now self.new) }
+    {
+        if !is_stale || self.stale.is_some() {
             return Ok(());
         }
-        if let Some(by) = lib.stale(alloc, module)? {
-            let name = module.copy(alloc)?;
-            self.stale = Some(StaleModule { name, by });
+        match stale_module(alloc, lib, module)? {
+            Some(found) => {
+                self.stale = Some(found);
+                Ok(())
+            }
+            None => Ok(()),
         }
-        Ok(())
     }
 
     /// What is refused first, if there are not too many instances.
-    pub fn first(self) -> Option<LinkError> {
+    pub fn first(self) -> Option<LinkError>
+        ensures { (library : Contents) → (start : List ℕ) → AreFaults library self → IfSome result (λ e. IsRefusalOf e library start) }
+    {
         let Faults {
             no_body,
             stale,
@@ -111,7 +137,27 @@ impl Faults {
     }
 }
 
-fn stale_error(module: StaleModule) -> LinkError {
+/// A module and why its body is stale.
+#[tactic(auto, using(crate::proofs::Keeping::causes))]
+fn stale_module(
+    alloc: Global,
+    lib: &Library,
+    module: &Bytes,
+) -> Result<Option<StaleModule>, Memory>
+    ensures { IfOk result (λ found. IfSome found (IsStaleModule lib.now)) }
+{
+    match lib.stale(alloc, module)? {
+        Some(by) => {
+            let name = module.copy(alloc)?;
+            Ok(Some(StaleModule { name, by }))
+        }
+        None => Ok(None),
+    }
+}
+
+fn stale_error(module: StaleModule) -> LinkError
+    ensures { (library : Contents) → (start : List ℕ) → IsStaleModule library module → IsRefusalOf result library start }
+{
     let StaleModule { name, by } = module;
     let StaleBy {
         by,
@@ -123,5 +169,15 @@ fn stale_error(module: StaleModule) -> LinkError {
         by,
         changed,
         checked,
+    }
+}
+
+/// The error of a step that refuses no program.
+pub fn of_step(error: LinkError) -> LinkError
+    ensures { (library : Contents) → (start : List ℕ) → IsRefusalOf result library start }
+{
+    match error {
+        LinkError::Memory => LinkError::Memory,
+        _ => LinkError::NotYet,
     }
 }

@@ -1,12 +1,16 @@
 //! Linking: from a library and a start to an image.
 
-ghost use Rattle.std.specs.Prelude.{◌≡◌, IfErr, IfOk, OnOk};
+ghost use Rattle.std.specs.Prelude.{◌≡◌, ℕ, IfErr, IfOk, List, OnOk};
+ghost use Rattle.indexmap.specs.IndexMap.{keys};
 ghost use Rattle.clu_trace.specs.Maps.{Maps};
-ghost use Rattle.clu_library.specs.Contents.{spec_of};
-ghost use Rattle.clu_link.specs.Starts.{AreUnset, IsStartRefusal, MayStart};
+ghost use Rattle.clu_library.specs.Contents.{Contents, spec_of};
+ghost use Rattle.clu_link.specs.Causes.{HaveBodies, IsRefusalOf};
+ghost use Rattle.clu_link.specs.Found.{AreKept, IsKept};
+ghost use Rattle.clu_link.specs.Starts.{AreUnset, MayStart};
 
 use crate::collecting::collect;
 use crate::errors::LinkError;
+use crate::faults::of_step;
 use crate::filling::code_words;
 use crate::member::Member;
 use crate::places::{Places, lay_out};
@@ -47,48 +51,36 @@ struct Made<'a> {
     places: Box<Places>,
 }
 
-/// Links the program that starts with the procedure `start`. `NoModule` only if no specification is kept of it, and
-/// `BadStart` only if the kept one is no procedure without parameters, arguments and results.
+/// Links the program that starts with the procedure `start`. Each refusal has its cause in the library: `NoModule` and
+/// `BadStart` in the start, `NoBody`, `Stale` and `Misfit` in the body of the module that they name.
 pub fn link(alloc: Global, lib: &Library, start: &Bytes) -> Result<Linked, LinkError>
     ensures started { OnOk result (MayStart (spec_of lib.now start.now)) }
-    ensures refused { IfErr result (λ e. IsStartRefusal e start.now (spec_of lib.now start.now)) }
+    ensures refused { IfErr result (λ e. IsRefusalOf e lib.now start.now) }
+    ensures bodies { IfOk result (λ linked. HaveBodies lib.now linked.modules.items) }
     ensures entry { IfOk result (λ linked. linked.image.entry ≡ 0) }
     ensures unset { IfOk result (λ linked. AreUnset linked.image.area) }
 {
     let first = start_of(alloc, lib, start)?;
-    match link_from(alloc, lib, first) {
-        Ok(linked) => Ok(linked),
-        Err(error) => Err(after_start(error, lib, start)),
-    }
+    link_from(alloc, lib, first)
 }
 
 /// Links the same program to the same image, and refuses as `link` does. The names in the map are made here alone.
 pub fn link_traced(alloc: Global, lib: &Library, start: &Bytes) -> Result<Traced, LinkError>
     ensures started { OnOk result (MayStart (spec_of lib.now start.now)) }
-    ensures refused { IfErr result (λ e. IsStartRefusal e start.now (spec_of lib.now start.now)) }
+    ensures refused { IfErr result (λ e. IsRefusalOf e lib.now start.now) }
+    ensures bodies { IfOk result (λ traced. HaveBodies lib.now traced.linked.modules.items) }
     ensures entry { IfOk result (λ traced. traced.linked.image.entry ≡ 0) }
     ensures unset { IfOk result (λ traced. AreUnset traced.linked.image.area) }
     ensures maps { IfOk result (λ traced. Maps traced.map traced.linked.image) }
 {
     let first = start_of(alloc, lib, start)?;
-    match traced_from(alloc, lib, first) {
-        Ok(traced) => Ok(traced),
-        Err(error) => Err(after_start(error, lib, start)),
-    }
-}
-
-/// A refusal of a program whose start is right.
-fn after_start(error: LinkError, lib: &Library, start: &Bytes) -> LinkError
-    ensures { IsStartRefusal result start.now (spec_of lib.now start.now) }
-{
-    match error {
-        LinkError::NoModule(_) | LinkError::BadStart(_) => LinkError::NotYet,
-        other => other,
-    }
+    traced_from(alloc, lib, first)
 }
 
 /// Links the program whose first instance is this one.
 fn link_from(alloc: Global, lib: &Library, first: Member) -> Result<Linked, LinkError>
+    ensures refused { (start : List ℕ) → IfErr result (λ e. IsRefusalOf e lib.now start) }
+    ensures bodies { IfOk result (λ linked. HaveBodies lib.now linked.modules.items) }
     ensures entry { IfOk result (λ linked. linked.image.entry ≡ 0) }
     ensures unset { IfOk result (λ linked. AreUnset linked.image.area) }
 {
@@ -100,13 +92,15 @@ fn link_from(alloc: Global, lib: &Library, first: Member) -> Result<Linked, Link
 
 /// The same, with a map, which is one of the image.
 fn traced_from(alloc: Global, lib: &Library, first: Member) -> Result<Traced, LinkError>
+    ensures refused { (start : List ℕ) → IfErr result (λ e. IsRefusalOf e lib.now start) }
+    ensures bodies { IfOk result (λ traced. HaveBodies lib.now traced.linked.modules.items) }
     ensures entry { IfOk result (λ traced. traced.linked.image.entry ≡ 0) }
     ensures unset { IfOk result (λ traced. AreUnset traced.linked.image.area) }
     ensures maps { IfOk result (λ traced. Maps traced.map traced.linked.image) }
 {
     match make(alloc, lib, first) {
         Ok(made) => {
-            let map = map_of(alloc, &made.program, &made.reached.members, &made.places)?;
+            let map = map_of_made(alloc, &made)?;
             if map.is_map_of(&made.linked.image) {
                 Ok(Traced {
                     linked: made.linked,
@@ -120,12 +114,37 @@ fn traced_from(alloc: Global, lib: &Library, first: Member) -> Result<Traced, Li
     }
 }
 
-/// Makes the program whose first instance is this one.
+/// The map of a program.
+fn map_of_made(alloc: Global, made: &Made<'_>) -> Result<TraceMap, LinkError>
+    ensures { (library : Contents) → (start : List ℕ) → IfErr result (λ e. IsRefusalOf e library start) }
+{
+    match map_of(alloc, &made.program, &made.reached.members, &made.places) {
+        Ok(map) => Ok(map),
+        Err(error) => Err(of_step(error)),
+    }
+}
+
+/// Makes the program whose first instance is this one. No step after the first one refuses a program.
 fn make<'a>(alloc: Global, lib: &'a Library, first: Member) -> Result<Made<'a>, LinkError>
+    ensures refused { (start : List ℕ) → IfErr result (λ e. IsRefusalOf e lib.now start) }
+    ensures bodies { IfOk result (λ made. HaveBodies lib.now made.linked.modules.items) }
     ensures entry { IfOk result (λ made. made.linked.image.entry ≡ 0) }
     ensures unset { IfOk result (λ made. AreUnset made.linked.image.area) }
 {
-    let mut reached = reach(alloc, lib, first)?;
+    let reached = reach(alloc, lib, first)?;
+    match made_of(alloc, reached) {
+        Ok(made) => Ok(made),
+        Err(error) => Err(of_step(error)),
+    }
+}
+
+/// The program of what was reached.
+fn made_of<'a>(alloc: Global, of: Box<Reached<'a>>) -> Result<Made<'a>, LinkError>
+    ensures bodies { (library : Contents) → AreKept library (keys of.entry.value.routines) → IfOk result (λ made. HaveBodies library made.linked.modules.items) }
+    ensures entry { IfOk result (λ made. made.linked.image.entry ≡ 0) }
+    ensures unset { IfOk result (λ made. AreUnset made.linked.image.area) }
+{
+    let mut reached = of;
     let modules = modules_of(alloc, &reached.routines)?;
     let program = collect(alloc, &mut reached)?;
     let texts = collect_texts(alloc, &program)?;
@@ -140,19 +159,42 @@ fn make<'a>(alloc: Global, lib: &'a Library, first: Member) -> Result<Made<'a>, 
 }
 
 /// The modules of routines, ascending, each once.
+#[tactic(auto, using(crate::proofs::Keeping::keepings))]
 fn modules_of(
     alloc: Global,
     routines: &IndexMap<RoutineName, Code<'_>>,
-) -> Result<Vec<Bytes>, LinkError> {
-    let mut modules = Vec::new(alloc);
-    for routine in routines.keys() {
-        if let RoutineName::Kept(module, _) = routine {
-            modules.push(module.copy(alloc)?)?;
-        }
-    }
+) -> Result<Vec<Bytes>, LinkError>
+    ensures { (library : Contents) → AreKept library (keys routines.now) → IfOk result (λ modules. HaveBodies library modules.items) }
+{
+    let mut modules = all_modules_of(alloc, routines)?;
     modules.sort()?;
     modules.dedup();
     Ok(modules)
+}
+
+/// The modules of routines in the order of these.
+fn all_modules_of(
+    alloc: Global,
+    routines: &IndexMap<RoutineName, Code<'_>>,
+) -> Result<Vec<Bytes>, Memory>
+    ensures { (library : Contents) → AreKept library (keys routines.now) → IfOk result (λ modules. HaveBodies library modules.items) }
+{
+    let mut modules = Vec::new(alloc);
+    for routine in routines.keys() {
+        add_module(alloc, &mut modules, routine)?;
+    }
+    Ok(modules)
+}
+
+/// Adds the module of a routine that is kept.
+#[tactic(auto, using(crate::proofs::Keeping::keepings))]
+fn add_module(alloc: Global, modules: &mut Vec<Bytes>, routine: &RoutineName) -> Result<(), Memory>
+    ensures { (library : Contents) → IsKept library routine.now → HaveBodies library modules.old.items → OnOk result (HaveBodies library modules.new.items) }
+{
+    if let RoutineName::Kept(module, _) = routine {
+        modules.push(module.copy(alloc)?)?;
+    }
+    Ok(())
 }
 
 /// The image of a program: its entry is the first word of the start part.

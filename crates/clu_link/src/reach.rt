@@ -1,14 +1,17 @@
 //! Which routines a program reaches from its start: breadth first, in the order of their uses, each once.
 
-ghost use Rattle.std.specs.Prelude.{◌≡◌, ◌≤◌, IfErr, IfOk, IfSome, OnOk};
+ghost use Rattle.std.specs.Prelude.{◌≡◌, ◌≤◌, ℕ, IfErr, IfOk, IfSome, List, OnOk};
+ghost use Rattle.indexmap.specs.IndexMap.{keys};
 ghost use Rattle.indexmap.specs.IndexSet.{index_set_len};
-ghost use Rattle.clu_library.specs.Contents.{spec_of};
-ghost use Rattle.clu_link.specs.Starts.{IsRefusal, IsStartRefusal, MayStart, is_start, is_start_form};
+ghost use Rattle.clu_library.specs.Contents.{Contents, spec_of};
+ghost use Rattle.clu_link.specs.Causes.{HasBody, IsRefusalOf};
+ghost use Rattle.clu_link.specs.Found.{AreFaults, AreKept, IsKept, IsOf};
+ghost use Rattle.clu_link.specs.Starts.{IsRefusal, MayStart, is_start, is_start_form};
 
 use crate::bounds::{fits, weight};
 use crate::denoting::{Needs, Use, uses_of};
 use crate::errors::LinkError;
-use crate::faults::Faults;
+use crate::faults::{Faults, of_step};
 use crate::member::Member;
 use crate::operation_codes::{Family, family_of};
 use crate::operations::code_of;
@@ -79,7 +82,6 @@ pub struct Reached<'a> {
 /// What is reached so far, and what was found wrong with it.
 #[derive(Drop)]
 struct Work<'a> {
-    lib: &'a Library,
     reached: Box<Reached<'a>>,
     faults: Box<Faults>,
 }
@@ -98,11 +100,13 @@ pub fn reach<'a>(
     first: Member,
 ) -> Result<Box<Reached<'a>>, LinkError>
     ensures few { IfOk result (λ reached. index_set_len reached.value.members ≤ 4096) }
+    ensures kept { IfOk result (λ reached. AreKept lib.now (keys reached.value.routines)) }
+    ensures refused { (start : List ℕ) → IfErr result (λ e. IsRefusalOf e lib.now start) }
 {
     let mut work = Work::new(alloc, lib)?;
-    match work.visit_all(alloc, first) {
+    match work.visit_all(alloc, lib, first) {
         Ok(()) => work.finish(),
-        Err(error) => Err(error),
+        Err(error) => Err(of_step(error)),
     }
 }
 
@@ -110,7 +114,7 @@ pub fn reach<'a>(
 pub fn start_of(alloc: Global, lib: &Library, start: &Bytes) -> Result<Member, LinkError>
     ensures started { OnOk result (MayStart (spec_of lib.now start.now)) }
     ensures refused { IfErr result (λ e. IsRefusal e start.now (spec_of lib.now start.now)) }
-    ensures among_all { IfErr result (λ e. IsStartRefusal e start.now (spec_of lib.now start.now)) }
+    ensures among_all { IfErr result (λ e. IsRefusalOf e lib.now start.now) }
 {
     let name = start.copy(alloc)?;
     match lib.spec(start) {
@@ -174,19 +178,24 @@ fn parts_of(
 }
 
 impl<'a> Work<'a> {
-    fn new(alloc: Global, lib: &'a Library) -> Result<Work<'a>, LinkError> {
+    fn new(alloc: Global, lib: &Library) -> Result<Work<'a>, Memory>
+        ensures { IfOk result (IsOf lib.now) }
+    {
+        let stale = lib.stale_modules(alloc)?;
         Ok(Work {
-            lib,
             reached: Box::new(alloc, Reached::new(alloc))?,
-            faults: Box::new(alloc, Faults::new())?,
+            faults: Box::new(alloc, Faults::new(stale))?,
         })
     }
 
     /// Visits the first instance and, in the order in which they are reached, all others.
-    fn visit_all(&mut self, alloc: Global, first: Member) -> Result<(), LinkError> {
+    fn visit_all(&mut self, alloc: Global, lib: &'a Library, first: Member) -> Result<(), LinkError>
+        requires { IsOf lib.now self.old }
+        ensures { OnOk result (IsOf lib.now self.new) }
+    {
         self.reached.members.insert(first)?;
         for n in 0..MAX_INSTANCES {
-            if !self.visit_next(alloc, n)? {
+            if !self.visit_next(alloc, lib, n)? {
                 break;
             }
         }
@@ -195,10 +204,13 @@ impl<'a> Work<'a> {
 
     /// Visits the n-th instance; whether the one after it is still to be visited. Where there are too many already,
     /// nothing that is found later changes the answer.
-    fn visit_next(&mut self, alloc: Global, n: usize) -> Result<bool, LinkError> {
+    fn visit_next(&mut self, alloc: Global, lib: &'a Library, n: usize) -> Result<bool, LinkError>
+        requires { IsOf lib.now self.old }
+        ensures { OnOk result (IsOf lib.now self.new) }
+    {
         match self.origin(alloc, n)? {
             Some(origin) => {
-                self.visit(alloc, origin)?;
+                self.visit(alloc, lib, origin)?;
                 Ok(self.reached.members.len() <= MAX_INSTANCES)
             }
             None => Ok(false),
@@ -214,40 +226,55 @@ impl<'a> Work<'a> {
     }
 
     /// Adds what an instance uses.
-    fn visit(&mut self, alloc: Global, origin: Origin) -> Result<(), LinkError> {
+    fn visit(&mut self, alloc: Global, lib: &'a Library, origin: Origin) -> Result<(), LinkError>
+        requires { IsOf lib.now self.old }
+        ensures { OnOk result (IsOf lib.now self.new) }
+    {
         match origin {
-            Origin::Module(kept) => self.visit_module(alloc, kept),
-            Origin::Builtin(of, op, actuals) => self.visit_builtin(alloc, of, op, actuals),
+            Origin::Module(kept) => self.visit_module(alloc, lib, kept),
+            Origin::Builtin(of, op, actuals) => self.visit_builtin(alloc, lib, of, op, actuals),
         }
     }
 
-    fn visit_module(&mut self, alloc: Global, kept: Kept) -> Result<(), LinkError> {
-        let lib = self.lib;
+    #[tactic(auto, using(crate::proofs::Keeping::causes))]
+    fn visit_module(
+        &mut self,
+        alloc: Global,
+        lib: &'a Library,
+        kept: Kept,
+    ) -> Result<(), LinkError>
+        requires { IsOf lib.now self.old }
+        ensures { OnOk result (IsOf lib.now self.new) }
+    {
         match lib.body(&kept.module) {
             None => {
                 self.faults.add_bodiless(kept.module);
                 Ok(())
             }
             Some(body) => {
-                if body.checked < lib.revision()
-                    && self.faults.is_stale(alloc, lib, &kept.module)?
-                {
+                if self.faults.is_stale(alloc, lib, &kept.module)? {
                     return Ok(());
                 }
-                self.visit_object(alloc, kept, &body.object)
+                self.visit_object(alloc, lib, kept, &body.object)
             }
         }
     }
 
+    /// The module has a body that isn't stale, with this object.
     fn visit_object(
         &mut self,
         alloc: Global,
+        lib: &'a Library,
         kept: Kept,
         object: &'a Object,
-    ) -> Result<(), LinkError> {
+    ) -> Result<(), LinkError>
+        requires so_far { IsOf lib.now self.old }
+        requires body { HasBody lib.now kept.module }
+        ensures { OnOk result (IsOf lib.now self.new) }
+    {
         match routine_named(object, &kept.routine) {
             Some(routine) if fits(routine, kept.actuals.as_slice()) => {
-                self.visit_routine(alloc, kept, routine)
+                self.visit_routine(alloc, lib, kept, routine)
             }
             _ => {
                 self.faults.add_misfit(kept.module);
@@ -259,9 +286,14 @@ impl<'a> Work<'a> {
     fn visit_routine(
         &mut self,
         alloc: Global,
+        lib: &'a Library,
         kept: Kept,
         routine: &'a ObjRoutine,
-    ) -> Result<(), LinkError> {
+    ) -> Result<(), LinkError>
+        requires so_far { IsOf lib.now self.old }
+        requires body { HasBody lib.now kept.module }
+        ensures { OnOk result (IsOf lib.now self.new) }
+    {
         let Kept {
             module,
             routine: name,
@@ -269,14 +301,7 @@ impl<'a> Work<'a> {
             actuals,
         } = kept;
         let types = &mut self.reached.types;
-        match parts_of(
-            alloc,
-            self.lib,
-            types,
-            routine,
-            actuals.as_slice(),
-            Needs::Asked,
-        )? {
+        match parts_of(alloc, lib, types, routine, actuals.as_slice(), Needs::Asked)? {
             Some(parts) => {
                 self.faults.add_weight(weight(routine, actuals.as_slice()));
                 let name = RoutineName::Kept(module, name);
@@ -297,16 +322,20 @@ impl<'a> Work<'a> {
     fn visit_builtin(
         &mut self,
         alloc: Global,
+        lib: &'a Library,
         of: TypeId,
         op: Bytes,
         actuals: Vec<Actual>,
-    ) -> Result<(), LinkError> {
+    ) -> Result<(), LinkError>
+        requires { IsOf lib.now self.old }
+        ensures { OnOk result (IsOf lib.now self.new) }
+    {
         if let Some(made) = derived(alloc, &self.reached.types, of, &op)? {
             let family = family_of(&self.reached.types, of)?;
-            return self.visit_made(alloc, made, RoutineName::Derived(family, op), actuals);
+            return self.visit_made(alloc, lib, made, RoutineName::Derived(family, op), actuals);
         }
         match scheme(alloc, &self.reached.types, of, &op)? {
-            Some(made) => self.visit_made(alloc, made, RoutineName::Scheme(of, op), actuals),
+            Some(made) => self.visit_made(alloc, lib, made, RoutineName::Scheme(of, op), actuals),
             None => Err(LinkError::NotYet),
         }
     }
@@ -315,20 +344,18 @@ impl<'a> Work<'a> {
     fn visit_made(
         &mut self,
         alloc: Global,
+        lib: &'a Library,
         made: WRoutine,
         name: RoutineName,
         actuals: Vec<Actual>,
-    ) -> Result<(), LinkError> {
+    ) -> Result<(), LinkError>
+        requires so_far { IsOf lib.now self.old }
+        requires named { IsKept lib.now name }
+        ensures { OnOk result (IsOf lib.now self.new) }
+    {
         let routine = code_of(alloc, &made)?;
         let types = &mut self.reached.types;
-        match parts_of(
-            alloc,
-            self.lib,
-            types,
-            &routine,
-            actuals.as_slice(),
-            Needs::Met,
-        )? {
+        match parts_of(alloc, lib, types, &routine, actuals.as_slice(), Needs::Met)? {
             Some(parts) => {
                 self.faults.add_weight(weight(&routine, actuals.as_slice()));
                 let code = Code::Made(routine);
@@ -340,13 +367,11 @@ impl<'a> Work<'a> {
 
     /// What was reached, if nothing is wrong with it.
     fn finish(self) -> Result<Box<Reached<'a>>, LinkError>
-        ensures { IfOk result (λ reached. index_set_len reached.value.members ≤ 4096) }
+        ensures few { IfOk result (λ reached. index_set_len reached.value.members ≤ 4096) }
+        ensures kept { (library : Contents) → IsOf library self.entry → IfOk result (λ reached. AreKept library (keys reached.value.routines)) }
+        ensures refused { (library : Contents) → (start : List ℕ) → IsOf library self.entry → IfErr result (λ e. IsRefusalOf e library start) }
     {
-        let Work {
-            lib: _,
-            reached,
-            faults,
-        } = self;
+        let Work { reached, faults } = self;
         if reached.members.len() > MAX_INSTANCES {
             return Err(LinkError::TooManyInstances);
         }
@@ -358,7 +383,9 @@ impl<'a> Work<'a> {
 }
 
 impl<'a> Reached<'a> {
-    fn new(alloc: Global) -> Reached<'a> {
+    fn new(alloc: Global) -> Reached<'a>
+        ensures { (library : Contents) → AreKept library (keys result.routines) }
+    {
         Reached {
             types: TypeArena::new(alloc),
             members: IndexSet::new(alloc),
@@ -377,8 +404,10 @@ impl<'a> Reached<'a> {
         actuals: Vec<Actual>,
         parts: Parts,
         cluster: Option<TypeId>,
-    ) -> Result<(), Memory> {
-        let (number, _) = self.routines.insert_full(name, code)?;
+    ) -> Result<(), Memory>
+        ensures { (library : Contents) → IsKept library name → AreKept library (keys self.old.routines) → OnOk result (AreKept library (keys self.new.routines)) }
+    {
+        let number = place(&mut self.routines, name, code)?;
         let mut callees = Vec::new(alloc);
         for denoted in parts.uses {
             callees.push(self.callee(denoted)?)?;
@@ -394,7 +423,9 @@ impl<'a> Reached<'a> {
     }
 
     /// The number of what is used.
-    fn callee(&mut self, denoted: Use) -> Result<Callee, Memory> {
+    fn callee(&mut self, denoted: Use) -> Result<Callee, Memory>
+        ensures { keys self.new.routines ≡ keys self.old.routines }
+    {
         match denoted {
             Use::Instance(member) => {
                 let (number, _) = self.members.insert_full(member)?;
@@ -406,4 +437,17 @@ impl<'a> Reached<'a> {
             }
         }
     }
+}
+
+/// The number of a routine, which is added if it is new.
+#[tactic(auto, using(crate::proofs::Keeping::keepings))]
+fn place<'a>(
+    routines: &mut IndexMap<RoutineName, Code<'a>>,
+    name: RoutineName,
+    code: Code<'a>,
+) -> Result<usize, Memory>
+    ensures { (library : Contents) → IsKept library name → AreKept library (keys routines.old) → OnOk result (AreKept library (keys routines.new)) }
+{
+    let (number, _) = routines.insert_full(name, code)?;
+    Ok(number)
 }
