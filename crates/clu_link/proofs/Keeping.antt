@@ -34,6 +34,13 @@ pub kept_with : {V : Type 0} (library : Contents) (eq : RoutineName → RoutineN
 kept_with library eq name code before after is one all =
     subst (λ es. AreKept library (keys_of es)) (sym is) (all_inserted eq (IsKept library) name code one before all)
 
+-- the first of some, and the others
+pub first_kept : (library : Contents) (names rest : List RoutineName) (name : RoutineName) → names ≡ name ∷ rest → AreKept library names → IsKept library name
+first_kept library names rest name is all = All-head (IsKept library) name rest (subst (AreKept library) is all)
+
+pub rest_kept : (library : Contents) (names rest : List RoutineName) (name : RoutineName) → names ≡ name ∷ rest → AreKept library names → AreKept library rest
+rest_kept library names rest name is all = All-tail (IsKept library) name rest (subst (AreKept library) is all)
+
 -- with a module more
 pub bodies_with : (library : Contents) (modules new : List (List ℕ)) (module_name : List ℕ) → new ≡ modules ++ module_name ∷ [] → HasBody library module_name → HaveBodies library modules → HaveBodies library new
 bodies_with library modules new module_name is one all = subst (HaveBodies library) (sym is) (All-push (HasBody library) modules module_name all one)

@@ -8,7 +8,7 @@ use Rattle.clu_link.specs.Causes.{HasBody}
 use Rattle.clu_link.specs.declared.faults.Faults.{Faults}
 use Rattle.clu_link.specs.declared.faults.StaleModule.{StaleModule}
 use Rattle.clu_link.specs.declared.reach.RoutineName.{RoutineName}
-use Rattle.clu_link.specs.declared.reach.RoutineName.TheVariants as name
+use Rattle.clu_link.specs.declared.reach.RoutineName.TheVariants as named
 use Rattle.clu_link.specs.declared.reach.Work.{Work}
 
 -- why the body of a module is stale
@@ -24,9 +24,9 @@ pub record AreFaults (library : Contents) (faults : Faults) : Type 0 where
 
 -- a routine that is kept is of a module with a body that isn't stale
 abbrev pub IsKept : Contents → RoutineName → Type 0
-IsKept library (name.Kept module routine) = HasBody library module
-IsKept library (name.Scheme of op) = Unit {0}
-IsKept library (name.Derived family op) = Unit {0}
+IsKept library (named.Kept owner op) = HasBody library owner
+IsKept library (named.Scheme of op) = Unit {0}
+IsKept library (named.Derived family op) = Unit {0}
 
 abbrev pub AreKept : Contents → List RoutineName → Type 0
 AreKept library names = All (IsKept library) names

@@ -48,23 +48,23 @@ impl Faults {
     }
 
     /// No body is kept of the module.
-    pub fn add_bodiless(&mut self, module: Bytes)
-        ensures { (library : Contents) → body_of library module ≡ None → AreFaults library self.old → AreFaults library self.new }
+    pub fn add_bodiless(&mut self, name: Bytes)
+        ensures { (library : Contents) → body_of library name ≡ None → AreFaults library self.old → AreFaults library self.new }
     {
         if self.no_body.is_some() {
             return;
         }
-        self.no_body = Some(module);
+        self.no_body = Some(name);
     }
 
     /// The module's object does not fit what is kept.
-    pub fn add_misfit(&mut self, module: Bytes)
-        ensures { (library : Contents) → HasBody library module → AreFaults library self.old → AreFaults library self.new }
+    pub fn add_misfit(&mut self, name: Bytes)
+        ensures { (library : Contents) → HasBody library name → AreFaults library self.old → AreFaults library self.new }
     {
         if self.misfit.is_some() {
             return;
         }
-        self.misfit = Some(module);
+        self.misfit = Some(name);
     }
 
     pub fn add_weight(&mut self, weight: u64)
@@ -79,14 +79,14 @@ impl Faults {
         &mut self,
         alloc: Global,
         lib: &Library,
-        module: &Bytes,
+        name: &Bytes,
     ) -> Result<bool, Memory>
         requires { AreFaults lib.now self.old }
         ensures found { OnOk result (AreFaults lib.now self.new) }
-        ensures stale { IfOk result (λ stale. IsTrue stale ↔ IsStale lib.now module.now) }
+        ensures stale { IfOk result (λ stale. IsTrue stale ↔ IsStale lib.now name.now) }
     {
-        let is_stale = self.stale_modules.contains(module);
-        self.add_stale(alloc, lib, module, is_stale)?;
+        let is_stale = self.stale_modules.contains(name);
+        self.add_stale(alloc, lib, name, is_stale)?;
         Ok(is_stale)
     }
 
@@ -94,7 +94,7 @@ impl Faults {
         &mut self,
         alloc: Global,
         lib: &Library,
-        module: &Bytes,
+        name: &Bytes,
         is_stale: bool,
     ) -> Result<(), Memory>
         requires { AreFaults lib.now self.old }
@@ -103,7 +103,7 @@ impl Faults {
         if !is_stale || self.stale.is_some() {
             return Ok(());
         }
-        match stale_module(alloc, lib, module)? {
+        match stale_module(alloc, lib, name)? {
             Some(found) => {
                 self.stale = Some(found);
                 Ok(())
@@ -126,8 +126,8 @@ impl Faults {
         if let Some(name) = no_body {
             return Some(LinkError::NoBody(name));
         }
-        if let Some(module) = stale {
-            return Some(stale_error(module));
+        if let Some(stale) = stale {
+            return Some(stale_error(stale));
         }
         match misfit {
             Some(name) => Some(LinkError::Misfit(name)),
@@ -142,23 +142,23 @@ impl Faults {
 fn stale_module(
     alloc: Global,
     lib: &Library,
-    module: &Bytes,
+    name: &Bytes,
 ) -> Result<Option<StaleModule>, Memory>
     ensures { IfOk result (λ found. IfSome found (IsStaleModule lib.now)) }
 {
-    match lib.stale(alloc, module)? {
+    match lib.stale(alloc, name)? {
         Some(by) => {
-            let name = module.copy(alloc)?;
+            let name = name.copy(alloc)?;
             Ok(Some(StaleModule { name, by }))
         }
         None => Ok(None),
     }
 }
 
-fn stale_error(module: StaleModule) -> LinkError
-    ensures { (library : Contents) → (start : List ℕ) → IsStaleModule library module → IsRefusalOf result library start }
+fn stale_error(stale: StaleModule) -> LinkError
+    ensures { (library : Contents) → (start : List ℕ) → IsStaleModule library stale → IsRefusalOf result library start }
 {
-    let StaleModule { name, by } = module;
+    let StaleModule { name, by } = stale;
     let StaleBy {
         by,
         changed,

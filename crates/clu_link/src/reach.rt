@@ -5,7 +5,7 @@ ghost use Rattle.indexmap.specs.IndexMap.{keys};
 ghost use Rattle.indexmap.specs.IndexSet.{index_set_len};
 ghost use Rattle.clu_library.specs.Contents.{Contents, spec_of};
 ghost use Rattle.clu_link.specs.Causes.{HasBody, IsRefusalOf};
-ghost use Rattle.clu_link.specs.Found.{AreFaults, AreKept, IsKept, IsOf};
+ghost use Rattle.clu_link.specs.Found.{AreKept, IsKept, IsOf};
 ghost use Rattle.clu_link.specs.Starts.{IsRefusal, MayStart, is_start, is_start_form};
 
 use crate::bounds::{fits, weight};
@@ -407,34 +407,47 @@ impl<'a> Reached<'a> {
     ) -> Result<(), Memory>
         ensures { (library : Contents) → IsKept library name → AreKept library (keys self.old.routines) → OnOk result (AreKept library (keys self.new.routines)) }
     {
+        let Parts { uses, types } = parts;
         let number = place(&mut self.routines, name, code)?;
-        let mut callees = Vec::new(alloc);
-        for denoted in parts.uses {
-            callees.push(self.callee(denoted)?)?;
-        }
+        let uses = callees_of(alloc, &mut self.members, &mut self.operations, uses)?;
         self.instances.push(Instance {
             routine: number,
             actuals,
-            uses: callees,
-            types: parts.types,
+            uses,
+            types,
             cluster,
         })?;
         Ok(())
     }
+}
 
-    /// The number of what is used.
-    fn callee(&mut self, denoted: Use) -> Result<Callee, Memory>
-        ensures { keys self.new.routines ≡ keys self.old.routines }
-    {
-        match denoted {
-            Use::Instance(member) => {
-                let (number, _) = self.members.insert_full(member)?;
-                Ok(Callee::Instance(number))
-            }
-            Use::Operation(member) => {
-                let (number, _) = self.operations.insert_full(member)?;
-                Ok(Callee::Operation(number))
-            }
+/// The numbers of what is used, which is added to the instances or the operations if it is new.
+fn callees_of(
+    alloc: Global,
+    members: &mut IndexSet<Member>,
+    operations: &mut IndexSet<Member>,
+    uses: Vec<Use>,
+) -> Result<Vec<Callee>, Memory> {
+    let mut callees = Vec::new(alloc);
+    for denoted in uses {
+        callees.push(callee(members, operations, denoted)?)?;
+    }
+    Ok(callees)
+}
+
+fn callee(
+    members: &mut IndexSet<Member>,
+    operations: &mut IndexSet<Member>,
+    denoted: Use,
+) -> Result<Callee, Memory> {
+    match denoted {
+        Use::Instance(member) => {
+            let (number, _) = members.insert_full(member)?;
+            Ok(Callee::Instance(number))
+        }
+        Use::Operation(member) => {
+            let (number, _) = operations.insert_full(member)?;
+            Ok(Callee::Operation(number))
         }
     }
 }
