@@ -75,12 +75,7 @@ impl Faults {
 
     /// Whether the kept body of a module is stale. Why, is told of the first one.
     #[tactic(auto, using(crate::proofs::Keeping::causes))]
-    pub fn is_stale(
-        &mut self,
-        alloc: Global,
-        lib: &Library,
-        name: &Bytes,
-    ) -> Result<bool, Memory>
+    pub fn is_stale(&mut self, alloc: Global, lib: &Library, name: &Bytes) -> Result<bool, Memory>
         requires { AreFaults lib.now self.old }
         ensures found { OnOk result (AreFaults lib.now self.new) }
         ensures stale { IfOk result (λ stale. IsTrue stale ↔ IsStale lib.now name.now) }
@@ -139,11 +134,7 @@ impl Faults {
 
 /// A module and why its body is stale.
 #[tactic(auto, using(crate::proofs::Keeping::causes))]
-fn stale_module(
-    alloc: Global,
-    lib: &Library,
-    name: &Bytes,
-) -> Result<Option<StaleModule>, Memory>
+fn stale_module(alloc: Global, lib: &Library, name: &Bytes) -> Result<Option<StaleModule>, Memory>
     ensures { IfOk result (λ found. IfSome found (IsStaleModule lib.now)) }
 {
     match lib.stale(alloc, name)? {

@@ -237,12 +237,7 @@ impl<'a> Work<'a> {
     }
 
     #[tactic(auto, using(crate::proofs::Keeping::causes))]
-    fn visit_module(
-        &mut self,
-        alloc: Global,
-        lib: &'a Library,
-        kept: Kept,
-    ) -> Result<(), LinkError>
+    fn visit_module(&mut self, alloc: Global, lib: &'a Library, kept: Kept) -> Result<(), LinkError>
         requires { IsOf lib.now self.old }
         ensures { OnOk result (IsOf lib.now self.new) }
     {
