@@ -19,7 +19,7 @@ use crate::reach::{Reached, RoutineName, reach, start_of};
 use crate::tables::fixed_part;
 use crate::texts::{Texts, collect_texts};
 use crate::tracing::map_of;
-use clu_base::Bytes;
+use clu_base::{Bytes, Memory};
 use clu_library::Library;
 use clu_trace::TraceMap;
 use indexmap::IndexMap;
