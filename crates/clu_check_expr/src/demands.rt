@@ -28,9 +28,7 @@ pub fn meets(
     types: &mut TypeArena,
 ) -> Result<bool, CheckError> {
     if types.contains(of) && types.contains(wanted) && holds_demands(types, given) {
-        Ok(clu_demands::meets(
-            alloc, of, op, wanted, given, specs, types,
-        )?)
+        Ok(clu_demands::meets(alloc, of, op, wanted, given, specs, types)?)
     } else {
         Err(CheckError::NotYet)
     }

@@ -173,12 +173,7 @@ fn are_met(
     Ok(true)
 }
 
-fn is_met(
-    alloc: Global,
-    lib: &Library,
-    types: &mut TypeArena,
-    need: &Need,
-) -> Result<bool, Memory>
+fn is_met(alloc: Global, lib: &Library, types: &mut TypeArena, need: &Need) -> Result<bool, Memory>
     requires of_in { need.now.of.0 < length types.old }
     requires wanted_in { need.now.wanted.0 < length types.old }
     ensures kept { Grows types.old types.new }
