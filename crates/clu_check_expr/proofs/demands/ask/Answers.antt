@@ -1,6 +1,9 @@
 use Rattle.clu_check_expr.proofs.Asking.{asking_on}
 use Rattle.clu_check_expr.proofs.demands.ask.Goals as goal
 
+pub is_met-requires-clause-need_in : goal.is_met-requires-clause-need_in
+is_met-requires-clause-need_in c = c.requires.need_in
+
 pub is_met-requires-clause-given_in : goal.is_met-requires-clause-given_in
 is_met-requires-clause-given_in c = c.requires.asking.given_in
 
