@@ -1,9 +1,8 @@
-//! Headings of specifications, brought into the arena of a check with actual parameters put in.
+//! Routines of specifications, brought into the arena of a check with actual parameters put in.
 
-use crate::routines::type_with;
-use clu_base::Sequence;
-use clu_equates::{CheckError, carry};
-use clu_types::{Actual, Exception, Heading, OpSpec, TypeArena, TypeId};
+use clu_demands::{carried_type, is_whole_op};
+use clu_equates::CheckError;
+use clu_types::{Actual, OpSpec, TypeArena, TypeId};
 use std::alloc::Global;
 
 /// The type of a routine of a specification whose types are in `from`.
@@ -14,45 +13,9 @@ pub fn routine_type(
     op: &OpSpec,
     actuals: &[Actual],
 ) -> Result<TypeId, CheckError> {
-    let args = carry_all(alloc, types, from, op.heading.args.as_slice(), actuals)?;
-    let results = carry_all(alloc, types, from, op.heading.results.as_slice(), actuals)?;
-    let signals = carry_signals(alloc, types, from, op.heading.signals.as_slice(), actuals)?;
-    let heading = Heading {
-        args,
-        results,
-        signals,
-    };
-    type_with(types, op.iter, heading)
-}
-
-fn carry_all(
-    alloc: Global,
-    types: &mut TypeArena,
-    from: &TypeArena,
-    ids: &[TypeId],
-    actuals: &[Actual],
-) -> Result<Sequence<TypeId>, CheckError> {
-    let mut made = Vec::new(alloc);
-    for id in ids {
-        made.push(carry(alloc, types, from, *id, actuals)?)?;
+    if is_whole_op(from, op) && types.holds_actuals(actuals) {
+        Ok(carried_type(alloc, types, from, op, actuals)?)
+    } else {
+        Err(CheckError::NotYet)
     }
-    Ok(Sequence::from_vec(made))
-}
-
-fn carry_signals(
-    alloc: Global,
-    types: &mut TypeArena,
-    from: &TypeArena,
-    signals: &[Exception],
-    actuals: &[Actual],
-) -> Result<Sequence<Exception>, CheckError> {
-    let mut made = Vec::new(alloc);
-    for signal in signals {
-        let objects = carry_all(alloc, types, from, signal.objects.as_slice(), actuals)?;
-        made.push(Exception {
-            name: signal.name.copy(alloc)?,
-            objects,
-        })?;
-    }
-    Ok(Sequence::from_vec(made))
 }

@@ -3,14 +3,13 @@
 use crate::carried::routine_type;
 use crate::invoked::Operation;
 use crate::routines::type_with;
-use crate::type_rules::constant_kind;
 use clu_base::{Bytes, Sequence};
 use clu_builtin::{Builtin, Need, heading};
 use clu_core::{Context, OpRef, Unit};
+use clu_demands::{given, may_be_of, op_named};
 use clu_equates::{CheckError, term};
-use clu_types::{Actual, Demand, Form, OpSpec, ParamKind, Spec, Specs, Term, TypeArena, TypeId};
+use clu_types::{Actual, OpSpec, Spec, Specs, Term, TypeArena, TypeId};
 use std::alloc::Global;
-use std::cmp::Ordering;
 
 /// What an operation asks of its type.
 #[derive(Drop)]
@@ -97,16 +96,6 @@ fn find_given(c: &Context, n: u32, op: &Bytes) -> Result<Option<Box<Found>>, Che
     }
 }
 
-/// What the first of the demands gives of this parameter and this name.
-pub fn given<'a>(demands: &'a [Demand], n: u32, op: &Bytes) -> Option<&'a Demand> {
-    for demand in demands {
-        if demand.param == n && demand.op == *op {
-            return Some(demand);
-        }
-    }
-    None
-}
-
 fn find_in_cluster(
     c: &mut Context,
     of: TypeId,
@@ -154,45 +143,10 @@ pub fn seen_spec<'a>(unit: &'a Unit, specs: &'a Specs, module: &Bytes) -> Option
 /// The routine of this name of a cluster with these actual parameters; None if they are not of its kinds, as in a library
 /// that is not sound.
 pub fn op_with<'a>(spec: &'a Spec, actuals: &[Actual], op: &Bytes) -> Option<&'a OpSpec> {
-    if are_of_kinds(actuals, spec.kinds.as_slice()) {
-        op_named(spec, op)
+    if may_be_of(actuals, spec.kinds.as_slice()) {
+        op_named(&spec.form, op)
     } else {
         None
-    }
-}
-
-fn are_of_kinds(actuals: &[Actual], kinds: &[ParamKind]) -> bool {
-    if actuals.len() != kinds.len() {
-        return false;
-    }
-    for (actual, kind) in actuals.iter().zip(kinds) {
-        if !may_be(actual, *kind) {
-            return false;
-        }
-    }
-    true
-}
-
-/// Whether an actual parameter may be of this kind. Of a constant parameter it is only known that it is no type.
-fn may_be(actual: &Actual, kind: ParamKind) -> bool {
-    match actual {
-        Actual::Of(_) => kind == ParamKind::OfType,
-        Actual::Const(constant) => kind == constant_kind(constant),
-        Actual::ConstParam(_) => kind != ParamKind::OfType,
-    }
-}
-
-/// The routine of this name in the specification of a cluster.
-pub fn op_named<'a>(spec: &'a Spec, op: &Bytes) -> Option<&'a OpSpec> {
-    match &spec.form {
-        Form::Cluster(_, ops) => {
-            let ops = ops.as_slice();
-            match ops.binary_search_by(|o| -> Ordering { o.name.cmp(op) }) {
-                Ok(at) => ops.get(at),
-                Err(_) => None,
-            }
-        }
-        Form::Routine(_) => None,
     }
 }
 

@@ -3,11 +3,12 @@
 use crate::demands::is_met;
 use clu_base::{Bytes, Const, Place, Rule};
 use clu_core::Context;
+use clu_demands::are_of_kinds;
 use clu_equates::{
     CheckError, Means, Scope, Value, Wanted, first_name, intern, node_at, refuse, term, value_with,
 };
 use clu_tree::{Node, NodeKind, Tree};
-use clu_types::{Actual, ParamKind, Term};
+use clu_types::{Actual, Term};
 use indexmap::IndexSet;
 
 /// The rules after V4 at a node of a type, whose children were walked. Its siblings before it have these selectors
@@ -268,38 +269,10 @@ fn ask_kinds(
     actuals: &[Actual],
     place: Place,
 ) -> Result<(), CheckError> {
-    let Some(spec) = c.specs.get(module) else {
-        return Err(CheckError::NotYet);
-    };
-    let kinds = spec.kinds.as_slice();
-    if kinds.len() != actuals.len() {
-        return refuse(Rule::ParameterKind, place);
-    }
-    for (actual, kind) in actuals.iter().zip(kinds) {
-        if kind_of(c, actual) != Some(*kind) {
-            return refuse(Rule::ParameterKind, place);
-        }
-    }
-    Ok(())
-}
-
-fn kind_of(c: &Context, actual: &Actual) -> Option<ParamKind> {
-    match actual {
-        Actual::Of(_) => Some(ParamKind::OfType),
-        Actual::Const(constant) => Some(constant_kind(constant)),
-        Actual::ConstParam(n) => {
-            let at = (*n as usize).checked_sub(1)?;
-            c.unit.kinds.as_slice().get(at).copied()
-        }
-    }
-}
-
-pub fn constant_kind(constant: &Const) -> ParamKind {
-    match constant {
-        Const::Null => ParamKind::Null,
-        Const::Bool(_) => ParamKind::Bool,
-        Const::Int(_) => ParamKind::Int,
-        Const::Char(_) => ParamKind::Char,
-        Const::Str(_) => ParamKind::Str,
+    let own = c.unit.kinds.as_slice();
+    match c.specs.get(module) {
+        Some(spec) if are_of_kinds(own, actuals, spec.kinds.as_slice()) => Ok(()),
+        Some(_) => refuse(Rule::ParameterKind, place),
+        None => Err(CheckError::NotYet),
     }
 }

@@ -208,16 +208,17 @@ fn context(alloc: Global, tree: &Tree, specs: &Specs) -> Result<Context, CheckEr
 
 fn enter_and_specify(work: &mut Work, tree: &Tree, specs: &Specs) -> Result<(), CheckError> {
     enter_modules(work.c.alloc, tree, &mut work.scope, specs)?;
-    let mut seen = IndexMap::new(work.c.alloc);
+    // In boxes, so that a proof about who owns them need not follow each part.
+    let mut seen = Box::new(work.c.alloc, IndexMap::new(work.c.alloc))?;
     specify(work, tree, &mut seen)?;
-    add_all(&mut work.c.specs, seen)
+    add_all(&mut work.c.specs, &mut seen)
 }
 
 // The specifications of the tree's modules. Notes what other modules see of them, by their names.
 fn specify(
     work: &mut Work,
     tree: &Tree,
-    seen: &mut IndexMap<Bytes, Spec>,
+    seen: &mut IndexMap<Bytes, Box<Spec>>,
 ) -> Result<(), CheckError> {
     for n in tree.modules() {
         specify_one(work, tree, *n, seen)?;
@@ -229,19 +230,19 @@ fn specify_one(
     work: &mut Work,
     tree: &Tree,
     n: u32,
-    seen: &mut IndexMap<Bytes, Spec>,
+    seen: &mut IndexMap<Bytes, Box<Spec>>,
 ) -> Result<(), CheckError> {
     let module = module_at(tree, n)?;
     let spec = specification(&mut work.c, tree, &mut work.scope, &module)?;
     note_exported(work.c.alloc, seen, &module, &spec)?;
-    work.own.push(spec)?;
+    work.own.push(Box::into_inner(spec))?;
     Ok(())
 }
 
 // Notes what other modules see of a module, if it is the first of its name.
 fn note_exported(
     alloc: Global,
-    seen: &mut IndexMap<Bytes, Spec>,
+    seen: &mut IndexMap<Bytes, Box<Spec>>,
     module: &Module<'_>,
     spec: &Spec,
 ) -> Result<(), CheckError> {
@@ -265,16 +266,16 @@ fn exported_at(
 {
     let parts = module_at(tree, module)?;
     match own.get(place) {
-        Some(spec) => exported(alloc, spec, &parts),
+        Some(spec) => Ok(Box::into_inner(exported(alloc, spec, &parts)?)),
         None => Err(CheckError::NotYet),
     }
 }
 
 // In ascending order each one comes after those before it, so that none is moved.
-fn add_all(specs: &mut Specs, mut seen: IndexMap<Bytes, Spec>) -> Result<(), CheckError> {
+fn add_all(specs: &mut Specs, seen: &mut IndexMap<Bytes, Box<Spec>>) -> Result<(), CheckError> {
     seen.sort_keys()?;
     for (_, spec) in seen.drain(..) {
-        specs.with(spec)?;
+        specs.with(Box::into_inner(spec))?;
     }
     Ok(())
 }

@@ -3,7 +3,6 @@
 
 use crate::nodes::children_of;
 use crate::settling::demands_on_variable;
-use crate::specification::had;
 use crate::units::own_actuals;
 use clu_base::Bytes;
 use clu_core::Context;
@@ -53,15 +52,16 @@ impl Clause {
     }
 }
 
-/// The demands of the where clause of a routine or cluster, whose names are in scope, ascending.
+/// The demands of the where clause of a routine or cluster, whose names are in scope, ascending. In a box, so that a proof
+/// about who owns them need not follow each part.
 pub fn demands_of(
     c: &mut Context,
     tree: &Tree,
     scope: &mut Scope,
     node: &Node,
-) -> Result<Demands, CheckError> {
+) -> Result<Box<Demands>, CheckError> {
     match children_of(c.alloc, tree, node, NodeKind::Where)?.as_slice() {
-        [] => Ok(IndexMap::new(c.alloc)),
+        [] => Ok(Box::new(c.alloc, IndexMap::new(c.alloc))?),
         [clause] => clause_demands(c, tree, scope, node_at(tree, *clause)?),
         _ => Err(CheckError::NotYet),
     }
@@ -72,13 +72,13 @@ fn clause_demands(
     tree: &Tree,
     scope: &mut Scope,
     node: &Node,
-) -> Result<Demands, CheckError> {
-    let mut clause = Clause::new(c.alloc);
+) -> Result<Box<Demands>, CheckError> {
+    let mut clause = Box::new(c.alloc, Clause::new(c.alloc))?;
     for restrict in node.children.as_slice() {
         add_restrict(c, tree, scope, node_at(tree, *restrict)?, &mut clause)?;
     }
     clause.demands.sort_keys()?;
-    Ok(clause.demands)
+    Ok(Box::new(c.alloc, Box::into_inner(clause).demands)?)
 }
 
 fn add_restrict(
@@ -142,12 +142,25 @@ fn add_opers(
         let [of] = oper.children.as_slice() else {
             return Err(CheckError::NotYet);
         };
-        let value = value_of(c.alloc, tree, scope, &mut c.types, *of, Wanted::Type);
-        if let Some(Value::Of(wanted)) = had(value)? {
+        if let Some(wanted) = type_if_any(c, tree, scope, *of)? {
             ask_for_all(c.alloc, demands, param, oper.names.as_slice(), wanted)?;
         }
     }
     Ok(())
+}
+
+// The type that a node denotes, None where it violates a rule.
+fn type_if_any(
+    c: &mut Context,
+    tree: &Tree,
+    scope: &Scope,
+    n: u32,
+) -> Result<Option<TypeId>, CheckError> {
+    match value_of(c.alloc, tree, scope, &mut c.types, n, Wanted::Type) {
+        Ok(Value::Of(of)) => Ok(Some(of)),
+        Ok(_) | Err(CheckError::Refused(_)) => Ok(None),
+        Err(error) => Err(error),
+    }
 }
 
 fn ask_for_all(
@@ -179,17 +192,22 @@ fn add_set(
     set: u32,
     clause: &mut Clause,
 ) -> Result<(), CheckError> {
-    for demand in demands_of_set(c, tree, scope, param, set, &mut clause.actuals)? {
+    let asked = demands_of_set(c, tree, scope, param, set, &mut clause.actuals)?;
+    ask_by_set(&mut clause.demands, asked)
+}
+
+fn ask_by_set(demands: &mut Demands, asked: Vec<Demand>) -> Result<(), CheckError> {
+    for demand in asked {
+        let wish = Wish {
+            wanted: demand.wanted,
+            by_set: true,
+        };
         let asked = Asked {
             param: demand.param,
             op: demand.op,
         };
-        if !clause.demands.contains_key(&asked) {
-            let wish = Wish {
-                wanted: demand.wanted,
-                by_set: true,
-            };
-            clause.demands.insert(asked, wish)?;
+        if !demands.contains_key(&asked) {
+            demands.insert(asked, wish)?;
         }
     }
     Ok(())

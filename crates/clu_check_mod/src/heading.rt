@@ -23,23 +23,63 @@ pub fn heading_of(
     cvt: Option<TypeId>,
 ) -> Result<Heading, CheckError> {
     conceal_arguments(tree, scope, routine, first)?;
-    let mut args = Vec::new(c.alloc);
-    let mut results = Vec::new(c.alloc);
-    let mut signals = IndexMap::new(c.alloc);
+    let mut parts = no_parts(c.alloc)?;
     for child in routine.children.as_slice() {
-        let child = node_at(tree, *child)?;
-        match child.kind {
-            NodeKind::Decl => add_args(c, tree, scope, child, first, cvt, &mut args)?,
-            NodeKind::Results => add_types(c, tree, scope, child, cvt, &mut results)?,
-            NodeKind::Signals => add_signals(c, tree, scope, child, cvt, &mut signals)?,
-            _ => {}
-        }
+        add_part(
+            c,
+            tree,
+            scope,
+            node_at(tree, *child)?,
+            first,
+            cvt,
+            &mut parts,
+        )?;
     }
-    Ok(Heading {
-        args: Sequence::from_vec(args),
-        results: Sequence::from_vec(results),
-        signals: Sequence::from_vec(ascending(c.alloc, signals)?),
-    })
+    let signals = ascending(c.alloc, &mut parts.signals)?;
+    Ok(heading_with(Box::into_inner(parts), signals))
+}
+
+/// What a heading has so far.
+#[derive(Drop)]
+struct Parts {
+    args: Vec<TypeId>,
+    results: Vec<TypeId>,
+    signals: IndexMap<Bytes, Vec<TypeId>>,
+}
+
+// In a box, so that a proof about who owns it need not follow each part.
+fn no_parts(alloc: Global) -> Result<Box<Parts>, CheckError> {
+    let parts = Parts {
+        args: Vec::new(alloc),
+        results: Vec::new(alloc),
+        signals: IndexMap::new(alloc),
+    };
+    Ok(Box::new(alloc, parts)?)
+}
+
+fn heading_with(parts: Parts, signals: Vec<Exception>) -> Heading {
+    Heading {
+        args: Sequence::from_vec(parts.args),
+        results: Sequence::from_vec(parts.results),
+        signals: Sequence::from_vec(signals),
+    }
+}
+
+fn add_part(
+    c: &mut Context,
+    tree: &Tree,
+    scope: &mut Scope,
+    part: &Node,
+    first: usize,
+    cvt: Option<TypeId>,
+    parts: &mut Parts,
+) -> Result<(), CheckError> {
+    match part.kind {
+        NodeKind::Decl => add_args(c, tree, scope, part, first, cvt, &mut parts.args),
+        NodeKind::Results => add_types(c, tree, scope, part, cvt, &mut parts.results),
+        NodeKind::Signals => add_signals(c, tree, scope, part, cvt, &mut parts.signals),
+        _ => Ok(()),
+    }
 }
 
 // The type of a Decl, once for each of its names.
@@ -105,7 +145,7 @@ pub fn is_failure(name: &Bytes) -> bool {
 
 fn ascending(
     alloc: Global,
-    mut signals: IndexMap<Bytes, Vec<TypeId>>,
+    signals: &mut IndexMap<Bytes, Vec<TypeId>>,
 ) -> Result<Vec<Exception>, CheckError> {
     let mut listed = Vec::new(alloc);
     signals.sort_keys()?;

@@ -19,6 +19,7 @@ use clu_rules::{Module, ask_lengths, define, define_all, is_stream};
 use clu_tree::{Node, NodeKind, Tree};
 use clu_types::{Spec, Term, TypeId};
 use indexmap::IndexSet;
+use std::alloc::Global;
 
 /// The names that the walk over a module's heading has met.
 #[derive(Drop)]
@@ -271,17 +272,22 @@ fn check_argument(
     let n = only_child(decl)?;
     let of = check_heading_type(c, tree, scope, n)?;
     ask_lengths(decl)?;
-    for name in decl.names.as_slice() {
-        if names.defined.contains(name) || names.routines.contains(name) {
-            return refuse(Rule::DefinedTwice, decl.place);
-        }
-        define(c.alloc, &mut names.args, name, decl)?;
-    }
+    define_arguments(c.alloc, decl, names)?;
     if is_cvt(node_at(tree, n)?) {
         Ok(inside_type(c).unwrap_or(of))
     } else {
         Ok(of)
     }
+}
+
+fn define_arguments(alloc: Global, decl: &Node, names: &mut Names) -> Result<(), CheckError> {
+    for name in decl.names.as_slice() {
+        if names.defined.contains(name) || names.routines.contains(name) {
+            return refuse(Rule::DefinedTwice, decl.place);
+        }
+        define(alloc, &mut names.args, name, decl)?;
+    }
+    Ok(())
 }
 
 // The types that stand directly in a node of a heading.
@@ -299,9 +305,17 @@ fn check_heading_type(
     scope: &Scope,
     n: u32,
 ) -> Result<TypeId, CheckError> {
+    match own_at(c, node_at(tree, n)?) {
+        Some(own) => Ok(own),
+        None => check_type(c, tree, scope, n),
+    }
+}
+
+// The type of the cluster round the node, if that is `cvt`.
+fn own_at(c: &Context, node: &Node) -> Option<TypeId> {
     match &c.unit.cluster {
-        Some(cluster) if is_cvt(node_at(tree, n)?) => Ok(cluster.own),
-        _ => check_type(c, tree, scope, n),
+        Some(cluster) if is_cvt(node) => Some(cluster.own),
+        _ => None,
     }
 }
 
@@ -312,7 +326,7 @@ fn check_signals(
     scope: &Scope,
     signals: &Node,
 ) -> Result<(), CheckError> {
-    let mut listed = IndexSet::new(c.alloc);
+    let mut listed = Box::new(c.alloc, IndexSet::new(c.alloc))?;
     for exception in signals.children.as_slice() {
         check_signal(c, tree, scope, node_at(tree, *exception)?, &mut listed)?;
     }
@@ -361,7 +375,7 @@ fn ask_module(
     if module.node.kind != NodeKind::Cluster {
         return Ok(());
     }
-    let mut exports = IndexSet::new(c.alloc);
+    let mut exports = Box::new(c.alloc, IndexSet::new(c.alloc))?;
     for name in export_names(module.node) {
         define(c.alloc, &mut exports, name, module.node)?;
     }

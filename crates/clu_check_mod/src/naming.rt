@@ -7,7 +7,7 @@ ghost use Rattle.clu_names.specs.Denotes.{bound_to, starts_to};
 use clu_base::{Bytes, Memory, Sequence};
 use clu_names::{Declared, Names, names_of};
 use clu_rules::is_stream;
-use clu_syntax::rounds;
+use clu_syntax::{Round, rounds};
 use clu_tree::{NodeKind, Tree};
 use indexmap::IndexSet;
 use std::alloc::Global;
@@ -77,7 +77,8 @@ fn named_in(
     requires bound { names.now.bound.items ≡ bound_to tree.now names.now.declared.items (length tree.now) }
     requires starts { names.now.starts.items ≡ starts_to tree.now names.now.declared.items (length tree.now) }
 {
-    let mut found = IndexSet::new(alloc);
+    // In a box, so that a proof about who owns it need not follow each part.
+    let mut found = Box::new(alloc, IndexSet::new(alloc))?;
     meet_all(alloc, &mut found, tree, names, first, module)?;
     found.sort()?;
     let mut sorted = Vec::new(alloc);
@@ -92,13 +93,25 @@ fn named_in(
 pub fn named(alloc: Global, tree: &Tree) -> Result<Vec<Sequence<Bytes>>, Memory> {
     let rounds = rounds(alloc, tree)?;
     let names = names_of(alloc, tree, rounds.as_slice())?;
+    named_by_all(alloc, tree, rounds.as_slice(), &names)
+}
+
+fn named_by_all(
+    alloc: Global,
+    tree: &Tree,
+    rounds: &[Round],
+    names: &Names,
+) -> Result<Vec<Sequence<Bytes>>, Memory>
+    requires bound { names.now.bound.items ≡ bound_to tree.now names.now.declared.items (length tree.now) }
+    requires starts { names.now.starts.items ≡ starts_to tree.now names.now.declared.items (length tree.now) }
+{
     let mut all = Vec::new(alloc);
     for module in tree.modules() {
         let first = match rounds.get(*module as usize) {
             Some(round) => round.first,
             None => *module,
         };
-        all.push(named_in(alloc, tree, &names, first, *module)?)?;
+        all.push(named_in(alloc, tree, names, first, *module)?)?;
     }
     Ok(all)
 }

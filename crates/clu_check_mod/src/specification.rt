@@ -4,13 +4,13 @@
 ghost use Rattle.std.specs.Prelude.{◌≡◌, IfOk};
 
 use crate::carried::{move_demands, move_op};
-use crate::demands::{Demands, demands_of, listed};
+use crate::demands::{Asked, Demands, demands_of, listed};
 use crate::entering::{Walk, enter_module, enter_routine};
 use crate::heading::heading_of;
 use crate::nodes::children_of;
-use crate::units::own_type;
+use crate::units::{begin_unit, own_type};
 use clu_base::{Bytes, Sequence};
-use clu_core::{Context, SetDemand, Unit};
+use clu_core::{Context, SetDemand};
 use clu_equates::{CheckError, Scope, Value, Wanted, first_name, node_at, term, value_of};
 use clu_rules::Module;
 use clu_tree::{Node, NodeKind, Tree};
@@ -25,17 +25,44 @@ pub fn specification(
     tree: &Tree,
     scope: &mut Scope,
     module: &Module<'_>,
-) -> Result<Spec, CheckError>
-    ensures { IfOk result (λ spec. spec.name ≡ «module».now.name.now) }
+) -> Result<Box<Spec>, CheckError>
+    ensures { IfOk result (λ spec. spec.value.name ≡ «module».now.name.now) }
 {
     let base = scope.len();
     let args = enter_with_kinds(c, tree, scope, module)?;
-    let spec = match module.node.kind {
-        NodeKind::Cluster => cluster_spec(c, tree, scope, module)?,
-        _ => routine_spec(c, tree, scope, module, args)?,
+    let mut spec = begun_spec(c.alloc, module, c.unit.kinds.as_slice())?;
+    spec.form = match module.node.kind {
+        NodeKind::Cluster => cluster_form(c, tree, scope, module.node, &mut spec.types)?,
+        _ => routine_form(c, tree, scope, module.node, args, &mut spec.types)?,
     };
     scope.leave(base);
     Ok(spec)
+}
+
+// A specification without operations and demands. In a box, so that a proof about who owns it need not follow each part.
+fn begun_spec(
+    alloc: Global,
+    module: &Module<'_>,
+    kinds: &[ParamKind],
+) -> Result<Box<Spec>, CheckError>
+    ensures { IfOk result (λ spec. spec.value.name ≡ «module».now.name.now) }
+{
+    let name = module.name.copy(alloc)?;
+    let kinds = Sequence::from_vec(kinds.to_vec(alloc)?);
+    let types = TypeArena::new(alloc);
+    let form = Form::Cluster(
+        Sequence::from_vec(Vec::new(alloc)),
+        Sequence::from_vec(Vec::new(alloc)),
+    );
+    Ok(Box::new(
+        alloc,
+        Spec {
+            name,
+            kinds,
+            types,
+            form,
+        },
+    )?)
 }
 
 // Brings the names of the module into scope and gives the unit the kinds of its parameters. Those may be written by
@@ -49,16 +76,28 @@ fn enter_with_kinds(
 ) -> Result<usize, CheckError> {
     let base = scope.len();
     let parms = children_of(c.alloc, tree, module.node, NodeKind::Parm)?;
-    c.unit = Unit::new(c.alloc, module.name.copy(c.alloc)?);
-    c.unit.kinds = Sequence::from_vec(all_types(c.alloc, tree, parms.as_slice())?);
+    let name = module.name.copy(c.alloc)?;
+    let kinds = all_types(c.alloc, tree, parms.as_slice())?;
+    begin_unit(c.alloc, &mut c.unit, name, kinds);
     let args = enter_module(c, tree, scope, module, Walk::Specifications)?;
-    let kinds = kinds_of(c, tree, scope, parms.as_slice())?;
-    if c.unit.kinds.as_slice() == kinds.as_slice() {
+    if are_known(c, tree, scope, parms.as_slice())? {
         return Ok(args);
     }
-    c.unit.kinds = Sequence::from_vec(kinds);
     scope.leave(base);
     enter_module(c, tree, scope, module, Walk::Specifications)
+}
+
+// Whether the unit's kinds were those of these parameters. They are from then on.
+fn are_known(
+    c: &mut Context,
+    tree: &Tree,
+    scope: &Scope,
+    parms: &[u32],
+) -> Result<bool, CheckError> {
+    let kinds = kinds_of(c, tree, scope, parms)?;
+    let known = c.unit.kinds.as_slice() == kinds.as_slice();
+    c.unit.kinds = Sequence::from_vec(kinds);
+    Ok(known)
 }
 
 // As many kinds as there are parameters.
@@ -99,16 +138,20 @@ pub fn kind_of(
     let Some(of) = parm.children.as_slice().first() else {
         return Ok(Some(ParamKind::OfType));
     };
-    let value = value_of(c.alloc, tree, scope, &mut c.types, *of, Wanted::Type);
-    match had(value)? {
-        Some(Value::Of(of)) => Ok(match term(&c.types, of)? {
-            Term::Null => Some(ParamKind::Null),
-            Term::Bool => Some(ParamKind::Bool),
-            Term::Int => Some(ParamKind::Int),
-            Term::Char => Some(ParamKind::Char),
-            Term::Str => Some(ParamKind::Str),
-            _ => None,
-        }),
+    match value_of(c.alloc, tree, scope, &mut c.types, *of, Wanted::Type) {
+        Ok(Value::Of(of)) => kind_of_type(&c.types, of),
+        Ok(_) | Err(CheckError::Refused(_)) => Ok(None),
+        Err(error) => Err(error),
+    }
+}
+
+fn kind_of_type(types: &TypeArena, of: TypeId) -> Result<Option<ParamKind>, CheckError> {
+    match term(types, of)? {
+        Term::Null => Ok(Some(ParamKind::Null)),
+        Term::Bool => Ok(Some(ParamKind::Bool)),
+        Term::Int => Ok(Some(ParamKind::Int)),
+        Term::Char => Ok(Some(ParamKind::Char)),
+        Term::Str => Ok(Some(ParamKind::Str)),
         _ => Ok(None),
     }
 }
@@ -123,37 +166,18 @@ pub fn had<T>(given: Result<T, CheckError>) -> Result<Option<T>, CheckError> {
     }
 }
 
-fn routine_spec(
+fn routine_form(
     c: &mut Context,
     tree: &Tree,
     scope: &mut Scope,
-    module: &Module<'_>,
+    routine: &Node,
     args: usize,
-) -> Result<Spec, CheckError>
-    ensures { IfOk result (λ spec. spec.name ≡ «module».now.name.now) }
-{
-    let op = op_spec(c, tree, scope, module.node, args, None, true)?;
-    let op = match op {
-        Some(op) => op,
-        None => bare(c.alloc, module.node)?,
-    };
-    let mut types = TypeArena::new(c.alloc);
-    let op = move_op(c.alloc, &mut types, &c.types, &op)?;
-    finished(c, module, types, Form::Routine(op))
-}
-
-fn cluster_spec(
-    c: &mut Context,
-    tree: &Tree,
-    scope: &mut Scope,
-    module: &Module<'_>,
-) -> Result<Spec, CheckError>
-    ensures { IfOk result (λ spec. spec.name ≡ «module».now.name.now) }
-{
-    let own = own_type(c)?;
-    let mut types = TypeArena::new(c.alloc);
-    let form = cluster_form(c, tree, scope, module.node, own, &mut types)?;
-    finished(c, module, types, form)
+    types: &mut TypeArena,
+) -> Result<Form, CheckError> {
+    match op_spec(c, tree, scope, routine, args, None, true)? {
+        Some(op) => Ok(Form::Routine(move_op(c.alloc, types, &c.types, &op)?)),
+        None => Ok(Form::Routine(Box::into_inner(bare(c.alloc, routine, Vec::new(c.alloc))?))),
+    }
 }
 
 fn cluster_form(
@@ -161,9 +185,9 @@ fn cluster_form(
     tree: &Tree,
     scope: &mut Scope,
     cluster: &Node,
-    own: TypeId,
     types: &mut TypeArena,
 ) -> Result<Form, CheckError> {
+    let own = own_type(c)?;
     let demands = cluster_demands(c, tree, scope, cluster, types)?;
     let ops = cluster_ops(c, tree, scope, cluster, own, types)?;
     let demands = Sequence::from_vec(demands);
@@ -199,7 +223,7 @@ fn cluster_ops(
             note_routine(c, tree, scope, part, own, &mut ops, types)?;
         }
     }
-    ascending(c.alloc, Box::into_inner(ops))
+    ascending(c.alloc, &mut ops)
 }
 
 fn note_routine(
@@ -234,7 +258,7 @@ fn note_op(
     Ok(())
 }
 
-fn ascending(alloc: Global, mut ops: IndexMap<Bytes, OpSpec>) -> Result<Vec<OpSpec>, CheckError> {
+fn ascending(alloc: Global, ops: &mut IndexMap<Bytes, OpSpec>) -> Result<Vec<OpSpec>, CheckError> {
     let mut listed = Vec::new(alloc);
     ops.sort_keys()?;
     for (_, op) in ops.drain(..) {
@@ -253,19 +277,18 @@ fn op_spec(
     args: usize,
     own: Option<TypeId>,
     is_module: bool,
-) -> Result<Option<OpSpec>, CheckError> {
+) -> Result<Option<Box<OpSpec>>, CheckError> {
     let demands = demands_of(c, tree, scope, routine)?;
     let name = first_name(routine)?;
     note_sets(c, &demands, if is_module { None } else { Some(name) })?;
-    let heading = heading_of(c, tree, scope, routine, args, own);
-    match had(heading)? {
-        Some(heading) => Ok(Some(OpSpec {
-            name: name.copy(c.alloc)?,
-            iter: is_iter(routine),
-            heading,
-            demands: Sequence::from_vec(listed(c.alloc, &demands)?),
-        })),
-        None => Ok(None),
+    let mut op = bare(c.alloc, routine, listed(c.alloc, &demands)?)?;
+    match heading_of(c, tree, scope, routine, args, own) {
+        Ok(heading) => {
+            op.heading = heading;
+            Ok(Some(op))
+        }
+        Err(CheckError::Refused(_)) => Ok(None),
+        Err(error) => Err(error),
     }
 }
 
@@ -274,18 +297,21 @@ pub fn is_iter(routine: &Node) -> bool {
     routine.value.as_slice() == b"iter".as_slice()
 }
 
-// A routine without arguments, results, signals and demands.
-fn bare(alloc: Global, routine: &Node) -> Result<OpSpec, CheckError> {
-    Ok(OpSpec {
-        name: first_name(routine)?.copy(alloc)?,
+// A routine without arguments, results and signals.
+fn bare(alloc: Global, routine: &Node, demands: Vec<Demand>) -> Result<Box<OpSpec>, CheckError> {
+    let name = first_name(routine)?.copy(alloc)?;
+    let heading = Heading {
+        args: Sequence::from_vec(Vec::new(alloc)),
+        results: Sequence::from_vec(Vec::new(alloc)),
+        signals: Sequence::from_vec(Vec::new(alloc)),
+    };
+    let op = OpSpec {
+        name,
         iter: is_iter(routine),
-        heading: Heading {
-            args: Sequence::from_vec(Vec::new(alloc)),
-            results: Sequence::from_vec(Vec::new(alloc)),
-            signals: Sequence::from_vec(Vec::new(alloc)),
-        },
-        demands: Sequence::from_vec(Vec::new(alloc)),
-    })
+        heading,
+        demands: Sequence::from_vec(demands),
+    };
+    Ok(Box::new(alloc, op)?)
 }
 
 // Notes which demands of the module, or of this routine of it, type sets alone make.
@@ -296,50 +322,37 @@ fn note_sets(
 ) -> Result<(), CheckError> {
     for (asked, wish) in demands.iter() {
         if wish.by_set {
-            let module = c.unit.name.copy(c.alloc)?;
-            let routine = match routine {
-                Some(name) => name.copy(c.alloc)?,
-                None => Bytes::from_slice(c.alloc, b"")?,
-            };
-            c.set_demands.insert(SetDemand {
-                module,
-                routine,
-                param: asked.param,
-                op: asked.op.copy(c.alloc)?,
-            })?;
+            let made = set_demand(c, asked, routine)?;
+            c.set_demands.insert(made)?;
         }
     }
     Ok(())
 }
 
-fn finished(
+fn set_demand(
     c: &Context,
-    module: &Module<'_>,
-    types: TypeArena,
-    form: Form,
-) -> Result<Spec, CheckError>
-    ensures { IfOk result (λ spec. spec.name ≡ «module».now.name.now) }
-{
-    Ok(Spec {
-        name: module.name.copy(c.alloc)?,
-        kinds: Sequence::from_vec(c.unit.kinds.as_slice().to_vec(c.alloc)?),
-        types,
-        form,
+    asked: &Asked,
+    routine: Option<&Bytes>,
+) -> Result<SetDemand, CheckError> {
+    let routine = match routine {
+        Some(name) => name.as_slice(),
+        None => b"",
+    };
+    Ok(SetDemand {
+        module: c.unit.name.copy(c.alloc)?,
+        routine: Bytes::from_slice(c.alloc, routine)?,
+        param: asked.param,
+        op: asked.op.copy(c.alloc)?,
     })
 }
 
 /// The part of a module's specification that other modules see: of a cluster the exported operations, of a routine all.
-pub fn exported(alloc: Global, spec: &Spec, module: &Module<'_>) -> Result<Spec, CheckError>
-    ensures { IfOk result (λ seen. seen.name ≡ «module».now.name.now) }
+pub fn exported(alloc: Global, spec: &Spec, module: &Module<'_>) -> Result<Box<Spec>, CheckError>
+    ensures { IfOk result (λ seen. seen.value.name ≡ «module».now.name.now) }
 {
-    let mut types = TypeArena::new(alloc);
-    let form = exported_form(alloc, &mut types, spec, module.node)?;
-    Ok(Spec {
-        name: module.name.copy(alloc)?,
-        kinds: Sequence::from_vec(spec.kinds.as_slice().to_vec(alloc)?),
-        types,
-        form,
-    })
+    let mut seen = begun_spec(alloc, module, spec.kinds.as_slice())?;
+    seen.form = exported_form(alloc, &mut seen.types, spec, module.node)?;
+    Ok(seen)
 }
 
 fn exported_form(
@@ -375,8 +388,8 @@ fn exported_ops(
     Ok(seen)
 }
 
-fn exports(alloc: Global, node: &Node) -> Result<IndexSet<Bytes>, CheckError> {
-    let mut names = IndexSet::new(alloc);
+fn exports(alloc: Global, node: &Node) -> Result<Box<IndexSet<Bytes>>, CheckError> {
+    let mut names = Box::new(alloc, IndexSet::new(alloc))?;
     for name in export_names(node) {
         names.insert(name.copy(alloc)?)?;
     }

@@ -4,19 +4,30 @@ use crate::carried::carried_demands;
 use clu_base::{Bytes, Sequence};
 use clu_core::{ClusterUnit, Context, Unit};
 use clu_equates::{CheckError, intern};
-use clu_types::{Actual, Demand, Form, OpSpec, ParamKind, Spec, Term, TypeId};
+use clu_types::{Actual, Demand, Form, OpSpec, ParamKind, Spec, Term, TypeArena, TypeId};
+use std::alloc::Global;
 
 /// Makes a module the context's own, as its leading equates are in it: round them is no cluster. Its specification has all
 /// routines of a cluster.
 pub fn open_unit(c: &mut Context, spec: &Spec) -> Result<(), CheckError> {
-    c.unit = Unit::new(c.alloc, spec.name.copy(c.alloc)?);
-    c.unit.kinds = Sequence::from_vec(spec.kinds.as_slice().to_vec(c.alloc)?);
-    let demands = match &spec.form {
+    let name = spec.name.copy(c.alloc)?;
+    let kinds = spec.kinds.as_slice().to_vec(c.alloc)?;
+    begin_unit(c.alloc, &mut c.unit, name, kinds);
+    c.unit.demands = carried_demands(c, &spec.types, own_demands(spec))?;
+    Ok(())
+}
+
+/// A module of this name with parameters of these kinds takes the place of the unit.
+pub fn begin_unit(alloc: Global, unit: &mut Unit, name: Bytes, kinds: Vec<ParamKind>) {
+    *unit = Unit::new(alloc, name);
+    unit.kinds = Sequence::from_vec(kinds);
+}
+
+fn own_demands(spec: &Spec) -> &[Demand] {
+    match &spec.form {
         Form::Routine(op) => op.demands.as_slice(),
         Form::Cluster(demands, _) => demands.as_slice(),
-    };
-    c.unit.demands = carried_demands(c, &spec.types, demands)?;
-    Ok(())
+    }
 }
 
 /// Puts the cluster, if the context's module is one, round what comes next.
@@ -61,12 +72,20 @@ pub fn own_type(c: &mut Context) -> Result<TypeId, CheckError> {
 
 /// The parameters of the context's module as actuals of their own.
 pub fn own_actuals(c: &mut Context) -> Result<Vec<Actual>, CheckError> {
-    let mut actuals = Vec::new(c.alloc);
+    actuals_for(c.alloc, &mut c.types, c.unit.kinds.as_slice())
+}
+
+fn actuals_for(
+    alloc: Global,
+    types: &mut TypeArena,
+    kinds: &[ParamKind],
+) -> Result<Vec<Actual>, CheckError> {
+    let mut actuals = Vec::new(alloc);
     let mut number = 0u32;
-    for kind in c.unit.kinds.as_slice() {
+    for kind in kinds {
         number = number.saturating_add(1);
         actuals.push(match kind {
-            ParamKind::OfType => Actual::Of(intern(&mut c.types, Term::Param(number))?),
+            ParamKind::OfType => Actual::Of(intern(types, Term::Param(number))?),
             _ => Actual::ConstParam(number),
         })?;
     }

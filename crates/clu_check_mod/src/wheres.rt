@@ -7,7 +7,7 @@ use clu_core::Context;
 use clu_equates::{Bound, CheckError, Scope, Settled, first_name, node_at, refuse};
 use clu_rules::{ask_lengths, is_stream};
 use clu_tree::{Node, NodeKind, Tree};
-use clu_types::TypeId;
+use clu_types::{Demand, TypeId};
 
 /// Asks the rules at a Where and all below it.
 pub fn check_where(
@@ -16,7 +16,8 @@ pub fn check_where(
     scope: &mut Scope,
     clause: &Node,
 ) -> Result<(), CheckError> {
-    let mut asked = Clause::new(c.alloc);
+    // In a box, so that a proof about who owns it need not follow each part.
+    let mut asked = Box::new(c.alloc, Clause::new(c.alloc))?;
     for restrict in clause.children.as_slice() {
         check_restrict(c, tree, scope, node_at(tree, *restrict)?, &mut asked)?;
     }
@@ -117,11 +118,7 @@ fn ask_param_and_set(
     param: Option<u32>,
     clause: &mut Clause,
 ) -> Result<(), CheckError> {
-    for name in restrict.names.as_slice() {
-        if scope.find(name).is_some_and(is_circular) {
-            return refuse(Rule::CircularEquate, restrict.place);
-        }
-    }
+    ask_circles(scope, restrict)?;
     let Some(param) = param else {
         return refuse(Rule::NotType, restrict.place);
     };
@@ -131,12 +128,31 @@ fn ask_param_and_set(
     let Some(set) = set_of(tree, scope, restrict)? else {
         return refuse(Rule::NotType, restrict.place);
     };
-    for demand in demands_of_set(c, tree, scope, param, set, &mut clause.actuals)? {
+    let demands = demands_of_set(c, tree, scope, param, set, &mut clause.actuals)?;
+    ask_for_all(&mut clause.demands, demands, restrict)
+}
+
+fn ask_circles(scope: &Scope, restrict: &Node) -> Result<(), CheckError> {
+    for name in restrict.names.as_slice() {
+        if scope.find(name).is_some_and(is_circular) {
+            return refuse(Rule::CircularEquate, restrict.place);
+        }
+    }
+    Ok(())
+}
+
+fn ask_for_all(
+    demands: &mut Demands,
+    asked: Vec<Demand>,
+    restrict: &Node,
+) -> Result<(), CheckError> {
+    for demand in asked {
+        let wanted = demand.wanted;
         let asked = Asked {
-            param,
+            param: demand.param,
             op: demand.op,
         };
-        ask_for(&mut clause.demands, asked, demand.wanted, restrict)?;
+        ask_for(demands, asked, wanted, restrict)?;
     }
     Ok(())
 }

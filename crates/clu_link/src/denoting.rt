@@ -1,20 +1,21 @@
 //! What the uses of a routine denote, among what is kept.
 
-ghost use Rattle.std.specs.Prelude.{◌≡◌, IfOk};
-ghost use Rattle.clu_types.specs.Arena.{type_at, types_of};
+ghost use Rattle.std.specs.Prelude.{◌≡◌, ◌<◌, length, IfOk};
+ghost use Rattle.clu_types.specs.Arena.{type_at, types_of, Grows};
+ghost use Rattle.clu_builtin.specs.Built.{NeedsBelow};
 ghost use Rattle.clu_builtin.specs.Table.{operation};
-ghost use Rattle.clu_link.specs.Uses.{IsSortOf, kind_of, kind_of_constant, sort_of_built};
+ghost use Rattle.clu_link.specs.Uses.{IsSortOf, sort_of_built};
 
 use crate::errors::LinkError;
 use crate::member::Member;
 use crate::parameters::member_of;
-use clu_base::{Bytes, Const};
+use clu_base::{Bytes, Memory};
 use clu_builtin::{Builtin, Need, heading};
-use clu_check_expr::meets;
+use clu_demands::{are_of_kinds, meets};
 use clu_equates::term;
 use clu_library::Library;
 use clu_specs::Form;
-use clu_types::{Actual, ParamKind, Term, TypeArena, TypeId};
+use clu_types::{Actual, Term, TypeArena, TypeId};
 use std::alloc::Global;
 
 /// A use that denotes something.
@@ -102,49 +103,7 @@ fn is_given(lib: &Library, name: &Bytes, actuals: &[Actual], is_cluster: bool) -
         Form::Cluster(_, _) => is_cluster,
         Form::Routine(_) => !is_cluster,
     };
-    is_form && are_of_kinds(actuals, spec.kinds.as_slice())
-}
-
-fn are_of_kinds(actuals: &[Actual], kinds: &[ParamKind]) -> bool {
-    if actuals.len() != kinds.len() {
-        return false;
-    }
-    for (actual, kind) in actuals.iter().zip(kinds) {
-        if !is_of_kind(actual, *kind) {
-            return false;
-        }
-    }
-    true
-}
-
-fn is_of_kind(actual: &Actual, kind: ParamKind) -> bool {
-    match kind_of(actual) {
-        Some(known) => known == kind,
-        None => false,
-    }
-}
-
-/// The kind of the parameter that an actual one may stand for.
-fn kind_of(actual: &Actual) -> Option<ParamKind>
-    ensures { result ≡ kind_of actual.now }
-{
-    match actual {
-        Actual::Of(_) => Some(ParamKind::OfType),
-        Actual::Const(value) => Some(kind_of_constant(value)),
-        Actual::ConstParam(_) => None,
-    }
-}
-
-fn kind_of_constant(value: &Const) -> ParamKind
-    ensures { result ≡ kind_of_constant value.now }
-{
-    match value {
-        Const::Null => ParamKind::Null,
-        Const::Bool(_) => ParamKind::Bool,
-        Const::Int(_) => ParamKind::Int,
-        Const::Char(_) => ParamKind::Char,
-        Const::Str(_) => ParamKind::Str,
-    }
+    is_form && are_of_kinds(&[], actuals, spec.kinds.as_slice())
 }
 
 /// Whether a cluster's type is one of a kept cluster; None for all other types.
@@ -199,22 +158,33 @@ fn are_met(
     types: &mut TypeArena,
     needs: &[Need],
     asked: Needs,
-) -> Result<bool, LinkError> {
+) -> Result<bool, Memory>
+    requires { NeedsBelow (length types.old) needs.now }
+{
     if asked == Needs::Met {
         return Ok(true);
     }
     for need in needs {
-        if !meets(
-            alloc,
-            need.of,
-            &need.op,
-            need.wanted,
-            &[],
-            lib.specs(),
-            types,
-        )? {
+        let met = is_met(alloc, lib, types, need)?;
+        if !met {
             return Ok(false);
         }
     }
     Ok(true)
+}
+
+fn is_met(alloc: Global, lib: &Library, types: &mut TypeArena, need: &Need) -> Result<bool, Memory>
+    requires of_in { need.now.of.0 < length types.old }
+    requires wanted_in { need.now.wanted.0 < length types.old }
+    ensures kept { Grows types.old types.new }
+{
+    meets(
+        alloc,
+        need.of,
+        &need.op,
+        need.wanted,
+        &[],
+        lib.specs(),
+        types,
+    )
 }

@@ -1,0 +1,2 @@
+-- Lemmas on needs that are asked one after the other.
+pub mod Asking
