@@ -1,4 +1,3 @@
 pub mod Asking
 pub mod Kinds
 pub mod Meeting
-pub mod Sound

@@ -83,7 +83,7 @@ fn parameter_of(term: &Term) -> Option<u32>
 }
 
 /// The cluster type that a type is.
-fn instance_of(alloc: Global, term: &Term) -> Result<Option<Instance>, Memory>
+pub fn instance_of(alloc: Global, term: &Term) -> Result<Option<Instance>, Memory>
     ensures { IfOk result (λ found. found ≡ instance_of term.now) }
 {
     match term {
