@@ -1,3 +1,3 @@
 pub mod Sorts
 pub mod Zeros
-pub mod Needs
+pub mod Later
