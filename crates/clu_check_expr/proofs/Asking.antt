@@ -18,10 +18,13 @@ use Rattle.clu_check_expr.specs.Needs.{IsAsking}
 pub needs_later : (old new : List Term) → Grows old new → (needs : List Asked) → AreBelowAll (length old) needs → AreBelowAll (length new) needs
 needs_later old new g needs b = more_below (length old) (length new) (length_grows old new g) needs b
 
-pub need_here : (n : ℕ) (needs : List Asked) (i : ℕ) (d : Asked) → AreBelowAll n needs → i < length needs → IsBelow n (get_or needs i d)
-need_here n [] i d b lt = absurd (omega arith)
-need_here n (x ∷ xs) zero d b lt = b.0
-need_here n (x ∷ xs) (suc i) d b lt = need_here n xs i d b.1 (omega arith)
+need_below : (n : ℕ) (needs : List Asked) (i : ℕ) (d : Asked) → AreBelowAll n needs → i < length needs → IsBelow n (get_or needs i d)
+need_below n [] i d b lt = absurd (omega arith)
+need_below n (x ∷ xs) zero d b lt = b.0
+need_below n (x ∷ xs) (suc i) d b lt = need_below n xs i d b.1 (omega arith)
+
+pub need_here : (n : ℕ) (needs : List Asked) (i : ℕ) (d : Asked) → d ≡ get_or needs i d → AreBelowAll n needs → i < length needs → IsBelow n d
+need_here n needs i d is below lt = subst (IsBelow n) (sym is) (need_below n needs i d below lt)
 
 -- nothing was met before
 pub asking_first : (given : List Demand) (specs : List Spec) (types : List Term) (met : List Asked) → met ≡ [] → DemandsBelow (length types) given → IsAsking given specs types met

@@ -168,16 +168,37 @@ pub fn is_met(
     routine: &Bytes,
     actuals: &[Actual],
 ) -> Result<Option<Rule>, CheckError> {
-    let Some(spec) = asked_spec(&c.unit, &c.specs, module, routine) else {
+    demands_fault(
+        c.alloc,
+        &c.unit,
+        &c.specs,
+        &c.set_demands,
+        &mut c.types,
+        module,
+        routine,
+        actuals,
+    )
+}
+
+fn demands_fault(
+    alloc: Global,
+    unit: &Unit,
+    specs: &Specs,
+    sets: &IndexSet<SetDemand>,
+    types: &mut TypeArena,
+    module: &Bytes,
+    routine: &Bytes,
+    actuals: &[Actual],
+) -> Result<Option<Rule>, CheckError> {
+    let Some(spec) = asked_spec(unit, specs, module, routine) else {
         return Ok(None);
     };
     let demands = demands_of(spec, routine);
-    match put_in(c.alloc, &spec.types, demands, actuals, &mut c.types)? {
+    match put_in(alloc, &spec.types, demands, actuals, types)? {
         Some(needs) => {
-            let given = c.unit.demands.as_slice();
-            let needs = needs.as_slice();
-            let answers = each_met(c.alloc, needs, given, &c.specs, &mut c.types)?;
-            broken_by(c, module, routine, demands, answers.as_slice())
+            let given = unit.demands.as_slice();
+            let answers = each_met(alloc, needs.as_slice(), given, specs, types)?;
+            broken_by(alloc, sets, module, routine, demands, answers.as_slice())
         }
         None => Ok(Some(Rule::WhereNotMet)),
     }
@@ -230,7 +251,8 @@ fn put_in(
 
 /// The rule of the demands that are not met, by the answers to each.
 fn broken_by(
-    c: &Context,
+    alloc: Global,
+    sets: &IndexSet<SetDemand>,
     module: &Bytes,
     routine: &Bytes,
     demands: &[Demand],
@@ -239,7 +261,7 @@ fn broken_by(
     let mut broken = None;
     for (demand, is_met) in demands.iter().zip(answers) {
         if !*is_met {
-            if !is_in_set(c, module, routine, demand)? {
+            if !is_in_set(alloc, sets, module, routine, demand)? {
                 return Ok(Some(Rule::WhereNotMet));
             }
             broken = Some(Rule::NotInTypeSet);
@@ -250,16 +272,17 @@ fn broken_by(
 
 /// Whether an `in` clause alone makes the demand.
 fn is_in_set(
-    c: &Context,
+    alloc: Global,
+    sets: &IndexSet<SetDemand>,
     module: &Bytes,
     routine: &Bytes,
     demand: &Demand,
 ) -> Result<bool, CheckError> {
     let made = SetDemand {
-        module: module.copy(c.alloc)?,
-        routine: routine.copy(c.alloc)?,
+        module: module.copy(alloc)?,
+        routine: routine.copy(alloc)?,
         param: demand.param,
-        op: demand.op.copy(c.alloc)?,
+        op: demand.op.copy(alloc)?,
     };
-    Ok(c.set_demands.contains(&made))
+    Ok(sets.contains(&made))
 }

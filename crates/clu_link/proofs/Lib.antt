@@ -1,4 +1,4 @@
 pub mod Keeping
 pub mod Sorts
 pub mod Zeros
-pub mod Needs
+pub mod Later
