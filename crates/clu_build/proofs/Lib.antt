@@ -1,2 +1,9 @@
+pub mod Adding
+pub mod Compiling
+pub mod Keeping
 pub mod Lines
+pub mod Lists
+pub mod Numbering
+pub mod Placing
 pub mod Refusals
+pub mod Replacing

@@ -1,10 +1,12 @@
 -- What a refusal of one kind is besides, and what errors of the crates below come to.
-use Rattle.std.proofs.Common.{◌≡◌, ℕ, List, Option, Some}
+use Rattle.std.proofs.Common.{◌≡◌, ℕ, List, Option, Some, None, length}
 use Rattle.clu_frames.specs.declared.errors.FrameError.{FrameError}
 use Rattle.clu_frames.specs.declared.errors.FrameError.TheVariants as frame
-use Rattle.clu_library.specs.Contents.{Contents, spec_of}
+use Rattle.clu_library.specs.Contents.{Contents, NotKept, spec_of}
+use Rattle.clu_library.specs.Replacing.{NotReplaced}
 use Rattle.clu_library.specs.declared.errors.EnterError.{EnterError}
 use Rattle.clu_library.specs.declared.errors.EnterError.TheVariants as enter
+use Rattle.clu_library.specs.declared.program.Program.{Program}
 use Rattle.clu_link.specs.Causes.{IsRefusalOf}
 use Rattle.clu_link.specs.declared.errors.LinkError.{LinkError}
 use Rattle.clu_link.specs.declared.errors.LinkError.TheVariants as link
@@ -14,7 +16,8 @@ use Rattle.rv_select.specs.declared.error.SelectError.{SelectError}
 use Rattle.rv_select.specs.declared.error.SelectError.TheVariants as select
 use Rattle.clu_types.specs.declared.spec.Spec.{Spec}
 use Rattle.clu_build.specs.Errors.{of_enter, of_frame, of_link, of_lower, of_select}
-use Rattle.clu_build.specs.Refusals.{IsInner, IsOfEntries, IsOfKept, IsOfProgram, IsOfReplacement, IsOfRoom}
+use Rattle.clu_build.specs.Entering.{AreReplaced}
+use Rattle.clu_build.specs.Refusals.{IsInner, IsOfEach, IsOfEntries, IsOfKept, IsOfNeeded, IsOfOne, IsOfProgram, IsOfReplacement, IsOfRoom}
 use Rattle.clu_build.specs.declared.errors.BuildError.{BuildError}
 use Rattle.clu_build.specs.declared.errors.BuildError.TheVariants as error
 
@@ -56,29 +59,51 @@ kept_is_of_entries error.Memory library name kept found is = tt
 kept_is_of_entries error.NotYet library name kept found is = tt
 kept_is_of_entries _ library name kept found is = elim is [ ]
 
-pub room_is_of_replacement : (e : BuildError) → IsOfRoom e → IsOfReplacement e
-room_is_of_replacement error.LibraryFull is = tt
-room_is_of_replacement error.Memory is = tt
-room_is_of_replacement error.NotYet is = tt
-room_is_of_replacement _ is = elim is [ ]
+-- one of some specifications is not entered
+pub inner_is_of_one : (e : BuildError) (library : Contents) (s : Spec) → IsInner e → IsOfOne e library s
+inner_is_of_one error.Memory library s is = tt
+inner_is_of_one error.NotYet library s is = tt
+inner_is_of_one _ library s is = elim is [ ]
 
-pub inner_is_of_replacement : (e : BuildError) → IsInner e → IsOfReplacement e
-inner_is_of_replacement e is = room_is_of_replacement e (inner_is_of_room e is)
+pub entry_is_of_one : (e : EnterError) (library : Contents) (s : Spec) → NotReplaced e library s (spec_of library s.name) → IsOfOne (of_enter e) library s
+entry_is_of_one enter.Full library s is = is
+entry_is_of_one enter.Memory library s is = tt
+entry_is_of_one enter.Differs library s is = tt
 
--- an entry is refused for no reason of the start
-pub of_entering : (e : EnterError) (start : List ℕ) (kept : Option Spec) → IsOfProgram (of_enter e) start kept
-of_entering enter.Full start kept = tt
-of_entering enter.Memory start kept = tt
-of_entering enter.Differs start kept = tt
+pub each_is_of_replacement : (e : BuildError) (library : Contents) (specs : List Spec) → IsOfEach e library specs → IsOfReplacement e library specs
+each_is_of_replacement error.LibraryFull library specs is = is
+each_is_of_replacement error.Memory library specs is = tt
+each_is_of_replacement error.NotYet library specs is = tt
+each_is_of_replacement _ library specs is = elim is [ ]
 
--- what the linker's refusals say of it
-pub of_linking : (e : LinkError) (library : Contents) (start : List ℕ) → IsRefusalOf e library start → IsOfProgram (of_link e) start (spec_of library start)
+pub inner_is_of_needed : (e : BuildError) → IsInner e → IsOfNeeded e
+inner_is_of_needed error.Memory is = tt
+inner_is_of_needed error.NotYet is = tt
+inner_is_of_needed _ is = elim is [ ]
+
+pub needed_is_of_replacement : (e : BuildError) (library after : Contents) (specs : List Spec) → AreReplaced library specs after → IsOfNeeded e → IsOfReplacement e library specs
+needed_is_of_replacement (error.SpecNeeded name) library after specs replaced is = (after, replaced)
+needed_is_of_replacement error.Memory library after specs replaced is = tt
+needed_is_of_replacement error.NotYet library after specs replaced is = tt
+needed_is_of_replacement _ library after specs replaced is = elim is [ ]
+
+pub ruleset replacements = (inner_is_of_one, entry_is_of_one, each_is_of_replacement, inner_is_of_needed, needed_is_of_replacement)
+
+-- a program is not entered since there is no room
+pub of_entering : (e : EnterError) (library : Contents) (start : List ℕ) (p : Option Program) → NotKept e (length library.programs) p → IsOfProgram (of_enter e) library start
+of_entering enter.Full library start None is = is
+of_entering enter.Full library start (Some p) is = elim is [ ]
+of_entering enter.Memory library start p is = tt
+of_entering enter.Differs library start p is = elim is [ ]
+
+-- or as the linker refuses it
+pub of_linking : (e : LinkError) (library : Contents) (start : List ℕ) → IsRefusalOf e library start → IsOfProgram (of_link e) library start
 of_linking (link.NoModule name) library start is = is
 of_linking (link.BadStart name) library start is = is
 of_linking link.TooManyInstances library start is = tt
-of_linking (link.NoBody name) library start is = tt
-of_linking (link.Stale name by changed checked) library start is = tt
-of_linking (link.Misfit name) library start is = tt
+of_linking (link.NoBody name) library start is = is
+of_linking (link.Stale name by changed checked) library start is = is
+of_linking (link.Misfit name) library start is = is
 of_linking link.ProgramTooLarge library start is = tt
 of_linking link.Memory library start is = tt
 of_linking link.NotYet library start is = tt
@@ -87,4 +112,4 @@ pub ruleset programs = (of_entering, of_linking)
 
 pub ruleset bodies = (lower_is_inner, frame_is_inner, select_is_inner)
 
-pub ruleset entries = (kept_is_of_entries, enter_is_of_room, inner_is_of_room, room_is_of_entries, inner_is_of_entries, room_is_of_replacement, inner_is_of_replacement)
+pub ruleset entries = (kept_is_of_entries, enter_is_of_room, inner_is_of_room, room_is_of_entries, inner_is_of_entries)

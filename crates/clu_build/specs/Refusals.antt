@@ -1,12 +1,18 @@
 -- Why entries of a library are refused.
-use Rattle.std.specs.Prelude.{◌≡◌, ◌≢◌, ℕ, List, Option, Some, None}
-use Rattle.clu_library.specs.Contents.{Contents, spec_of}
+use Rattle.std.specs.Prelude.{◌≡◌, ◌≢◌, ◌≤◌, ℕ, List, Option, Some, None, length, take, slice_get}
+use Rattle.clu_library.specs.Contents.{Contents, body_of, limit, spec_of}
+use Rattle.clu_library.specs.Replacing.{NotReplaced}
+use Rattle.clu_library.specs.Staleness.{IsCause, IsStaleBody}
+use Rattle.clu_library.specs.declared.body.Body.{Body}
+use Rattle.clu_library.specs.declared.errors.EnterError.TheVariants as enter
 use Rattle.clu_link.specs.Starts.{IsBadStart}
 use Rattle.clu_specs.specs.Seen.{seen, spec_text}
 use Rattle.clu_types.specs.declared.spec.Spec.{Spec}
+use Rattle.clu_build.specs.Entering.{AreReplaced}
 use Rattle.clu_build.specs.declared.errors.BuildError.{BuildError}
 use Rattle.clu_build.specs.declared.errors.BuildError.TheVariants as error
 use Rattle.clu_build.specs.declared.errors.Difference.{Difference}
+use Rattle.clu_build.specs.declared.errors.StaleBody.{StaleBody}
 
 -- memory was refused, or an inner condition did not hold
 abbrev pub IsInner : BuildError → Type 0
@@ -33,18 +39,48 @@ abbrev pub IsOfEntries : BuildError → Contents → Type 0
 IsOfEntries (error.SpecDiffers d) library = (name : List ℕ) × (kept : Spec) × (spec_of library name ≡ Some kept) × IsDifferent d name kept
 IsOfEntries e library = IsOfRoom e
 
--- specifications are not replaced: there is no room, or a module needs one of them as it was
-abbrev pub IsOfReplacement : BuildError → Type 0
-IsOfReplacement (error.SpecNeeded name) = Unit {0}
-IsOfReplacement e = IsOfRoom e
+-- there is no room for one of some specifications once those before it were entered
+abbrev pub IsFull : Contents → List Spec → Type 0
+IsFull library specs =
+    (n : ℕ) × (s : Spec) × (between : Contents) × (slice_get specs n ≡ Some s) × AreReplaced library (take n specs) between × NotReplaced enter.Full between s (spec_of between s.name)
 
--- a program is not entered: no module is kept of the start only if none is, and a start is bad only if it is none
-abbrev pub IsOfProgram : BuildError → List ℕ → Option Spec → Type 0
-IsOfProgram (error.NoModule name) start kept = (name ≡ start) × (kept ≡ None)
-IsOfProgram (error.BadStart name) start kept = (name ≡ start) × IsBadStart kept
-IsOfProgram error.TooManyInstances start kept = Unit {0}
-IsOfProgram (error.NoBody name) start kept = Unit {0}
-IsOfProgram (error.Stale body) start kept = Unit {0}
-IsOfProgram (error.Misfit name) start kept = Unit {0}
-IsOfProgram error.ProgramTooLarge start kept = Unit {0}
-IsOfProgram e start kept = IsOfRoom e
+-- one specification is not entered
+abbrev pub IsOfOne : BuildError → Contents → Spec → Type 0
+IsOfOne error.LibraryFull library s = NotReplaced enter.Full library s (spec_of library s.name)
+IsOfOne e library s = IsInner e
+
+-- one of these is not
+abbrev pub IsOfEach : BuildError → Contents → List Spec → Type 0
+IsOfEach error.LibraryFull library specs = IsFull library specs
+IsOfEach e library specs = IsInner e
+
+-- a kept specification needs one as it was
+abbrev pub IsOfNeeded : BuildError → Type 0
+IsOfNeeded (error.SpecNeeded name) = Unit {0}
+IsOfNeeded e = IsInner e
+
+-- specifications are not replaced: there is no room for one, or a kept specification needs one of them as it was
+abbrev pub IsOfReplacement : BuildError → Contents → List Spec → Type 0
+IsOfReplacement (error.SpecNeeded name) library specs = (after : Contents) × AreReplaced library specs after
+IsOfReplacement e library specs = IsOfEach e library specs
+
+-- the body that is kept of a module is stale, by this module
+abbrev pub IsStaleFor : Contents → StaleBody → Type 0
+IsStaleFor library d = (b : Body) × (body_of library d.name ≡ Some b) × IsCause library d.name b (record { by = d.by; changed = d.changed; checked = d.checked })
+
+-- a body is kept of a module and isn't stale
+abbrev pub IsFresh : Contents → List ℕ → Type 0
+IsFresh library name = (b : Body) × (body_of library name ≡ Some b) × (IsStaleBody library.specs library.changes name b → ⊥)
+
+-- a program is not entered: no module is kept of the start, or that is no start; no body is kept of a module, it is stale, or it is not and
+-- its object is a misfit; or there is no room
+abbrev pub IsOfProgram : BuildError → Contents → List ℕ → Type 0
+IsOfProgram (error.NoModule name) library start = (name ≡ start) × (spec_of library start ≡ None)
+IsOfProgram (error.BadStart name) library start = (name ≡ start) × IsBadStart (spec_of library start)
+IsOfProgram error.TooManyInstances library start = Unit {0}
+IsOfProgram (error.NoBody name) library start = body_of library name ≡ None
+IsOfProgram (error.Stale body) library start = IsStaleFor library body
+IsOfProgram (error.Misfit name) library start = IsFresh library name
+IsOfProgram error.ProgramTooLarge library start = Unit {0}
+IsOfProgram error.LibraryFull library start = limit ≤ length library.programs
+IsOfProgram e library start = IsInner e

@@ -1,6 +1,7 @@
 //! What is kept of a module beside its specification: the text, the names of other modules in it, and the object.
 
-ghost use Rattle.std.specs.Prelude.{IfErr};
+ghost use Rattle.std.specs.Prelude.{◌≡◌, ◌-◌, IfErr, IfOk, Some, drop, take};
+ghost use Rattle.clu_build.specs.Entering.{node_text};
 ghost use Rattle.clu_build.specs.Refusals.{IsInner};
 
 use crate::errors::BuildError;
@@ -33,6 +34,7 @@ pub fn body_of(
     source: &[u8],
     peep: bool,
 ) -> Result<Body, BuildError>
+    ensures text { IfOk result (λ body. body.text ≡ source.now) }
     ensures refused { IfErr result IsInner }
 {
     Ok(Body {
@@ -45,6 +47,7 @@ pub fn body_of(
 
 /// The bytes of the source from a module's first token to its last.
 pub fn source_of<'a>(text: Text<'a>, c: &Checked, module: u32) -> Result<&'a [u8], BuildError>
+    ensures source { IfOk result (λ source. node_text text.entry.bytes.now text.entry.tokens.now c.now.tree «module» ≡ Some source.now) }
     ensures refused { IfErr result IsInner }
 {
     if module >= c.tree.len() {
@@ -60,6 +63,7 @@ pub fn source_of<'a>(text: Text<'a>, c: &Checked, module: u32) -> Result<&'a [u8
 }
 
 fn between(bytes: &[u8], start: usize, end: usize) -> Result<&[u8], BuildError>
+    ensures part { IfOk result (λ part. part.now ≡ take (end - start) (drop start bytes.now)) }
     ensures refused { IfErr result IsInner }
 {
     if start > end || end > bytes.len() {

@@ -23,7 +23,7 @@ pub fn enter_program(
 ) -> Result<(), BuildError>
     ensures entered { OnOk result (IsLinked library.old library.new name.now start.now) }
     ensures unchanged { OnErr result (library.new ≡ library.old) }
-    ensures refused { IfErr result (λ e. IsOfProgram e start.now (spec_of library.old start.now)) }
+    ensures refused { IfErr result (λ e. IsOfProgram e library.old start.now) }
 {
     let program = program_of(alloc, library, name, start)?;
     Ok(library.enter_program(Box::into_inner(program))?)
@@ -38,7 +38,7 @@ fn program_of(
 ) -> Result<Box<Program>, BuildError>
     ensures started { OnOk result (MayStart (spec_of library.now start.now)) }
     ensures called { IfOk result (λ p. IsCalled name.now start.now p.value) }
-    ensures refused { IfErr result (λ e. IsOfProgram e start.now (spec_of library.now start.now)) }
+    ensures refused { IfErr result (λ e. IsOfProgram e library.now start.now) }
 {
     let name = name.copy(alloc)?;
     let first = start.copy(alloc)?;

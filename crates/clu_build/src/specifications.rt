@@ -1,8 +1,12 @@
 //! Specifications of a file as entries of a library.
 
-ghost use Rattle.std.specs.Prelude.{◌≡◌, IfErr, IfOk};
+ghost use Rattle.std.specs.Prelude.{◌≡◌, ◌<◌, [], length, slice_get, IfErr, IfOk, OnOk};
+ghost use Rattle.clu_library.specs.Contents.{HaveSameText, spec_of};
+ghost use Rattle.clu_library.specs.Replacing.{Replaces};
 ghost use Rattle.clu_specs.specs.Specifications.{SpecHolds};
-ghost use Rattle.clu_build.specs.Refusals.{IsInner, IsOfEntries, IsOfKept, IsOfReplacement, IsOfRoom};
+ghost use Rattle.clu_build.specs.Entering.{AreAdded, AreEntered, AreReplaced, AreSame, IsOneEntered, IsOneEnteredIf, IsSameOf};
+ghost use Rattle.clu_build.specs.Numbering.{AreNumbered, IsNumbered};
+ghost use Rattle.clu_build.specs.Refusals.{IsInner, IsOfEach, IsOfEntries, IsOfKept, IsOfNeeded, IsOfOne, IsOfReplacement, IsOfRoom};
 
 use crate::errors::{BuildError, Difference};
 use clu_base::Bytes;
@@ -16,6 +20,7 @@ use std::alloc::Global;
 /// its module (`SpecDiffers`) and whether there is room (`LibraryFull`).
 #[tactic(auto, using(crate::proofs::Refusals::entries))]
 pub fn enter_specs(alloc: Global, library: &mut Library, specs: &[Spec]) -> Result<(), BuildError>
+    ensures entered { OnOk result (AreEntered library.old library.new specs.now) }
     ensures refused { IfErr result (λ e. IsOfEntries e library.old) }
 {
     ask_each(alloc, library, specs)?;
@@ -26,9 +31,10 @@ pub fn enter_specs(alloc: Global, library: &mut Library, specs: &[Spec]) -> Resu
 /// Enters specifications in place of the kept ones, in the order in which they are given. `LibraryFull` if there is no
 /// room for one of them, and then `SpecNeeded` with the least module, but for those of the specifications, of which the
 /// kept specification would not be sound.
-#[tactic(auto, using(crate::proofs::Refusals::entries))]
+#[tactic(auto, using(crate::proofs::Refusals::replacements))]
 pub fn replace_specs(alloc: Global, library: &mut Library, specs: &[Spec]) -> Result<(), BuildError>
-    ensures refused { IfErr result IsOfReplacement }
+    ensures replaced { OnOk result (AreReplaced library.old specs.now library.new) }
+    ensures refused { IfErr result (λ e. IsOfReplacement e library.old specs.now) }
 {
     replace_each(alloc, library, specs)?;
     ask_needed(alloc, library, specs)
@@ -36,6 +42,7 @@ pub fn replace_specs(alloc: Global, library: &mut Library, specs: &[Spec]) -> Re
 
 /// The numbers of specifications by the names of their modules, ascending.
 pub fn ascending(alloc: Global, specs: &[Spec]) -> Result<Box<IndexMap<Bytes, usize>>, BuildError>
+    ensures numbered { IfOk result (λ numbers. AreNumbered specs.now numbers.value.entries) }
     ensures refused { IfErr result IsInner }
 {
     let mut numbers = Box::new(alloc, IndexMap::new(alloc))?;
@@ -48,35 +55,77 @@ fn number(
     specs: &[Spec],
     numbers: &mut IndexMap<Bytes, usize>,
 ) -> Result<(), BuildError>
+    requires { numbers.old.entries ≡ [] }
+    ensures numbered { OnOk result (AreNumbered specs.now numbers.new.entries) }
     ensures refused { IfErr result IsInner }
 {
-    for (number, spec) in specs.iter().enumerate() {
-        numbers.insert(spec.name.copy(alloc)?, number)?;
-    }
+    add_each(alloc, specs, numbers)?;
     Ok(numbers.sort_keys()?)
+}
+
+fn add_each(
+    alloc: Global,
+    specs: &[Spec],
+    numbers: &mut IndexMap<Bytes, usize>,
+) -> Result<(), BuildError>
+    requires { numbers.old.entries ≡ [] }
+    ensures numbered { OnOk result (AreNumbered specs.now numbers.new.entries) }
+    ensures refused { IfErr result IsInner }
+{
+    for number in 0..specs.len() {
+        add(alloc, &specs[number], number, numbers)?;
+    }
+    Ok(())
+}
+
+/// The modules of a file have differing names.
+fn add(
+    alloc: Global,
+    spec: &Spec,
+    number: usize,
+    numbers: &mut IndexMap<Bytes, usize>,
+) -> Result<(), BuildError>
+    ensures added { OnOk result (IsNumbered numbers.old.entries numbers.new.entries spec.now.name number) }
+    ensures refused { IfErr result IsInner }
+{
+    match numbers.insert(spec.name.copy(alloc)?, number)? {
+        None => Ok(()),
+        Some(_) => Err(BuildError::NotYet),
+    }
 }
 
 /// Whether each may be entered after those before it.
 #[tactic(auto, using(crate::proofs::Refusals::entries))]
 fn ask_each(alloc: Global, library: &Library, specs: &[Spec]) -> Result<(), BuildError>
+    ensures same { OnOk result (AreSame library.now specs.now) }
     ensures refused { IfErr result (λ e. IsOfEntries e library.now) }
 {
     let mut new = 0u32;
     for spec in specs {
-        match library.spec(&spec.name) {
-            Some(kept) => ask_same(alloc, kept, spec)?,
-            None => {
-                new = new.saturating_add(1);
-                ask_room(library, new)?;
-            }
-        }
+        new = ask(alloc, library, spec, new)?;
     }
     Ok(())
+}
+
+/// Whether a specification may be entered after so many new ones, and how many are new then.
+#[tactic(auto, using(crate::proofs::Refusals::entries))]
+fn ask(alloc: Global, library: &Library, spec: &Spec, new: u32) -> Result<u32, BuildError>
+    ensures same { OnOk result (IsSameOf library.now spec.now) }
+    ensures refused { IfErr result (λ e. IsOfEntries e library.now) }
+{
+    match library.spec(&spec.name) {
+        Some(kept) => {
+            ask_same(alloc, kept, spec)?;
+            Ok(new)
+        }
+        None => ask_room(library, new.saturating_add(1)),
+    }
 }
 
 /// Whether the specification that is kept of the module has the text of this one.
 fn ask_same(alloc: Global, kept: &Spec, given: &Spec) -> Result<(), BuildError>
     requires { SpecHolds kept.now }
+    ensures same { OnOk result (HaveSameText kept.now given.now) }
     ensures refused { IfErr result (λ e. IsOfKept e given.now.name kept.now) }
 {
     if !is_whole(given) {
@@ -95,17 +144,17 @@ fn ask_same(alloc: Global, kept: &Spec, given: &Spec) -> Result<(), BuildError>
 }
 
 /// Whether a library has room for so many modules more.
-fn ask_room(library: &Library, new: u32) -> Result<(), BuildError>
+fn ask_room(library: &Library, new: u32) -> Result<u32, BuildError>
     ensures refused { IfErr result IsOfRoom }
 {
     if new <= LIMIT && library.specs().at(LIMIT - new).is_none() {
-        Ok(())
+        Ok(new)
     } else {
         Err(BuildError::LibraryFull)
     }
 }
 
-/// Enters those of which none is kept; in ascending order none that is there is moved.
+/// Enters all of them; in ascending order none that is there is moved.
 #[tactic(auto, using(crate::proofs::Refusals::entries))]
 fn enter_each(
     alloc: Global,
@@ -113,54 +162,71 @@ fn enter_each(
     specs: &[Spec],
     numbers: &IndexMap<Bytes, usize>,
 ) -> Result<(), BuildError>
+    requires { AreNumbered specs.now numbers.now.entries }
+    ensures added { OnOk result (AreAdded library.old library.new specs.now) }
     ensures refused { IfErr result IsOfRoom }
 {
-    for number in numbers.values() {
-        let Some(spec) = specs.get(*number) else {
-            return Err(BuildError::NotYet);
+    for at in 0..numbers.len() {
+        let Some((_, number)) = numbers.get_index(at) else {
+            break;
         };
-        if library.spec(&spec.name).is_none() {
-            enter(alloc, library, spec.copy(alloc)?)?;
-        }
+        enter_nth(alloc, library, specs, *number)?;
     }
     Ok(())
 }
 
-#[tactic(auto, using(crate::proofs::Refusals::entries))]
-fn enter(alloc: Global, library: &mut Library, spec: Spec) -> Result<(), BuildError>
+fn enter_nth(
+    alloc: Global,
+    library: &mut Library,
+    specs: &[Spec],
+    number: usize,
+) -> Result<(), BuildError>
+    requires { number < length specs.now }
+    ensures entered { OnOk result (IsOneEnteredIf library.old library.new (slice_get specs.now number)) }
     ensures refused { IfErr result IsOfRoom }
 {
-    if !is_whole(&spec) {
-        return Err(BuildError::NotYet);
-    }
-    Ok(library.enter_spec(alloc, spec)?)
+    enter(alloc, library, &specs[number])
 }
 
 #[tactic(auto, using(crate::proofs::Refusals::entries))]
-fn replace_each(alloc: Global, library: &mut Library, specs: &[Spec]) -> Result<(), BuildError>
+fn enter(alloc: Global, library: &mut Library, spec: &Spec) -> Result<(), BuildError>
+    ensures entered { OnOk result (IsOneEntered library.old library.new spec.now) }
     ensures refused { IfErr result IsOfRoom }
+{
+    if !is_whole(spec) {
+        return Err(BuildError::NotYet);
+    }
+    let copied = spec.copy(alloc)?;
+    Ok(library.enter_spec(alloc, copied)?)
+}
+
+#[tactic(auto, using(crate::proofs::Refusals::replacements))]
+fn replace_each(alloc: Global, library: &mut Library, specs: &[Spec]) -> Result<(), BuildError>
+    ensures replaced { OnOk result (AreReplaced library.old specs.now library.new) }
+    ensures refused { IfErr result (λ e. IsOfEach e library.old specs.now) }
 {
     for spec in specs {
-        replace(alloc, library, spec.copy(alloc)?)?;
+        replace(alloc, library, spec)?;
     }
     Ok(())
 }
 
-#[tactic(auto, using(crate::proofs::Refusals::entries))]
-fn replace(alloc: Global, library: &mut Library, spec: Spec) -> Result<(), BuildError>
-    ensures refused { IfErr result IsOfRoom }
+#[tactic(auto, using(crate::proofs::Refusals::replacements))]
+fn replace(alloc: Global, library: &mut Library, spec: &Spec) -> Result<bool, BuildError>
+    ensures replaced { IfOk result (λ changed. Replaces library.old spec.now (spec_of library.old spec.now.name) library.new changed) }
+    ensures refused { IfErr result (λ e. IsOfOne e library.old spec.now) }
 {
-    if !is_whole(&spec) {
+    if !is_whole(spec) {
         return Err(BuildError::NotYet);
     }
-    library.replace_spec(alloc, spec)?;
-    Ok(())
+    let copied = spec.copy(alloc)?;
+    Ok(library.replace_spec(alloc, copied)?)
 }
 
 /// Whether the specifications of all other modules are sound.
-#[tactic(auto, using(crate::proofs::Refusals::entries))]
+#[tactic(auto, using(crate::proofs::Refusals::replacements))]
 fn ask_needed(alloc: Global, library: &Library, specs: &[Spec]) -> Result<(), BuildError>
-    ensures refused { IfErr result IsOfReplacement }
+    ensures refused { IfErr result IsOfNeeded }
 {
     let names = names_of(alloc, specs)?;
     match library.unmet(alloc, names.as_slice())? {

@@ -2,6 +2,9 @@
 use Rattle.std.proofs.Common.{◌≡◌, ◌≢◌, ◌⊎◌, ◌∙◌, ◌==◌, ℕ, Bool, true, List, [], ◌∷◌, Option, Some, None, inl, inr, refl, sym, ap, subst, arith, map}
 use Rattle.clu_base.proofs.Written.{appended-nil}
 use Rattle.clu_base.specs.Outside.{Files, appended}
+use Rattle.clu_base.specs.declared.tokens.Token.{Token}
+use Rattle.clu_build.specs.Entering.{text_at}
+use Rattle.clu_types.specs.declared.spec.Spec.{Spec}
 use Rattle.std.specs.Char.{to_ascii_lowercase}
 use Rattle.std.specs.List.{list_any}
 use Rattle.clu_library.specs.Contents as library
@@ -69,21 +72,21 @@ not_linked : (name program start : List ℕ) (known : library.Contents) (files f
 not_linked name program start known files files' faults faults' (inl refused) = not_refused refused.0.0 refused.0.2
 not_linked name program start known files files' faults faults' (inr linked) = not_put name linked.0 files files' faults faults' linked.2
 
-not_entered : (name : List ℕ) (known : library.Contents) (files files' : Option Files) (faults faults' : ℕ) → EnteredShows outcome.Usage name known files faults files' faults' → ⊥
-not_entered name known files files' faults faults' (inl refused) = not_refused refused.0.0 refused.0.2
-not_entered name known files files' faults faults' (inr kept) = not_put name kept.0 files files' faults faults' kept.1
+not_entered : (name : List ℕ) (known : library.Contents) (own : List Spec) (texts : ℕ → Option (List ℕ)) (files files' : Option Files) (faults faults' : ℕ) → EnteredShows outcome.Usage name known own texts files faults files' faults' → ⊥
+not_entered name known own texts files files' faults faults' (inl refused) = not_refused refused.0.0 refused.0.2
+not_entered name known own texts files files' faults faults' (inr put) = not_put name put.0 files files' faults faults' put.2
 
-specs_not_entered : (kept : Kept) (name : List ℕ) (known : library.Contents) (files files' : Option Files) (faults faults' : ℕ) → SpecsShow kept outcome.Usage name known files faults files' faults' → ⊥
-specs_not_entered kept name known files files' faults faults' (inl refused) = not_refused refused.0.0 refused.0.2
-specs_not_entered kept name known files files' faults faults' (inr put) = not_put name put.0 files files' faults faults' put.1
+specs_not_entered : (kept : Kept) (name : List ℕ) (known : library.Contents) (specs : List Spec) (files files' : Option Files) (faults faults' : ℕ) → SpecsShow kept outcome.Usage name known specs files faults files' faults' → ⊥
+specs_not_entered kept name known specs files files' faults faults' (inl refused) = not_refused refused.0.0 refused.0.2
+specs_not_entered kept name known specs files files' faults faults' (inr put) = not_put name put.0 files files' faults faults' put.2
 
-not_specified : (kept : Kept) (name file : List ℕ) (known : library.Contents) (files files' : Option Files) (faults faults' : ℕ) → SpecifiedShows kept outcome.Usage name file known files faults files' faults' → ⊥
-not_specified kept name file known files files' faults faults' (inl refused) = refused.0
-not_specified kept name file known files files' faults faults' (inr entered) = specs_not_entered kept name known files files' faults faults' entered
+not_specified : (kept : Kept) (name file : List ℕ) (nodes : List Node) (known : library.Contents) (files files' : Option Files) (faults faults' : ℕ) → SpecifiedShows kept outcome.Usage name file nodes known files faults files' faults' → ⊥
+not_specified kept name file nodes known files files' faults faults' (inl refused) = refused.0
+not_specified kept name file nodes known files files' faults faults' (inr entered) = specs_not_entered kept name known entered.0 files files' faults faults' entered.2
 
-not_accepted : (name file : List ℕ) (known : library.Contents) (nodes : List Node) (files files' : Option Files) (faults faults' : ℕ) → CompiledShows outcome.Usage name file known nodes files faults files' faults' → ⊥
-not_accepted name file known nodes files files' faults faults' (inl refused) = refused.0
-not_accepted name file known nodes files files' faults faults' (inr entered) = not_entered name known files files' faults faults' entered.1
+not_accepted : (name file : List ℕ) (known : library.Contents) (bytes : List ℕ) (tokens : List Token) (nodes : List Node) (files files' : Option Files) (faults faults' : ℕ) → CompiledShows outcome.Usage name file known bytes tokens nodes files faults files' faults' → ⊥
+not_accepted name file known bytes tokens nodes files files' faults faults' (inl refused) = refused.0
+not_accepted name file known bytes tokens nodes files files' faults faults' (inr entered) = not_entered name known entered.1.0 (text_at bytes tokens nodes) files files' faults faults' entered.1.2
 
 -- only words that are no command come to Usage
 usage_shown : (meant : Option Meant) (before after : World) → CommandShows meant outcome.Usage before after → meant ≡ None
@@ -98,15 +101,15 @@ usage_shown (Some (command.exec image limits)) before after (inr ran) = elim ran
 usage_shown (Some (command.gen procedures)) before after shown = elim shown.2 [ ]
 usage_shown (Some (command.spec a b)) before after shown = elim shown.1 [
   | inl refused ↦ elim (not_gathered a b before.files before.store_faults after.store_faults refused.0) [ ]
-  | inr entered ↦ elim (not_specified kept.Stays a b entered.0 before.files after.files entered.2.2.0 after.store_faults entered.2.2.2) [ ]
+  | inr entered ↦ elim (not_specified kept.Stays a b entered.2.0 entered.0 before.files after.files entered.2.2.0 after.store_faults entered.2.2.2) [ ]
 ]
 usage_shown (Some (command.replace a b)) before after shown = elim shown.1 [
   | inl refused ↦ elim (not_gathered a b before.files before.store_faults after.store_faults refused.0) [ ]
-  | inr entered ↦ elim (not_specified kept.Goes a b entered.0 before.files after.files entered.2.2.0 after.store_faults entered.2.2.2) [ ]
+  | inr entered ↦ elim (not_specified kept.Goes a b entered.2.0 entered.0 before.files after.files entered.2.2.0 after.store_faults entered.2.2.2) [ ]
 ]
 usage_shown (Some (command.compile a b p)) before after shown = elim shown.1 [
   | inl refused ↦ elim (not_gathered a b before.files before.store_faults after.store_faults refused.0) [ ]
-  | inr entered ↦ elim (not_accepted a b entered.0 entered.2.0 before.files after.files entered.2.2.0 after.store_faults entered.2.2.2) [ ]
+  | inr entered ↦ elim (not_accepted a b entered.0 entered.2.0 entered.2.1 entered.2.2 before.files after.files entered.2.5.0 after.store_faults entered.2.5.2) [ ]
 ]
 usage_shown (Some (command.link a b d)) before after shown = elim shown.1 [
   | inl refused ↦ elim (not_library a before.files before.store_faults after.store_faults refused.0) [ ]

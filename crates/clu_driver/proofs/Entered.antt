@@ -1,13 +1,18 @@
 -- Why there is no library and no source, and what entering one into the other shows.
-use Rattle.std.proofs.Common.{◌≡◌, ◌≤◌, ◌⊎◌, ℕ, List, Option, Result, Ok, Err, IfErr, inl, inr, subst, sym, map}
+use Rattle.std.proofs.Common.{◌≡◌, ◌≤◌, ◌⊎◌, ℕ, All, List, length, take, Option, Result, Ok, Err, IfErr, inl, inr, subst, sym, map}
 use Rattle.std.specs.Char.{to_ascii_lowercase}
 use Rattle.clu_base.specs.Outside.{Files}
 use Rattle.clu_base.specs.declared.tokens.Token.{Token}
+use Rattle.clu_build.specs.Entering.{own_of, text_at}
+use Rattle.clu_core.specs.declared.checked.Checked.{Checked}
 use Rattle.clu_library.specs.Contents.{Contents}
+use Rattle.clu_rules.specs.Modules.{BeginWithOwn}
+use Rattle.clu_rules.specs.Rules.{IsClosedAt}
+use Rattle.clu_tree.specs.Nodes.{modules}
 use Rattle.clu_tree.specs.declared.node.Node.{Node}
 use Rattle.clu_driver.specs.Found.{IsFound, IsUnder, NotHad}
 use Rattle.clu_driver.specs.Held.{HasLibrary, IsLibraryFile, IsUnreadable, NotLibrary}
-use Rattle.clu_driver.specs.Libraries.{CompileShows, CompiledShows, LinkShows, LinkedShows, NotBeside, NotGathered, SpecifiedShows, SpecifyShows}
+use Rattle.clu_driver.specs.Libraries.{CompileShows, CompiledShows, EnteredShows, LinkShows, LinkedShows, NotBeside, NotGathered, SpecifiedShows, SpecifyShows}
 use Rattle.clu_driver.specs.Shows.{Reported}
 use Rattle.clu_driver.specs.declared.specifying.Kept.{Kept}
 use Rattle.clu_driver.specs.Sources.{IsParsed, IsSource, NotGot, NotSource}
@@ -35,19 +40,27 @@ shown_as P Q status old new faults faults' gives r = record { how = r.how; shown
 -- reading library and source left the files as they were
 pub specify_shows : (kept : Kept) (how : Outcome) (library file bytes : List ℕ) (tokens : List Token) (nodes : List Node) (known : Contents) (files read files' : Option Files) (faults between faults' : ℕ)
     → HasLibrary files library known → IsFound files file (λ b. b ≡ bytes) → IsSource bytes tokens nodes → read ≡ files → faults ≤ between
-    → SpecifiedShows kept how library file known read between files' faults' → SpecifyShows kept how library file files faults files' faults'
+    → SpecifiedShows kept how library file nodes known read between files' faults' → SpecifyShows kept how library file files faults files' faults'
 unfolding SpecifyShows
 specify_shows kept how library file bytes tokens nodes known files read files' faults between faults' held found source same counts shown =
-    let P : Option Files → Type 0 = λ f. SpecifiedShows kept how library file known f between files' faults' in
+    let P : Option Files → Type 0 = λ f. SpecifiedShows kept how library file nodes known f between files' faults' in
     inr (known, held, (nodes, found_with (λ b. IsParsed b nodes) files file bytes found (tokens, source), (between, counts, subst P same shown)))
 
 pub compile_shows : (how : Outcome) (library file bytes : List ℕ) (tokens : List Token) (nodes : List Node) (known : Contents) (files read files' : Option Files) (faults between faults' : ℕ)
     → HasLibrary files library known → IsFound files file (λ b. b ≡ bytes) → IsSource bytes tokens nodes → read ≡ files → faults ≤ between
-    → CompiledShows how library file known nodes read between files' faults' → CompileShows how library file files faults files' faults'
+    → CompiledShows how library file known bytes tokens nodes read between files' faults' → CompileShows how library file files faults files' faults'
 unfolding CompileShows
 compile_shows how library file bytes tokens nodes known files read files' faults between faults' held found source same counts shown =
-    let P : Option Files → Type 0 = λ f. CompiledShows how library file known nodes f between files' faults' in
-    inr (known, held, (nodes, found_with (λ b. IsParsed b nodes) files file bytes found (tokens, source), (between, counts, subst P same shown)))
+    let P : Option Files → Type 0 = λ f. CompiledShows how library file known bytes tokens nodes f between files' faults' in
+    inr (known, held, (bytes, tokens, nodes, found, source, (between, counts, subst P same shown)))
+
+-- the specifications and texts of a tree are those of what was checked
+pub compiled_shows : (how : Outcome) (name file : List ℕ) (known : Contents) (bytes : List ℕ) (tokens : List Token) (nodes : List Node) (c : Checked) (files files' : Option Files) (faults faults' : ℕ)
+    → c.tree ≡ nodes → BeginWithOwn nodes c.specs.items → All (IsClosedAt nodes) (modules nodes) → EnteredShows how name known (own_of c) (text_at bytes tokens c.tree) files faults files' faults'
+    → CompiledShows how name file known bytes tokens nodes files faults files' faults'
+compiled_shows how name file known bytes tokens nodes c files files' faults faults' tree own closed shown =
+    let P : List Node → Type 0 = λ ns. EnteredShows how name known (take (length (modules ns)) c.specs.items) (text_at bytes tokens ns) files faults files' faults' in
+    inr (closed, (take (length (modules nodes)) c.specs.items, own, subst P tree shown))
 
 pub link_shows : (how : Outcome) (library program start : List ℕ) (known kept : Contents) (files read files' : Option Files) (faults between faults' : ℕ)
     → known ≡ kept → HasLibrary files library kept → read ≡ files → faults ≤ between → LinkedShows how library program (map to_ascii_lowercase start) known read between files' faults' → LinkShows how library program start files faults files' faults'

@@ -2,25 +2,30 @@
 use Rattle.std.specs.Prelude.{◌≡◌, ◌≤◌, ◌⊎◌, ℕ, List, All, Option, Some, None, map}
 use Rattle.std.specs.Char.{to_ascii_lowercase}
 use Rattle.clu_base.specs.Outside.{Files}
+use Rattle.clu_base.specs.declared.tokens.Token.{Token}
+use Rattle.clu_build.specs.Entering.{AreEntered, AreReplaced, IsFileEntered, text_at}
 use Rattle.clu_build.specs.Programs.{IsLinked}
 use Rattle.clu_build.specs.References.{cross_reference}
 use Rattle.clu_library.specs.Contents.{Contents, program_of}
 use Rattle.clu_library.specs.LibraryFile.{library_bytes}
 use Rattle.clu_library.specs.declared.program.Program.{Program}
+use Rattle.clu_rules.specs.Modules.{AreOf}
 use Rattle.clu_rules.specs.Rules.{IsClosedAt}
 use Rattle.clu_tree.specs.Nodes.{modules}
 use Rattle.clu_tree.specs.declared.node.Node.{Node}
+use Rattle.clu_types.specs.declared.spec.Spec.{Spec}
 use Rattle.clu_words.specs.Command.{Limits}
 use Rattle.clu_driver.specs.Found.{IsFound, IsUnder}
 use Rattle.clu_driver.specs.Held.{HasLibrary, IsLibraryFile, NotLibrary}
 use Rattle.clu_driver.specs.Puts.{IsPut, NotPut}
 use Rattle.clu_driver.specs.Refusals.{NotEntered, NotLinked, NotSpecified}
 use Rattle.clu_driver.specs.Shows.{RunShows, TextShows}
-use Rattle.clu_driver.specs.Sources.{IsParsed, NotAccepted, NotGot, NotHeaded, NotParsed}
+use Rattle.clu_driver.specs.Sources.{IsParsed, IsSource, NotAccepted, NotGot, NotHeaded, NotParsed}
 use Rattle.clu_driver.specs.World.{IsUnrun, Streams, World}
 use Rattle.clu_outcome.specs.declared.outcome.Outcome.{Outcome}
 use Rattle.clu_outcome.specs.declared.outcome.Outcome.TheVariants as outcome
 use Rattle.clu_driver.specs.declared.specifying.Kept.{Kept}
+use Rattle.clu_driver.specs.declared.specifying.Kept.TheVariants as kept
 
 -- why a source is not read beside a library: its content is not got, or it breaks a rule and the library is one
 abbrev pub NotBeside : Outcome → List ℕ → List ℕ → Option Files → ℕ → ℕ → Type 0
@@ -49,22 +54,29 @@ abbrev pub LibraryShows : Outcome → List ℕ → Contents → Option Files →
 LibraryShows how name kept files files' faults faults' =
     (IsUnwritable how × (files' ≡ files)) ⊎ (IsLibraryFile (Some (library_bytes kept)) × BytesShow how name (library_bytes kept) files files' faults faults')
 
--- those of some library were
-abbrev pub KeptShows : Outcome → List ℕ → Option Files → Option Files → ℕ → ℕ → Type 0
-KeptShows how name files files' faults faults' = (kept : Contents) × LibraryShows how name kept files files' faults faults'
+-- the modules of a source with these specifications and texts were refused and no file changed, or the library was put in which they are
+-- entered
+abbrev pub EnteredShows : Outcome → List ℕ → Contents → List Spec → (ℕ → Option (List ℕ)) → Option Files → ℕ → Option Files → ℕ → Type 0
+EnteredShows how name known own texts files faults files' faults' =
+    (NotEntered how known × (files' ≡ files))
+    ⊎ ((after : Contents) × IsFileEntered known after own texts × LibraryShows how name after files files' faults faults')
 
--- the modules of a source were refused and no file changed, or a library was put
-abbrev pub EnteredShows : Outcome → List ℕ → Contents → Option Files → ℕ → Option Files → ℕ → Type 0
-EnteredShows how name known files faults files' faults' = (NotEntered how known × (files' ≡ files)) ⊎ KeptShows how name files files' faults faults'
+-- specifications were entered beside the kept ones, or in their place
+abbrev pub IsSpecified : Kept → Contents → List Spec → Contents → Type 0
+IsSpecified kept.Stays before specs after = AreEntered before after specs
+IsSpecified kept.Goes before specs after = AreReplaced before specs after
 
--- its specifications were, or a library was put
-abbrev pub SpecsShow : Kept → Outcome → List ℕ → Contents → Option Files → ℕ → Option Files → ℕ → Type 0
-SpecsShow kept how name known files faults files' faults' = (NotSpecified kept how known × (files' ≡ files)) ⊎ KeptShows how name files files' faults faults'
+-- they were refused and no file changed, or the library was put in which they are entered
+abbrev pub SpecsShow : Kept → Outcome → List ℕ → Contents → List Spec → Option Files → ℕ → Option Files → ℕ → Type 0
+SpecsShow kept how name known specs files faults files' faults' =
+    (NotSpecified kept how known specs × (files' ≡ files))
+    ⊎ ((after : Contents) × IsSpecified kept known specs after × LibraryShows how name after files files' faults faults')
 
--- headings were refused and no file changed, or specifications were entered
-abbrev pub SpecifiedShows : Kept → Outcome → List ℕ → List ℕ → Contents → Option Files → ℕ → Option Files → ℕ → Type 0
-SpecifiedShows kept how name file known files faults files' faults' =
-    (NotHeaded how file × (files' ≡ files)) ⊎ SpecsShow kept how name known files faults files' faults'
+-- the headings of a tree were refused and no file changed, or the specifications of its modules were entered
+abbrev pub SpecifiedShows : Kept → Outcome → List ℕ → List ℕ → List Node → Contents → Option Files → ℕ → Option Files → ℕ → Type 0
+SpecifiedShows kept how name file nodes known files faults files' faults' =
+    (NotHeaded how file × (files' ≡ files))
+    ⊎ ((specs : List Spec) × AreOf nodes (modules nodes) specs × SpecsShow kept how name known specs files faults files' faults')
 
 -- spec and replace: library or source was refused and no file changed, or the source is a file of the grammar and was specified
 unfoldable pub SpecifyShows : Kept → Outcome → List ℕ → List ℕ → Option Files → ℕ → Option Files → ℕ → Type 0
@@ -72,21 +84,22 @@ SpecifyShows kept how library file files faults files' faults' =
     (NotGathered how library file files faults faults' × (files' ≡ files))
     ⊎ ((known : Contents) × HasLibrary files library known
     × ((nodes : List Node) × IsFound files file (λ bytes. IsParsed bytes nodes)
-    × ((between : ℕ) × (faults ≤ between) × SpecifiedShows kept how library file known files between files' faults')))
+    × ((between : ℕ) × (faults ≤ between) × SpecifiedShows kept how library file nodes known files between files' faults')))
 
--- a tree was refused and no file changed, or it was accepted and its modules were entered
-abbrev pub CompiledShows : Outcome → List ℕ → List ℕ → Contents → List Node → Option Files → ℕ → Option Files → ℕ → Type 0
-CompiledShows how name file known nodes files faults files' faults' =
+-- a tree was refused and no file changed, or it was accepted and its modules were entered, with their texts in the source
+abbrev pub CompiledShows : Outcome → List ℕ → List ℕ → Contents → List ℕ → List Token → List Node → Option Files → ℕ → Option Files → ℕ → Type 0
+CompiledShows how name file known bytes tokens nodes files faults files' faults' =
     (NotAccepted how file nodes × (files' ≡ files))
-    ⊎ (All (IsClosedAt nodes) (modules nodes) × EnteredShows how name known files faults files' faults')
+    ⊎ (All (IsClosedAt nodes) (modules nodes)
+    × ((own : List Spec) × AreOf nodes (modules nodes) own × EnteredShows how name known own (text_at bytes tokens nodes) files faults files' faults'))
 
 -- compile: library or source was refused and no file changed, or the source is a file of the grammar and was compiled
 unfoldable pub CompileShows : Outcome → List ℕ → List ℕ → Option Files → ℕ → Option Files → ℕ → Type 0
 CompileShows how library file files faults files' faults' =
     (NotGathered how library file files faults faults' × (files' ≡ files))
     ⊎ ((known : Contents) × HasLibrary files library known
-    × ((nodes : List Node) × IsFound files file (λ bytes. IsParsed bytes nodes)
-    × ((between : ℕ) × (faults ≤ between) × CompiledShows how library file known nodes files between files' faults')))
+    × ((bytes : List ℕ) × (tokens : List Token) × (nodes : List Node) × IsFound files file (λ b. b ≡ bytes) × IsSource bytes tokens nodes
+    × ((between : ℕ) × (faults ≤ between) × CompiledShows how library file known bytes tokens nodes files between files' faults')))
 
 -- a program was refused and no file changed, or a library was put that has a program more, of this name and start
 abbrev pub LinkedShows : Outcome → List ℕ → List ℕ → List ℕ → Contents → Option Files → ℕ → Option Files → ℕ → Type 0

@@ -1,9 +1,10 @@
 -- What refusals of entries of a library come to.
 use Rattle.std.specs.Prelude.{◌≡◌, ℕ, List}
 use Rattle.clu_build.specs.Refusals.{IsOfEntries, IsOfProgram, IsOfReplacement}
-use Rattle.clu_library.specs.Contents.{Contents, spec_of}
+use Rattle.clu_library.specs.Contents.{Contents}
 use Rattle.clu_build.specs.declared.errors.BuildError.{BuildError}
 use Rattle.clu_build.specs.declared.errors.BuildError.TheVariants as build
+use Rattle.clu_types.specs.declared.spec.Spec.{Spec}
 use Rattle.clu_outcome.specs.declared.outcome.Outcome.{Outcome}
 use Rattle.clu_outcome.specs.declared.outcome.Outcome.TheVariants as outcome
 use Rattle.clu_driver.specs.declared.specifying.Kept.{Kept}
@@ -40,10 +41,10 @@ abbrev pub IsOfSpecifying : Kept → BuildError → Contents → Type 0
 IsOfSpecifying kept.Stays e library = IsOfEntries e library
 IsOfSpecifying kept.Goes e library = IsOfReplacement e
 
--- the specifications of a source were not entered into a library
-abbrev pub NotSpecified : Kept → Outcome → Contents → Type 0
-NotSpecified kept how library = (e : BuildError) × IsOfSpecifying kept e library × IsRefusalBy e how
+-- these specifications of a source were not entered into a library
+abbrev pub NotSpecified : Kept → Outcome → Contents → List Spec → Type 0
+NotSpecified kept how library specs = (e : BuildError) × IsOfSpecifying kept e library specs × IsRefusalBy e how
 
 -- no program with this start was entered into a library
 abbrev pub NotLinked : Outcome → List ℕ → Contents → Type 0
-NotLinked how start library = (e : BuildError) × IsOfProgram e start (spec_of library start) × IsRefusalBy e how
+NotLinked how start library = (e : BuildError) × IsOfProgram e library start × IsRefusalBy e how

@@ -5,7 +5,6 @@ ghost use Rattle.std.specs.Char.{to_ascii_lowercase};
 ghost use Rattle.clu_build.specs.Programs.{IsLinked};
 ghost use Rattle.clu_driver.specs.Libraries.{LinkShows, LinkedShows};
 ghost use Rattle.clu_build.specs.Refusals.{IsOfProgram};
-ghost use Rattle.clu_library.specs.Contents.{spec_of};
 ghost use Rattle.clu_driver.specs.Shows.{Reported};
 
 use crate::libraries::{library_in, put_library};
@@ -60,7 +59,7 @@ fn linked(
     start: &str,
 ) -> Result<(), BuildError>
     ensures entered { OnOk result (IsLinked library.old library.new program.now (map to_ascii_lowercase start.now)) }
-    ensures refused { IfErr result (λ e. IsOfProgram e (map to_ascii_lowercase start.now) (spec_of library.old (map to_ascii_lowercase start.now))) }
+    ensures refused { IfErr result (λ e. IsOfProgram e library.old (map to_ascii_lowercase start.now)) }
 {
     let program = Bytes::from_slice(alloc, program.as_bytes())?;
     let start = in_lower_case(alloc, start)?;

@@ -1,6 +1,7 @@
 //! The command `compile`: checks a source under a library's specifications and enters its modules.
 
 ghost use Rattle.std.specs.Prelude.{◌≡◌};
+ghost use Rattle.clu_build.specs.Entering.{own_of, text_at};
 ghost use Rattle.clu_driver.specs.Libraries.{CompileShows, CompiledShows, EnteredShows};
 ghost use Rattle.clu_driver.specs.Shows.{Reported};
 
@@ -44,7 +45,7 @@ fn compile_source<E: Sink, F: Store>(
     errors: &mut E,
     files: &mut F,
 ) -> u8
-    ensures told { Reported (λ how. CompiledShows how name.now file.now gathered.library.value gathered.source.value.tree (F.files files.old) (F.faults files.old) (F.files files.new) (F.faults files.new))
+    ensures told { Reported (λ how. CompiledShows how name.now file.now gathered.library.value gathered.source.value.bytes.items gathered.source.value.tokens.items gathered.source.value.tree (F.files files.old) (F.faults files.old) (F.files files.new) (F.faults files.new))
         result (E.written errors.old) (E.written errors.new) (E.faults errors.old) (E.faults errors.new) }
 {
     let Gathered {
@@ -86,7 +87,7 @@ fn enter_and_put<E: Sink, F: Store>(
     errors: &mut E,
     files: &mut F,
 ) -> u8
-    ensures told { Reported (λ how. EnteredShows how name.now library.old (F.files files.old) (F.faults files.old) (F.files files.new) (F.faults files.new))
+    ensures told { Reported (λ how. EnteredShows how name.now library.old (own_of checked.now) (text_at text.entry.bytes.now text.entry.tokens.now checked.now.tree) (F.files files.old) (F.faults files.old) (F.files files.new) (F.faults files.new))
         result (E.written errors.old) (E.written errors.new) (E.faults errors.old) (E.faults errors.new) }
 {
     match enter_file(alloc, library, text, checked, peep) {

@@ -1,7 +1,7 @@
 //! The commands `spec` and `replace`: enter the specifications of a source's modules into a library.
 
-ghost use Rattle.std.specs.Prelude.{◌≡◌, IfErr};
-ghost use Rattle.clu_driver.specs.Libraries.{SpecifiedShows, SpecifyShows, SpecsShow};
+ghost use Rattle.std.specs.Prelude.{◌≡◌, IfErr, OnOk};
+ghost use Rattle.clu_driver.specs.Libraries.{IsSpecified, SpecifiedShows, SpecifyShows, SpecsShow};
 ghost use Rattle.clu_driver.specs.Refusals.{IsOfSpecifying};
 ghost use Rattle.clu_driver.specs.Shows.{Reported};
 
@@ -53,7 +53,7 @@ fn specify_source<E: Sink, F: Store>(
     errors: &mut E,
     files: &mut F,
 ) -> u8
-    ensures told { Reported (λ how. SpecifiedShows kept how library.now file.now gathered.library.value (F.files files.old) (F.faults files.old) (F.files files.new) (F.faults files.new))
+    ensures told { Reported (λ how. SpecifiedShows kept how library.now file.now gathered.source.value.tree gathered.library.value (F.files files.old) (F.faults files.old) (F.files files.new) (F.faults files.new))
         result (E.written errors.old) (E.written errors.new) (E.faults errors.old) (E.faults errors.new) }
 {
     let Gathered {
@@ -76,7 +76,7 @@ fn enter_and_put<E: Sink, F: Store>(
     errors: &mut E,
     files: &mut F,
 ) -> u8
-    ensures told { Reported (λ how. SpecsShow kept how name.now library.old (F.files files.old) (F.faults files.old) (F.files files.new) (F.faults files.new))
+    ensures told { Reported (λ how. SpecsShow kept how name.now library.old specs.now (F.files files.old) (F.faults files.old) (F.files files.new) (F.faults files.new))
         result (E.written errors.old) (E.written errors.new) (E.faults errors.old) (E.faults errors.new) }
 {
     match enter(alloc, kept, library, specs) {
@@ -86,7 +86,8 @@ fn enter_and_put<E: Sink, F: Store>(
 }
 
 fn enter(alloc: Global, kept: Kept, library: &mut Library, specs: &[Spec]) -> Result<(), BuildError>
-    ensures refused { IfErr result (λ e. IsOfSpecifying kept e library.old) }
+    ensures specified { OnOk result (IsSpecified kept library.old specs.now library.new) }
+    ensures refused { IfErr result (λ e. IsOfSpecifying kept e library.old specs.now) }
 {
     match kept {
         Kept::Stays => enter_specs(alloc, library, specs),

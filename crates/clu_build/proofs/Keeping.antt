@@ -1,0 +1,21 @@
+-- Whether a module's text is kept and not stale.
+use Rattle.std.proofs.Common.{◌≡◌, ◌↔◌, ℕ, Bool, true, false, not, List, Contains, Option, Some, IsTrue, refl, sym, ◌∙◌, true≢false}
+use Rattle.std.specs.List.{list_any}
+use Rattle.std.specs.Str.{bytes_eq}
+use Rattle.std.proofs.lemmas.List.Folds.{list_any_at}
+use Rattle.indexmap.proofs.CallerLemmas.{Contains-list_any}
+use Rattle.clu_library.specs.Contents.{Contents, body_of}
+use Rattle.clu_library.specs.declared.body.Body.{Body}
+use Rattle.clu_build.specs.Entering.{IsKeptText}
+use Rattle.clu_build.proofs.Numbering.{eq_of, same_of}
+
+listed : (names : List (List ℕ)) (name : List ℕ) → Contains names name → list_any (bytes_eq name) names ≡ true
+listed names name h = list_any_at (bytes_eq name) names h.0 name h.1 (eq_of name _ (sym h.2))
+
+pub kept_text : (library : Contents) (name source : List ℕ) (stale : List (List ℕ)) (b : Body) (text : List ℕ) (eq has : Bool) → Some b ≡ body_of library name → text ≡ b.text → eq ≡ true → eq ≡ bytes_eq text source
+    → has ≡ list_any (bytes_eq name) stale → IsTrue (not has) ↔ IsKeptText library name source stale
+kept_text library name source stale b text eq has held its really same among = by has refl
+  where
+    by : (t : Bool) → has ≡ t → IsTrue (not t) ↔ IsKeptText library name source stale
+    by true e = ((λ f. absurd (true≢false (sym f))), (λ k. absurd (k.3 (Contains-list_any bytes_eq same_of stale name (sym among ∙ e)))))
+    by false e = ((λ t. (b, sym held, sym its ∙ same_of text source (sym same ∙ really), λ h. true≢false (sym (listed stale name h) ∙ sym among ∙ e))), (λ k. refl))
