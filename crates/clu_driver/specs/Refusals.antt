@@ -37,9 +37,9 @@ abbrev pub NotEntered : Outcome → Contents → Type 0
 NotEntered how library = (e : BuildError) × IsOfEntries e library × IsRefusalBy e how
 
 -- what becomes of a kept specification decides for which reasons those of a source are refused
-abbrev pub IsOfSpecifying : Kept → BuildError → Contents → Type 0
-IsOfSpecifying kept.Stays e library = IsOfEntries e library
-IsOfSpecifying kept.Goes e library = IsOfReplacement e
+abbrev pub IsOfSpecifying : Kept → BuildError → Contents → List Spec → Type 0
+IsOfSpecifying kept.Stays e library specs = IsOfEntries e library
+IsOfSpecifying kept.Goes e library specs = IsOfReplacement e library specs
 
 -- these specifications of a source were not entered into a library
 abbrev pub NotSpecified : Kept → Outcome → Contents → List Spec → Type 0
