@@ -1,0 +1,3 @@
+-- Numbers that lead to others.
+pub mod Circles
+pub mod Search
