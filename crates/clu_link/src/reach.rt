@@ -425,12 +425,12 @@ fn callees_of(
 ) -> Result<Vec<Callee>, Memory> {
     let mut callees = Vec::new(alloc);
     for denoted in uses {
-        callees.push(callee(members, operations, denoted)?)?;
+        callees.push(number_of(members, operations, denoted)?)?;
     }
     Ok(callees)
 }
 
-fn callee(
+fn number_of(
     members: &mut IndexSet<Member>,
     operations: &mut IndexSet<Member>,
     denoted: Use,
