@@ -247,7 +247,8 @@ impl<'a> Work<'a> {
                 Ok(())
             }
             Some(body) => {
-                if self.faults.is_stale(alloc, lib, &kept.module)? {
+                let is_stale = self.faults.is_stale(alloc, lib, &kept.module)?;
+                if is_stale {
                     return Ok(());
                 }
                 self.visit_object(alloc, lib, kept, &body.object)
