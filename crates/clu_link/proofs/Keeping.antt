@@ -1,6 +1,7 @@
 -- That the routines of a program, and so their modules, keep to the library.
 use Rattle.std.proofs.Common.{◌≡◌, ◌↔◌, ℕ, Bool, true, false, All, Contains, IsTrue, List, [], ◌∷◌, ◌++◌, Option, Some, None, get_or, if◌then◌else◌, refl, ◌∙◌, subst, sym, true≢false}
-use Rattle.std.proofs.lemmas.List.Elements.{All-nil, All-cons, All-head, All-tail, All-push}
+use Rattle.std.proofs.lemmas.List.Elements.{All-cons, All-head, All-tail, All-push}
+use Rattle.std.proofs.lemmas.List.Folds.{list_any_at}
 use Rattle.std.proofs.lemmas.List.Filters.{All-dedup, dedup_is}
 use Rattle.std.proofs.lemmas.List.Sorted.{All-permutation}
 use Rattle.std.proofs.lemmas.Map.Views.{Contains-from_any}

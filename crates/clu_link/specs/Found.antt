@@ -1,5 +1,5 @@
 -- What is found while a program is reached.
-use Rattle.std.specs.Prelude.{◌≡◌, ℕ, All, List, Some, None, IfSome}
+use Rattle.std.specs.Prelude.{◌≡◌, All, List, Some, None, IfSome}
 use Rattle.indexmap.specs.IndexMap.{keys}
 use Rattle.clu_library.specs.Contents.{Contents, body_of}
 use Rattle.clu_library.specs.Staleness.{AreStale, IsCause}

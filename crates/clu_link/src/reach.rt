@@ -247,7 +247,8 @@ impl<'a> Work<'a> {
                 Ok(())
             }
             Some(body) => {
-                if self.faults.is_stale(alloc, lib, &kept.module)? {
+                let is_stale = self.faults.is_stale(alloc, lib, &kept.module)?;
+                if is_stale {
                     return Ok(());
                 }
                 self.visit_object(alloc, lib, kept, &body.object)
@@ -425,12 +426,12 @@ fn callees_of(
 ) -> Result<Vec<Callee>, Memory> {
     let mut callees = Vec::new(alloc);
     for denoted in uses {
-        callees.push(callee(members, operations, denoted)?)?;
+        callees.push(number_of(members, operations, denoted)?)?;
     }
     Ok(callees)
 }
 
-fn callee(
+fn number_of(
     members: &mut IndexSet<Member>,
     operations: &mut IndexSet<Member>,
     denoted: Use,
