@@ -2,9 +2,10 @@
 use Rattle.std.specs.Prelude.{◌≡◌, ◌≢◌, ◌≤◌, ℕ, List, Option, Some, None, length, take, slice_get}
 use Rattle.clu_library.specs.Contents.{Contents, body_of, limit, spec_of}
 use Rattle.clu_library.specs.Replacing.{NotReplaced}
-use Rattle.clu_library.specs.Staleness.{IsCause, IsStaleBody}
+use Rattle.clu_library.specs.Staleness.{IsCause}
 use Rattle.clu_library.specs.declared.body.Body.{Body}
 use Rattle.clu_library.specs.declared.errors.EnterError.TheVariants as enter
+use Rattle.clu_link.specs.Causes.{HasBody}
 use Rattle.clu_link.specs.Starts.{IsBadStart}
 use Rattle.clu_specs.specs.Seen.{seen, spec_text}
 use Rattle.clu_types.specs.declared.spec.Spec.{Spec}
@@ -68,10 +69,6 @@ IsOfReplacement e library specs = IsOfEach e library specs
 abbrev pub IsStaleFor : Contents → StaleBody → Type 0
 IsStaleFor library d = (b : Body) × (body_of library d.name ≡ Some b) × IsCause library d.name b (record { by = d.by; changed = d.changed; checked = d.checked })
 
--- a body is kept of a module and isn't stale
-abbrev pub IsFresh : Contents → List ℕ → Type 0
-IsFresh library name = (b : Body) × (body_of library name ≡ Some b) × (IsStaleBody library.specs library.changes name b → ⊥)
-
 -- a program is not entered: no module is kept of the start, or that is no start; no body is kept of a module, it is stale, or it is not and
 -- its object is a misfit; or there is no room
 abbrev pub IsOfProgram : BuildError → Contents → List ℕ → Type 0
@@ -80,7 +77,7 @@ IsOfProgram (error.BadStart name) library start = (name ≡ start) × IsBadStart
 IsOfProgram error.TooManyInstances library start = Unit {0}
 IsOfProgram (error.NoBody name) library start = body_of library name ≡ None
 IsOfProgram (error.Stale body) library start = IsStaleFor library body
-IsOfProgram (error.Misfit name) library start = IsFresh library name
+IsOfProgram (error.Misfit name) library start = HasBody library name
 IsOfProgram error.ProgramTooLarge library start = Unit {0}
 IsOfProgram error.LibraryFull library start = limit ≤ length library.programs
 IsOfProgram e library start = IsInner e

@@ -2,6 +2,7 @@
 
 ghost use Rattle.std.specs.Prelude.{◌≡◌, IfErr, IfOk, OnErr, OnOk};
 ghost use Rattle.clu_library.specs.Contents.{spec_of};
+ghost use Rattle.clu_link.specs.Causes.{HaveBodies};
 ghost use Rattle.clu_link.specs.Starts.{MayStart};
 ghost use Rattle.clu_build.specs.Programs.{IsCalled, IsLinked};
 ghost use Rattle.clu_build.specs.Refusals.{IsOfProgram};
@@ -38,6 +39,7 @@ fn program_of(
 ) -> Result<Box<Program>, BuildError>
     ensures started { OnOk result (MayStart (spec_of library.now start.now)) }
     ensures called { IfOk result (λ p. IsCalled name.now start.now p.value) }
+    ensures bodies { IfOk result (λ p. HaveBodies library.now p.value.modules) }
     ensures refused { IfErr result (λ e. IsOfProgram e library.now start.now) }
 {
     let name = name.copy(alloc)?;
@@ -47,7 +49,8 @@ fn program_of(
 }
 
 fn program(name: Bytes, start: Bytes, linked: Linked) -> Program
-    ensures { IsCalled name start result }
+    ensures called { IsCalled name start result }
+    ensures modules { result.modules ≡ linked.modules.items }
 {
     let Linked { image, modules } = linked;
     Program {
