@@ -1,16 +1,15 @@
 -- What is kept of bodies as they are entered, one after the other.
-use Rattle.std.proofs.Common.{◌≡◌, ◌⊎◌, inl, inr, ℕ, ◌+◌, ◌≤◌, Bool, true, false, not, List, [], ◌∷◌, Contains, length, take, slice_get, Option, Some, None, IsSome, refl, sym, ap, ◌∙◌, subst}
-use Rattle.std.specs.List.{filter}
+use Rattle.std.proofs.Common.{◌≡◌, ◌⊎◌, inl, inr, ℕ, ◌+◌, ◌≤◌, Bool, true, false, List, [], ◌∷◌, Contains, length, take, slice_get, Option, Some, None, IsSome, refl, sym, ap, ◌∙◌, subst}
 use Rattle.std.specs.Str.{bytes_eq}
 use Rattle.clu_library.specs.Contents.{Contents, body_of, checked_at, has, with_body}
 use Rattle.clu_library.specs.Replacing.{AreLeft}
-use Rattle.clu_library.specs.Staleness.{AreStale, IsStale}
+use Rattle.clu_library.specs.Staleness.{AreStale}
 use Rattle.clu_library.specs.declared.body.Body.{Body}
 use Rattle.clu_library.specs.declared.program.Program.{Program}
 use Rattle.clu_types.specs.declared.spec.Spec.{Spec}
 use Rattle.clu_build.specs.Entering.{AreCompiled, HasModule, IsBodyOf, IsKeptText, IsOutdated, IsSameBody, IsTextEntered, IsTextEnteredIf}
 use Rattle.clu_build.specs.Numbering.{AreNumbered, number_of}
-use Rattle.clu_build.proofs.Lists.{IsEntry, cases, earlier, in_all, last, none_there, of_all, some_same}
+use Rattle.clu_build.proofs.Lists.{IsEntry, cases, earlier, in_all, last, none_there, some_same}
 use Rattle.clu_build.proofs.Numbering.{entry_of, same_of}
 use Rattle.clu_build.proofs.Placing.{body_other, body_this, has_listed, left_filtered, left_same, listed_of}
 

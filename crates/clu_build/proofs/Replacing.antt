@@ -1,5 +1,5 @@
 -- What a library is as specifications take the place of kept ones, one after the other.
-use Rattle.std.proofs.Common.{◌≡◌, ℕ, ◌+◌, Bool, List, [], ◌∷◌, ◌++◌, take, slice_get, Option, Some, refl, sym, ap, ◌∙◌, subst}
+use Rattle.std.proofs.Common.{◌≡◌, ℕ, ◌+◌, Bool, List, [], ◌∷◌, ◌++◌, take, slice_get, Some, refl, sym, subst}
 use Rattle.clu_library.specs.Contents.{Contents, spec_of}
 use Rattle.clu_library.specs.Replacing.{Replaces}
 use Rattle.clu_types.specs.declared.spec.Spec.{Spec}

@@ -1,5 +1,5 @@
 -- Which modules of a library name which, as lines of text.
-use Rattle.std.specs.Prelude.{◌++◌, ℕ, List, [], ◌∷◌, Option, Some, None, codes, take}
+use Rattle.std.specs.Prelude.{◌++◌, ℕ, List, ◌∷◌, Option, Some, None, codes, take}
 use Rattle.std.specs.List.{flat_map}
 use Rattle.clu_library.specs.Contents.{Contents, body_of}
 use Rattle.clu_library.specs.declared.body.Body.{Body}

@@ -1,5 +1,5 @@
 -- Why entries of a library are refused.
-use Rattle.std.specs.Prelude.{◌≡◌, ◌≢◌, ◌≤◌, ℕ, List, Option, Some, None, length, take, slice_get}
+use Rattle.std.specs.Prelude.{◌≡◌, ◌≢◌, ◌≤◌, ℕ, List, Some, None, length, take, slice_get}
 use Rattle.clu_library.specs.Contents.{Contents, body_of, limit, spec_of}
 use Rattle.clu_library.specs.Replacing.{NotReplaced}
 use Rattle.clu_library.specs.Staleness.{IsCause}

@@ -1,4 +1,4 @@
-use Rattle.std.proofs.Common.{◌≡◌, ◌∙◌, List, ℕ, ap, subst, sym}
+use Rattle.std.proofs.Common.{◌∙◌, ap, subst, sym}
 use Rattle.clu_library.specs.declared.program.Program.{Program}
 use Rattle.clu_link.specs.Causes.{HaveBodies}
 use Rattle.clu_build.proofs.programs.program_of.Goals as goal
