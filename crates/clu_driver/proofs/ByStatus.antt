@@ -1,5 +1,5 @@
 -- What a status alone says, by the outcome that has it.
-use Rattle.std.proofs.Common.{◌≡◌, ◌≢◌, ◌⊎◌, ◌∙◌, ◌==◌, ℕ, Bool, true, List, [], ◌∷◌, Option, Some, None, inl, inr, refl, sym, ap, subst, arith, map}
+use Rattle.std.proofs.Common.{◌≡◌, ◌⊎◌, ◌∙◌, ◌==◌, ℕ, Bool, true, List, [], ◌∷◌, Option, Some, None, inl, inr, refl, sym, ap, subst, arith, map}
 use Rattle.clu_base.proofs.Written.{appended-nil}
 use Rattle.clu_base.specs.Outside.{Files, appended}
 use Rattle.clu_base.specs.declared.tokens.Token.{Token}
@@ -12,9 +12,8 @@ use Rattle.clu_tree.specs.declared.node.Node.{Node}
 use Rattle.rv_isa.specs.Image.{Contents}
 use Rattle.clu_words.specs.Command.{Limits, Meant}
 use Rattle.clu_words.specs.Command as command
-use Rattle.clu_driver.specs.Commands.{CluShows, CommandShows, GenShows, GoShows, IsRefusal, PutShows}
-use Rattle.clu_driver.specs.Puts.{NotPut}
-use Rattle.clu_driver.specs.Shows.{IsAsked, Reported, RunShows, TextShows, untraced}
+use Rattle.clu_driver.specs.Commands.{CluShows, CommandShows, GenShows, GoShows, IsRefusal}
+use Rattle.clu_driver.specs.Shows.{Reported, RunShows, TextShows, untraced}
 use Rattle.clu_driver.specs.Libraries.{CompileShows, CompiledShows, EnteredShows, LibraryShows, LinkShows, LinkedShows, NotGathered, SpecifiedShows, SpecifyShows, SpecsShow}
 use Rattle.clu_driver.specs.Held.{NotLibrary}
 use Rattle.clu_driver.specs.Refusals.{IsRefusalBy}

@@ -1,13 +1,12 @@
 -- The text of a failure lies inside one region, in every run.
-use Rattle.std.proofs.Common.{◌≡◌, ℕ, zero, suc, List, [], ◌∷◌, Option, Some, None, IsSome, refl, sym, subst, rules}
-use Rattle.rv_machine.specs.Calls.{Configuration, bytes_at, call_of, failed, peeked, range_of, served, took, wrote}
-use Rattle.rv_machine.specs.Emulation.{after, emulated, stepped, stepped_unless, trapped}
+use Rattle.std.proofs.Common.{◌≡◌, ℕ, zero, suc, List, [], ◌∷◌, Option, Some, None, refl, sym, subst, rules}
+use Rattle.rv_machine.specs.Calls.{Configuration, call_of, failed, peeked, range_of, served, took, wrote}
+use Rattle.rv_machine.specs.Emulation.{after, emulated, stepped_unless, trapped}
 use Rattle.rv_machine.specs.State.{State, register}
 use Rattle.rv_machine.specs.Steps.{Next, Goes, Stops, next}
 use Rattle.rv_machine.specs.declared.call.Call.{Call}
 use Rattle.rv_machine.specs.declared.call.Call.TheVariants as call
 use Rattle.rv_machine.specs.declared.ending.Ending.{Ending}
-use Rattle.rv_machine.specs.declared.ending.Ending.TheVariants as ending
 use Rattle.rv_machine.specs.declared.trap.Trap.{Trap}
 use Rattle.rv_machine.specs.declared.trap.Trap.TheVariants as trap
 use Rattle.clu_driver.specs.Shows.{HasText}

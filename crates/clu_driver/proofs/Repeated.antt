@@ -1,5 +1,5 @@
 -- Texts that are written one after the other.
-use Rattle.std.proofs.Common.{◌≡◌, ◌≤◌, ◌+◌, ℕ, zero, suc, List, [], ◌++◌, Option, refl, sym, ap, ◌∙◌, subst, arith, inl, inr, add-one, Result, Ok, Err, OnErr}
+use Rattle.std.proofs.Common.{◌≡◌, ◌≤◌, ◌+◌, ℕ, zero, suc, List, ◌++◌, Option, refl, sym, ap, ◌∙◌, subst, arith, inl, inr, add-one, Result, Ok, Err, OnErr}
 use Rattle.std.proofs.Math.Nat.{eq-or-lt_of_le}
 use Rattle.clu_base.proofs.Written.{appended-append, appended-nil, grew_behind, grew_first}
 use Rattle.clu_base.specs.Outside.{GrewWithin, appended}

@@ -1,12 +1,11 @@
 -- From what the machine did to what the outcome of a run shows.
-use Rattle.std.proofs.Common.{◌≡◌, ◌++◌, ℕ, List, [], Option, Some, None, IfSome, refl, sym, ap, ◌∙◌, subst, unwrap_or}
+use Rattle.std.proofs.Common.{◌≡◌, ℕ, List, [], Option, Some, None, IfSome, refl, sym, ap, ◌∙◌, subst, unwrap_or}
 use Rattle.clu_base.specs.Outside.{Rose}
 use Rattle.clu_words.specs.Command.{Limits}
 use Rattle.rv_isa.specs.Image.{Contents}
 use Rattle.rv_machine.specs.Calls.{Configuration, bytes_at}
 use Rattle.rv_machine.specs.Emulation.{emulated}
-use Rattle.rv_machine.specs.Input.{input_left}
-use Rattle.rv_machine.specs.Snapshot.{Does, IsAfter, IsPrefix, Snapshot, configuration, fresh}
+use Rattle.rv_machine.specs.Snapshot.{Does, IsAfter, Snapshot, configuration, fresh}
 use Rattle.rv_machine.specs.State.{State}
 use Rattle.rv_machine.specs.declared.ending.Ending.{Ending}
 use Rattle.rv_machine.specs.declared.ending.Ending.TheVariants as ending

@@ -1,5 +1,5 @@
 -- What each command shows of its outcome.
-use Rattle.std.specs.Prelude.{◌≡◌, ◌≢◌, ◌≤◌, ◌⊎◌, ℕ, List, Option, Some, None, IfSome, option_map}
+use Rattle.std.specs.Prelude.{◌≡◌, ◌≢◌, ◌≤◌, ◌⊎◌, ℕ, List, Option, Some, None}
 use Rattle.clu_base.specs.Outside.{Files, GrewWithin, Rose, appended}
 use Rattle.clu_base.specs.declared.tokens.Token.{Token}
 use Rattle.clu_asm.specs.AssemblyText.{asm_text}

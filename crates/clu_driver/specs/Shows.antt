@@ -1,8 +1,6 @@
 -- What each outcome of a command shows of the call.
-use Rattle.std.specs.Prelude.{◌≡◌, ◌⊎◌, ℕ, Bool, true, false, List, [], Option, Some, None, IfSome, IsSome, option_map}
-use Rattle.clu_base.specs.Outside.{GrewWithin, IsTorn, Rose, appended, with_file}
-use Rattle.clu_image.specs.Faults.{fault_of}
-use Rattle.clu_image.specs.ImageFile.{IsFileOf, image_bytes}
+use Rattle.std.specs.Prelude.{◌≡◌, ℕ, Bool, true, false, List, Option, Some, None, IfSome, IsSome}
+use Rattle.clu_base.specs.Outside.{GrewWithin, Rose, appended}
 use Rattle.clu_words.specs.Command.{Limits}
 use Rattle.rv_isa.specs.Image.{Contents}
 use Rattle.rv_machine.specs.Calls.{Configuration, bytes_at}

@@ -1,4 +1,4 @@
-use Rattle.std.proofs.Common.{◌≡◌, ◌∙◌, sym}
+use Rattle.std.proofs.Common.{◌∙◌, sym}
 use Rattle.clu_asm.specs.AssemblyText.{asm_text}
 use Rattle.clu_driver.proofs.Found.{bad_text_found, found_text}
 use Rattle.clu_driver.proofs.assembling.assembled.Goals as goal

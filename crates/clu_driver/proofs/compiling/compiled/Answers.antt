@@ -1,4 +1,3 @@
-use Rattle.std.proofs.Common.{◌≡◌}
 use Rattle.clu_driver.proofs.Found.{found_accepted, made_not}
 use Rattle.clu_driver.proofs.compiling.compiled.Goals as goal
 

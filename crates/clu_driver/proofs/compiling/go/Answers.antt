@@ -1,4 +1,4 @@
-use Rattle.std.proofs.Common.{◌≡◌, Bool, inl, refl, subst}
+use Rattle.std.proofs.Common.{Bool, inl, refl, subst}
 use Rattle.clu_driver.specs.Shows.{IsAsked}
 use Rattle.clu_driver.proofs.Asked.{compiled_asked}
 use Rattle.clu_driver.proofs.Found.{go_shows}

@@ -1,4 +1,4 @@
-use Rattle.std.proofs.Common.{◌≡◌, ◌∙◌}
+use Rattle.std.proofs.Common.{◌∙◌}
 use Rattle.clu_driver.proofs.Found.{not_put}
 use Rattle.clu_driver.proofs.compiling.put_image.Goals as goal
 

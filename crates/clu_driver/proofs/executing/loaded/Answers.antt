@@ -1,4 +1,4 @@
-use Rattle.std.proofs.Common.{◌≡◌, ◌∙◌, ap, sym}
+use Rattle.std.proofs.Common.{◌∙◌, ap, sym}
 use Rattle.clu_image.specs.Faults.{fault_of}
 use Rattle.clu_driver.proofs.Found.{fault_found, refused_at}
 use Rattle.clu_driver.proofs.executing.loaded.Goals as goal

@@ -1,4 +1,4 @@
-use Rattle.std.proofs.Common.{rules, ◌≡◌, refl}
+use Rattle.std.proofs.Common.{rules}
 use Rattle.clu_driver.specs.Generated.{call_text}
 use Rattle.clu_driver.proofs.Repeated.{grew_next, none_written, on_err, one_more}
 use Rattle.clu_driver.proofs.generating.write_calls.Goals as goal

@@ -1,4 +1,4 @@
-use Rattle.std.proofs.Common.{◌≡◌, ◌∙◌, rules, ap, Some, None}
+use Rattle.std.proofs.Common.{◌∙◌, rules, ap}
 use Rattle.clu_words.specs.Command.{seen_limits}
 use Rattle.rv_machine.specs.Snapshot.{fresh}
 use Rattle.clu_driver.proofs.Runs.{has_text, run_shows, shown}

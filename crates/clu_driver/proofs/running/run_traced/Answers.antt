@@ -1,4 +1,4 @@
-use Rattle.std.proofs.Common.{◌≡◌, ◌∙◌, ap}
+use Rattle.std.proofs.Common.{◌∙◌, ap}
 use Rattle.clu_words.specs.Command.{seen_limits}
 use Rattle.rv_machine.specs.Snapshot.{fresh}
 use Rattle.clu_driver.specs.Shows.{untraced}

@@ -1,4 +1,4 @@
-use Rattle.std.proofs.Common.{◌≡◌, inl, inr, refl}
+use Rattle.std.proofs.Common.{inl, inr, refl}
 use Rattle.clu_driver.proofs.Entered.{shown_as}
 use Rattle.clu_driver.proofs.separate.enter_and_put.Goals as goal
 

@@ -1,4 +1,3 @@
-use Rattle.std.proofs.Common.{◌≡◌}
 use Rattle.clu_driver.proofs.Found.{found_source, refused_source}
 use Rattle.clu_driver.proofs.sources.parse_file.Goals as goal
 

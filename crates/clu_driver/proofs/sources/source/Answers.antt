@@ -1,4 +1,4 @@
-use Rattle.std.proofs.Common.{◌≡◌, refl, rules, subst, sym, inl, inr}
+use Rattle.std.proofs.Common.{refl, rules, subst, sym, inl, inr}
 use Rattle.clu_parser.specs.declared.errors.ParseError.TheVariants as parse
 use Rattle.clu_driver.proofs.Found.{read_fault}
 use Rattle.clu_driver.specs.Sources.{NotSource}

@@ -1,4 +1,4 @@
-use Rattle.std.proofs.Common.{◌≡◌, refl, rules}
+use Rattle.std.proofs.Common.{refl, rules}
 use Rattle.clu_driver.proofs.Found.{found_large, found_whole}
 use Rattle.clu_driver.proofs.sources.source_content.Goals as goal
 

@@ -1,4 +1,3 @@
-use Rattle.std.proofs.Common.{◌≡◌}
 use Rattle.clu_driver.proofs.ByStatus.{quiet, refused, usage_always, usage_only}
 use Rattle.clu_driver.proofs.top.clu.Goals as goal
 
