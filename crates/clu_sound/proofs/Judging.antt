@@ -181,16 +181,16 @@ module _ (specs : List Spec) (start : List Term) (demands : List Demand) (all : 
     given_in = both_in (length start) o.demands demands low.1 demands_in
 
     pub routines_more : b ≡ true → AreRoutinesTo newer (i + 1)
-    routines_more yes = record {
+    routines_more so = record {
       grows = grows_on start now newer so_far.grows g;
       here = λ m. (subst Routines (next_here all i o is lt) (so_far.here m)).1;
-      from = λ m. so_far.from (subst Routines (sym (next_here all i o is lt)) (routine_then specs start now so_far.grows (o.demands ++ demands) o given_in low (one.0 yes), m));
+      from = λ m. so_far.from (subst Routines (sym (next_here all i o is lt)) (routine_then specs start now so_far.grows (o.demands ++ demands) o given_in low (one.0 so), m));
     }
 
     pub routines_not : b ≡ false → Routines all → ⊥
-    routines_not no m =
+    routines_not not_so m =
         let this : IsRoutineMet specs (types_of start) (o.demands ++ demands) o = (subst Routines (next_here all i o is lt) (so_far.here m)).0 in
-        true≢false (sym (one.1 (routine_now specs start now so_far.grows (o.demands ++ demands) o given_in low this)) ∙ no)
+        true≢false (sym (one.1 (routine_now specs start now so_far.grows (o.demands ++ demands) o given_in low this)) ∙ not_so)
 
   pub routines_all : (now : List Term) (i : ℕ) → length all ≤ i → AreRoutinesTo now i → Routines all
   routines_all now i le so_far = so_far.from (subst Routines (sym (drop_all i all le)) tt)
@@ -332,3 +332,17 @@ pub cluster_then : (specs : List Spec) (start now : List Term) → Grows start n
 cluster_then specs start now g demands low ops ops_in own r h =
     ok_iff (AreRoutinesMet specs (types_of now) demands ops) (IsFormMet specs (types_of start) (form.Cluster demands ops))
     (λ m. (own, routines_then specs start now g demands low ops ops_in m)) (λ m. routines_now specs start now g demands low ops ops_in m.1) r h
+
+-- ---- a form, told by its parts
+
+pub form_routine : (specs : List Spec) (types : List CluType) (f : Form) (o : OpSpec) → f ≡ form.Routine o → (given : List Demand) → given ≡ o.demands → (r : Result Bool Memory)
+    → IfOk r (λ met. IsTrue met ↔ IsRoutineMet specs types given o) → IfOk r (λ met. IsTrue met ↔ IsFormMet specs types f)
+form_routine specs types f o is given own r h =
+    subst (λ (x : Form). IfOk r (λ met. IsTrue met ↔ IsFormMet specs types x)) (sym is) (subst (λ (ds : List Demand). IfOk r (λ met. IsTrue met ↔ IsRoutineMet specs types ds o)) own h)
+
+pub form_cluster : (specs : List Spec) (types : List CluType) (f : Form) (demands : List Demand) (ops : List OpSpec) → f ≡ form.Cluster demands ops → (ds : List Demand) → ds ≡ demands → (os : List OpSpec) → os ≡ ops → (r : Result Bool Memory)
+    → IfOk r (λ met. IsTrue met ↔ IsFormMet specs types (form.Cluster ds os)) → IfOk r (λ met. IsTrue met ↔ IsFormMet specs types f)
+form_cluster specs types f demands ops is ds same os all r h =
+    subst (λ (x : Form). IfOk r (λ met. IsTrue met ↔ IsFormMet specs types x)) (sym is)
+    (subst (λ (l : List OpSpec). IfOk r (λ met. IsTrue met ↔ IsFormMet specs types (form.Cluster demands l))) all
+    (subst (λ (l : List Demand). IfOk r (λ met. IsTrue met ↔ IsFormMet specs types (form.Cluster l os))) same h))

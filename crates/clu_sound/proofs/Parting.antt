@@ -143,9 +143,9 @@ module _ (given : List Demanded) (specs : List Spec) where
         let a = clusters_of_types (types_at types h.args) in
         let r = clusters_of_types (types_at types h.results) in
         let s = clusters_of_signals (signals_at types h.signals) in
-        let rest : Each (r ++ s) = each_then a (r ++ s) e in
-        ids_both h.args (h.results ++ object_types h.signals) (types_to h.args (each_first a (r ++ s) e))
-        (ids_both h.results (object_types h.signals) (types_to h.results (each_first r s rest)) (signals_to h.signals (each_then r s rest)))
+        let front : Each (a ++ r) = each_first (a ++ r) s e in
+        ids_both h.args (h.results ++ object_types h.signals) (types_to h.args (each_first a r front))
+        (ids_both h.results (object_types h.signals) (types_to h.results (each_then a r front)) (signals_to h.signals (each_then (a ++ r) s e)))
 
     pub heading_from : (h : Heading) → Ids (heading_types h) → Each (in_heading h)
     heading_from h m =
@@ -153,8 +153,8 @@ module _ (given : List Demanded) (specs : List Spec) where
         let r = clusters_of_types (types_at types h.results) in
         let s = clusters_of_signals (signals_at types h.signals) in
         let rest : Ids (h.results ++ object_types h.signals) = ids_then h.args (h.results ++ object_types h.signals) m in
-        each_both a (r ++ s) (types_from h.args (ids_first h.args (h.results ++ object_types h.signals) m))
-        (each_both r s (types_from h.results (ids_first h.results (object_types h.signals) rest)) (signals_from h.signals (ids_then h.results (object_types h.signals) rest)))
+        let front : Each (a ++ r) = each_both a r (types_from h.args (ids_first h.args (h.results ++ object_types h.signals) m)) (types_from h.results (ids_first h.results (object_types h.signals) rest)) in
+        each_both (a ++ r) s front (signals_from h.signals (ids_then h.results (object_types h.signals) rest))
 
     -- ---- a type
 

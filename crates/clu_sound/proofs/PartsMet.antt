@@ -90,34 +90,34 @@ module _ (given : List Demand) (specs : List Spec) (start : List Term) (all : Li
 
   module _ (now newer : List Term) (met new : List Asked) (i : ℕ) (a : Asked) (b : Bool) (given_in : DemandsBelow (length start) given) (all_in : AreBelowAll (length start) all) (lt : i < length all) (is : a ≡ get_or all i a)
       (so_far : AreMetTo now met i) (g : Grows now newer) (h : HoldsMet given specs now newer new) (one : IsTrue b ↔ Meets (map (demand_seen (types_of now)) given) specs (asked_seen (types_of now) a)) where
-    low : IsBelow (length start) a
-    low = need_here (length start) (length start) (omega arith) all i a is all_in lt
+    need_low : IsBelow (length start) a
+    need_low = need_here (length start) (length start) (omega arith) all i a is all_in lt
 
     meets_then : Meets (map (demand_seen (types_of now)) given) specs (asked_seen (types_of now) a) → Meets gives specs (asked_seen (types_of start) a)
     meets_then m =
-        subst (λ (n : Needed). Meets gives specs n) (one_same start now so_far.grows a low)
+        subst (λ (n : Needed). Meets gives specs n) (one_same start now so_far.grows a need_low)
         (subst (λ (x : List Demanded). Meets x specs (asked_seen (types_of now) a)) (demands_same start now so_far.grows given given_in) m)
 
     meets_now : Meets gives specs (asked_seen (types_of start) a) → Meets (map (demand_seen (types_of now)) given) specs (asked_seen (types_of now) a)
     meets_now m =
         subst (λ (x : List Demanded). Meets x specs (asked_seen (types_of now) a)) (sym (demands_same start now so_far.grows given given_in))
-        (subst (λ (n : Needed). Meets gives specs n) (sym (one_same start now so_far.grows a low)) m)
+        (subst (λ (n : Needed). Meets gives specs n) (sym (one_same start now so_far.grows a need_low)) m)
 
     abbrev All : List Asked → Type 0
     All xs = AreAllMet gives specs (types_of start) xs
 
     pub met_more : b ≡ true → AreMetTo newer new (i + 1)
-    met_more yes = record {
+    met_more so = record {
       grows = grows_on start now newer so_far.grows g;
       holds = holds_then given specs start now newer new so_far.grows given_in h;
       here = λ m. (subst All (next_here all i a is lt) (so_far.here m)).1;
-      from = λ m. so_far.from (subst All (sym (next_here all i a is lt)) (meets_then (one.0 yes), m));
+      from = λ m. so_far.from (subst All (sym (next_here all i a is lt)) (meets_then (one.0 so), m));
     }
 
     pub met_not : b ≡ false → All all → ⊥
-    met_not no m =
+    met_not not_so m =
         let this : Meets gives specs (asked_seen (types_of start) a) = (subst All (next_here all i a is lt) (so_far.here m)).0 in
-        true≢false (sym (one.1 (meets_now this)) ∙ no)
+        true≢false (sym (one.1 (meets_now this)) ∙ not_so)
 
   pub met_all : (now : List Term) (met : List Asked) (i : ℕ) → length all ≤ i → AreMetTo now met i → AreAllMet gives specs (types_of start) all
   met_all now met i le so_far = so_far.from (subst (AreAllMet gives specs (types_of start)) (sym (drop_all i all le)) tt)
@@ -138,7 +138,7 @@ each_all given specs types (x ∷ xs) h =
 
 -- ---- types, one after the other
 
-module _ (given : List Demand) (specs : List Spec) (start : List Term) (first : List TypeId) (given_in : DemandsBelow (length start) given) where
+module _ (given : List Demand) (specs : List Spec) (start : List Term) (first : List TypeId) where
   abbrev put : List Demanded
   put = map (demand_seen (types_of start)) given
 
@@ -173,7 +173,7 @@ module _ (given : List Demand) (specs : List Spec) (start : List Term) (first : 
     seen = λ k p lt e. absurd (omega (arith, lt));
   }
 
-  module _ (now : List Term) (ids : List TypeId) (met : List Asked) (n : ℕ) (so_far : Visiting now ids met n) where
+  module _ (given_in : DemandsBelow (length start) given) (now : List Term) (ids : List TypeId) (met : List Asked) (n : ℕ) (so_far : Visiting now ids met n) where
     -- what was found of the n-th, told of the first arena
     module _ (id : TypeId) (at : slice_get ids n ≡ Some id) (new : List TypeId) (b : Bool) (v : HasVisited (map (demand_seen (types_of now)) given) specs now ids new id b) where
       low : id.0 < length start
@@ -202,13 +202,13 @@ module _ (given : List Demand) (specs : List Spec) (start : List Term) (first : 
       folded = v.added ∙ parts_folded ids v.shape
 
       pub visiting_not : b ≡ false → AreIdsMet put specs (types_of start) first → ⊥
-      visiting_not no m =
+      visiting_not not_so m =
           let this : IsMet id = so_far.due m id (is_there ids n id at) in
           let own : IsOwnMet put specs (type_at (types_of start) id) = subst (IsOwnMet put specs) (sym of_type) (term_own put specs (types_of start) v.shape (subst (IsTypeMet put specs) of_type this)) in
-          true≢false (sym (v.own.1 (own_now own)) ∙ no)
+          true≢false (sym (v.own.1 (own_now own)) ∙ not_so)
 
       pub visiting_more : b ≡ true → n < length ids → n < 9223372036854775808 → (newer : List Term) (others : List Asked) → Grows now newer → HoldsMet given specs now newer others → Visiting newer new others (n + 1)
-      visiting_more yes lt small newer others g h = record {
+      visiting_more so lt small newer others g h = record {
         few = omega (arith, small);
         grows = grows_on start now newer so_far.grows g;
         within = subst (AreBelow (length start)) (sym folded) (below_all (length start) ids (part_types v.shape) so_far.within (parts_below (length start) v.shape parts_low));
@@ -241,7 +241,7 @@ module _ (given : List Demand) (specs : List Spec) (start : List Term) (first : 
             shape = v.shape;
             of_type = of_type;
             parts = v.parts;
-            own = own_then (v.own.0 yes);
+            own = own_then (v.own.0 so);
             here = λ q c. subst (λ (l : List TypeId). Contains l q) (sym folded) (all_here ids (part_types v.shape) q c);
           }
 

@@ -1,4 +1,4 @@
-use Rattle.std.proofs.Common.{true≢false, arith, refl, sym, length}
+use Rattle.std.proofs.Common.{◌<◌, true≢false, arith, refl, sym, length}
 use Rattle.clu_types.proofs.Carrying.{ids_grown, grows_on}
 use Rattle.clu_demands.proofs.Lists.{some_at}
 use Rattle.clu_demands.proofs.Closing.{given_below}
@@ -6,7 +6,7 @@ use Rattle.clu_sound.proofs.PartsMet.{visiting_first, visiting_more, visiting_no
 use Rattle.clu_sound.proofs.visiting.are_met_with.Goals as goal
 
 pub loop-n-init : goal.loop-n-init
-loop-n-init c = visiting_first c.args.given.now c.args.specs.now c.args.types.now c.args.ids.now.keys c.requires.given_in c.args.met.now.keys c.requires.ids_in c.requires.holds
+loop-n-init c = visiting_first c.args.given.now c.args.specs.now c.args.types.now c.args.ids.now.keys c.args.met.now.keys c.requires.ids_in c.requires.holds
 
 pub visit_nth-requires-clause-ids_in : goal.visit_nth-requires-clause-ids_in
 visit_nth-requires-clause-ids_in c = ids_grown c.args.types.now c.loop-n.types c.loop-n.invariant.grows c.loop-n.ids.keys c.loop-n.invariant.within
@@ -33,7 +33,7 @@ returns-then-not-is_one_met c =
 
 pub loop-n-preserved : goal.loop-n-preserved
 loop-n-preserved c =
-    let lt = omega (arith, c.if-n-len.false, c.len.ensures.len) in
+    let lt : c.loop-n.n < length c.loop-n.ids.keys = omega (arith, c.if-n-len.false, c.len.ensures.len) in
     let here = some_at c.loop-n.ids.keys c.loop-n.n lt in
     visiting_more c.args.given.now c.args.specs.now c.args.types.now c.args.ids.now.keys c.requires.given_in c.loop-n.types c.loop-n.ids.keys c.loop-n.met.keys c.loop-n.n c.loop-n.invariant here.0 here.1 c.visit_nth.new.ids.keys _ (c.in_ok-is_one_met.ensures.visited here.0 here.1) c.if-not-is_one_met.false
     lt (omega (arith, c.if-n-len.false, c.len.ensures.small)) c.visit_nth.new.types c.visit_nth.new.met.keys c.in_ok-is_one_met.ensures.kept c.in_ok-is_one_met.ensures.holds
