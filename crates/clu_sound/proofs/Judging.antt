@@ -6,8 +6,8 @@ use borrow.Author.Tests.{ltb-true, ltb-false}
 use Rattle.std.proofs.lemmas.Option.{slice_get_within}
 use Rattle.std.proofs.lemmas.List.{append-nil, drop_all}
 use Rattle.clu_base.specs.declared.errors.Memory.{Memory}
-use Rattle.clu_types.specs.CluType.{CluType, CluTypes, Signals, cluster_of, Actuals}
-use Rattle.clu_types.specs.Arena.{type_at, types_at, signals_at, actuals_at, type_of, types_of, AreBelow, PartsBelow, ActualsBelow, Grows}
+use Rattle.clu_types.specs.CluType.{CluType, CluTypes, Signals, Actuals}
+use Rattle.clu_types.specs.Arena.{type_at, actuals_at, type_of, types_of, AreBelow, PartsBelow, Grows}
 use Rattle.clu_types.specs.declared.spec.Demand.{Demand}
 use Rattle.clu_types.specs.declared.spec.Form.{Form}
 use Rattle.clu_types.specs.declared.spec.Form.TheVariants as form
@@ -27,8 +27,8 @@ use Rattle.clu_specs.specs.Seen.{Demanded, demand_seen}
 use Rattle.clu_specs.specs.Specifications.{DemandsBelow, OpBelow, OpsBelow, FormBelow, SpecHolds}
 use Rattle.clu_demands.specs.declared.needs.Asked.{Asked}
 use Rattle.clu_demands.specs.declared.needs.Instance.{Instance}
-use Rattle.clu_demands.specs.Asking.{asked_seen, all_seen, seen_if, instance_of}
-use Rattle.clu_demands.specs.Meeting.{Meets, IsClosed, all_demanded, op_type, routine_type}
+use Rattle.clu_demands.specs.Asking.{all_seen, seen_if, instance_of}
+use Rattle.clu_demands.specs.Meeting.{Meets, all_demanded, op_type, routine_type}
 use Rattle.clu_sound.specs.Parts.{part_types, op_types, wanted_types, with_id, with_wanted, with_op}
 use Rattle.clu_sound.specs.Sound.{IsInstanceOf, IsInstance, IsFormed, AreFormed, AreDemandsMet, IsFormInstanceMet, IsInstanceMet, IsTypeMet, AreTypesMet, IsRoutineMet, AreRoutinesMet, IsFormMet, IsSound}
 use Rattle.clu_sound.specs.Visiting.{IsOwnMet, AreIdsMet, AreAllMet, DemandsNothing, FormDemandsNothing, TermDemandsNothing, NothingDemanded}
@@ -174,23 +174,23 @@ module _ (specs : List Spec) (start : List Term) (demands : List Demand) (all : 
 
   module _ (now newer : List Term) (i : ℕ) (o : OpSpec) (b : Bool) (demands_in : DemandsBelow (length start) demands) (ops_in : OpsBelow (length start) all) (lt : i < length all) (is : o ≡ get_or all i o) (so_far : AreRoutinesTo now i) (g : Grows now newer)
       (one : IsTrue b ↔ IsRoutineMet specs (types_of now) (o.demands ++ demands) o) where
-    low : OpBelow (length start) o
-    low = op_at (length start) all i o is ops_in lt
+    op_low : OpBelow (length start) o
+    op_low = op_at (length start) all i o is ops_in lt
 
     given_in : DemandsBelow (length start) (o.demands ++ demands)
-    given_in = both_in (length start) o.demands demands low.1 demands_in
+    given_in = both_in (length start) o.demands demands op_low.1 demands_in
 
     pub routines_more : b ≡ true → AreRoutinesTo newer (i + 1)
     routines_more so = record {
       grows = grows_on start now newer so_far.grows g;
       here = λ m. (subst Routines (next_here all i o is lt) (so_far.here m)).1;
-      from = λ m. so_far.from (subst Routines (sym (next_here all i o is lt)) (routine_then specs start now so_far.grows (o.demands ++ demands) o given_in low (one.0 so), m));
+      from = λ m. so_far.from (subst Routines (sym (next_here all i o is lt)) (routine_then specs start now so_far.grows (o.demands ++ demands) o given_in op_low (one.0 so), m));
     }
 
     pub routines_not : b ≡ false → Routines all → ⊥
     routines_not not_so m =
         let this : IsRoutineMet specs (types_of start) (o.demands ++ demands) o = (subst Routines (next_here all i o is lt) (so_far.here m)).0 in
-        true≢false (sym (one.1 (routine_now specs start now so_far.grows (o.demands ++ demands) o given_in low this)) ∙ not_so)
+        true≢false (sym (one.1 (routine_now specs start now so_far.grows (o.demands ++ demands) o given_in op_low this)) ∙ not_so)
 
   pub routines_all : (now : List Term) (i : ℕ) → length all ≤ i → AreRoutinesTo now i → Routines all
   routines_all now i le so_far = so_far.from (subst Routines (sym (drop_all i all le)) tt)

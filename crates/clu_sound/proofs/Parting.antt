@@ -1,9 +1,9 @@
 -- A type is met exactly if it itself is, and its parts are.
-use Rattle.std.proofs.Common.{◌≡◌, ◌↔◌, ◌⊎◌, inl, inr, ℕ, ◌<◌, zero, suc, Bool, true, false, List, [], ◌∷◌, ◌++◌, Contains, map, find, length, slice_get, Option, Some, None, refl, sym, ap, ◌∙◌, subst, arith}
+use Rattle.std.proofs.Common.{◌≡◌, ◌⊎◌, inl, inr, ℕ, ◌<◌, zero, suc, Bool, true, false, List, [], ◌∷◌, ◌++◌, Contains, map, find, None, refl, sym, subst, arith}
 use Rattle.std.specs.Str.{bytes_eq}
 use Rattle.std.proofs.lemmas.List.Elements.{Contains-append_left, Contains-append_right, Contains-append_cases}
-use Rattle.clu_types.specs.CluType.{CluType, CluTypes, Signals, cluster_of, Actuals}
-use Rattle.clu_types.specs.Arena.{type_at, types_at, fields_at, signals_at, actuals_at, type_of, types_of, PartsBelow}
+use Rattle.clu_types.specs.CluType.{CluType, Actuals}
+use Rattle.clu_types.specs.Arena.{type_at, types_at, fields_at, signals_at, actuals_at, type_of, PartsBelow}
 use Rattle.clu_types.specs.declared.spec.Demand.{Demand}
 use Rattle.clu_types.specs.declared.spec.OpSpec.{OpSpec}
 use Rattle.clu_types.specs.declared.spec.Spec.{Spec}
@@ -16,13 +16,12 @@ use Rattle.clu_types.specs.declared.term.Actual.TheVariants as actual
 use Rattle.clu_types.specs.declared.term.Term.{Term}
 use Rattle.clu_types.specs.declared.term.Term.TheVariants as term
 use Rattle.clu_specs.specs.Seen.{Demanded, demand_seen}
-use Rattle.clu_demands.specs.declared.needs.Instance.{Instance}
 use Rattle.clu_demands.specs.Asking.{instance_with, instance_of}
-use Rattle.clu_demands.specs.Meeting.{op_type, routine_type}
+use Rattle.clu_demands.specs.Meeting.{routine_type}
 use Rattle.clu_sound.specs.Parts.{field_types, object_types, type_actuals, heading_types, wanted_types, op_types, part_types}
 use Rattle.clu_sound.specs.Sound.{clusters_in, clusters_of_types, clusters_of_fields, clusters_of_signals, clusters_of_actuals, IsInstanceMet, IsTypeMet, AreTypesMet, IsRoutineMet}
 use Rattle.clu_sound.specs.Visiting.{IsOwnMet, AreIdsMet}
-use Rattle.clu_demands.proofs.Lists.{none_is_not, same_item, head_or_tail, in_head, in_tail, in_none}
+use Rattle.clu_demands.proofs.Lists.{none_is_not, head_or_tail, in_head, in_tail, in_none}
 use Rattle.clu_sound.proofs.Growing.{below_in, parts_below}
 
 module _ (given : List Demanded) (specs : List Spec) where

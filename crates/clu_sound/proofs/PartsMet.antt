@@ -1,14 +1,12 @@
 -- Types that are looked at one after the other, each of which adds its parts.
-use Rattle.std.proofs.Common.{◌≡◌, ◌↔◌, ◌⊎◌, inl, inr, ℕ, ◌+◌, ◌<◌, ◌≤◌, zero, suc, Bool, true, false, true≢false, List, [], ◌∷◌, ◌++◌, Contains, map, fold, find, length, drop, get_or, slice_get, Option, Some, None, Result, Ok, Err, IfOk, OnOk, IsTrue, refl, sym, ap, ◌∙◌, subst, arith}
+use Rattle.std.proofs.Common.{◌≡◌, ◌↔◌, ◌⊎◌, inl, inr, ℕ, ◌+◌, ◌<◌, ◌≤◌, zero, suc, Bool, true, false, true≢false, List, [], ◌∷◌, ◌++◌, Contains, map, fold, length, drop, get_or, slice_get, Some, Result, Ok, Err, IfOk, OnOk, IsTrue, refl, sym, ap, ◌∙◌, subst, arith}
 use Rattle.std.proofs.Math.Dec.{ltb}
 use borrow.Author.Tests.{ltb-true, ltb-false}
-use Rattle.std.specs.Str.{bytes_eq}
 use Rattle.std.proofs.lemmas.List.{append-nil, drop_all}
 use Rattle.clu_base.specs.declared.errors.Memory.{Memory}
-use Rattle.clu_types.specs.CluType.{CluType, Actuals}
+use Rattle.clu_types.specs.CluType.{CluType}
 use Rattle.clu_types.specs.Arena.{type_at, type_of, types_of, AreBelow, PartsBelow, Grows}
 use Rattle.clu_types.specs.declared.spec.Demand.{Demand}
-use Rattle.clu_types.specs.declared.spec.OpSpec.{OpSpec}
 use Rattle.clu_types.specs.declared.spec.Spec.{Spec}
 use Rattle.clu_types.specs.declared.term.TypeId.{TypeId}
 use Rattle.clu_types.specs.declared.term.Term.{Term}
@@ -24,8 +22,8 @@ use Rattle.clu_demands.specs.Meeting.{Meets, IsClosed}
 use Rattle.clu_sound.specs.Parts.{part_types, with_id, with_parts}
 use Rattle.clu_sound.specs.Sound.{IsTypeMet}
 use Rattle.clu_sound.specs.Visiting.{HoldsMet, AreAllMet, IsOwnMet, AreIdsMet, HasVisited}
-use Rattle.clu_demands.proofs.Lists.{none_is_not, same_item, head_or_tail, in_head, in_tail, in_none, front_of, some_at, place_in, is_there}
-use Rattle.clu_demands.proofs.Seen.{one_same, all_same, demands_same, more_below, below_at}
+use Rattle.clu_demands.proofs.Lists.{same_item, head_or_tail, in_head, in_tail, in_none, front_of, place_in, is_there}
+use Rattle.clu_demands.proofs.Seen.{one_same, all_same, demands_same, more_below}
 use Rattle.clu_demands.proofs.Closing.{none_closed, none_below}
 use Rattle.clu_sound.proofs.Growing.{parts_folded, all_front, all_kept, all_here, all_from, below_all, below_in, parts_below}
 use Rattle.clu_sound.proofs.Parting.{term_own, term_parts, ids_in, ids_each, whole_met}
@@ -176,14 +174,14 @@ module _ (given : List Demand) (specs : List Spec) (start : List Term) (first : 
   module _ (given_in : DemandsBelow (length start) given) (now : List Term) (ids : List TypeId) (met : List Asked) (n : ℕ) (so_far : Visiting now ids met n) where
     -- what was found of the n-th, told of the first arena
     module _ (id : TypeId) (at : slice_get ids n ≡ Some id) (new : List TypeId) (b : Bool) (v : HasVisited (map (demand_seen (types_of now)) given) specs now ids new id b) where
-      low : id.0 < length start
-      low = below_in (length start) ids id so_far.within (is_there ids n id at)
+      id_low : id.0 < length start
+      id_low = below_in (length start) ids id so_far.within (is_there ids n id at)
 
       same_type : type_at (types_of now) id ≡ type_at (types_of start) id
-      same_type = types_grown start now so_far.grows id low
+      same_type = types_grown start now so_far.grows id id_low
 
       parts_low : PartsBelow (length start) v.shape
-      parts_low = parts_more id.0 (length start) (omega (arith, low)) v.shape v.parts
+      parts_low = parts_more id.0 (length start) (omega (arith, id_low)) v.shape v.parts
 
       of_type : type_at (types_of start) id ≡ type_of (types_of start) v.shape
       of_type = sym same_type ∙ v.of_type ∙ type_same (types_of now) (types_of start) (length start) (types_grown start now so_far.grows) v.shape parts_low

@@ -1,5 +1,5 @@
 -- The parts of types by number, and lists of numbers that grow by them.
-use Rattle.std.specs.Prelude.{◌==◌, ℕ, List, [], ◌∷◌, ◌++◌, cond, fold}
+use Rattle.std.specs.Prelude.{◌==◌, List, [], ◌∷◌, ◌++◌, cond, fold}
 use Rattle.std.specs.List.{list_any}
 use Rattle.clu_types.specs.declared.spec.Demand.{Demand}
 use Rattle.clu_types.specs.declared.spec.OpSpec.{OpSpec}

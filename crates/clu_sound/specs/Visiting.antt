@@ -1,5 +1,5 @@
 -- How types and their parts are gone over, and what holds of them.
-use Rattle.std.specs.Prelude.{◌≡◌, ◌↔◌, ◌<◌, ℕ, Bool, IsTrue, List, [], ◌∷◌, map, find, length, slice_get, Option, Some, None}
+use Rattle.std.specs.Prelude.{◌≡◌, ◌↔◌, ◌<◌, Bool, IsTrue, List, [], ◌∷◌, map, find, length, slice_get, Option, Some, None}
 use Rattle.std.specs.Str.{bytes_eq}
 use Rattle.clu_types.specs.CluType.{CluType, cluster_of}
 use Rattle.clu_types.specs.Arena.{type_at, type_of, types_of, PartsBelow}

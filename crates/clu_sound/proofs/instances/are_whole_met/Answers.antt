@@ -1,4 +1,4 @@
-use Rattle.std.proofs.Common.{map, length, sym, ap, subst, ◌∙◌}
+use Rattle.std.proofs.Common.{length, sym, ap, subst, ◌∙◌}
 use Rattle.clu_types.specs.Arena.{types_of, actuals_at}
 use Rattle.clu_demands.specs.Asking.{seen_if, AreBelowIf}
 use Rattle.clu_demands.proofs.Closing.{given_below}

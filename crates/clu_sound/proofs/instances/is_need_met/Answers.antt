@@ -1,6 +1,3 @@
-use Rattle.std.proofs.Common.{map}
-use Rattle.clu_types.specs.Arena.{types_of}
-use Rattle.clu_specs.specs.Seen.{demand_seen}
 use Rattle.clu_sound.proofs.Judging.{on_both}
 use Rattle.clu_sound.proofs.instances.is_need_met.Goals as goal
 

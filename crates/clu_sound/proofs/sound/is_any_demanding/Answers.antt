@@ -1,4 +1,4 @@
-use Rattle.std.proofs.Common.{true≢false, arith}
+use Rattle.std.proofs.Common.{arith}
 use Rattle.clu_sound.proofs.Judging.{demanding_more}
 use Rattle.clu_sound.proofs.sound.is_any_demanding.Goals as goal
 

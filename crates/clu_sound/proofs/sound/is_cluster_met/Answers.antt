@@ -1,5 +1,4 @@
-use Rattle.std.proofs.Common.{true≢false, sym, length}
-use Rattle.clu_types.specs.Arena.{types_of}
+use Rattle.std.proofs.Common.{true≢false, sym}
 use Rattle.clu_demands.proofs.Closing.{given_below}
 use Rattle.clu_sound.proofs.Judging.{ops_below, cluster_then}
 use Rattle.clu_sound.proofs.sound.is_cluster_met.Goals as goal
