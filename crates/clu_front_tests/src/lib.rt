@@ -1,5 +1,5 @@
-//! Tests of types, built-in operations, texts of specifications and contexts of a check. Most are rows of texts: what a
-//! row says must come of its text. It has tests alone, so that no crate below is proved twice.
+//! Tests of types, built-in operations, texts of specifications, what is demanded of types and contexts of a check. Most are
+//! rows of texts: what a row says must come of its text. It has tests alone, so that no crate below is proved twice.
 #![tactic(auto)]
 
 #[cfg(test)]
@@ -8,6 +8,10 @@ mod answers;
 mod contexts;
 #[cfg(test)]
 mod deep_types;
+#[cfg(test)]
+mod demanded;
+#[cfg(test)]
+mod demanded_texts;
 #[cfg(test)]
 mod kept_specs;
 #[cfg(test)]

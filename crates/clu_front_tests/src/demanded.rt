@@ -1,0 +1,140 @@
+//! Rows of needs and of sound specifications are kept.
+
+use crate::demanded_texts::{NEEDS, NEEDS_COUNT, SOUND, SOUND_COUNT};
+use clu_base::Bytes;
+use clu_demands::{holds_demands, is_whole, meets};
+use clu_sound::is_sound;
+use clu_specs::{read_spec, read_type};
+use clu_types::{Demand, Form, Spec, Specs, TypeArena, TypeId};
+use std::alloc::Global;
+use std::test::Fail;
+
+/// What comes before the first `|`, and what comes after it.
+fn parts(text: &str) -> (&str, &str) {
+    match text.split_once('|') {
+        Some(parts) => parts,
+        None => (text, ""),
+    }
+}
+
+/// The demands of a module.
+fn demands_of(form: &Form) -> &[Demand] {
+    match form {
+        Form::Routine(op) => op.demands.as_slice(),
+        Form::Cluster(demands, _) => demands.as_slice(),
+    }
+}
+
+fn fill(alloc: Global, specs: &mut Specs, mut texts: &str) -> Result<(), Fail> {
+    while !texts.is_empty() {
+        let (text, others) = parts(texts);
+        specs.with(read_spec(alloc, text.as_bytes())?)?;
+        texts = others;
+    }
+    Ok(())
+}
+
+fn is_met(
+    alloc: Global,
+    of: TypeId,
+    op: &Bytes,
+    wanted: TypeId,
+    given: &[Demand],
+    specs: &Specs,
+    types: &mut TypeArena,
+) -> Result<bool, Fail> {
+    if !types.contains(of) {
+        return Err("the type is not of the arena")?;
+    }
+    if !types.contains(wanted) {
+        return Err("the wanted type is not of the arena")?;
+    }
+    if !holds_demands(types, given) {
+        return Err("the demands are not of the arena")?;
+    }
+    Ok(meets(alloc, of, op, wanted, given, specs, types)?)
+}
+
+/// The answer to a row, over the types of the module round it.
+fn answer(
+    alloc: Global,
+    own: &Spec,
+    specs: &Specs,
+    types: &mut TypeArena,
+    texts: (&str, &str, &str),
+) -> Result<bool, Fail> {
+    let (of, op, wanted) = texts;
+    let op = Bytes::from_slice(alloc, op.as_bytes())?;
+    let of = read_type(alloc, types, of.as_bytes())?;
+    let wanted = read_type(alloc, types, wanted.as_bytes())?;
+    is_met(alloc, of, &op, wanted, demands_of(&own.form), specs, types)
+}
+
+fn ask(alloc: Global, own: &Spec, kept: &str, texts: (&str, &str, &str)) -> Result<bool, Fail> {
+    let mut specs = Box::new(alloc, Specs::new(alloc))?;
+    fill(alloc, &mut specs, kept)?;
+    let mut types = Box::new(alloc, own.types.copy(alloc)?)?;
+    answer(alloc, own, &specs, &mut types, texts)
+}
+
+/// Whether a row says what is answered.
+fn is_kept(alloc: Global, row: &str) -> Result<bool, Fail> {
+    let (due, rest) = parts(row);
+    let (of, rest) = parts(rest);
+    let (op, rest) = parts(rest);
+    let (wanted, rest) = parts(rest);
+    let (own, kept) = parts(rest);
+    let own = Box::new(alloc, read_spec(alloc, own.as_bytes())?)?;
+    let found = ask(alloc, &own, kept, (of, op, wanted))?;
+    Ok(found == (due == "yes"))
+}
+
+#[test]
+fn needs_are_met(rt: HostRuntime) -> Result<(), Fail> {
+    let alloc = rt.alloc();
+    let mut number = 0usize;
+    for row in NEEDS.split_terminator('\0') {
+        if !is_kept(alloc, row)? {
+            return Err(format!(in alloc; "row {number}")?)?;
+        }
+        number = number.saturating_add(1);
+    }
+    if number != NEEDS_COUNT {
+        return Err(format!(in alloc; "{number} rows, but {NEEDS_COUNT} are due")?)?;
+    }
+    Ok(())
+}
+
+fn sound(alloc: Global, spec: &Spec, specs: &Specs) -> Result<bool, Fail> {
+    if !is_whole(spec) {
+        return Err("the types are not of the arena")?;
+    }
+    Ok(is_sound(alloc, spec, specs)?)
+}
+
+/// Whether a row says whether its first specification is sound among all of them.
+fn is_told(alloc: Global, row: &str) -> Result<bool, Fail> {
+    let (due, texts) = parts(row);
+    let (own, _) = parts(texts);
+    let own = Box::new(alloc, read_spec(alloc, own.as_bytes())?)?;
+    let mut specs = Box::new(alloc, Specs::new(alloc))?;
+    fill(alloc, &mut specs, texts)?;
+    let found = sound(alloc, &own, &specs)?;
+    Ok(found == (due == "yes"))
+}
+
+#[test]
+fn specifications_are_sound(rt: HostRuntime) -> Result<(), Fail> {
+    let alloc = rt.alloc();
+    let mut number = 0usize;
+    for row in SOUND.split_terminator('\0') {
+        if !is_told(alloc, row)? {
+            return Err(format!(in alloc; "row {number}")?)?;
+        }
+        number = number.saturating_add(1);
+    }
+    if number != SOUND_COUNT {
+        return Err(format!(in alloc; "{number} rows, but {SOUND_COUNT} are due")?)?;
+    }
+    Ok(())
+}

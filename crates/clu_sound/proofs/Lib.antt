@@ -1,0 +1,4 @@
+pub mod Growing
+pub mod Judging
+pub mod Parting
+pub mod PartsMet
