@@ -16,7 +16,7 @@ use Rattle.rv_select.specs.declared.error.SelectError.{SelectError}
 use Rattle.rv_select.specs.declared.error.SelectError.TheVariants as select
 use Rattle.clu_types.specs.declared.spec.Spec.{Spec}
 use Rattle.clu_build.specs.Errors.{of_enter, of_frame, of_link, of_lower, of_select}
-use Rattle.clu_build.specs.Entering.{AreReplaced}
+use Rattle.clu_build.specs.Entering.{AreReplaced, names_of}
 use Rattle.clu_build.specs.Refusals.{IsInner, IsOfEach, IsOfEntries, IsOfKept, IsOfNeeded, IsOfOne, IsOfProgram, IsOfReplacement, IsOfRoom}
 use Rattle.clu_build.specs.declared.errors.BuildError.{BuildError}
 use Rattle.clu_build.specs.declared.errors.BuildError.TheVariants as error
@@ -76,13 +76,13 @@ each_is_of_replacement error.Memory library specs is = tt
 each_is_of_replacement error.NotYet library specs is = tt
 each_is_of_replacement _ library specs is = elim is [ ]
 
-pub inner_is_of_needed : (e : BuildError) → IsInner e → IsOfNeeded e
-inner_is_of_needed error.Memory is = tt
-inner_is_of_needed error.NotYet is = tt
-inner_is_of_needed _ is = elim is [ ]
+pub inner_is_of_needed : (e : BuildError) (library : Contents) (besides : List (List ℕ)) → IsInner e → IsOfNeeded e library besides
+inner_is_of_needed error.Memory library besides is = tt
+inner_is_of_needed error.NotYet library besides is = tt
+inner_is_of_needed _ library besides is = elim is [ ]
 
-pub needed_is_of_replacement : (e : BuildError) (library after : Contents) (specs : List Spec) → AreReplaced library specs after → IsOfNeeded e → IsOfReplacement e library specs
-needed_is_of_replacement (error.SpecNeeded name) library after specs replaced is = (after, replaced)
+pub needed_is_of_replacement : (e : BuildError) (library after : Contents) (specs : List Spec) → AreReplaced library specs after → IsOfNeeded e after (names_of specs) → IsOfReplacement e library specs
+needed_is_of_replacement (error.SpecNeeded name) library after specs replaced is = (after, replaced, is)
 needed_is_of_replacement error.Memory library after specs replaced is = tt
 needed_is_of_replacement error.NotYet library after specs replaced is = tt
 needed_is_of_replacement _ library after specs replaced is = elim is [ ]

@@ -1,7 +1,8 @@
 -- What a library is as specifications take the place of kept ones, one after the other.
-use Rattle.std.proofs.Common.{◌≡◌, ℕ, ◌+◌, Bool, List, [], ◌∷◌, ◌++◌, take, slice_get, Some, refl, sym, subst}
+use Rattle.std.proofs.Common.{◌≡◌, ℕ, ◌+◌, Bool, List, [], ◌∷◌, ◌++◌, take, slice_get, Some, refl, sym, subst, Option, None}
 use Rattle.clu_library.specs.Contents.{Contents, spec_of}
 use Rattle.clu_library.specs.Replacing.{Replaces}
+use Rattle.clu_library.specs.Unmet.{TellsUnmet}
 use Rattle.clu_types.specs.declared.spec.Spec.{Spec}
 use Rattle.clu_build.specs.Entering.{AreReplaced}
 use Rattle.clu_build.specs.Refusals.{IsOfEach, IsOfOne}
@@ -26,3 +27,10 @@ one_is_of_each error.LibraryFull before between specs n s at first is = (n, s, b
 one_is_of_each error.Memory before between specs n s at first is = tt
 one_is_of_each error.NotYet before between specs n s at first is = tt
 one_is_of_each _ before between specs n s at first is = elim is [ ]
+
+-- no other specification is unsound
+pub told_none : (library : Contents) (names besides : List (List ℕ)) (o : Option (List ℕ)) → names ≡ besides → TellsUnmet library names o → o ≡ None → TellsUnmet library besides None
+told_none library names besides o same told none =
+    let P : Option (List ℕ) → Type 0 = λ x. TellsUnmet library names x in
+    let Q : List (List ℕ) → Type 0 = λ ns. TellsUnmet library ns None in
+    subst Q same (subst P none told)

@@ -1,5 +1,5 @@
 -- What entering the specifications and the bodies of a file does to a library.
-use Rattle.std.specs.Prelude.{◌≡◌, ◌≢◌, ◌⊎◌, ◌-◌, ℕ, Bool, List, [], ◌∷◌, Contains, length, take, drop, slice_get, option_map, option_and_then, Option, Some, None, IsSome}
+use Rattle.std.specs.Prelude.{◌≡◌, ◌≢◌, ◌⊎◌, ◌-◌, ℕ, Bool, List, [], ◌∷◌, Contains, length, map, take, drop, slice_get, option_map, option_and_then, Option, Some, None, IsSome}
 use Rattle.clu_base.specs.declared.tokens.Token.{Token}
 use Rattle.clu_core.specs.declared.checked.Checked.{Checked}
 use Rattle.clu_library.specs.Contents.{Contents, HaveSameText, KeepsFirst, body_of, spec_of, with_body, with_entered}
@@ -50,6 +50,9 @@ pub record AreEntered (before after : Contents) (specs : List Spec) : Type 0 whe
 abbrev pub AreReplaced : Contents → List Spec → Contents → Type 0
 AreReplaced before [] after = after ≡ before
 AreReplaced before (s ∷ specs) after = (between : Contents) × (changed : Bool) × Replaces before s (spec_of before s.name) between changed × AreReplaced between specs after
+
+abbrev pub names_of : List Spec → List (List ℕ)
+names_of specs = map (λ s. s.name) specs
 
 -- Bodies.
 

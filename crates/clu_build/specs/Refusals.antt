@@ -3,13 +3,14 @@ use Rattle.std.specs.Prelude.{◌≡◌, ◌≢◌, ◌≤◌, ℕ, List, Some, 
 use Rattle.clu_library.specs.Contents.{Contents, body_of, limit, spec_of}
 use Rattle.clu_library.specs.Replacing.{NotReplaced}
 use Rattle.clu_library.specs.Staleness.{IsCause}
+use Rattle.clu_library.specs.Unmet.{IsLeastUnmet}
 use Rattle.clu_library.specs.declared.body.Body.{Body}
 use Rattle.clu_library.specs.declared.errors.EnterError.TheVariants as enter
 use Rattle.clu_link.specs.Causes.{HasBody}
 use Rattle.clu_link.specs.Starts.{IsBadStart}
 use Rattle.clu_specs.specs.Seen.{seen, spec_text}
 use Rattle.clu_types.specs.declared.spec.Spec.{Spec}
-use Rattle.clu_build.specs.Entering.{AreReplaced}
+use Rattle.clu_build.specs.Entering.{AreReplaced, names_of}
 use Rattle.clu_build.specs.declared.errors.BuildError.{BuildError}
 use Rattle.clu_build.specs.declared.errors.BuildError.TheVariants as error
 use Rattle.clu_build.specs.declared.errors.Difference.{Difference}
@@ -55,14 +56,14 @@ abbrev pub IsOfEach : BuildError → Contents → List Spec → Type 0
 IsOfEach error.LibraryFull library specs = IsFull library specs
 IsOfEach e library specs = IsInner e
 
--- a kept specification needs one as it was
-abbrev pub IsOfNeeded : BuildError → Type 0
-IsOfNeeded (error.SpecNeeded name) = Unit {0}
-IsOfNeeded e = IsInner e
+-- the specification of another module than of these is not sound: this is the least
+abbrev pub IsOfNeeded : BuildError → Contents → List (List ℕ) → Type 0
+IsOfNeeded (error.SpecNeeded name) library besides = IsLeastUnmet library besides name
+IsOfNeeded e library besides = IsInner e
 
--- specifications are not replaced: there is no room for one, or a kept specification needs one of them as it was
+-- specifications are not replaced: there is no room for one, or the kept specification of another module would no longer be sound
 abbrev pub IsOfReplacement : BuildError → Contents → List Spec → Type 0
-IsOfReplacement (error.SpecNeeded name) library specs = (after : Contents) × AreReplaced library specs after
+IsOfReplacement (error.SpecNeeded name) library specs = (after : Contents) × AreReplaced library specs after × IsLeastUnmet after (names_of specs) name
 IsOfReplacement e library specs = IsOfEach e library specs
 
 -- the body that is kept of a module is stale, by this module

@@ -1,10 +1,11 @@
 //! Specifications of a file as entries of a library.
 
-ghost use Rattle.std.specs.Prelude.{◌≡◌, ◌<◌, [], length, slice_get, IfErr, IfOk, OnOk};
+ghost use Rattle.std.specs.Prelude.{◌≡◌, ◌<◌, [], length, slice_get, IfErr, IfOk, None, OnOk};
 ghost use Rattle.clu_library.specs.Contents.{HaveSameText, spec_of};
 ghost use Rattle.clu_library.specs.Replacing.{Replaces};
+ghost use Rattle.clu_library.specs.Unmet.{TellsUnmet};
 ghost use Rattle.clu_specs.specs.Specifications.{SpecHolds};
-ghost use Rattle.clu_build.specs.Entering.{AreAdded, AreEntered, AreReplaced, AreSame, IsOneEntered, IsOneEnteredIf, IsSameOf};
+ghost use Rattle.clu_build.specs.Entering.{AreAdded, AreEntered, AreReplaced, AreSame, IsOneEntered, IsOneEnteredIf, IsSameOf, names_of};
 ghost use Rattle.clu_build.specs.Numbering.{AreNumbered, IsNumbered};
 ghost use Rattle.clu_build.specs.Refusals.{IsInner, IsOfEach, IsOfEntries, IsOfKept, IsOfNeeded, IsOfOne, IsOfReplacement, IsOfRoom};
 
@@ -34,6 +35,7 @@ pub fn enter_specs(alloc: Global, library: &mut Library, specs: &[Spec]) -> Resu
 #[tactic(auto, using(crate::proofs::Refusals::replacements))]
 pub fn replace_specs(alloc: Global, library: &mut Library, specs: &[Spec]) -> Result<(), BuildError>
     ensures replaced { OnOk result (AreReplaced library.old specs.now library.new) }
+    ensures sound { OnOk result (TellsUnmet library.new (names_of specs.now) None) }
     ensures refused { IfErr result (λ e. IsOfReplacement e library.old specs.now) }
 {
     replace_each(alloc, library, specs)?;
@@ -226,16 +228,18 @@ fn replace(alloc: Global, library: &mut Library, spec: &Spec) -> Result<bool, Bu
 /// Whether the specifications of all other modules are sound.
 #[tactic(auto, using(crate::proofs::Refusals::replacements))]
 fn ask_needed(alloc: Global, library: &Library, specs: &[Spec]) -> Result<(), BuildError>
-    ensures refused { IfErr result IsOfNeeded }
+    ensures sound { OnOk result (TellsUnmet library.now (names_of specs.now) None) }
+    ensures refused { IfErr result (λ e. IsOfNeeded e library.now (names_of specs.now)) }
 {
-    let names = names_of(alloc, specs)?;
+    let names = names(alloc, specs)?;
     match library.unmet(alloc, names.as_slice())? {
         Some(name) => Err(BuildError::SpecNeeded(name)),
         None => Ok(()),
     }
 }
 
-fn names_of(alloc: Global, specs: &[Spec]) -> Result<Vec<Bytes>, BuildError>
+fn names(alloc: Global, specs: &[Spec]) -> Result<Vec<Bytes>, BuildError>
+    ensures named { IfOk result (λ names. names.items ≡ names_of specs.now) }
     ensures refused { IfErr result IsInner }
 {
     let mut names = Vec::new(alloc);

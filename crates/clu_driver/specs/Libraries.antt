@@ -3,11 +3,12 @@ use Rattle.std.specs.Prelude.{◌≡◌, ◌≤◌, ◌⊎◌, ℕ, List, All, O
 use Rattle.std.specs.Char.{to_ascii_lowercase}
 use Rattle.clu_base.specs.Outside.{Files}
 use Rattle.clu_base.specs.declared.tokens.Token.{Token}
-use Rattle.clu_build.specs.Entering.{AreEntered, AreReplaced, IsFileEntered, text_at}
+use Rattle.clu_build.specs.Entering.{AreEntered, AreReplaced, IsFileEntered, names_of, text_at}
 use Rattle.clu_build.specs.Programs.{IsLinked}
 use Rattle.clu_build.specs.References.{cross_reference}
 use Rattle.clu_library.specs.Contents.{Contents, program_of}
 use Rattle.clu_library.specs.LibraryFile.{library_bytes}
+use Rattle.clu_library.specs.Unmet.{TellsUnmet}
 use Rattle.clu_library.specs.declared.program.Program.{Program}
 use Rattle.clu_rules.specs.Modules.{AreOf}
 use Rattle.clu_rules.specs.Rules.{IsClosedAt}
@@ -64,7 +65,7 @@ EnteredShows how name known own texts files faults files' faults' =
 -- specifications were entered beside the kept ones, or in their place
 abbrev pub IsSpecified : Kept → Contents → List Spec → Contents → Type 0
 IsSpecified kept.Stays before specs after = AreEntered before after specs
-IsSpecified kept.Goes before specs after = AreReplaced before specs after
+IsSpecified kept.Goes before specs after = AreReplaced before specs after × TellsUnmet after (names_of specs) None
 
 -- they were refused and no file changed, or the library was put in which they are entered
 abbrev pub SpecsShow : Kept → Outcome → List ℕ → Contents → List Spec → Option Files → ℕ → Option Files → ℕ → Type 0

@@ -1,3 +1,4 @@
+pub mod Amiss
 pub mod Appending
 pub mod Ascending
 pub mod Bounding

@@ -9,3 +9,4 @@ pub mod LibraryReading
 pub mod Replacing
 pub mod Resting
 pub mod Staleness
+pub mod Unmet

@@ -3,6 +3,7 @@
 ghost use Rattle.std.specs.Prelude.{◌≡◌, ◌<◌, ◌↔◌, length, slice_get, IfErr, IfOk, IfSome, OnOk, OnErr, IsSome, IsTrue};
 ghost use Rattle.std.specs.Option.{option_copied};
 ghost use Rattle.clu_specs.specs.Specifications.{SpecHolds};
+ghost use Rattle.clu_types.specs.Specs.{AreAscending};
 ghost use Rattle.clu_library.specs.Contents.{nothing, spec_of, last_change, limit, changed_of, body_of, program_of, HaveSameText, IsDifference, KeepsFirst, MayEnter, NotAdded, NotEntered, NotKept, HasRoom, with_entered, with_new_spec, with_body, with_program};
 
 use crate::body::{Body, Change, ModuleBody};
@@ -86,6 +87,7 @@ impl Library {
     pub(crate) fn nth_spec(&self, n: u32) -> Option<&Spec>
         ensures nth { option_copied result ≡ slice_get self.now.specs n }
         ensures whole { IfSome result (λ s. SpecHolds s.now) }
+        ensures ascending { AreAscending self.now.specs }
     {
         match self.specs.at(n) {
             Some(kept) => Some(kept),

@@ -1,139 +1,73 @@
-//! Whether the types of each kept specification name clusters that are kept, with actual parameters of their kinds that
-//! meet their demands.
+//! Whether the specifications that are kept are sound.
 
-use crate::instances::{are_formed, is_met};
-use crate::library::{LIMIT, Library};
-use crate::parts::{add_form_demands, add_op, add_parts};
+ghost use Rattle.std.specs.Prelude.{◌≡◌, ◌↔◌, IfOk, IsTrue, Contains};
+ghost use Rattle.std.specs.List.{list_any};
+ghost use Rattle.std.specs.Str.{bytes_eq};
+ghost use Rattle.clu_sound.specs.Sound.{IsSound};
+ghost use Rattle.clu_specs.specs.Specifications.{SpecHolds};
+ghost use Rattle.clu_library.specs.Unmet.{IsAmiss, TellsUnmet};
+
+use crate::library::Library;
 use clu_base::{Bytes, Memory};
-use clu_types::{Demand, Form, OpSpec, Spec, Specs, Term, TypeArena, TypeId};
-use indexmap::IndexSet;
+use clu_sound::is_sound;
+use clu_types::{Spec, Specs};
 use std::alloc::Global;
 
 impl Library {
     /// The least name of a kept module outside the list whose specification has a type of a cluster that isn't kept, or
     /// with actual parameters of other kinds or that do not meet its demands; None exactly where there is none. The only
     /// error is that memory runs out.
-    pub fn unmet(&self, alloc: Global, besides: &[Bytes]) -> Result<Option<Bytes>, Memory> {
-        for n in 0..LIMIT {
-            let Some(spec) = self.specs.at(n) else {
+    #[tactic(auto, using(crate::proofs::Amiss::tellings))]
+    pub fn unmet(&self, alloc: Global, besides: &[Bytes]) -> Result<Option<Bytes>, Memory>
+        ensures { IfOk result (TellsUnmet self.now besides.now) }
+    {
+        // so many specifications are more than memory holds
+        for n in 0..u32::MAX {
+            let Some(spec) = self.nth_spec(n) else {
                 return Ok(None);
             };
-            if !besides.contains(&spec.name) && !is_sound(alloc, spec, &self.specs)? {
+            let is_next = is_amiss(alloc, spec, besides, &self.specs)?;
+            if is_next {
                 return Ok(Some(spec.name.copy(alloc)?));
             }
         }
-        Ok(None)
+        Err(Memory)
     }
 }
 
-/// Whether the types of a specification are those of kept clusters.
-fn is_sound(alloc: Global, spec: &Spec, specs: &Specs) -> Result<bool, Memory> {
-    if !are_formed(spec, specs) {
-        return Ok(false);
-    }
-    if !has_demands(&spec.types, specs) {
-        return Ok(true);
-    }
-    let mut types = spec.types.copy(alloc)?;
-    match &spec.form {
-        Form::Routine(op) => is_op_sound(alloc, op, op.demands.as_slice(), &mut types, specs),
-        Form::Cluster(demands, ops) => {
-            is_cluster_sound(alloc, demands.as_slice(), ops.as_slice(), &mut types, specs)
-        }
+/// Whether a specification is of none of these modules, and isn't sound.
+fn is_amiss(alloc: Global, spec: &Spec, besides: &[Bytes], specs: &Specs) -> Result<bool, Memory>
+    requires { SpecHolds spec.now }
+    ensures { IfOk result (λ amiss. IsTrue amiss ↔ IsAmiss specs.now besides.now spec.now) }
+{
+    if is_among(&spec.name, besides) {
+        Ok(false)
+    } else {
+        is_unsound(alloc, spec, specs)
     }
 }
 
-/// Whether a cluster among the types demands anything of its actual parameters.
-fn has_demands(types: &TypeArena, specs: &Specs) -> bool {
-    for n in 0..types.len() {
-        if let Term::Cluster(name, _) = types.view(TypeId(n as u64)) {
-            if is_demanding(specs.get(name)) {
-                return true;
-            }
+fn is_among(name: &Bytes, names: &[Bytes]) -> bool
+    ensures { IsTrue result ↔ Contains names.now name.now }
+{
+    holds(names, name)
+}
+
+fn holds(names: &[Bytes], name: &Bytes) -> bool
+    ensures { result ≡ list_any (bytes_eq name.now) names.now }
+{
+    for other in names {
+        if *name == *other {
+            return true;
         }
     }
     false
 }
 
-fn is_demanding(spec: Option<&Spec>) -> bool {
-    match spec {
-        Some(spec) => match &spec.form {
-            Form::Cluster(demands, _) => !demands.as_slice().is_empty(),
-            Form::Routine(_) => false,
-        },
-        None => false,
-    }
-}
-
-/// Whether the types of a cluster's demands and operations meet what is demanded of them.
-fn is_cluster_sound(
-    alloc: Global,
-    demands: &[Demand],
-    ops: &[OpSpec],
-    types: &mut TypeArena,
-    specs: &Specs,
-) -> Result<bool, Memory> {
-    let mut ids = IndexSet::new(alloc);
-    add_form_demands(&mut ids, demands)?;
-    if !are_met(alloc, &mut ids, demands, types, specs)? {
-        return Ok(false);
-    }
-    for op in ops {
-        let given = given_in(alloc, op, demands)?;
-        if !is_op_sound(alloc, op, given.as_slice(), types, specs)? {
-            return Ok(false);
-        }
-    }
-    Ok(true)
-}
-
-/// What is given in an operation of a cluster: its own demands before those of the cluster.
-fn given_in(alloc: Global, op: &OpSpec, demands: &[Demand]) -> Result<Vec<Demand>, Memory> {
-    let mut given = Vec::new(alloc);
-    add_copies(alloc, &mut given, op.demands.as_slice())?;
-    add_copies(alloc, &mut given, demands)?;
-    Ok(given)
-}
-
-fn add_copies(alloc: Global, given: &mut Vec<Demand>, demands: &[Demand]) -> Result<(), Memory> {
-    for demand in demands {
-        given.push(demand.copy(alloc)?)?;
-    }
-    Ok(())
-}
-
-/// Whether the types of a routine meet what is demanded of them, if this is given.
-fn is_op_sound(
-    alloc: Global,
-    op: &OpSpec,
-    given: &[Demand],
-    types: &mut TypeArena,
-    specs: &Specs,
-) -> Result<bool, Memory> {
-    let mut ids = IndexSet::new(alloc);
-    add_op(&mut ids, op)?;
-    are_met(alloc, &mut ids, given, types, specs)
-}
-
-/// Whether these types and their parts meet what is demanded of them. The list grows by the parts.
-fn are_met(
-    alloc: Global,
-    ids: &mut IndexSet<TypeId>,
-    given: &[Demand],
-    types: &mut TypeArena,
-    specs: &Specs,
-) -> Result<bool, Memory> {
-    for n in 0..usize::MAX {
-        let Some(id) = ids.get_index(n).copied() else {
-            return Ok(true);
-        };
-        if !types.contains(id) {
-            return Ok(false);
-        }
-        add_parts(ids, types.view(id))?;
-        if !is_met(alloc, id, given, types, specs)? {
-            return Ok(false);
-        }
-    }
-    Ok(true)
+fn is_unsound(alloc: Global, spec: &Spec, specs: &Specs) -> Result<bool, Memory>
+    requires { SpecHolds spec.now }
+    ensures { IfOk result (λ unsound. IsTrue unsound ↔ (IsSound specs.now spec.now → ⊥)) }
+{
+    let sound = is_sound(alloc, spec, specs)?;
+    Ok(!sound)
 }

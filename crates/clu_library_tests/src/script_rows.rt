@@ -1,7 +1,7 @@
 //! Scripts over libraries.
 
 /// How many rows `SCRIPTS` has besides comments.
-pub const SCRIPT_COUNT: usize = 17;
+pub const SCRIPT_COUNT: usize = 18;
 
 /// Rows that each end with byte 0: lines with steps, and after a tab what comes of each. One that begins with `%` is a
 /// comment.
@@ -40,7 +40,7 @@ pub const SCRIPTS: &str = "\
     % The last revision, and the last module.\0\
     f CLUL w2 w4294967295 w1 w0 'q \"q=proc() w7 b1 \"t w4294967295 b0 ( CLUO w2 'q w0 )\tok\nr q=proc(int)\tfull\n\
     r q=proc()\tfalse\nr p=proc()\ttrue\nw\t4294967295 p 0,q 7 4294967295,\0\
-    m 4096\tok\ns m4095=proc()\tok\ns a=proc()\tfull\nr a=proc()\tfull\nr m7=proc(int)\ttrue\0\
+    m 4096\tok\nu\t-\ns m4095=proc()\tok\ns a=proc()\tfull\nr a=proc()\tfull\nr m7=proc(int)\ttrue\0\
     % Types of clusters that are kept, of their kinds.\0\
     s s=cluster[type]is;make:proc()returns(s[#1])\tok\ns u=proc(s[int])\tok\nu\t-\n\
     r s=clusteris;make:proc()returns(s)\ttrue\nu\tu\nu s\tu\nu s u\t-\0\
@@ -61,4 +61,8 @@ pub const SCRIPTS: &str = "\
     s d=cluster[type]is;m:proc() where #1 has f:proctype(#1) ;n:proc(s[#1])\tok\nu b\td\n\
     s e=cluster[type] where #1 has f:proctype(#1) is;n:proc(s[#1])\tok\nu b d\t-\n\
     s f=cluster[type] where #1 has g:proctype(s[#1]) is;n:proc()\tok\nu b d\tf\0\
+    s s=cluster[type] where #1 has f:proctype(int) is;m:proc()\tok\ns c=clusteris;f:proc(int)\tok\n\
+    s a=proc(array[record[x:sequence[s[c]]]])\tok\nu\t-\ns b=proc(oneof[x:struct[y:itertype(s[int])]])\tok\nu\tb\n\
+    s d=proc(s[s[c]])\tok\nu b\td\ns k=cluster[type] where #1 has f:proctype(int) is;m:proc(s[#1]) where #1 has f:proctype() \tok\n\
+    u b d\tk\ns l=cluster[type] where #1 has f:proctype(int) is;m:proc(s[#1]) where #1 has g:proctype() \tok\nu b d k\t-\0\
 ";

@@ -1,5 +1,0 @@
-use Rattle.std.proofs.Common.{length}
-use Rattle.clu_library.proofs.whole.+holds_ops.Given as goal
-
-abbrev pub decreases-holds_ops : goal.decreases-holds_ops
-decreases-holds_ops l = length l.ops.now
