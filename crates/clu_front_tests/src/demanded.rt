@@ -25,11 +25,9 @@ fn demands_of(form: &Form) -> &[Demand] {
     }
 }
 
-fn fill(alloc: Global, specs: &mut Specs, mut texts: &str) -> Result<(), Fail> {
-    while !texts.is_empty() {
-        let (text, others) = parts(texts);
+fn fill(alloc: Global, specs: &mut Specs, texts: &str) -> Result<(), Fail> {
+    for text in texts.split_terminator('|') {
         specs.with(read_spec(alloc, text.as_bytes())?)?;
-        texts = others;
     }
     Ok(())
 }

@@ -26,7 +26,7 @@ impl Library {
             let Some(spec) = self.nth_spec(n) else {
                 return Ok(None);
             };
-            let is_next = is_amiss(alloc, spec, besides, &self.specs)?;
+            let is_next = is_amiss(alloc, spec, besides, self.specs())?;
             if is_next {
                 return Ok(Some(spec.name.copy(alloc)?));
             }
