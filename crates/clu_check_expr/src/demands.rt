@@ -12,27 +12,9 @@ use clu_builtin::Need;
 use clu_core::{Context, SetDemand, Unit};
 use clu_demands::{Asked, all_demanded, holds_demands, op_named};
 use clu_equates::CheckError;
-use clu_types::{Actual, Demand, Form, Spec, Specs, TypeArena, TypeId};
+use clu_types::{Actual, Demand, Form, Spec, Specs, TypeArena};
 use indexmap::IndexSet;
 use std::alloc::Global;
-
-/// Whether `of` has an operation `op` of a type included in `wanted`, and what that operation asks is met.
-/// `given` is what where clauses give of type parameters.
-pub fn meets(
-    alloc: Global,
-    of: TypeId,
-    op: &Bytes,
-    wanted: TypeId,
-    given: &[Demand],
-    specs: &Specs,
-    types: &mut TypeArena,
-) -> Result<bool, CheckError> {
-    if types.contains(of) && types.contains(wanted) && holds_demands(types, given) {
-        Ok(clu_demands::meets(alloc, of, op, wanted, given, specs, types)?)
-    } else {
-        Err(CheckError::NotYet)
-    }
-}
 
 /// Whether all that a built-in operation needs is met.
 pub fn are_met(

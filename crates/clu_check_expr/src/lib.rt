@@ -21,7 +21,6 @@ mod type_rules;
 mod up_down;
 
 pub use crate::check::{CallUse, check_call, check_expr, check_type};
-pub use crate::demands::meets;
 pub use crate::equates::{check_constant, enter_declared, enter_equates};
 pub use crate::invoked::Operation;
 pub use crate::operations::{invoke, operation};
