@@ -2,15 +2,12 @@
 use Rattle.std.proofs.Common.{◌≡◌, ◌↔◌, ℕ, Bool, true, false, not, List, Contains, Some, IsTrue, refl, sym, ◌∙◌, true≢false}
 use Rattle.std.specs.List.{list_any}
 use Rattle.std.specs.Str.{bytes_eq}
-use Rattle.std.proofs.lemmas.List.Folds.{list_any_at}
 use Rattle.indexmap.proofs.CallerLemmas.{Contains-list_any}
 use Rattle.clu_library.specs.Contents.{Contents, body_of}
 use Rattle.clu_library.specs.declared.body.Body.{Body}
+use Rattle.clu_library.proofs.Closing.{listed}
 use Rattle.clu_build.specs.Entering.{IsKeptText}
-use Rattle.clu_build.proofs.Numbering.{eq_of, same_of}
-
-listed : (names : List (List ℕ)) (name : List ℕ) → Contains names name → list_any (bytes_eq name) names ≡ true
-listed names name h = list_any_at (bytes_eq name) names h.0 name h.1 (eq_of name _ (sym h.2))
+use Rattle.clu_build.proofs.Numbering.{same_of}
 
 pub kept_text : (library : Contents) (name source : List ℕ) (stale : List (List ℕ)) (b : Body) (text : List ℕ) (eq has : Bool) → Some b ≡ body_of library name → text ≡ b.text → eq ≡ true → eq ≡ bytes_eq text source
     → has ≡ list_any (bytes_eq name) stale → IsTrue (not has) ↔ IsKeptText library name source stale
