@@ -11,6 +11,7 @@ use clu_frames::{FlatRoutine, flatten};
 use clu_handlers::Regions;
 use clu_library::Body;
 use clu_lower_ctl::lower;
+use clu_lower_expr::Declarations;
 use clu_object::{ObjRoutine, Object, copy_texts};
 use clu_peep::{Peeped, is_flattened, peep};
 use clu_wir::WRoutine;
@@ -28,6 +29,7 @@ pub struct Text<'a> {
 pub fn body_of(
     alloc: Global,
     c: &Checked,
+    declarations: &Declarations,
     module: u32,
     name: &Bytes,
     names: &[Bytes],
@@ -41,7 +43,7 @@ pub fn body_of(
         text: Bytes::from_slice(alloc, source)?,
         names: Some(copy_texts(alloc, names)?),
         checked: 0,
-        object: object_of(alloc, c, module, name, peep)?,
+        object: object_of(alloc, c, declarations, module, name, peep)?,
     })
 }
 
@@ -76,6 +78,7 @@ fn between(bytes: &[u8], start: usize, end: usize) -> Result<&[u8], BuildError>
 fn object_of(
     alloc: Global,
     c: &Checked,
+    declarations: &Declarations,
     module: u32,
     name: &Bytes,
     peep: bool,
@@ -84,7 +87,7 @@ fn object_of(
 {
     Ok(Object {
         module: name.copy(alloc)?,
-        routines: Sequence::from_vec(routines_of(alloc, c, module, peep)?),
+        routines: Sequence::from_vec(routines_of(alloc, c, declarations, module, peep)?),
     })
 }
 
@@ -92,13 +95,14 @@ fn object_of(
 fn routines_of(
     alloc: Global,
     c: &Checked,
+    declarations: &Declarations,
     module: u32,
     peep: bool,
 ) -> Result<Vec<ObjRoutine>, BuildError>
     ensures refused { IfErr result IsInner }
 {
     let mut routines = Vec::new(alloc);
-    for routine in lower(alloc, c, module)? {
+    for routine in lower(alloc, c, declarations, module)? {
         routines.push(routine_of(alloc, &routine, peep)?)?;
     }
     Ok(routines)

@@ -3,7 +3,7 @@
 use clu_base::{Bytes, Sequence};
 use clu_core::Checked;
 use clu_lexer::lex;
-use clu_lower_ctl::lower;
+use clu_lower_ctl::{declarations_of, lower};
 use clu_parser::parse;
 use clu_types::{Form, Heading, OpSpec, Spec, Term, TypeArena, TypeId};
 use clu_wir::WRoutine;
@@ -86,8 +86,9 @@ fn spec(alloc: Global) -> Result<Box<Spec>, Fail> {
 
 /// The routines of the file.
 fn routines(alloc: Global, checked: &Checked) -> Result<Vec<WRoutine>, Fail> {
+    let declarations = declarations_of(alloc, &checked.tree)?;
     match checked.tree.modules().first() {
-        Some(module) => Ok(lower(alloc, checked, *module)?),
+        Some(module) => Ok(lower(alloc, checked, &declarations, *module)?),
         None => Err("no module")?,
     }
 }

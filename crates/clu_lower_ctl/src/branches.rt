@@ -1,12 +1,11 @@
 //! Branches: what is done where a condition is true. Each further one stands in the second list of the one before, as the
 //! clauses of an If do (CLU Reference Manual, section 11.6).
 
-use crate::Result;
 use crate::nodes::{is_behind_else, is_item};
 use crate::walk::{body, condition};
 use clu_core::Checked;
 use clu_equates::node_at;
-use clu_lower_expr::Lowering;
+use clu_lower_expr::{Fixed, Lowering, Result};
 use clu_tree::Node;
 use clu_wir::{WExpr, WStmt};
 use std::alloc::Global;
@@ -102,15 +101,15 @@ fn add_item(clauses: &mut Vec<Clause>, n: u32) -> Result<()> {
 
 /// `if condition then body elseif condition then body else body end`
 #[cycle(statements)]
-pub fn if_statement(out: &mut Lowering, c: &Checked, node: &Node, depth: u32) -> Result<()> {
-    let choice = choice_of(out.alloc, c, node)?;
+pub fn if_statement(out: &mut Lowering, fixed: &Fixed, node: &Node, depth: u32) -> Result<()> {
+    let choice = choice_of(out.alloc, fixed.c, node)?;
     let mut branches = Vec::new(out.alloc);
     for clause in choice.clauses.as_slice() {
-        let condition = condition(out, c, clause.condition)?;
+        let condition = condition(out, fixed, clause.condition)?;
         open_branch(out, condition, &mut branches)?;
-        body(out, c, clause.items.as_slice(), depth)?;
+        body(out, fixed, clause.items.as_slice(), depth)?;
         end_branch(out, &mut branches);
     }
-    body(out, c, choice.otherwise.as_slice(), depth)?;
+    body(out, fixed, choice.otherwise.as_slice(), depth)?;
     close_branches(out, branches)
 }

@@ -4,18 +4,20 @@
 ghost use Rattle.std.specs.Prelude.{All, IfOk};
 ghost use Rattle.clu_lower_expr.specs.Bounds.{IsBounded};
 
-use crate::Result;
 use crate::declaring::formals;
 use crate::given::{Member, give_cluster, give_member, own_actuals};
 use crate::headings::note_heading;
 use crate::nodes::children_of;
 use crate::own_type::note_types;
 use crate::own_variables::{declare_owns, set_up};
-use crate::routines::{begun, body, count, is_procedure, own_name, specification};
+use crate::routines::{begun, body, count, is_procedure, nothing_fixed, own_name, specification};
 use clu_base::{Bytes, Sequence};
 use clu_core::Checked;
 use clu_equates::{first_name, intern, node_at};
-use clu_lower_expr::{LowerError, Lowering, Sealed, Seen, lower_own_set_up, written_heading};
+use clu_lower_expr::{
+    Declarations, Fixed, LowerError, Lowering, Result, Sealed, Seen, lower_own_set_up,
+    written_heading,
+};
 use clu_specs::{Target, use_text};
 use clu_tree::{Node, NodeKind};
 use clu_types::{Spec, Term, TypeArena, TypeId};
@@ -29,7 +31,7 @@ const SET_UP: &[u8] = b"own";
 /// A cluster in the making.
 #[derive(Clone, Copy)]
 struct Cluster<'a> {
-    module: &'a Node,
+    declarations: &'a Declarations,
     node: &'a Node,
     spec: &'a Spec,
     /// The type that its `rep` denotes.
@@ -37,12 +39,11 @@ struct Cluster<'a> {
     owns: &'a [u32],
 }
 
-/// The routines of a cluster, by the nodes of its module and its own, after that which sets up its own variables, if it
-/// has any.
+/// The routines of a cluster, by its node, after that which sets up its own variables, if it has any.
 pub fn cluster_routines(
     alloc: Global,
     c: &Checked,
-    module: &Node,
+    declarations: &Declarations,
     node: &Node,
 ) -> Result<Vec<WRoutine>>
     ensures { IfOk result (λ routines. All IsBounded routines.items) }
@@ -50,7 +51,7 @@ pub fn cluster_routines(
     let owns = children_of(alloc, c, node, NodeKind::Own)?;
     let routines = children_of(alloc, c, node, NodeKind::Routine)?;
     let cluster = Cluster {
-        module,
+        declarations,
         node,
         spec: specification(c, first_name(node)?)?,
         rep: representation(c, node)?,
@@ -74,11 +75,11 @@ fn representation(c: &Checked, node: &Node) -> Result<Option<TypeId>> {
 }
 
 impl Cluster<'_> {
-    /// Adds the cluster's own variables and what its where clause gives to a routine in the making.
-    fn begin(&self, out: &mut Lowering, c: &Checked) -> Result<()> {
-        out.body.rep = self.rep;
-        give_cluster(out, self.spec)?;
-        declare_owns(out, c, self.owns, HoleKind::ClusterOwn)
+    /// Notes the cluster's representation, its own variables and what its where clause gives.
+    fn note(&self, fixed: &mut Fixed) -> Result<()> {
+        fixed.rep = self.rep;
+        give_cluster(fixed, self.spec)?;
+        declare_owns(fixed, self.owns, HoleKind::ClusterOwn)
     }
 
     /// The routines of these nodes, after that which sets up the own variables.
@@ -109,14 +110,15 @@ impl Cluster<'_> {
     {
         let name = Bytes::from_slice(alloc, SET_UP)?;
         let mut out = begun(alloc)?;
-        self.fill_set_up(&mut out, c)?;
+        let mut fixed = nothing_fixed(alloc, c, self.declarations)?;
+        self.fill_set_up(&mut out, &mut fixed)?;
         out.finish(name, 0, self.own_nodes(c))
     }
 
-    fn fill_set_up(&self, out: &mut Lowering, c: &Checked) -> Result<()> {
-        self.begin(out, c)?;
+    fn fill_set_up(&self, out: &mut Lowering, fixed: &mut Fixed) -> Result<()> {
+        self.note(fixed)?;
         let _own = out.add_type(Bytes::from_slice(out.alloc, b"proctype()")?)?;
-        set_up(out, c, self.owns, HoleKind::ClusterOwn)?;
+        set_up(out, fixed, self.owns, HoleKind::ClusterOwn)?;
         out.push(WStmt::Return(Vec::new(out.alloc)))
     }
 
@@ -134,28 +136,29 @@ impl Cluster<'_> {
     {
         let name = own_name(alloc, node)?;
         let mut out = begun(alloc)?;
-        let args = self.fill(&mut out, c, node)?;
+        let mut fixed = nothing_fixed(alloc, c, self.declarations)?;
+        let args = self.fill(&mut out, &mut fixed, node)?;
         out.finish(name, args, count(c, n))
     }
 
     /// Adds all that stands in a routine; the answer is how many arguments it takes.
-    fn fill(&self, out: &mut Lowering, c: &Checked, node: &Node) -> Result<u32> {
+    fn fill(&self, out: &mut Lowering, fixed: &mut Fixed, node: &Node) -> Result<u32> {
         let member = Member {
-            module: self.module,
             cluster: self.node,
             routine: node,
             spec: self.spec,
         };
-        give_member(out, c, member)?;
-        self.begin(out, c)?;
-        note_types(out, self.seen(out.alloc, c, node)?, !is_procedure(node))?;
-        let args = formals(out, c, node)?;
+        give_member(fixed, member)?;
+        self.note(fixed)?;
+        let seen = self.seen(out.alloc, fixed.c, node)?;
+        note_types(out, fixed, seen, !is_procedure(node))?;
+        note_heading(fixed, node)?;
+        let args = formals(out, fixed, node)?;
         if !self.owns.is_empty() {
             let text = self.set_up_text(out.alloc)?;
             lower_own_set_up(out, text)?;
         }
-        note_heading(out, c, node)?;
-        body(out, c, node)?;
+        body(out, fixed, node)?;
         Ok(args)
     }
 

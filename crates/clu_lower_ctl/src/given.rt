@@ -1,32 +1,25 @@
 //! What the where clauses round the body of a routine give of type parameters (CLU Reference Manual, section 12.4).
 
-use crate::Result;
 use crate::nodes::child_of;
 use clu_base::Bytes;
 use clu_core::Checked;
 use clu_equates::{first_name, intern, node_at, only_child};
-use clu_lower_expr::{LowerError, Lowering, denoted_type};
+use clu_lower_expr::{Fixed, LowerError, Result, denoted_type};
 use clu_tree::{Node, NodeKind};
 use clu_types::{Actual, Demand, Form, OpSpec, ParamKind, Spec, Term, TypeArena};
 use std::alloc::Global;
 
 /// Adds what the where clause of a cluster gives.
-pub fn give_cluster(out: &mut Lowering, spec: &Spec) -> Result<()> {
+pub fn give_cluster(fixed: &mut Fixed, spec: &Spec) -> Result<()> {
     match &spec.form {
-        Form::Cluster(demands, _) => give_demands(out, spec, demands.as_slice()),
+        Form::Cluster(demands, _) => fixed.give(&spec.types, demands.as_slice(), &[]),
         Form::Routine(_) => Err(LowerError::NotYet),
     }
-}
-
-/// Adds what a where clause gives, by the specification in which it stands.
-pub fn give_demands(out: &mut Lowering, spec: &Spec, demands: &[Demand]) -> Result<()> {
-    out.body.give(out.alloc, &spec.types, demands, &[])
 }
 
 /// A routine of a cluster, and the nodes round it.
 #[derive(Clone, Copy)]
 pub struct Member<'a> {
-    pub module: &'a Node,
     pub cluster: &'a Node,
     pub routine: &'a Node,
     /// The specification of the cluster.
@@ -35,12 +28,13 @@ pub struct Member<'a> {
 
 /// Adds what the where clause of a routine of a cluster gives. One that is exported has it in the specification; of any
 /// other its text is read.
-pub fn give_member(out: &mut Lowering, c: &Checked, member: Member<'_>) -> Result<()> {
+pub fn give_member(fixed: &mut Fixed, member: Member<'_>) -> Result<()> {
+    let c = fixed.c;
     if let Some(op) = exported(member.spec, first_name(member.routine)?) {
-        return give_demands(out, member.spec, op.demands.as_slice());
+        return fixed.give(&member.spec.types, op.demands.as_slice(), &[]);
     }
     match child_of(c, member.routine, NodeKind::Where)? {
-        Some(n) => give_written(out, c, member, node_at(&c.tree, n)?),
+        Some(n) => give_written(fixed, member, node_at(&c.tree, n)?),
         None => Ok(()),
     }
 }
@@ -62,34 +56,30 @@ fn operation_named<'a>(ops: &'a [OpSpec], name: &Bytes) -> Option<&'a OpSpec> {
     None
 }
 
-fn give_written(out: &mut Lowering, c: &Checked, member: Member<'_>, clause: &Node) -> Result<()> {
+fn give_written(fixed: &mut Fixed, member: Member<'_>, clause: &Node) -> Result<()> {
+    let c = fixed.c;
     for child in clause.children.as_slice() {
-        give_restrict(out, c, member, node_at(&c.tree, *child)?)?;
+        give_restrict(fixed, member, *child, node_at(&c.tree, *child)?)?;
     }
     Ok(())
 }
 
-fn give_restrict(
-    out: &mut Lowering,
-    c: &Checked,
-    member: Member<'_>,
-    restrict: &Node,
-) -> Result<()> {
-    let param = parameter_named(c, member.cluster, first_name(restrict)?)?;
-    match set_of(c, member, restrict)? {
+fn give_restrict(fixed: &mut Fixed, member: Member<'_>, n: u32, restrict: &Node) -> Result<()> {
+    let param = parameter_named(fixed.c, member.cluster, first_name(restrict)?)?;
+    match set_of(fixed, n, restrict)? {
         Some(set) => {
-            let actuals = actuals_of_set(out, member.spec, param)?;
-            give_opers(out, c, set, param, actuals.as_slice())
+            let actuals = actuals_of_set(fixed, member.spec, param)?;
+            give_opers(fixed, set, param, actuals.as_slice())
         }
-        None => give_opers(out, c, restrict, param, &[]),
+        None => give_opers(fixed, restrict, param, &[]),
     }
 }
 
 /// The types in a set name its variable as a parameter after those of the module, which stay as they are. Its actual
 /// is the parameter that is in the set.
-fn actuals_of_set(out: &mut Lowering, spec: &Spec, param: u32) -> Result<Vec<Actual>> {
-    let types = &mut out.body.given_types;
-    let mut actuals = own_actuals(out.alloc, types, spec.kinds.as_slice())?;
+fn actuals_of_set(fixed: &mut Fixed, spec: &Spec, param: u32) -> Result<Vec<Actual>> {
+    let types = &mut fixed.given_types;
+    let mut actuals = own_actuals(fixed.alloc, types, spec.kinds.as_slice())?;
     actuals.push(Actual::Of(intern(types, Term::Param(param))?))?;
     Ok(actuals)
 }
@@ -113,89 +103,60 @@ pub fn own_actuals(
 }
 
 /// Adds what the Opers in a Restrict or a type set ask of a parameter.
-fn give_opers(
-    out: &mut Lowering,
-    c: &Checked,
-    node: &Node,
-    param: u32,
-    actuals: &[Actual],
-) -> Result<()> {
+fn give_opers(fixed: &mut Fixed, node: &Node, param: u32, actuals: &[Actual]) -> Result<()> {
+    let c = fixed.c;
     for child in node.children.as_slice() {
         let oper = node_at(&c.tree, *child)?;
         if oper.kind == NodeKind::Oper {
-            give_oper(out, c, oper, param, actuals)?;
+            give_oper(fixed, oper, param, actuals)?;
         }
     }
     Ok(())
 }
 
-fn give_oper(
-    out: &mut Lowering,
-    c: &Checked,
-    oper: &Node,
-    param: u32,
-    actuals: &[Actual],
-) -> Result<()> {
-    let wanted = denoted_type(out, c, only_child(oper)?)?;
-    let mut demands = Vec::new(out.alloc);
+fn give_oper(fixed: &mut Fixed, oper: &Node, param: u32, actuals: &[Actual]) -> Result<()> {
+    let wanted = denoted_type(fixed, only_child(oper)?)?;
+    let mut demands = Vec::new(fixed.alloc);
     for name in oper.names.as_slice() {
         demands.push(Demand {
             param,
-            op: name.copy(out.alloc)?,
+            op: name.copy(fixed.alloc)?,
             wanted,
         })?;
     }
-    out.body
-        .give(out.alloc, &c.types, demands.as_slice(), actuals)
+    let c = fixed.c;
+    fixed.give(&c.types, demands.as_slice(), actuals)
 }
 
 /// The type set that a Restrict has or names.
-fn set_of<'a>(c: &'a Checked, member: Member<'_>, restrict: &Node) -> Result<Option<&'a Node>> {
-    if let Some(child) = restrict.children.as_slice().first() {
-        let child = node_at(&c.tree, *child)?;
-        return Ok(if child.kind == NodeKind::TypeSet {
-            Some(child)
-        } else {
-            None
-        });
-    }
-    match restrict.names.as_slice() {
-        [_, name] => Ok(Some(set_named(c, member, name)?)),
-        _ => Err(LowerError::NotYet),
-    }
+fn set_of<'a>(fixed: &Fixed<'a>, n: u32, restrict: &Node) -> Result<Option<&'a Node>> {
+    let c = fixed.c;
+    let Some(child) = restrict.children.as_slice().first() else {
+        return Ok(Some(set_named(fixed, n, 1)?));
+    };
+    let child = node_at(&c.tree, *child)?;
+    Ok(if child.kind == NodeKind::TypeSet {
+        Some(child)
+    } else {
+        None
+    })
 }
 
-/// The type set that a name comes to, through no more equates than there are nodes.
-fn set_named<'a>(c: &'a Checked, member: Member<'_>, name: &Bytes) -> Result<&'a Node> {
-    let mut right = equated(c, member, name)?;
+/// The type set that the k-th name of a node comes to, through no more equates than there are nodes.
+fn set_named<'a>(fixed: &Fixed<'a>, n: u32, k: usize) -> Result<&'a Node> {
+    let c = fixed.c;
+    let mut place = fixed.declarations.denoted(n, k)?;
     for _ in 0..c.tree.len() {
-        match right.kind {
-            NodeKind::TypeSet => return Ok(right),
-            NodeKind::Name => right = equated(c, member, first_name(right)?)?,
+        let equate = node_at(&c.tree, fixed.declarations.node(place)?)?;
+        let right = only_child(equate)?;
+        let node = node_at(&c.tree, right)?;
+        match node.kind {
+            NodeKind::TypeSet => return Ok(node),
+            NodeKind::Name => place = fixed.declarations.denoted(right, 0)?,
             _ => return Err(LowerError::NotYet),
         }
     }
     Err(LowerError::NotYet)
-}
-
-/// The right side of the equate of this name in a routine, round it in the cluster, or round that in the module.
-fn equated<'a>(c: &'a Checked, member: Member<'_>, name: &Bytes) -> Result<&'a Node> {
-    for node in [member.routine, member.cluster, member.module] {
-        if let Some(right) = equated_in(c, node, name)? {
-            return Ok(right);
-        }
-    }
-    Err(LowerError::NotYet)
-}
-
-fn equated_in<'a>(c: &'a Checked, node: &Node, name: &Bytes) -> Result<Option<&'a Node>> {
-    for child in node.children.as_slice() {
-        let equate = node_at(&c.tree, *child)?;
-        if equate.kind == NodeKind::Equate && equate.names.as_slice().first() == Some(name) {
-            return Ok(Some(node_at(&c.tree, only_child(equate)?)?));
-        }
-    }
-    Ok(None)
 }
 
 /// The number of the parameter of this name of a cluster.

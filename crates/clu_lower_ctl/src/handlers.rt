@@ -1,16 +1,15 @@
 //! Except and Resignal (CLU Reference Manual, sections 12.2 to 12.4): a guard round the statement, whose arms stand
 //! outside it.
 
-use crate::Result;
-use crate::declaring::{Declared, declare_formal, declare_formals, decls_in};
+use crate::declaring::{Declared, declare_formal, declare_formals, declared_by, decls_in};
 use crate::walk::{body, statement};
 use clu_base::Bytes;
-use clu_core::Checked;
 use clu_equates::{intern, node_at, only_child};
-use clu_lower_expr::{LowerError, Lowering, OpenArm, bind, copied_names, denotes_any};
+use clu_lower_expr::{Fixed, LowerError, Lowering, OpenArm, Result, bind, copied_names};
 use clu_tree::{Node, NodeKind};
 use clu_types::{Term, TypeArena};
 use clu_wir::{WArm, WExpr, WStmt};
+use std::alloc::Global;
 use std::boxed::Box;
 
 /// The name of the exception that every routine may signal.
@@ -22,10 +21,9 @@ const WORD: u32 = 8;
 /// `statement resignal name, ..`: what the statement raises by these names is signalled on, with its objects and the types
 /// that came with them.
 #[cycle(statements)]
-pub fn resignal(out: &mut Lowering, c: &Checked, node: &Node, depth: u32) -> Result<()> {
+pub fn resignal(out: &mut Lowering, fixed: &Fixed, node: &Node, depth: u32) -> Result<()> {
     let outer = out.open();
-    out.body.direct = true;
-    statement(out, c, only_child(node)?, depth)?;
+    statement(out, fixed, only_child(node)?, true, depth)?;
     let body = out.close(outer);
     push_resignal(out, body, node.names.as_slice())
 }
@@ -39,18 +37,17 @@ fn push_resignal(out: &mut Lowering, body: Vec<WStmt>, names: &[Bytes]) -> Resul
 
 /// `statement except arm .. end`
 #[cycle(statements)]
-pub fn except(out: &mut Lowering, c: &Checked, node: &Node, depth: u32) -> Result<()> {
+pub fn except(out: &mut Lowering, fixed: &Fixed, node: &Node, depth: u32) -> Result<()> {
     let Some((n, arms)) = node.children.as_slice().split_first() else {
         return Err(LowerError::NotYet);
     };
-    let outside = out.body.guards.len();
-    let failure_arm = open_arms(out, c, arms)?;
+    let outside = out.guards.len();
+    let failure_arm = open_arms(out, fixed, arms)?;
     let outer = out.open();
-    out.body.direct = true;
-    statement(out, c, *n, depth)?;
+    statement(out, fixed, *n, true, depth)?;
     let body = out.close(outer);
     let body = close_arms(out, body, outside, failure_arm)?;
-    let arms = handlers(out, c, arms, depth)?;
+    let arms = handlers(out, fixed, arms, depth)?;
     out.push(WStmt::Guard(body, arms))
 }
 
@@ -62,7 +59,7 @@ fn close_arms(
     outside: usize,
     failure_arm: Option<u32>,
 ) -> Result<Vec<WStmt>> {
-    out.body.guards.truncate(outside);
+    out.guards.truncate(outside);
     match failure_arm {
         Some(arm) => type_failures(out, body, arm),
         None => Ok(body),
@@ -70,43 +67,43 @@ fn close_arms(
 }
 
 /// The arms of an Except stand round its statement. Gives the number of that which binds failures to type any.
-fn open_arms(out: &mut Lowering, c: &Checked, nodes: &[u32]) -> Result<Option<u32>> {
+fn open_arms(out: &mut Lowering, fixed: &Fixed, nodes: &[u32]) -> Result<Option<u32>> {
     let mut arms = Vec::new(out.alloc);
     for n in nodes {
-        arms.push(open_arm(out, c, node_at(&c.tree, *n)?)?)?;
+        arms.push(open_arm(fixed, node_at(&fixed.c.tree, *n)?)?)?;
     }
     let failure_arm = binding_failures(arms.as_slice());
-    out.body.guards.push(arms)?;
+    out.guards.push(arms)?;
     if failure_arm.is_some() {
-        let inner = vec![in out.alloc; nameless_arm(out)]?;
-        out.body.guards.push(inner)?;
+        let inner = vec![in out.alloc; nameless_arm(out.alloc)]?;
+        out.guards.push(inner)?;
     }
     Ok(failure_arm)
 }
 
-fn open_arm(out: &Lowering, c: &Checked, arm: &Node) -> Result<OpenArm> {
+fn open_arm(fixed: &Fixed, arm: &Node) -> Result<OpenArm> {
     if arm.kind != NodeKind::When {
-        return Ok(nameless_arm(out));
+        return Ok(nameless_arm(fixed.alloc));
     }
-    let listed = decls_in(out, c, arm.children.as_slice())?;
+    let listed = decls_in(fixed, arm.children.as_slice())?;
     Ok(OpenArm {
-        names: copied_names(out.alloc, arm.names.as_slice())?,
+        names: copied_names(fixed.alloc, arm.names.as_slice())?,
         drops: arm.value_token.is_some(),
         binds: binds_any(listed.as_slice()),
     })
 }
 
 /// An arm to which no exit goes.
-fn nameless_arm(out: &Lowering) -> OpenArm {
+fn nameless_arm(alloc: Global) -> OpenArm {
     OpenArm {
-        names: Vec::new(out.alloc),
+        names: Vec::new(alloc),
         drops: false,
         binds: false,
     }
 }
 
 /// Whether one of these variables is of type any.
-fn binds_any(listed: &[Declared<'_>]) -> bool {
+fn binds_any(listed: &[Declared]) -> bool {
     for declared in listed {
         if declared.is_any {
             return true;
@@ -164,35 +161,34 @@ fn failure_arm(out: &Lowering, slot: u32, body: Vec<WStmt>) -> Result<WArm> {
 
 /// `when name, .. (declaration, ..): body` and `others (name: type): body`
 #[cycle(statements)]
-fn handlers(out: &mut Lowering, c: &Checked, nodes: &[u32], depth: u32) -> Result<Vec<WArm>> {
+fn handlers(out: &mut Lowering, fixed: &Fixed, nodes: &[u32], depth: u32) -> Result<Vec<WArm>> {
     let mut arms = Vec::new(out.alloc);
     for n in nodes {
-        let node = node_at(&c.tree, *n)?;
-        let (in_scope, taken) = (out.in_scope(), out.taken());
+        let node = node_at(&fixed.c.tree, *n)?;
+        let taken = out.taken();
         let outer = out.open();
-        arms.push(begun_arm(out, c, node)?)?;
-        body(out, c, node.children.as_slice(), depth)?;
+        arms.push(begun_arm(out, fixed, *n, node)?)?;
+        body(out, fixed, node.children.as_slice(), depth)?;
         let done = out.close(outer);
         if let Some(arm) = arms.last_mut() {
             arm.body = done;
         }
-        out.leave(in_scope);
         out.release(taken);
     }
     Ok(arms)
 }
 
 /// An arm without its body. The variables that it declares name what comes with the exception.
-fn begun_arm(out: &mut Lowering, c: &Checked, arm: &Node) -> Result<WArm> {
+fn begun_arm(out: &mut Lowering, fixed: &Fixed, n: u32, arm: &Node) -> Result<WArm> {
     let others = arm.kind == NodeKind::Others;
     let names: &[Bytes] = if others { &[] } else { arm.names.as_slice() };
     Ok(WArm {
         names: copied_names(out.alloc, names)?,
         others,
         slots: if others {
-            take_name(out, c, arm)?
+            take_name(out, fixed, n, arm)?
         } else {
-            take_objects(out, c, arm)?
+            take_objects(out, fixed, arm)?
         },
         body: Vec::new(out.alloc),
     })
@@ -200,8 +196,8 @@ fn begun_arm(out: &mut Lowering, c: &Checked, arm: &Node) -> Result<WArm> {
 
 /// The variables of a When name the objects that come; the answer is their slots. Those of type any are bound with the
 /// types that come after them.
-fn take_objects(out: &mut Lowering, c: &Checked, arm: &Node) -> Result<Vec<u32>> {
-    let listed = decls_in(out, c, arm.children.as_slice())?;
+fn take_objects(out: &mut Lowering, fixed: &Fixed, arm: &Node) -> Result<Vec<u32>> {
+    let listed = decls_in(fixed, arm.children.as_slice())?;
     let mut slots = declare_formals(out, listed.as_slice())?;
     if binds_any(listed.as_slice()) {
         bind_objects(out, listed.as_slice(), &mut slots)?;
@@ -211,7 +207,7 @@ fn take_objects(out: &mut Lowering, c: &Checked, arm: &Node) -> Result<Vec<u32>>
 
 /// Binds the objects in slots to type any where that is the type of their variables. The address of the numbers of their
 /// types comes into one more slot, which is free after this.
-fn bind_objects(out: &mut Lowering, listed: &[Declared<'_>], slots: &mut Vec<u32>) -> Result<()> {
+fn bind_objects(out: &mut Lowering, listed: &[Declared], slots: &mut Vec<u32>) -> Result<()> {
     let types = out.take()?;
     out.release(types);
     let mut distance = 0u32;
@@ -236,12 +232,12 @@ fn bind_object(out: &mut Lowering, slot: u32, types: u32, distance: u32) -> Resu
 }
 
 /// The variable of an Others, if it has one, names a string, the name of the exception; the answer is its slot.
-fn take_name(out: &mut Lowering, c: &Checked, arm: &Node) -> Result<Vec<u32>> {
+fn take_name(out: &mut Lowering, fixed: &Fixed, n: u32, arm: &Node) -> Result<Vec<u32>> {
     match (arm.names.as_slice(), arm.children.as_slice()) {
-        ([name], [of, ..]) => {
-            let is_any = denotes_any(out, c, *of)?;
-            let slot = declare_formal(out, Declared { name, is_any })?;
-            if is_any {
+        ([_], [of, ..]) => {
+            let declared = declared_by(fixed, n, *of)?;
+            let slot = declare_formal(out, declared)?;
+            if declared.is_any {
                 bind_string(out, slot)?;
             }
             Ok(vec![in out.alloc; slot]?)

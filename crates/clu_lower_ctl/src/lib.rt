@@ -18,7 +18,4 @@ mod tagging;
 mod walk;
 
 pub use crate::routines::lower;
-pub use clu_lower_expr::LowerError;
-
-/// What lowering gives, or why it gives nothing.
-pub type Result<T> = std::result::Result<T, LowerError>;
+pub use clu_lower_expr::{Declarations, LowerError, Result, declarations_of};

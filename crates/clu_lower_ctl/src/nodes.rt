@@ -1,8 +1,8 @@
 //! What nodes are to the node round them.
 
-use crate::Result;
 use clu_core::Checked;
 use clu_equates::node_at;
+use clu_lower_expr::Result;
 use clu_tree::{Node, NodeKind};
 use std::alloc::Global;
 

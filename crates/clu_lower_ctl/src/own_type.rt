@@ -1,24 +1,28 @@
 //! The types of a routine's heading as callers see it: its own type, and those of its exceptions' objects.
 
-use crate::Result;
 use clu_equates::{intern, term};
-use clu_lower_expr::{LowerError, Lowering, Seen, carried, text_of, texts_of};
+use clu_lower_expr::{Fixed, LowerError, Lowering, Result, Seen, carried, text_of, texts_of};
 use clu_types::{Exception, Heading, OpSpec, Term, TypeArena, TypeId};
 use std::boxed::Box;
 
 /// Notes the types of a routine by its specification, whose types are in this arena.
-pub fn note_operation(out: &mut Lowering, from: &TypeArena, op: &OpSpec) -> Result<()> {
+pub fn note_operation(
+    out: &mut Lowering,
+    fixed: &mut Fixed,
+    from: &TypeArena,
+    op: &OpSpec,
+) -> Result<()> {
     let mut types = Box::new(out.alloc, TypeArena::new(out.alloc))?;
     let heading = carried(out.alloc, &mut types, from, &op.heading, &[])?;
     let heading = Box::new(out.alloc, heading)?;
-    note_types(out, Seen { types, heading }, op.iter)
+    note_types(out, fixed, Seen { types, heading }, op.iter)
 }
 
 /// Notes the types of a routine with this heading.
-pub fn note_types(out: &mut Lowering, seen: Seen, iter: bool) -> Result<()> {
+pub fn note_types(out: &mut Lowering, fixed: &mut Fixed, seen: Seen, iter: bool) -> Result<()> {
     let Seen { mut types, heading } = seen;
     let own = intern(&mut types, routine_term(Box::into_inner(heading), iter))?;
-    note_type(out, &types, own)
+    note_type(out, fixed, &types, own)
 }
 
 fn routine_term(heading: Heading, iter: bool) -> Term {
@@ -30,24 +34,29 @@ fn routine_term(heading: Heading, iter: bool) -> Term {
 }
 
 /// The routine's own type is the first of its table.
-fn note_type(out: &mut Lowering, types: &TypeArena, own: TypeId) -> Result<()> {
+fn note_type(out: &mut Lowering, fixed: &mut Fixed, types: &TypeArena, own: TypeId) -> Result<()> {
     let text = text_of(out.alloc, types, own)?;
     let _own = out.add_type(text)?;
     match term(types, own)? {
-        Term::Iter(heading) => note_objects(out, types, heading.signals.as_slice()),
-        Term::Proc(heading) => note_objects(out, types, heading.signals.as_slice()),
+        Term::Iter(heading) => note_objects(out, fixed, types, heading.signals.as_slice()),
+        Term::Proc(heading) => note_objects(out, fixed, types, heading.signals.as_slice()),
         _ => Err(LowerError::NotYet),
     }
 }
 
 /// The types of the objects of each exception that has any.
-fn note_objects(out: &mut Lowering, types: &TypeArena, signals: &[Exception]) -> Result<()> {
+fn note_objects(
+    out: &mut Lowering,
+    fixed: &mut Fixed,
+    types: &TypeArena,
+    signals: &[Exception],
+) -> Result<()> {
     for signal in signals {
         if !signal.objects.as_slice().is_empty() {
             let texts = texts_of(out.alloc, types, signal.objects.as_slice())?;
             let first = out.add_types(texts)?;
             let name = signal.name.copy(out.alloc)?;
-            out.body.object_types.insert(name, first)?;
+            fixed.object_types.insert(name, first)?;
         }
     }
     Ok(())

@@ -3,10 +3,8 @@
 ghost use Rattle.std.specs.Prelude.{All, IfOk};
 ghost use Rattle.clu_lower_expr.specs.Bounds.{IsBounded};
 
-use crate::Result;
 use crate::clusters::cluster_routines;
 use crate::declaring::formals;
-use crate::given::give_demands;
 use crate::headings::note_heading;
 use crate::nodes::children_of;
 use crate::own_type::note_operation;
@@ -15,17 +13,22 @@ use crate::walk::statements;
 use clu_base::Bytes;
 use clu_core::Checked;
 use clu_equates::{first_name, node_at};
-use clu_lower_expr::{LowerError, Lowering};
+use clu_lower_expr::{Declarations, Fixed, LowerError, Lowering, Result};
 use clu_tree::{Node, NodeKind};
 use clu_types::{Form, Spec};
 use clu_wir::{HoleKind, WRoutine, WStmt};
 use std::alloc::Global;
 use std::boxed::Box;
 
-/// The routines of a module of a checked file, which is named by its Module node. The first type of each is its own,
-/// and its `nodes` are the count of its node. Memory where it was refused; NotYet where a routine has a statement or an
-/// expression for which no code is made.
-pub fn lower(alloc: Global, c: &Checked, module: u32) -> Result<Vec<WRoutine>>
+/// The routines of a module of a checked file with these declarations, which is named by its Module node. The first type
+/// of each is its own, and its `nodes` are the count of its node. Memory where it was refused; NotYet where a routine has a
+/// statement or an expression for which no code is made.
+pub fn lower(
+    alloc: Global,
+    c: &Checked,
+    declarations: &Declarations,
+    module: u32,
+) -> Result<Vec<WRoutine>>
     ensures { IfOk result (λ routines. All IsBounded routines.items) }
 {
     let module = node_at(&c.tree, module)?;
@@ -34,8 +37,10 @@ pub fn lower(alloc: Global, c: &Checked, module: u32) -> Result<Vec<WRoutine>>
     };
     let node = node_at(&c.tree, *definition)?;
     match node.kind {
-        NodeKind::Cluster => cluster_routines(alloc, c, module, node),
-        NodeKind::Routine => Ok(vec![in alloc; routine(alloc, c, *definition, node)?]?),
+        NodeKind::Cluster => cluster_routines(alloc, c, declarations, node),
+        NodeKind::Routine => Ok(vec![in alloc;
+            routine(alloc, c, declarations, *definition, node)?,
+        ]?),
         _ => Err(LowerError::NotYet),
     }
 }
@@ -50,12 +55,28 @@ pub fn begun(alloc: Global) -> Result<Box<Lowering>> {
     Ok(Box::new(alloc, Lowering::new(alloc))?)
 }
 
-fn routine(alloc: Global, c: &Checked, definition: u32, node: &Node) -> Result<WRoutine>
+/// What is fixed of a routine of which nothing is known yet.
+pub fn nothing_fixed<'a>(
+    alloc: Global,
+    c: &'a Checked,
+    declarations: &'a Declarations,
+) -> Result<Box<Fixed<'a>>> {
+    Ok(Box::new(alloc, Fixed::new(alloc, c, declarations))?)
+}
+
+fn routine(
+    alloc: Global,
+    c: &Checked,
+    declarations: &Declarations,
+    definition: u32,
+    node: &Node,
+) -> Result<WRoutine>
     ensures { IfOk result IsBounded }
 {
     let name = own_name(alloc, node)?;
     let mut out = begun(alloc)?;
-    let args = fill(&mut out, c, node)?;
+    let mut fixed = nothing_fixed(alloc, c, declarations)?;
+    let args = fill(&mut out, &mut fixed, node)?;
     out.finish(name, args, count(c, definition))
 }
 
@@ -65,16 +86,17 @@ pub fn own_name(alloc: Global, node: &Node) -> Result<Bytes> {
 }
 
 /// Adds all that stands in a routine; the answer is how many arguments it takes.
-fn fill(out: &mut Lowering, c: &Checked, node: &Node) -> Result<u32> {
+fn fill(out: &mut Lowering, fixed: &mut Fixed, node: &Node) -> Result<u32> {
+    let c = fixed.c;
     let spec = specification(c, first_name(node)?)?;
     let Form::Routine(op) = &spec.form else {
         return Err(LowerError::NotYet);
     };
-    give_demands(out, spec, op.demands.as_slice())?;
-    note_operation(out, &spec.types, op)?;
-    let args = formals(out, c, node)?;
-    note_heading(out, c, node)?;
-    body(out, c, node)?;
+    fixed.give(&spec.types, op.demands.as_slice(), &[])?;
+    note_operation(out, fixed, &spec.types, op)?;
+    note_heading(fixed, node)?;
+    let args = formals(out, fixed, node)?;
+    body(out, fixed, node)?;
     Ok(args)
 }
 
@@ -94,14 +116,14 @@ pub fn count(c: &Checked, n: u32) -> u32 {
 }
 
 /// The setting up of own variables, the statements, and the end: a procedure with results that reaches it fails.
-pub fn body(out: &mut Lowering, c: &Checked, node: &Node) -> Result<()> {
-    let owns = children_of(out.alloc, c, node, NodeKind::Own)?;
+pub fn body(out: &mut Lowering, fixed: &mut Fixed, node: &Node) -> Result<()> {
+    let owns = children_of(fixed.alloc, fixed.c, node, NodeKind::Own)?;
     if !owns.is_empty() {
-        declare_owns(out, c, owns.as_slice(), HoleKind::RoutineOwn)?;
-        set_up_once(out, c, owns.as_slice(), HoleKind::RoutineOwn)?;
+        declare_owns(fixed, owns.as_slice(), HoleKind::RoutineOwn)?;
+        set_up_once(out, fixed, owns.as_slice(), HoleKind::RoutineOwn)?;
     }
-    statements(out, c, node)?;
-    if is_procedure(node) && !out.body.results.is_empty() {
+    statements(out, fixed, node)?;
+    if is_procedure(node) && !fixed.results.is_empty() {
         out.signal_failure(b"no return values")
     } else {
         let values = Vec::new(out.alloc);

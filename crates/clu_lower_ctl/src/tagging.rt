@@ -1,16 +1,15 @@
 //! Tagcase (CLU Reference Manual, section 11.6): tag and object are kept aside when the expression was evaluated, and the
 //! arms are branches on the tag.
 
-use crate::Result;
 use crate::branches::{Branch, close_branches, end_branch, open_branch};
-use crate::declaring::{Declared, declare_formal};
+use crate::declaring::{Declared, declare_formal, declared_by};
 use crate::nodes::is_item;
 use crate::walk::body;
 use clu_base::Bytes;
 use clu_core::Checked;
 use clu_equates::{node_at, term};
 use clu_lower_expr::{
-    LowerError, Lowering, again, binary, bind, denotes_any, lower_expr, place_of, type_of,
+    Fixed, LowerError, Lowering, Result, again, binary, bind, lower_expr, place_of, type_of,
 };
 use clu_tree::{Node, NodeKind};
 use clu_types::{Field, Term};
@@ -30,34 +29,33 @@ struct Selected<'a> {
 
 /// `tagcase of arm .. others: body end`
 #[cycle(statements)]
-pub fn tagcase(out: &mut Lowering, c: &Checked, node: &Node, depth: u32) -> Result<()> {
+pub fn tagcase(out: &mut Lowering, fixed: &Fixed, node: &Node, depth: u32) -> Result<()> {
     let Some((of, parts)) = node.children.as_slice().split_first() else {
         return Err(LowerError::NotYet);
     };
-    let selected = select(out, c, *of)?;
+    let selected = select(out, fixed, *of)?;
     let mut branches = Vec::new(out.alloc);
     for n in parts {
-        let arm = node_at(&c.tree, *n)?;
+        let arm = node_at(&fixed.c.tree, *n)?;
         if arm.kind == NodeKind::TagArm {
-            let (in_scope, taken) = (out.in_scope(), out.taken());
-            open_arm(out, c, arm, selected, &mut branches)?;
-            body(out, c, arm.children.as_slice(), depth)?;
-            out.leave(in_scope);
+            let taken = out.taken();
+            open_arm(out, fixed, *n, arm, selected, &mut branches)?;
+            body(out, fixed, arm.children.as_slice(), depth)?;
             out.release(taken);
             end_branch(out, &mut branches);
         }
     }
-    body(out, c, parts, depth)?;
+    body(out, fixed, parts, depth)?;
     close_branches(out, branches)
 }
 
 /// Evaluates the expression on whose tag is selected.
-fn select<'a>(out: &mut Lowering, c: &'a Checked, n: u32) -> Result<Selected<'a>> {
-    let tags = tags_of(c, n)?;
+fn select<'a>(out: &mut Lowering, fixed: &Fixed<'a>, n: u32) -> Result<Selected<'a>> {
+    let tags = tags_of(fixed.c, n)?;
     let tag = out.take()?;
     let object = out.take()?;
     let taken = out.taken();
-    let value = lower_expr(out, c, n)?;
+    let value = lower_expr(out, fixed, n)?;
     let word = WExpr::Load(Box::new(out.alloc, again(&value)?)?, 0);
     out.push(WStmt::Set(tag, word))?;
     let word = WExpr::Load(Box::new(out.alloc, value)?, OBJECT);
@@ -79,22 +77,21 @@ fn tags_of(c: &Checked, n: u32) -> Result<&[Field]> {
 #[derive(Clone, Copy)]
 struct Parts<'a> {
     tags: &'a [Bytes],
-    variable: Option<Declared<'a>>,
+    variable: Option<Declared>,
 }
 
 /// The variable is the last of the names, and its type the first child, if that is none of the body.
-fn parts_of<'a>(out: &Lowering, c: &Checked, arm: &'a Node) -> Result<Parts<'a>> {
+fn parts_of<'a>(fixed: &Fixed, n: u32, arm: &'a Node) -> Result<Parts<'a>> {
     let names = arm.names.as_slice();
-    let (Some(of), Some((name, tags))) = (declared_type(c, arm)?, names.split_last()) else {
+    let (Some(of), Some((_, tags))) = (declared_type(fixed.c, arm)?, names.split_last()) else {
         return Ok(Parts {
             tags: names,
             variable: None,
         });
     };
-    let is_any = denotes_any(out, c, of)?;
     Ok(Parts {
         tags,
-        variable: Some(Declared { name, is_any }),
+        variable: Some(declared_by(fixed, n, of)?),
     })
 }
 
@@ -112,15 +109,16 @@ fn declared_type(c: &Checked, arm: &Node) -> Result<Option<u32>> {
 /// Begins the branch of an arm.
 fn open_arm(
     out: &mut Lowering,
-    c: &Checked,
+    fixed: &Fixed,
+    n: u32,
     arm: &Node,
     selected: Selected<'_>,
     branches: &mut Vec<Branch>,
 ) -> Result<()> {
-    let parts = parts_of(out, c, arm)?;
+    let parts = parts_of(fixed, n, arm)?;
     let condition = has_tag(out, selected, parts.tags)?;
     open_branch(out, condition, branches)?;
-    name_object(out, c, selected, parts)
+    name_object(out, fixed, selected, parts)
 }
 
 /// Whether the tag is one of these.
@@ -131,7 +129,7 @@ fn has_tag(out: &Lowering, selected: Selected<'_>, names: &[Bytes]) -> Result<WE
     let mut condition = is_tag(out, selected, first)?;
     for name in more {
         let is_other = is_tag(out, selected, name)?;
-        condition = binary(out, WOp::Or, condition, is_other)?;
+        condition = binary(out.alloc, WOp::Or, condition, is_other)?;
     }
     Ok(condition)
 }
@@ -140,7 +138,7 @@ fn has_tag(out: &Lowering, selected: Selected<'_>, names: &[Bytes]) -> Result<WE
 fn is_tag(out: &Lowering, selected: Selected<'_>, name: &Bytes) -> Result<WExpr> {
     let place = place_of(selected.tags, name)?;
     binary(
-        out,
+        out.alloc,
         WOp::Equal,
         WExpr::Slot(selected.tag),
         WExpr::Word(place as u64),
@@ -150,7 +148,7 @@ fn is_tag(out: &Lowering, selected: Selected<'_>, name: &Bytes) -> Result<WExpr>
 /// Lets the variable of an arm name the object. For a variable of type any the type of the object is that of its tag.
 fn name_object(
     out: &mut Lowering,
-    c: &Checked,
+    fixed: &Fixed,
     selected: Selected<'_>,
     parts: Parts<'_>,
 ) -> Result<()> {
@@ -161,7 +159,7 @@ fn name_object(
     out.push(WStmt::Set(slot, WExpr::Slot(selected.object)))?;
     if declared.is_any {
         for name in parts.tags {
-            bind_tagged(out, c, selected, name, slot)?;
+            bind_tagged(out, fixed, selected, name, slot)?;
         }
     }
     Ok(())
@@ -170,7 +168,7 @@ fn name_object(
 /// Binds the object in a slot to type any where this is its tag.
 fn bind_tagged(
     out: &mut Lowering,
-    c: &Checked,
+    fixed: &Fixed,
     selected: Selected<'_>,
     name: &Bytes,
     slot: u32,
@@ -179,7 +177,7 @@ fn bind_tagged(
         return Err(LowerError::NotYet);
     };
     let outer = out.open();
-    let _word = bind(out, &c.types, WExpr::Slot(slot), tag.of, true, slot)?;
+    let _word = bind(out, &fixed.c.types, WExpr::Slot(slot), tag.of, true, slot)?;
     let binding = out.close(outer);
     let has = is_tag(out, selected, name)?;
     out.push(WStmt::If(has, binding, Vec::new(out.alloc)))

@@ -1,7 +1,6 @@
 //! The walk over the statements of a routine: one function for each kind. Those that hold other statements are given how
 //! many levels of nodes may stand below them.
 
-use crate::Result;
 use crate::assigning::assign;
 use crate::branches::if_statement;
 use crate::declaring::{declare, initialize};
@@ -10,9 +9,10 @@ use crate::leaving::{exit, return_values, signal, yield_values};
 use crate::looping::{for_loop, while_loop};
 use crate::nodes::is_statement;
 use crate::tagging::tagcase;
-use clu_core::Checked;
 use clu_equates::{node_at, only_child};
-use clu_lower_expr::{LowerError, Lowering, lower_call, lower_expr, sugar_statement};
+use clu_lower_expr::{
+    Fixed, LowerError, Lowering, Result, lower_call, lower_expr, sugar_statement,
+};
 use clu_tree::{Node, NodeKind};
 use clu_wir::{WExpr, WStmt};
 
@@ -21,63 +21,60 @@ const DEPTH: u32 = 201;
 
 /// Adds the code of the statements among the children of a routine. Memory where it was refused, and NotYet at a statement
 /// for which no code is made.
-pub fn statements(out: &mut Lowering, c: &Checked, routine: &Node) -> Result<()> {
-    body(out, c, routine.children.as_slice(), DEPTH)
+pub fn statements(out: &mut Lowering, fixed: &Fixed, routine: &Node) -> Result<()> {
+    body(out, fixed, routine.children.as_slice(), DEPTH)
 }
 
-/// The statements among these nodes. The variables that they declare and the slots that they took are given back.
+/// The statements among these nodes. The slots that they took are given back.
 #[cycle(statements)]
-pub fn body(out: &mut Lowering, c: &Checked, nodes: &[u32], depth: u32) -> Result<()> {
-    let (in_scope, taken) = (out.in_scope(), out.taken());
+pub fn body(out: &mut Lowering, fixed: &Fixed, nodes: &[u32], depth: u32) -> Result<()> {
+    let taken = out.taken();
     for n in nodes {
-        if is_statement(node_at(&c.tree, *n)?.kind) {
-            statement(out, c, *n, depth)?;
+        if is_statement(node_at(&fixed.c.tree, *n)?.kind) {
+            statement(out, fixed, *n, false, depth)?;
         }
     }
-    out.leave(in_scope);
     out.release(taken);
     Ok(())
 }
 
-/// One statement. What it declares stays in scope.
+/// One statement. What it declares stays in scope. If arms stand round it directly, they may see a variable that it
+/// declares before that names its object: it is `bare` then.
 #[cycle(statements)]
-pub fn statement(out: &mut Lowering, c: &Checked, n: u32, depth: u32) -> Result<()> {
+pub fn statement(out: &mut Lowering, fixed: &Fixed, n: u32, bare: bool, depth: u32) -> Result<()> {
     let Some(depth) = depth.checked_sub(1) else {
         return Err(LowerError::NotYet);
     };
-    let node = node_at(&c.tree, n)?;
-    let direct = out.body.direct;
-    out.body.direct = false;
+    let node = node_at(&fixed.c.tree, n)?;
     match node.kind {
-        NodeKind::Declare => return declare(out, c, node),
-        NodeKind::Init => return initialize(out, c, node, direct),
-        NodeKind::Resignal => return resignal(out, c, node, depth),
-        NodeKind::Except => return except(out, c, node, depth),
+        NodeKind::Declare => return declare(out, fixed, node),
+        NodeKind::Init => return initialize(out, fixed, n, node, bare),
+        NodeKind::Resignal => return resignal(out, fixed, node, depth),
+        NodeKind::Except => return except(out, fixed, node, depth),
         _ => {}
     }
-    let (in_scope, taken) = (out.in_scope(), out.taken());
-    closed(out, c, n, node, depth)?;
-    out.leave(in_scope);
+    let taken = out.taken();
+    closed(out, fixed, n, node, depth)?;
     out.release(taken);
     Ok(())
 }
 
 /// A statement that declares nothing for those after it.
 #[cycle(statements)]
-fn closed(out: &mut Lowering, c: &Checked, n: u32, node: &Node, depth: u32) -> Result<()> {
+fn closed(out: &mut Lowering, fixed: &Fixed, n: u32, node: &Node, depth: u32) -> Result<()> {
     match node.kind {
-        NodeKind::Assign => assign(out, c, node),
-        NodeKind::SetField | NodeKind::SetIndex => sugar_statement(out, c, n),
-        NodeKind::CallS => lower_call(out, c, only_child(node)?, Vec::new(out.alloc)),
-        NodeKind::While => while_loop(out, c, node, depth),
-        NodeKind::For => for_loop(out, c, node, depth),
-        NodeKind::If => if_statement(out, c, node, depth),
-        NodeKind::Tagcase => tagcase(out, c, node, depth),
-        NodeKind::Begin => body(out, c, node.children.as_slice(), depth),
-        NodeKind::Return => return_values(out, c, node),
-        NodeKind::Yield => yield_values(out, c, node),
-        NodeKind::Signal => signal(out, c, node),
-        NodeKind::Exit => exit(out, c, node),
+        NodeKind::Assign => assign(out, fixed, n, node),
+        NodeKind::SetField | NodeKind::SetIndex => sugar_statement(out, fixed, n),
+        NodeKind::CallS => lower_call(out, fixed, only_child(node)?, Vec::new(out.alloc)),
+        NodeKind::While => while_loop(out, fixed, node, depth),
+        NodeKind::For => for_loop(out, fixed, n, node, depth),
+        NodeKind::If => if_statement(out, fixed, node, depth),
+        NodeKind::Tagcase => tagcase(out, fixed, node, depth),
+        NodeKind::Begin => body(out, fixed, node.children.as_slice(), depth),
+        NodeKind::Return => return_values(out, fixed, node),
+        NodeKind::Yield => yield_values(out, fixed, node),
+        NodeKind::Signal => signal(out, fixed, node),
+        NodeKind::Exit => exit(out, fixed, node),
         NodeKind::Break => out.push(WStmt::Break),
         NodeKind::Continue => out.push(WStmt::Continue),
         _ => Err(LowerError::NotYet),
@@ -85,9 +82,9 @@ fn closed(out: &mut Lowering, c: &Checked, n: u32, node: &Node, depth: u32) -> R
 }
 
 /// The value of a condition, which is used at once: its slots are free after this.
-pub fn condition(out: &mut Lowering, c: &Checked, n: u32) -> Result<WExpr> {
+pub fn condition(out: &mut Lowering, fixed: &Fixed, n: u32) -> Result<WExpr> {
     let free = out.taken();
-    let value = lower_expr(out, c, n)?;
+    let value = lower_expr(out, fixed, n)?;
     let value = out.taken_back(value, free);
     out.release(free);
     Ok(value)

@@ -1,7 +1,8 @@
 //! Binding of objects to names, results, components and objects of exceptions: where the declared type is any, an object
 //! of another type goes into a pair with the number of its type.
 
-use crate::errors::LowerError;
+use crate::errors::{LowerError, Result};
+use crate::fixed::Fixed;
 use crate::lowering::Lowering;
 use clu_base::Bytes;
 use clu_core::Checked;
@@ -18,7 +19,7 @@ pub fn is_any(types: &TypeArena, of: TypeId) -> bool {
 }
 
 /// The type of an expression's node.
-pub fn type_of(c: &Checked, n: u32) -> Result<TypeId, LowerError> {
+pub fn type_of(c: &Checked, n: u32) -> Result<TypeId> {
     match c.type_of.get(n as usize) {
         Some(Some(of)) => Ok(*of),
         _ => Err(LowerError::NotYet),
@@ -26,11 +27,11 @@ pub fn type_of(c: &Checked, n: u32) -> Result<TypeId, LowerError> {
 }
 
 /// The type that a type's node denotes; `cvt` is the representation of the cluster round it.
-pub fn denoted_type(out: &Lowering, c: &Checked, n: u32) -> Result<TypeId, LowerError> {
-    match c.denoted.get(n as usize) {
+pub fn denoted_type(fixed: &Fixed, n: u32) -> Result<TypeId> {
+    match fixed.c.denoted.get(n as usize) {
         Some(Some(of)) => Ok(*of),
-        _ => match out.body.rep {
-            Some(rep) if is_cvt(node_at(&c.tree, n)?) => Ok(rep),
+        _ => match fixed.rep {
+            Some(rep) if is_cvt(node_at(&fixed.c.tree, n)?) => Ok(rep),
             _ => Err(LowerError::NotYet),
         },
     }
@@ -42,8 +43,8 @@ pub fn is_cvt(node: &Node) -> bool {
 }
 
 /// Whether a type's node denotes any.
-pub fn denotes_any(out: &Lowering, c: &Checked, n: u32) -> Result<bool, LowerError> {
-    Ok(is_any(&c.types, denoted_type(out, c, n)?))
+pub fn denotes_any(fixed: &Fixed, n: u32) -> Result<bool> {
+    Ok(is_any(&fixed.c.types, denoted_type(fixed, n)?))
 }
 
 /// The word of an object of the type `of` where it is bound to type any if `to_any`, else to a type that includes its
@@ -55,7 +56,7 @@ pub fn bind(
     of: TypeId,
     to_any: bool,
     free: u32,
-) -> Result<WExpr, LowerError> {
+) -> Result<WExpr> {
     if !to_any || is_any(types, of) {
         return Ok(value);
     }
@@ -77,7 +78,7 @@ pub fn bind_all(
     expressions: &[u32],
     any: &[bool],
     free: u32,
-) -> Result<Vec<WExpr>, LowerError> {
+) -> Result<Vec<WExpr>> {
     let mut bound = Vec::new(out.alloc);
     let mut place = 0usize;
     for value in values {
@@ -97,13 +98,13 @@ pub fn bind_all(
 }
 
 /// The number of a type in the program.
-pub fn type_number(out: &mut Lowering, types: &TypeArena, of: TypeId) -> Result<WExpr, LowerError> {
+pub fn type_number(out: &mut Lowering, types: &TypeArena, of: TypeId) -> Result<WExpr> {
     let text = text_of(out.alloc, types, of)?;
     out.type_number(text)
 }
 
 /// The text of a type.
-pub fn text_of(alloc: Global, types: &TypeArena, of: TypeId) -> Result<Bytes, LowerError> {
+pub fn text_of(alloc: Global, types: &TypeArena, of: TypeId) -> Result<Bytes> {
     if types.contains(of) {
         Ok(type_text(alloc, types, of)?)
     } else {
@@ -112,11 +113,7 @@ pub fn text_of(alloc: Global, types: &TypeArena, of: TypeId) -> Result<Bytes, Lo
 }
 
 /// The texts of types.
-pub fn texts_of(
-    alloc: Global,
-    types: &TypeArena,
-    listed: &[TypeId],
-) -> Result<Vec<Bytes>, LowerError> {
+pub fn texts_of(alloc: Global, types: &TypeArena, listed: &[TypeId]) -> Result<Vec<Bytes>> {
     let mut texts = Vec::new(alloc);
     for of in listed {
         texts.push(text_of(alloc, types, *of)?)?;
@@ -125,12 +122,8 @@ pub fn texts_of(
 }
 
 /// For each of these types whether it is any.
-pub fn which_are_any(
-    out: &Lowering,
-    types: &TypeArena,
-    listed: &[TypeId],
-) -> Result<Vec<bool>, LowerError> {
-    let mut any = Vec::new(out.alloc);
+pub fn which_are_any(alloc: Global, types: &TypeArena, listed: &[TypeId]) -> Result<Vec<bool>> {
+    let mut any = Vec::new(alloc);
     for of in listed {
         any.push(is_any(types, *of))?;
     }

@@ -1,6 +1,6 @@
 //! Calls of procedures.
 
-use crate::errors::LowerError;
+use crate::errors::{LowerError, Result};
 use crate::lowering::Lowering;
 use clu_wir::{WExpr, WStmt};
 
@@ -11,7 +11,7 @@ pub fn call_for_one(
     routine: WExpr,
     args: Vec<WExpr>,
     taken: u32,
-) -> Result<WExpr, LowerError> {
+) -> Result<WExpr> {
     out.release(taken);
     let result_slot = out.take()?;
     let mut results = Vec::new(out.alloc);
@@ -21,7 +21,7 @@ pub fn call_for_one(
 }
 
 /// What is invoked, and its arguments: the values of the parts of a call.
-pub fn split_call(mut values: Vec<WExpr>) -> Result<(WExpr, Vec<WExpr>), LowerError> {
+pub fn split_call(mut values: Vec<WExpr>) -> Result<(WExpr, Vec<WExpr>)> {
     if values.is_empty() {
         return Err(LowerError::NotYet);
     }

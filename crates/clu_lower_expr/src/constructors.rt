@@ -2,14 +2,15 @@
 //! the operations of these types.
 
 use crate::binding::{bind, is_any, type_of};
-use crate::errors::LowerError;
+use crate::errors::{LowerError, Result};
 use crate::lowering::Lowering;
 use clu_base::Bytes;
 use clu_core::Checked;
 use clu_equates::{node_at, only_child, term};
-use clu_tree::{Node, NodeKind};
+use clu_tree::Node;
 use clu_types::{Field, Term, TypeId};
 use clu_wir::{Primitive, WExpr, WOp, WStmt};
+use std::alloc::Global;
 use std::boxed::Box;
 
 /// The words of an array before its elements.
@@ -17,11 +18,6 @@ const HEADER: u64 = 6;
 
 /// The greatest int: what is added to a low bound so that the least one comes to all ones.
 const GREATEST: u64 = 0x7FFF_FFFF_FFFF_FFFF;
-
-/// Whether nodes of this kind make an object, which goes into the first slot that they take.
-pub fn is_constructor(kind: NodeKind) -> bool {
-    kind == NodeKind::Fields || kind == NodeKind::Elems
-}
 
 /// The object of a constructor by selectors, in a slot, from the values of its parts.
 pub fn fields(
@@ -31,7 +27,7 @@ pub fn fields(
     node: &Node,
     values: Vec<WExpr>,
     slot: u32,
-) -> Result<WExpr, LowerError> {
+) -> Result<WExpr> {
     let components = match term(&c.types, type_of(c, n)?)? {
         Term::Record(fields) => fields.as_slice(),
         Term::Struct(fields) => fields.as_slice(),
@@ -54,7 +50,7 @@ fn field(
     value: &WExpr,
     components: &[Field],
     slot: u32,
-) -> Result<(), LowerError> {
+) -> Result<()> {
     let of = type_of(c, only_child(part)?)?;
     for name in part.names.as_slice() {
         let place = place_of(components, name)?;
@@ -69,7 +65,7 @@ fn field(
 }
 
 /// The place of a selector.
-pub fn place_of(components: &[Field], name: &Bytes) -> Result<usize, LowerError> {
+pub fn place_of(components: &[Field], name: &Bytes) -> Result<usize> {
     for (place, component) in components.iter().enumerate() {
         if component.name == *name {
             return Ok(place);
@@ -79,7 +75,7 @@ pub fn place_of(components: &[Field], name: &Bytes) -> Result<usize, LowerError>
 }
 
 /// The same word once more. The value of an expression is known, or in a slot.
-pub fn again(value: &WExpr) -> Result<WExpr, LowerError> {
+pub fn again(value: &WExpr) -> Result<WExpr> {
     match value {
         WExpr::Slot(slot) => Ok(WExpr::Slot(*slot)),
         WExpr::Word(word) => Ok(WExpr::Word(*word)),
@@ -96,7 +92,7 @@ pub fn elements(
     node: &Node,
     values: Vec<WExpr>,
     slot: u32,
-) -> Result<WExpr, LowerError> {
+) -> Result<WExpr> {
     let has_low = !node.value.as_slice().is_empty();
     let low = if has_low { 1usize } else { 0 };
     let (element, first) = header(out, c, type_of(c, n)?, values.as_slice(), has_low, slot)?;
@@ -123,7 +119,7 @@ fn header(
     values: &[WExpr],
     has_low: bool,
     slot: u32,
-) -> Result<(TypeId, usize), LowerError> {
+) -> Result<(TypeId, usize)> {
     let count = values.len() as u64;
     match term(&c.types, of)? {
         Term::Array(element) => {
@@ -144,13 +140,7 @@ fn header(
 }
 
 /// The words of an array before its elements.
-fn array(
-    out: &mut Lowering,
-    slot: u32,
-    low: WExpr,
-    has_low: bool,
-    count: u64,
-) -> Result<(), LowerError> {
+fn array(out: &mut Lowering, slot: u32, low: WExpr, has_low: bool, count: u64) -> Result<()> {
     if has_low {
         test_low(out, again(&low)?, count)?;
     }
@@ -159,7 +149,12 @@ fn array(
     if count > 0 {
         put_word(out, slot, 1, WExpr::Word(count))?;
         put_word(out, slot, 2, WExpr::Word(count))?;
-        let room = binary(out, WOp::Add, WExpr::Slot(slot), WExpr::Word(HEADER * 8))?;
+        let room = binary(
+            out.alloc,
+            WOp::Add,
+            WExpr::Slot(slot),
+            WExpr::Word(HEADER * 8),
+        )?;
         put_word(out, slot, 4, room)?;
     }
     Ok(())
@@ -167,10 +162,10 @@ fn array(
 
 /// Raises a failure unless the bounds of so many elements, and the int below the low one, are ints. Counted from the
 /// least int but one, the low bound is less than all ones without the elements after the first.
-fn test_low(out: &mut Lowering, low: WExpr, count: u64) -> Result<(), LowerError> {
-    let counted = binary(out, WOp::Add, low, WExpr::Word(GREATEST))?;
+fn test_low(out: &mut Lowering, low: WExpr, count: u64) -> Result<()> {
+    let counted = binary(out.alloc, WOp::Add, low, WExpr::Word(GREATEST))?;
     let most = WExpr::Word(0u64.wrapping_sub(count.max(1)));
-    let fits = binary(out, WOp::Sltu, counted, most)?;
+    let fits = binary(out.alloc, WOp::Sltu, counted, most)?;
     let outer = out.open();
     out.raise_failure(b"bounds out of range")?;
     let raising = out.close(outer);
@@ -178,7 +173,7 @@ fn test_low(out: &mut Lowering, low: WExpr, count: u64) -> Result<(), LowerError
 }
 
 /// The word of a sequence before its elements.
-fn sequence(out: &mut Lowering, slot: u32, count: u64) -> Result<(), LowerError> {
+fn sequence(out: &mut Lowering, slot: u32, count: u64) -> Result<()> {
     allocate(out, slot, count.saturating_add(1))?;
     if count > 0 {
         put_word(out, slot, 0, WExpr::Word(count))?;
@@ -187,14 +182,14 @@ fn sequence(out: &mut Lowering, slot: u32, count: u64) -> Result<(), LowerError>
 }
 
 /// So many words of the store, whose address goes into a slot. They are 0.
-fn allocate(out: &mut Lowering, slot: u32, words: u64) -> Result<(), LowerError> {
+fn allocate(out: &mut Lowering, slot: u32, words: u64) -> Result<()> {
     let count = vec![in out.alloc; WExpr::Word(words)]?;
     let results = vec![in out.alloc; slot]?;
     out.push(WStmt::Prim(Primitive::Allocate.number(), count, results))
 }
 
 /// Puts a value into a word of the object whose address is in a slot.
-fn put_word(out: &mut Lowering, slot: u32, place: usize, value: WExpr) -> Result<(), LowerError> {
+fn put_word(out: &mut Lowering, slot: u32, place: usize, value: WExpr) -> Result<()> {
     let Ok(distance) = u32::try_from(place.saturating_mul(8)) else {
         return Err(LowerError::NotYet);
     };
@@ -202,8 +197,8 @@ fn put_word(out: &mut Lowering, slot: u32, place: usize, value: WExpr) -> Result
 }
 
 /// An operation on two words.
-pub fn binary(out: &Lowering, op: WOp, left: WExpr, right: WExpr) -> Result<WExpr, LowerError> {
-    let left = Box::new(out.alloc, left)?;
-    let right = Box::new(out.alloc, right)?;
+pub fn binary(alloc: Global, op: WOp, left: WExpr, right: WExpr) -> Result<WExpr> {
+    let left = Box::new(alloc, left)?;
+    let right = Box::new(alloc, right)?;
     Ok(WExpr::Binary(op, left, right))
 }

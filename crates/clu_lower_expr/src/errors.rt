@@ -13,6 +13,9 @@ pub enum LowerError {
     NotYet,
 }
 
+/// What lowering gives, or why it gives nothing.
+pub type Result<T, E = LowerError> = std::result::Result<T, E>;
+
 impl From<Memory> for LowerError {
     fn from(_error: Memory) -> LowerError {
         LowerError::Memory

@@ -1,8 +1,7 @@
 //! The headings of what is invoked, and which of its formals are of type any.
 
 use crate::binding::{is_any, type_of, which_are_any};
-use crate::errors::LowerError;
-use crate::lowering::Lowering;
+use crate::errors::{LowerError, Result};
 use crate::seen::Seen;
 use crate::uses::operation_of;
 use clu_base::{Bytes, Sequence};
@@ -10,9 +9,10 @@ use clu_core::{Checked, OpRef};
 use clu_equates::{first_name, node_at, term};
 use clu_tree::{Node, NodeKind};
 use clu_types::{Field, Form, Heading, OpSpec, Spec, Term, TypeArena, TypeId};
+use std::alloc::Global;
 
 /// The heading of the routine that a call invokes.
-pub fn heading_of<'a>(c: &'a Checked, call: &Node) -> Result<&'a Heading, LowerError> {
+pub fn heading_of<'a>(c: &'a Checked, call: &Node) -> Result<&'a Heading> {
     let Some(callee) = call.children.as_slice().first() else {
         return Err(LowerError::NotYet);
     };
@@ -25,29 +25,19 @@ pub fn heading_of<'a>(c: &'a Checked, call: &Node) -> Result<&'a Heading, LowerE
 
 /// For each formal of the operation that the sugar at a node stands for whether it is of type any. Formals that are not
 /// listed are of other types.
-pub fn any_formals(
-    out: &Lowering,
-    c: &Checked,
-    n: u32,
-    seen: Option<&Seen>,
-) -> Result<Vec<bool>, LowerError> {
+pub fn any_formals(alloc: Global, c: &Checked, n: u32, seen: Option<&Seen>) -> Result<Vec<bool>> {
     if let Some(seen) = seen {
-        return which_are_any(out, &seen.types, seen.heading.args.as_slice());
+        return which_are_any(alloc, &seen.types, seen.heading.args.as_slice());
     }
     match operation_of(c, n) {
-        Some(OpRef::Builtin(of, op)) => builtin_formals(out, c, *of, op.as_slice()),
+        Some(OpRef::Builtin(of, op)) => builtin_formals(alloc, c, *of, op.as_slice()),
         _ => Err(LowerError::NotYet),
     }
 }
 
 /// Of the operations that sugar stands for, store takes an element and set takes a component.
-fn builtin_formals(
-    out: &Lowering,
-    c: &Checked,
-    of: TypeId,
-    op: &[u8],
-) -> Result<Vec<bool>, LowerError> {
-    let mut any = Vec::new(out.alloc);
+fn builtin_formals(alloc: Global, c: &Checked, of: TypeId, op: &[u8]) -> Result<Vec<bool>> {
+    let mut any = Vec::new(alloc);
     match term(&c.types, of)? {
         Term::Array(element) if op == b"store".as_slice() => {
             any.push(false)?;
@@ -115,11 +105,7 @@ fn heading_named<'a>(ops: &'a [OpSpec], name: &Bytes) -> Option<&'a Heading> {
 }
 
 /// The Routine node of this name in the text of a cluster.
-pub fn routine_of<'a>(
-    c: &'a Checked,
-    cluster: &Bytes,
-    name: &Bytes,
-) -> Result<&'a Node, LowerError> {
+pub fn routine_of<'a>(c: &'a Checked, cluster: &Bytes, name: &Bytes) -> Result<&'a Node> {
     for module in c.tree.modules() {
         if let Some(definition) = node_at(&c.tree, *module)?.children.as_slice().last() {
             let definition = node_at(&c.tree, *definition)?;
@@ -131,7 +117,7 @@ pub fn routine_of<'a>(
     Err(LowerError::NotYet)
 }
 
-fn routine_named<'a>(c: &'a Checked, cluster: &Node, name: &Bytes) -> Result<&'a Node, LowerError> {
+fn routine_named<'a>(c: &'a Checked, cluster: &Node, name: &Bytes) -> Result<&'a Node> {
     for child in cluster.children.as_slice() {
         let child = node_at(&c.tree, *child)?;
         if child.kind == NodeKind::Routine && first_name(child)? == name {

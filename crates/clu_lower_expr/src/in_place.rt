@@ -1,6 +1,6 @@
 //! Operations of built-in types in the place of their calls: those that are values of their arguments, or put one word.
 
-use crate::errors::LowerError;
+use crate::errors::Result;
 use crate::lowering::Lowering;
 use clu_base::{Bytes, Const, Memory};
 use clu_core::{Checked, OpRef};
@@ -19,7 +19,7 @@ pub fn apply(
     routine: WExpr,
     args: Vec<WExpr>,
     taken: u32,
-) -> Result<WExpr, LowerError> {
+) -> Result<WExpr> {
     let args = out.taken_back_all(args, taken)?;
     let done = found(out.alloc, &c.types, op, args.as_slice())?;
     out.release(taken);
@@ -37,7 +37,7 @@ pub fn apply_to(
     args: Vec<WExpr>,
     slot: u32,
     free: u32,
-) -> Result<(), LowerError> {
+) -> Result<()> {
     let args = out.taken_back_all(args, free)?;
     let done = found(out.alloc, &c.types, op, args.as_slice())?;
     push_result(out, done, routine, args, slot)
@@ -49,7 +49,7 @@ fn push_result(
     routine: WExpr,
     args: Vec<WExpr>,
     slot: u32,
-) -> Result<(), LowerError> {
+) -> Result<()> {
     match done {
         Some(WDeed::Value(value)) => out.push(WStmt::Set(slot, value)),
         _ => {
@@ -67,7 +67,7 @@ pub fn perform(
     routine: WExpr,
     args: Vec<WExpr>,
     free: u32,
-) -> Result<(), LowerError> {
+) -> Result<()> {
     let args = put_args(out, args, free)?;
     match found(out.alloc, &c.types, op, args.as_slice())? {
         Some(WDeed::Put(address, bytes, value)) => out.push(WStmt::Put(address, bytes, value)),
@@ -76,7 +76,7 @@ pub fn perform(
 }
 
 /// The arguments of an operation that may put its last one, which is evaluated before the others then.
-fn put_args(out: &mut Lowering, mut args: Vec<WExpr>, free: u32) -> Result<Vec<WExpr>, LowerError> {
+fn put_args(out: &mut Lowering, mut args: Vec<WExpr>, free: u32) -> Result<Vec<WExpr>> {
     let Some(last) = args.pop() else {
         return Ok(args);
     };
@@ -99,7 +99,7 @@ fn is_fixed(value: &WExpr) -> bool {
 }
 
 /// Keeps a value in the slot after the first `taken`.
-pub fn keep(out: &mut Lowering, value: WExpr, taken: u32) -> Result<WExpr, LowerError> {
+pub fn keep(out: &mut Lowering, value: WExpr, taken: u32) -> Result<WExpr> {
     out.release(taken);
     let slot = out.take()?;
     out.push(WStmt::Set(slot, value))?;
@@ -112,7 +112,7 @@ fn found(
     types: &TypeArena,
     op: Option<&OpRef>,
     args: &[WExpr],
-) -> Result<Option<WDeed>, LowerError> {
+) -> Result<Option<WDeed>> {
     match op {
         Some(OpRef::Builtin(of, name)) => of_type(alloc, types, *of, name, args),
         _ => Ok(None),
@@ -126,7 +126,7 @@ fn of_type(
     of: TypeId,
     name: &Bytes,
     args: &[WExpr],
-) -> Result<Option<WDeed>, LowerError> {
+) -> Result<Option<WDeed>> {
     if let Some(selected) = select_operation(alloc, types, of, name)? {
         let known = words_of(alloc, selected.known.as_slice())?;
         return Ok(in_place(alloc, selected.operation, args, known.as_slice())?);

@@ -2,7 +2,7 @@
 
 use crate::binding::{bind_all, which_are_any};
 use crate::calls::split_call;
-use crate::errors::LowerError;
+use crate::errors::{LowerError, Result};
 use crate::headings::{any_formals, heading_of};
 use crate::in_place::{apply, apply_to, perform};
 use crate::lowering::Lowering;
@@ -22,7 +22,7 @@ pub fn invoke(
     values: Vec<WExpr>,
     results: Vec<u32>,
     free: u32,
-) -> Result<(), LowerError> {
+) -> Result<()> {
     let (routine, args) = bound_call(out, c, node, values, free)?;
     let op = invoked(c, node)?;
     match results.as_slice() {
@@ -36,7 +36,7 @@ pub fn invoke(
 }
 
 /// The operation of a type that a call invokes by its name.
-fn invoked<'a>(c: &'a Checked, call: &Node) -> Result<Option<&'a OpRef>, LowerError> {
+fn invoked<'a>(c: &'a Checked, call: &Node) -> Result<Option<&'a OpRef>> {
     match call.children.as_slice().first() {
         Some(n) if node_at(&c.tree, *n)?.kind == NodeKind::OperOf => Ok(operation_of(c, *n)),
         _ => Ok(None),
@@ -50,10 +50,10 @@ pub fn bound_call(
     node: &Node,
     values: Vec<WExpr>,
     free: u32,
-) -> Result<(WExpr, Vec<WExpr>), LowerError> {
+) -> Result<(WExpr, Vec<WExpr>)> {
     let (routine, args) = split_call(values)?;
     let heading = heading_of(c, node)?;
-    let any = which_are_any(out, &c.types, heading.args.as_slice())?;
+    let any = which_are_any(out.alloc, &c.types, heading.args.as_slice())?;
     match node.children.as_slice().split_first() {
         Some((_, actuals)) => {
             let args = bind_all(out, c, args, actuals, any.as_slice(), free)?;
@@ -70,7 +70,7 @@ pub fn invoke_for_one(
     node: &Node,
     values: Vec<WExpr>,
     free: u32,
-) -> Result<WExpr, LowerError> {
+) -> Result<WExpr> {
     let (routine, args) = bound_call(out, c, node, values, free)?;
     apply(out, c, invoked(c, node)?, routine, args, free)
 }
@@ -84,8 +84,8 @@ pub fn bind_operands(
     seen: Option<&Seen>,
     operands: Vec<WExpr>,
     free: u32,
-) -> Result<Vec<WExpr>, LowerError> {
-    let any = any_formals(out, c, n, seen)?;
+) -> Result<Vec<WExpr>> {
+    let any = any_formals(out.alloc, c, n, seen)?;
     bind_all(
         out,
         c,
@@ -97,6 +97,6 @@ pub fn bind_operands(
 }
 
 /// The types of the results of a call.
-pub fn results_of<'a>(c: &'a Checked, call: &Node) -> Result<&'a [TypeId], LowerError> {
+pub fn results_of<'a>(c: &'a Checked, call: &Node) -> Result<&'a [TypeId]> {
     Ok(heading_of(c, call)?.results.as_slice())
 }

@@ -1,10 +1,10 @@
 //! Calls of iterators by loops.
 
-use crate::errors::LowerError;
+use crate::errors::Result;
+use crate::fixed::Fixed;
 use crate::invoking::bound_call;
 use crate::lowering::Lowering;
-use crate::walk::call_parts;
-use clu_core::Checked;
+use crate::walk::lower_all;
 use clu_equates::node_at;
 use clu_wir::{WExpr, WStmt};
 
@@ -16,15 +16,11 @@ pub struct IteratorCall {
 }
 
 /// Adds the code that evaluates what a loop calls and its arguments. The body comes next.
-pub fn begin_iteration(
-    out: &mut Lowering,
-    c: &Checked,
-    call: u32,
-) -> Result<IteratorCall, LowerError> {
+pub fn begin_iteration(out: &mut Lowering, fixed: &Fixed, call: u32) -> Result<IteratorCall> {
     let free = out.taken();
-    let node = node_at(&c.tree, call)?;
-    let values = call_parts(out, c, node)?;
-    let (routine, args) = bound_call(out, c, node, values, free)?;
+    let node = node_at(&fixed.c.tree, call)?;
+    let values = lower_all(out, fixed, node.children.as_slice())?;
+    let (routine, args) = bound_call(out, fixed.c, node, values, free)?;
     Ok(IteratorCall { routine, args })
 }
 
@@ -34,7 +30,7 @@ pub fn end_iteration(
     call: IteratorCall,
     items: Vec<u32>,
     body: Vec<WStmt>,
-) -> Result<(), LowerError> {
+) -> Result<()> {
     let IteratorCall { routine, args } = call;
     out.push(WStmt::Iterate(routine, args, items, body))
 }

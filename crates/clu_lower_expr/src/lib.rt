@@ -1,12 +1,14 @@
 //! Expressions of checked routines as word code, and the routine in the making to which they are added.
 #![tactic(auto)]
 
+mod arms;
 mod binding;
-mod body;
 mod bounds;
 mod calls;
 mod constructors;
+mod declarations;
 mod errors;
+mod fixed;
 mod headings;
 mod in_place;
 mod invoking;
@@ -22,12 +24,14 @@ mod variables;
 mod walk;
 mod written;
 
+pub use crate::arms::{ArmPlace, OpenArm};
 pub use crate::binding::{
     bind, bind_all, denoted_type, denotes_any, is_any, is_cvt, text_of, texts_of, type_of,
 };
-pub use crate::body::{ArmPlace, Body, OpenArm, OwnVariable, copied_names};
 pub use crate::constructors::{again, binary, place_of};
-pub use crate::errors::LowerError;
+pub use crate::declarations::{Declarations, declarations_of};
+pub use crate::errors::{LowerError, Result};
+pub use crate::fixed::{Fixed, OwnVariable, copied_names};
 pub use crate::headings::heading_of;
 pub use crate::invoking::results_of;
 pub use crate::iterating::{IteratorCall, begin_iteration, end_iteration};
@@ -36,5 +40,5 @@ pub use crate::owns::{FLAG, assign_named, lower_own_set_up};
 pub use crate::seen::{Sealed, Seen, carried};
 pub use crate::sugar::sugar_statement;
 pub use crate::variables::Variable;
-pub use crate::walk::{lower_call, lower_expr};
+pub use crate::walk::{lower_all, lower_call, lower_expr};
 pub use crate::written::written_heading;

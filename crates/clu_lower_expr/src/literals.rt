@@ -1,6 +1,6 @@
 //! The words of literals and of constants (CLU Reference Manual, section 5).
 
-use crate::errors::LowerError;
+use crate::errors::{LowerError, Result};
 use crate::lowering::Lowering;
 use clu_base::{Const, ObjConst};
 use clu_core::Checked;
@@ -8,7 +8,7 @@ use clu_literal::{char_byte, string_bytes};
 use clu_wir::{HoleKind, WExpr};
 
 /// The word of the literal of this spelling.
-pub fn literal(out: &mut Lowering, spelling: &[u8]) -> Result<WExpr, LowerError> {
+pub fn literal(out: &mut Lowering, spelling: &[u8]) -> Result<WExpr> {
     match spelling {
         [b'"', ..] => match string_bytes(out.alloc, spelling)? {
             Some(bytes) => out.string(bytes.as_slice()),
@@ -25,7 +25,7 @@ pub fn literal(out: &mut Lowering, spelling: &[u8]) -> Result<WExpr, LowerError>
     }
 }
 
-fn int_literal(digits: &[u8]) -> Result<WExpr, LowerError> {
+fn int_literal(digits: &[u8]) -> Result<WExpr> {
     match std::str::from_utf8(digits) {
         Ok(text) => match text.parse::<i64>() {
             Ok(number) => Ok(WExpr::Word(number.cast_unsigned())),
@@ -37,7 +37,7 @@ fn int_literal(digits: &[u8]) -> Result<WExpr, LowerError> {
 
 /// The word of the constant at this place among those of the file. A long one that is named again is not looked up by its
 /// bytes again.
-pub fn named_constant(out: &mut Lowering, c: &Checked, place: u32) -> Result<WExpr, LowerError> {
+pub fn named_constant(out: &mut Lowering, c: &Checked, place: u32) -> Result<WExpr> {
     if let Some(number) = out.named_constant(place) {
         return Ok(WExpr::Hole(HoleKind::Constant, number));
     }
@@ -52,7 +52,7 @@ pub fn named_constant(out: &mut Lowering, c: &Checked, place: u32) -> Result<WEx
 }
 
 /// The word of a constant: a small one is in the code, a string and a parameter are the linker's.
-fn constant(out: &mut Lowering, constant: &ObjConst) -> Result<WExpr, LowerError> {
+fn constant(out: &mut Lowering, constant: &ObjConst) -> Result<WExpr> {
     match constant {
         ObjConst::Param(n) => out.constant(ObjConst::Param(*n)),
         ObjConst::Value(value) => match value {

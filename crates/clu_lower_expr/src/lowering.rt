@@ -3,9 +3,9 @@
 ghost use Rattle.std.specs.Prelude.{IfOk};
 ghost use Rattle.clu_lower_expr.specs.Bounds.{IsBounded, IsNamed};
 
-use crate::body::Body;
+use crate::arms::OpenArm;
 use crate::bounds::is_bounded;
-use crate::errors::LowerError;
+use crate::errors::{LowerError, Result};
 use crate::variables::Variable;
 use clu_base::{Bytes, Const, ObjConst};
 use clu_wir::{HoleKind, WExpr, WRoutine, WStmt};
@@ -20,8 +20,6 @@ use std::mem;
 #[derive(Drop)]
 pub struct Lowering {
     pub alloc: Global,
-    /// What stands round the statements.
-    pub body: Body,
     /// The list of statements to which is added.
     statements: Vec<WStmt>,
     /// Texts of uses, and constants, each once, in the order in which they are met.
@@ -32,7 +30,10 @@ pub struct Lowering {
     /// Texts of types, and the place of each that is asked for alone.
     types: Vec<Bytes>,
     type_places: IndexMap<Bytes, u32>,
-    variables: IndexMap<Bytes, Variable>,
+    /// Variables by their declarations.
+    variables: IndexMap<usize, Variable>,
+    /// The arms of the guards round the statement, those of the innermost guard last.
+    pub guards: Vec<Vec<OpenArm>>,
     /// How many slots are taken, and how many were taken at most.
     taken: u32,
     most: u32,
@@ -48,7 +49,6 @@ impl Lowering {
     pub fn new(alloc: Global) -> Lowering {
         Lowering {
             alloc,
-            body: Body::new(alloc),
             statements: Vec::new(alloc),
             uses: IndexSet::new(alloc),
             constants: IndexSet::new(alloc),
@@ -56,6 +56,7 @@ impl Lowering {
             types: Vec::new(alloc),
             type_places: IndexMap::new(alloc),
             variables: IndexMap::new(alloc),
+            guards: Vec::new(alloc),
             taken: 0,
             most: 0,
         }
@@ -63,7 +64,7 @@ impl Lowering {
 
     /// The routine, which is taken out. What it takes comes in its first slots. No contract shows yet that it takes no
     /// more than its nodes allow: it is tested.
-    pub fn finish(&mut self, name: Bytes, args: u32, nodes: u32) -> Result<WRoutine, LowerError>
+    pub fn finish(&mut self, name: Bytes, args: u32, nodes: u32) -> Result<WRoutine>
         ensures named { IfOk result (IsNamed name args nodes) }
         ensures bounded { IfOk result IsBounded }
     {
@@ -74,7 +75,7 @@ impl Lowering {
         Ok(Box::into_inner(routine))
     }
 
-    fn made(&mut self, name: Bytes, args: u32, nodes: u32) -> Result<Box<WRoutine>, LowerError>
+    fn made(&mut self, name: Bytes, args: u32, nodes: u32) -> Result<Box<WRoutine>>
         ensures { IfOk result (λ made. IsNamed name args nodes made.value) }
     {
         let mut made = Box::new(self.alloc, self.begun(name, args, nodes))?;
@@ -100,7 +101,7 @@ impl Lowering {
     }
 
     /// Adds a statement.
-    pub fn push(&mut self, statement: WStmt) -> Result<(), LowerError> {
+    pub fn push(&mut self, statement: WStmt) -> Result<()> {
         self.statements.push(statement)?;
         Ok(())
     }
@@ -120,11 +121,7 @@ impl Lowering {
     }
 
     /// The same of values, from the last one on.
-    pub fn taken_back_all(
-        &mut self,
-        mut values: Vec<WExpr>,
-        free: u32,
-    ) -> Result<Vec<WExpr>, LowerError> {
+    pub fn taken_back_all(&mut self, mut values: Vec<WExpr>, free: u32) -> Result<Vec<WExpr>> {
         let mut last_first = Vec::new(self.alloc);
         for _ in 0..values.len() {
             if let Some(value) = values.pop() {
@@ -158,7 +155,7 @@ impl Lowering {
     }
 
     /// Takes a slot.
-    pub fn take(&mut self) -> Result<u32, LowerError> {
+    pub fn take(&mut self) -> Result<u32> {
         let slot = self.taken;
         let Some(taken) = slot.checked_add(1) else {
             return Err(LowerError::NotYet);
@@ -174,13 +171,13 @@ impl Lowering {
     }
 
     /// The descriptor of what a use names, by its text.
-    pub fn descriptor(&mut self, text: Bytes) -> Result<WExpr, LowerError> {
+    pub fn descriptor(&mut self, text: Bytes) -> Result<WExpr> {
         let (number, _) = self.uses.insert_full(text)?;
         Ok(WExpr::Hole(HoleKind::Descriptor, place(number)?))
     }
 
     /// The word of a constant that only the linker knows.
-    pub fn constant(&mut self, constant: ObjConst) -> Result<WExpr, LowerError> {
+    pub fn constant(&mut self, constant: ObjConst) -> Result<WExpr> {
         let (number, _) = self.constants.insert_full(constant)?;
         Ok(WExpr::Hole(HoleKind::Constant, place(number)?))
     }
@@ -191,26 +188,26 @@ impl Lowering {
     }
 
     /// Notes the number of the file's constant at this place.
-    pub fn note_constant(&mut self, place: u32, number: u32) -> Result<(), LowerError> {
+    pub fn note_constant(&mut self, place: u32, number: u32) -> Result<()> {
         self.constant_numbers.insert(place, number)?;
         Ok(())
     }
 
     /// The word of a string.
-    pub fn string(&mut self, bytes: &[u8]) -> Result<WExpr, LowerError> {
+    pub fn string(&mut self, bytes: &[u8]) -> Result<WExpr> {
         let bytes = Bytes::from_slice(self.alloc, bytes)?;
         self.constant(ObjConst::Value(Const::Str(bytes)))
     }
 
     /// Adds a type, by its text, after all others; the answer is its place.
-    pub fn add_type(&mut self, text: Bytes) -> Result<u32, LowerError> {
+    pub fn add_type(&mut self, text: Bytes) -> Result<u32> {
         let number = place(self.types.len())?;
         self.types.push(text)?;
         Ok(number)
     }
 
     /// Adds types, by their texts, one after the other; the answer is the place of the first.
-    pub fn add_types(&mut self, texts: Vec<Bytes>) -> Result<u32, LowerError> {
+    pub fn add_types(&mut self, texts: Vec<Bytes>) -> Result<u32> {
         let first = place(self.types.len())?;
         for text in texts {
             self.types.push(text)?;
@@ -219,17 +216,17 @@ impl Lowering {
     }
 
     /// The address of cells with the numbers of types, by their texts, one after the other.
-    pub fn type_cells(&mut self, texts: Vec<Bytes>) -> Result<WExpr, LowerError> {
+    pub fn type_cells(&mut self, texts: Vec<Bytes>) -> Result<WExpr> {
         Ok(WExpr::Hole(HoleKind::TypeCell, self.add_types(texts)?))
     }
 
     /// The number that a type, by its text, has in the program.
-    pub fn type_number(&mut self, text: Bytes) -> Result<WExpr, LowerError> {
+    pub fn type_number(&mut self, text: Bytes) -> Result<WExpr> {
         Ok(WExpr::Hole(HoleKind::TypeWord, self.type_place(text)?))
     }
 
     /// The place of a type that was asked for before, or is added now.
-    fn type_place(&mut self, text: Bytes) -> Result<u32, LowerError> {
+    fn type_place(&mut self, text: Bytes) -> Result<u32> {
         if let Some(known) = self.type_places.get(&text) {
             return Ok(*known);
         }
@@ -238,28 +235,18 @@ impl Lowering {
         Ok(number)
     }
 
-    /// The variable of this name.
-    pub fn variable(&self, name: &Bytes) -> Result<Variable, LowerError> {
-        match self.variables.get(name) {
+    /// The variable of this declaration.
+    pub fn variable(&self, place: usize) -> Result<Variable> {
+        match self.variables.get(&place) {
             Some(variable) => Ok(*variable),
             None => Err(LowerError::NotYet),
         }
     }
 
-    /// Brings a variable into scope.
-    pub fn declare(&mut self, name: &Bytes, variable: Variable) -> Result<(), LowerError> {
-        self.variables.insert(name.copy(self.alloc)?, variable)?;
+    /// Notes the variable of a declaration.
+    pub fn declare(&mut self, place: usize, variable: Variable) -> Result<()> {
+        self.variables.insert(place, variable)?;
         Ok(())
-    }
-
-    /// How many variables are in scope.
-    pub fn in_scope(&self) -> usize {
-        self.variables.len()
-    }
-
-    /// Takes all variables out of scope but the first `count`.
-    pub fn leave(&mut self, count: usize) {
-        self.variables.truncate(count);
     }
 }
 
@@ -291,7 +278,7 @@ fn last_word(list: &mut Vec<WStmt>) -> Option<WExpr> {
 }
 
 /// A number in a table of a routine.
-fn place(number: usize) -> Result<u32, LowerError> {
+fn place(number: usize) -> Result<u32> {
     match u32::try_from(number) {
         Ok(place) => Ok(place),
         Err(_) => Err(LowerError::NotYet),
@@ -299,10 +286,7 @@ fn place(number: usize) -> Result<u32, LowerError> {
 }
 
 /// Adds the items of a set to a list, in their order; they are taken out.
-fn list<T: Eq + Hash + Drop>(
-    listed: &mut Vec<T>,
-    items: &mut IndexSet<T>,
-) -> Result<(), LowerError> {
+fn list<T: Eq + Hash + Drop>(listed: &mut Vec<T>, items: &mut IndexSet<T>) -> Result<()> {
     for item in items.drain(..) {
         listed.push(item)?;
     }

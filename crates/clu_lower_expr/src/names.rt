@@ -1,21 +1,20 @@
 //! Names: constants, routines as objects, and variables.
 
-use crate::errors::LowerError;
+use crate::errors::Result;
+use crate::fixed::Fixed;
 use crate::literals::named_constant;
 use crate::lowering::Lowering;
 use crate::uses::{node_operation, operation_of};
-use clu_core::Checked;
-use clu_equates::first_name;
-use clu_tree::Node;
 use clu_wir::WExpr;
 
 /// The word of what a Name stands for.
-pub fn name(out: &mut Lowering, c: &Checked, n: u32, node: &Node) -> Result<WExpr, LowerError> {
+pub fn name(out: &mut Lowering, fixed: &Fixed, n: u32) -> Result<WExpr> {
+    let c = fixed.c;
     if let Some(Some(place)) = c.constant_of.get(n as usize) {
         return named_constant(out, c, *place);
     }
     if operation_of(c, n).is_some() {
         return node_operation(out, c, n);
     }
-    out.object_named(first_name(node)?)
+    out.object_named(fixed, fixed.declarations.denoted(n, 0)?)
 }

@@ -1,11 +1,10 @@
 //! Own variables: two words of the data each, the object's and whether the variable names one.
 
 use crate::binding::bind;
-use crate::body::OwnVariable;
-use crate::errors::LowerError;
+use crate::errors::Result;
+use crate::fixed::{Fixed, OwnVariable};
 use crate::lowering::Lowering;
 use clu_base::Bytes;
-use clu_core::Checked;
 use clu_types::TypeId;
 use clu_wir::{HoleKind, WExpr, WStmt};
 use std::boxed::Box;
@@ -18,21 +17,16 @@ pub const FLAG: u32 = 0;
 
 impl Lowering {
     /// A word of an own variable.
-    pub fn own_word(
-        &self,
-        kind: HoleKind,
-        number: u32,
-        distance: u32,
-    ) -> Result<WExpr, LowerError> {
+    pub fn own_word(&self, kind: HoleKind, number: u32, distance: u32) -> Result<WExpr> {
         let address = WExpr::Hole(kind, number);
         Ok(WExpr::Load(Box::new(self.alloc, address)?, distance))
     }
 
-    /// The word of the object that the variable of this name names, own or not. Where it names none the code raises a
-    /// failure. The word of an own variable is kept in a slot, since a call may change it.
-    pub fn object_named(&mut self, name: &Bytes) -> Result<WExpr, LowerError> {
-        let Some(own) = self.body.owns.get(name).copied() else {
-            return self.object_of(name);
+    /// The word of the object that the variable of this declaration names, own or not. Where it names none the code raises
+    /// a failure. The word of an own variable is kept in a slot, since a call may change it.
+    pub fn object_named(&mut self, fixed: &Fixed, place: usize) -> Result<WExpr> {
+        let Some(own) = fixed.owns.get(&place).copied() else {
+            return self.object_of(place);
         };
         let slot = self.take()?;
         self.push(WStmt::Set(slot, WExpr::Hole(own.kind, own.number)))?;
@@ -44,12 +38,12 @@ impl Lowering {
     }
 
     /// The word so many bytes after the address in a slot.
-    fn word_behind(&self, slot: u32, distance: u32) -> Result<WExpr, LowerError> {
+    fn word_behind(&self, slot: u32, distance: u32) -> Result<WExpr> {
         Ok(WExpr::Load(Box::new(self.alloc, WExpr::Slot(slot))?, distance))
     }
 
     /// Lets an own variable name the object of a word.
-    pub fn assign_own(&mut self, own: OwnVariable, value: WExpr) -> Result<(), LowerError> {
+    pub fn assign_own(&mut self, own: OwnVariable, value: WExpr) -> Result<()> {
         let taken = self.taken();
         let slot = self.take()?;
         self.push(WStmt::Set(slot, WExpr::Hole(own.kind, own.number)))?;
@@ -60,24 +54,25 @@ impl Lowering {
     }
 }
 
-/// Lets the variable of this name, own or not, name an object of the type `of`. A slot from `free` on may change.
+/// Lets the variable of this declaration, own or not, name an object of the type `of`. A slot from `free` on may change.
 pub fn assign_named(
     out: &mut Lowering,
-    c: &Checked,
-    name: &Bytes,
+    fixed: &Fixed,
+    place: usize,
     value: WExpr,
     of: TypeId,
     free: u32,
-) -> Result<(), LowerError> {
+) -> Result<()> {
     let value = out.taken_back(value, free);
-    match out.body.owns.get(name).copied() {
+    let types = &fixed.c.types;
+    match fixed.owns.get(&place).copied() {
         Some(own) => {
-            let value = bind(out, &c.types, value, of, own.is_any, free)?;
+            let value = bind(out, types, value, of, own.is_any, free)?;
             out.assign_own(own, value)
         }
         None => {
-            let variable = out.variable(name)?;
-            let value = bind(out, &c.types, value, of, variable.is_any, free)?;
+            let variable = out.variable(place)?;
+            let value = bind(out, types, value, of, variable.is_any, free)?;
             out.assign(variable, value)
         }
     }
@@ -85,7 +80,7 @@ pub fn assign_named(
 
 /// Adds the call that sets up the own variables of the cluster round the routine, by the text of its use, where they were
 /// not set up.
-pub fn lower_own_set_up(out: &mut Lowering, text: Bytes) -> Result<(), LowerError> {
+pub fn lower_own_set_up(out: &mut Lowering, text: Bytes) -> Result<()> {
     let routine = out.descriptor(text)?;
     let call = WStmt::Call(routine, Vec::new(out.alloc), Vec::new(out.alloc));
     let setting = vec![in out.alloc; call]?;

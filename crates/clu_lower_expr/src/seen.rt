@@ -1,9 +1,9 @@
 //! Headings of operations as those see them who invoke them by sugar: of a cluster's operation, and of one that a where
 //! clause gives of a type parameter. Each stands in an arena of its own, with the cluster's actual parameters put in.
 
-use crate::errors::LowerError;
+use crate::errors::{LowerError, Result};
+use crate::fixed::Fixed;
 use crate::headings::{exported_operation, routine_of};
-use crate::lowering::Lowering;
 use crate::uses::operation_of;
 use crate::written::written_heading;
 use clu_base::{Bytes, Sequence};
@@ -21,47 +21,38 @@ pub struct Seen {
 }
 
 /// The heading of the operation that the sugar at a node invokes; None for one of a built-in type.
-pub fn seen_at(out: &Lowering, c: &Checked, n: u32) -> Result<Option<Seen>, LowerError> {
-    match operation_of(c, n) {
+pub fn seen_at(fixed: &Fixed, n: u32) -> Result<Option<Seen>> {
+    let types = &fixed.c.types;
+    match operation_of(fixed.c, n) {
         Some(OpRef::Builtin(_, _)) => Ok(None),
-        Some(OpRef::Cluster(of, op)) => Ok(Some(of_cluster(out.alloc, c, &c.types, *of, op)?)),
-        Some(OpRef::Param(param, op)) => Ok(Some(given(out, *param, op)?)),
+        Some(OpRef::Cluster(of, op)) => Ok(Some(of_cluster(fixed.alloc, fixed.c, types, *of, op)?)),
+        Some(OpRef::Param(param, op)) => Ok(Some(given(fixed, *param, op)?)),
         _ => Err(LowerError::NotYet),
     }
 }
 
 /// The heading of the operation of this name of a type of the arena; None for one of a built-in type.
-pub fn seen_of(
-    out: &Lowering,
-    c: &Checked,
-    types: &TypeArena,
-    of: TypeId,
-    op: &Bytes,
-) -> Result<Option<Seen>, LowerError> {
+pub fn seen_of(fixed: &Fixed, types: &TypeArena, of: TypeId, op: &Bytes) -> Result<Option<Seen>> {
     match term(types, of)? {
-        Term::Cluster(_, _) => Ok(Some(of_cluster(out.alloc, c, types, of, op)?)),
-        Term::Param(param) => Ok(Some(given(out, *param, op)?)),
+        Term::Cluster(_, _) => Ok(Some(of_cluster(fixed.alloc, fixed.c, types, of, op)?)),
+        Term::Param(param) => Ok(Some(given(fixed, *param, op)?)),
         _ => Ok(None),
     }
 }
 
 /// What a where clause gives, with the parameters as they are.
-fn given(out: &Lowering, param: u32, op: &Bytes) -> Result<Seen, LowerError> {
-    let Some(wanted) = out.body.given(param, op) else {
+fn given(fixed: &Fixed, param: u32, op: &Bytes) -> Result<Seen> {
+    let Some(wanted) = fixed.given(param, op) else {
         return Err(LowerError::NotYet);
     };
-    let mut types = Box::new(out.alloc, TypeArena::new(out.alloc))?;
-    let of = carry(out.alloc, &mut types, &out.body.given_types, wanted, &[])?;
-    let heading = copied_heading(out.alloc, &types, of)?;
+    let mut types = Box::new(fixed.alloc, TypeArena::new(fixed.alloc))?;
+    let of = carry(fixed.alloc, &mut types, &fixed.given_types, wanted, &[])?;
+    let heading = copied_heading(fixed.alloc, &types, of)?;
     Ok(Seen { types, heading })
 }
 
 /// The heading of a routine's type.
-fn copied_heading(
-    alloc: Global,
-    types: &TypeArena,
-    of: TypeId,
-) -> Result<Box<Heading>, LowerError> {
+fn copied_heading(alloc: Global, types: &TypeArena, of: TypeId) -> Result<Box<Heading>> {
     match term(types, of)? {
         Term::Proc(heading) => Ok(Box::new(alloc, heading.copy(alloc)?)?),
         Term::Iter(heading) => Ok(Box::new(alloc, heading.copy(alloc)?)?),
@@ -76,7 +67,7 @@ fn of_cluster(
     from: &TypeArena,
     of: TypeId,
     op: &Bytes,
-) -> Result<Seen, LowerError> {
+) -> Result<Seen> {
     let sealed = sealed_type(alloc, from, of)?;
     match exported_operation(c, &sealed.name, op) {
         Some((from, heading)) => sealed.put_into(alloc, from, heading),
@@ -96,7 +87,7 @@ pub struct Sealed {
     pub actuals: Vec<Actual>,
 }
 
-fn sealed_type(alloc: Global, from: &TypeArena, of: TypeId) -> Result<Sealed, LowerError> {
+fn sealed_type(alloc: Global, from: &TypeArena, of: TypeId) -> Result<Sealed> {
     let mut types = Box::new(alloc, TypeArena::new(alloc))?;
     let of = carry(alloc, &mut types, from, of, &[])?;
     let Term::Cluster(name, actuals) = term(&types, of)? else {
@@ -114,12 +105,7 @@ fn sealed_type(alloc: Global, from: &TypeArena, of: TypeId) -> Result<Sealed, Lo
 
 impl Sealed {
     /// A heading of the cluster's specification with the actuals put in.
-    fn put_into(
-        self,
-        alloc: Global,
-        from: &TypeArena,
-        heading: &Heading,
-    ) -> Result<Seen, LowerError> {
+    fn put_into(self, alloc: Global, from: &TypeArena, heading: &Heading) -> Result<Seen> {
         let Sealed {
             mut types,
             actuals,
@@ -131,7 +117,7 @@ impl Sealed {
     }
 }
 
-fn copied_actuals(alloc: Global, actuals: &[Actual]) -> Result<Vec<Actual>, LowerError> {
+fn copied_actuals(alloc: Global, actuals: &[Actual]) -> Result<Vec<Actual>> {
     let mut copied = Vec::new(alloc);
     for actual in actuals {
         copied.push(actual.copy(alloc)?)?;
@@ -146,7 +132,7 @@ pub fn carried(
     from: &TypeArena,
     heading: &Heading,
     actuals: &[Actual],
-) -> Result<Heading, LowerError> {
+) -> Result<Heading> {
     let args = carried_types(alloc, types, from, heading.args.as_slice(), actuals)?;
     let results = carried_types(alloc, types, from, heading.results.as_slice(), actuals)?;
     let signals = carried_signals(alloc, types, from, heading.signals.as_slice(), actuals)?;
@@ -163,7 +149,7 @@ fn carried_signals(
     from: &TypeArena,
     signals: &[Exception],
     actuals: &[Actual],
-) -> Result<Sequence<Exception>, LowerError> {
+) -> Result<Sequence<Exception>> {
     let mut made = Vec::new(alloc);
     for signal in signals {
         made.push(carried_signal(alloc, types, from, signal, actuals)?)?;
@@ -177,7 +163,7 @@ fn carried_signal(
     from: &TypeArena,
     signal: &Exception,
     actuals: &[Actual],
-) -> Result<Exception, LowerError> {
+) -> Result<Exception> {
     let name = signal.name.copy(alloc)?;
     let objects = carried_types(alloc, types, from, signal.objects.as_slice(), actuals)?;
     Ok(Exception { name, objects })
@@ -189,7 +175,7 @@ fn carried_types(
     from: &TypeArena,
     ids: &[TypeId],
     actuals: &[Actual],
-) -> Result<Sequence<TypeId>, LowerError> {
+) -> Result<Sequence<TypeId>> {
     let mut made = Vec::new(alloc);
     for id in ids {
         made.push(carry(alloc, types, from, *id, actuals)?)?;

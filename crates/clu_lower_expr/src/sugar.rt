@@ -3,15 +3,15 @@
 use crate::binding::{bind, is_any, type_of};
 use crate::calls::call_for_one;
 use crate::constructors::binary;
-use crate::errors::LowerError;
+use crate::errors::{LowerError, Result};
+use crate::fixed::Fixed;
 use crate::in_place::{apply, keep, perform};
 use crate::invoking::bind_operands;
 use crate::lowering::Lowering;
 use crate::seen::{Seen, seen_at, seen_of};
 use crate::uses::{node_operation, operation_of, type_operation};
-use crate::walk::lower_expr;
+use crate::walk::lower_all;
 use clu_base::Bytes;
-use clu_core::Checked;
 use clu_equates::node_at;
 use clu_tree::{Node, NodeKind};
 use clu_types::TypeId;
@@ -27,11 +27,11 @@ pub fn is_condition(node: &Node) -> bool {
 /// Before the k-th operand: notes the uses of an operator, which stand in the order of the places in the text.
 pub fn note_operator(
     out: &mut Lowering,
-    c: &Checked,
+    fixed: &Fixed,
     n: u32,
     node: &Node,
     k: usize,
-) -> Result<(), LowerError> {
+) -> Result<()> {
     let is_place = match node.kind {
         NodeKind::Infix => k == 1 && !is_condition(node),
         NodeKind::Index => k == 1,
@@ -41,59 +41,66 @@ pub fn note_operator(
     if !is_place {
         return Ok(());
     }
-    note_operation(out, c, n)?;
+    note_operation(out, fixed, n)?;
     if is_negated(node) {
-        note_negation(out, c, n)
+        note_negation(out, fixed, n)
     } else {
         Ok(())
     }
 }
 
-fn note_operation(out: &mut Lowering, c: &Checked, n: u32) -> Result<(), LowerError> {
-    let _operation = node_operation(out, c, n)?;
+fn note_operation(out: &mut Lowering, fixed: &Fixed, n: u32) -> Result<()> {
+    let _operation = node_operation(out, fixed.c, n)?;
     Ok(())
 }
 
 /// Notes the use of `not` by an operator that negates a comparison.
-fn note_negation(out: &mut Lowering, c: &Checked, n: u32) -> Result<(), LowerError> {
-    let seen = seen_at(out, c, n)?;
-    let _negation = not_operation(out, c, n, seen.as_ref())?;
+fn note_negation(out: &mut Lowering, fixed: &Fixed, n: u32) -> Result<()> {
+    let seen = seen_at(fixed, n)?;
+    let _negation = not_operation(out, fixed, n, seen.as_ref())?;
     Ok(())
 }
 
 /// The result of the operation that sugar stands for.
 pub fn sugar(
     out: &mut Lowering,
-    c: &Checked,
+    fixed: &Fixed,
     n: u32,
     node: &Node,
     operands: Vec<WExpr>,
     taken: u32,
-) -> Result<WExpr, LowerError> {
-    let seen = seen_at(out, c, n)?;
-    let given = invoked(out, c, n, node, seen.as_ref(), operands, taken)?;
+) -> Result<WExpr> {
+    let seen = seen_at(fixed, n)?;
+    let given = invoked(out, fixed, n, node, seen.as_ref(), operands, taken)?;
     if !is_negated(node) {
         return Ok(given);
     }
     match seen {
-        Some(comparison) => negated(out, c, &comparison, given, taken),
-        None => negated_bool(out, c, n, given, taken),
+        Some(comparison) => negated(out, fixed, &comparison, given, taken),
+        None => negated_bool(out, fixed, n, given, taken),
     }
 }
 
 /// The result of the operation of a node, whose heading is `seen`.
 fn invoked(
     out: &mut Lowering,
-    c: &Checked,
+    fixed: &Fixed,
     n: u32,
     node: &Node,
     seen: Option<&Seen>,
     operands: Vec<WExpr>,
     taken: u32,
-) -> Result<WExpr, LowerError> {
-    let operation = node_operation(out, c, n)?;
-    let operands = bind_operands(out, c, n, node, seen, operands, taken)?;
-    apply(out, c, operation_of(c, n), operation, operands, taken)
+) -> Result<WExpr> {
+    let operation = node_operation(out, fixed.c, n)?;
+    let operands = bind_operands(out, fixed.c, n, node, seen, operands, taken)?;
+    apply(
+        out,
+        fixed.c,
+        operation_of(fixed.c, n),
+        operation,
+        operands,
+        taken,
+    )
 }
 
 /// Whether an operator negates the result of a comparison.
@@ -107,28 +114,28 @@ fn is_negated(node: &Node) -> bool {
 /// The negation of the result of a built-in comparison.
 fn negated_bool(
     out: &mut Lowering,
-    c: &Checked,
+    fixed: &Fixed,
     n: u32,
     given: WExpr,
     taken: u32,
-) -> Result<WExpr, LowerError> {
-    let _operation = not_operation(out, c, n, None)?;
+) -> Result<WExpr> {
+    let _operation = not_operation(out, fixed, n, None)?;
     let given = out.taken_back(given, taken);
-    let opposite = binary(out, WOp::Xor, given, WExpr::Word(1))?;
+    let opposite = binary(out.alloc, WOp::Xor, given, WExpr::Word(1))?;
     keep(out, opposite, taken)
 }
 
 /// The result of the operation `not` of what a comparison gave, which is in a slot.
 fn negated(
     out: &mut Lowering,
-    c: &Checked,
+    fixed: &Fixed,
     comparison: &Seen,
     given: WExpr,
     taken: u32,
-) -> Result<WExpr, LowerError> {
+) -> Result<WExpr> {
     let compared = only_result(comparison)?;
     let name = Bytes::from_slice(out.alloc, NOT)?;
-    let seen = seen_of(out, c, &comparison.types, compared, &name)?;
+    let seen = seen_of(fixed, &comparison.types, compared, &name)?;
     negation(out, comparison, compared, seen.as_ref(), given, taken)
 }
 
@@ -140,7 +147,7 @@ fn negation(
     seen: Option<&Seen>,
     given: WExpr,
     taken: u32,
-) -> Result<WExpr, LowerError> {
+) -> Result<WExpr> {
     let types = &comparison.types;
     let operand = bind(out, types, given, compared, takes_any(seen), taken)?;
     let operands = vec![in out.alloc; operand]?;
@@ -162,7 +169,7 @@ fn takes_any(seen: Option<&Seen>) -> bool {
     }
 }
 
-fn only_result(seen: &Seen) -> Result<TypeId, LowerError> {
+fn only_result(seen: &Seen) -> Result<TypeId> {
     match seen.heading.results.as_slice().first() {
         Some(of) => Ok(*of),
         None => Err(LowerError::NotYet),
@@ -170,52 +177,40 @@ fn only_result(seen: &Seen) -> Result<TypeId, LowerError> {
 }
 
 /// The operation `not` of the result of the comparison at a node, whose type is that of its negation for a built-in one.
-fn not_operation(
-    out: &mut Lowering,
-    c: &Checked,
-    n: u32,
-    seen: Option<&Seen>,
-) -> Result<WExpr, LowerError> {
+fn not_operation(out: &mut Lowering, fixed: &Fixed, n: u32, seen: Option<&Seen>) -> Result<WExpr> {
     match seen {
         Some(comparison) => {
             type_operation(out, &comparison.types, only_result(comparison)?, NOT)
         }
-        None => type_operation(out, &c.types, type_of(c, n)?, NOT),
+        None => type_operation(out, &fixed.c.types, type_of(fixed.c, n)?, NOT),
     }
 }
 
 /// `r.s := e` and `a[i] := e`: the operation of the statement's node over its children.
-pub fn sugar_statement(out: &mut Lowering, c: &Checked, n: u32) -> Result<(), LowerError> {
-    let operation = node_operation(out, c, n)?;
+pub fn sugar_statement(out: &mut Lowering, fixed: &Fixed, n: u32) -> Result<()> {
+    let operation = node_operation(out, fixed.c, n)?;
     let free = out.taken();
-    let node = node_at(&c.tree, n)?;
-    let operands = bound_children(out, c, n, node, free)?;
-    perform(out, c, operation_of(c, n), operation, operands, free)
+    let node = node_at(&fixed.c.tree, n)?;
+    let operands = bound_children(out, fixed, n, node, free)?;
+    perform(
+        out,
+        fixed.c,
+        operation_of(fixed.c, n),
+        operation,
+        operands,
+        free,
+    )
 }
 
 /// The values of a node's children, bound to the formals of its operation.
 fn bound_children(
     out: &mut Lowering,
-    c: &Checked,
+    fixed: &Fixed,
     n: u32,
     node: &Node,
     free: u32,
-) -> Result<Vec<WExpr>, LowerError> {
-    let mut operands = Vec::new(out.alloc);
-    for child in node.children.as_slice() {
-        operands.push(lower_expr(out, c, *child)?)?;
-    }
-    bound_operands(out, c, n, node, operands, free)
-}
-
-fn bound_operands(
-    out: &mut Lowering,
-    c: &Checked,
-    n: u32,
-    node: &Node,
-    operands: Vec<WExpr>,
-    free: u32,
-) -> Result<Vec<WExpr>, LowerError> {
-    let seen = seen_at(out, c, n)?;
-    bind_operands(out, c, n, node, seen.as_ref(), operands, free)
+) -> Result<Vec<WExpr>> {
+    let operands = lower_all(out, fixed, node.children.as_slice())?;
+    let seen = seen_at(fixed, n)?;
+    bind_operands(out, fixed.c, n, node, seen.as_ref(), operands, free)
 }

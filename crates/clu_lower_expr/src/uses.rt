@@ -3,7 +3,7 @@
 ghost use Rattle.std.specs.Prelude.{◌↔◌, IsTrue, length};
 ghost use Rattle.clu_specs.specs.Uses.{TargetBelow};
 
-use crate::errors::LowerError;
+use crate::errors::{LowerError, Result};
 use crate::lowering::Lowering;
 use clu_base::Bytes;
 use clu_core::{Checked, OpRef};
@@ -15,7 +15,7 @@ use std::alloc::Global;
 use std::boxed::Box;
 
 /// The descriptor of the operation that was found for a node.
-pub fn node_operation(out: &mut Lowering, c: &Checked, n: u32) -> Result<WExpr, LowerError> {
+pub fn node_operation(out: &mut Lowering, c: &Checked, n: u32) -> Result<WExpr> {
     match operation_of(c, n) {
         Some(OpRef::Param(param, op)) => given_operation(out, *param, op),
         Some(op) => {
@@ -27,7 +27,7 @@ pub fn node_operation(out: &mut Lowering, c: &Checked, n: u32) -> Result<WExpr, 
 }
 
 /// The descriptor of the operation of this name that a where clause gives of a type parameter.
-fn given_operation(out: &mut Lowering, param: u32, op: &Bytes) -> Result<WExpr, LowerError> {
+fn given_operation(out: &mut Lowering, param: u32, op: &Bytes) -> Result<WExpr> {
     let mut types = Box::new(out.alloc, TypeArena::new(out.alloc))?;
     let of = intern(&mut types, Term::Param(param))?;
     type_operation(out, &types, of, op.as_slice())
@@ -47,13 +47,13 @@ pub fn type_operation(
     types: &TypeArena,
     of: TypeId,
     op: &[u8],
-) -> Result<WExpr, LowerError> {
+) -> Result<WExpr> {
     let target = Target::Op(of, Bytes::from_slice(out.alloc, op)?);
     used(out, types, &target)
 }
 
 /// What a use of an operation names that is none of a type parameter. A routine object is no use.
-fn target_of(alloc: Global, op: &OpRef) -> Result<Target, LowerError> {
+fn target_of(alloc: Global, op: &OpRef) -> Result<Target> {
     match op.copy(alloc)? {
         OpRef::Builtin(of, op) => Ok(Target::Op(of, op)),
         OpRef::Cluster(of, op) => Ok(Target::Op(of, op)),
@@ -63,11 +63,11 @@ fn target_of(alloc: Global, op: &OpRef) -> Result<Target, LowerError> {
 }
 
 /// The descriptor of `force` of a type.
-pub fn force_of(out: &mut Lowering, types: &TypeArena, of: TypeId) -> Result<WExpr, LowerError> {
+pub fn force_of(out: &mut Lowering, types: &TypeArena, of: TypeId) -> Result<WExpr> {
     used(out, types, &Target::ForceOf(of))
 }
 
-fn used(out: &mut Lowering, types: &TypeArena, target: &Target) -> Result<WExpr, LowerError> {
+fn used(out: &mut Lowering, types: &TypeArena, target: &Target) -> Result<WExpr> {
     if !is_known(types, target) {
         return Err(LowerError::NotYet);
     }

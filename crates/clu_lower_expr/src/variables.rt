@@ -1,6 +1,6 @@
 //! Variables of a routine: the slots that hold them.
 
-use crate::errors::LowerError;
+use crate::errors::Result;
 use crate::lowering::Lowering;
 use clu_base::Bytes;
 use clu_wir::{Trap, WExpr, WStmt};
@@ -20,7 +20,7 @@ pub struct Variable {
 
 impl Lowering {
     /// A new variable that names an object from the first on.
-    pub fn named_variable(&mut self) -> Result<Variable, LowerError> {
+    pub fn named_variable(&mut self) -> Result<Variable> {
         Ok(Variable {
             slot: self.take()?,
             named: None,
@@ -29,7 +29,7 @@ impl Lowering {
     }
 
     /// A new variable that names no object yet.
-    pub fn bare_variable(&mut self) -> Result<Variable, LowerError> {
+    pub fn bare_variable(&mut self) -> Result<Variable> {
         let slot = self.take()?;
         let named = self.take()?;
         self.push(WStmt::Set(named, WExpr::Word(0)))?;
@@ -41,22 +41,22 @@ impl Lowering {
     }
 
     /// Lets a variable name the object of a word.
-    pub fn assign(&mut self, variable: Variable, value: WExpr) -> Result<(), LowerError> {
+    pub fn assign(&mut self, variable: Variable, value: WExpr) -> Result<()> {
         self.push(WStmt::Set(variable.slot, value))?;
         self.note_named(variable)
     }
 
     /// Notes that a variable names the object whose word was put into its slot.
-    pub fn note_named(&mut self, variable: Variable) -> Result<(), LowerError> {
+    pub fn note_named(&mut self, variable: Variable) -> Result<()> {
         match variable.named {
             Some(named) => self.push(WStmt::Set(named, WExpr::Word(1))),
             None => Ok(()),
         }
     }
 
-    /// The word of the object that the variable of this name names. Where it names none the code raises a failure.
-    pub fn object_of(&mut self, name: &Bytes) -> Result<WExpr, LowerError> {
-        let variable = self.variable(name)?;
+    /// The word of the object that the variable of this declaration names. Where it names none the code raises a failure.
+    pub fn object_of(&mut self, place: usize) -> Result<WExpr> {
+        let variable = self.variable(place)?;
         if let Some(named) = variable.named {
             let object = self.needed(WExpr::Slot(named), WExpr::Slot(variable.slot))?;
             let slot = self.take()?;
@@ -67,26 +67,26 @@ impl Lowering {
     }
 
     /// A word, where the one before it isn't 0; else the code raises the failure of a variable that names no object.
-    pub fn needed(&self, named: WExpr, word: WExpr) -> Result<WExpr, LowerError> {
+    pub fn needed(&self, named: WExpr, word: WExpr) -> Result<WExpr> {
         let named = Box::new(self.alloc, named)?;
         let word = Box::new(self.alloc, word)?;
         Ok(WExpr::Check(named, Trap::Uninitialized, word))
     }
 
     /// Raises a failure of this text.
-    pub fn raise_failure(&mut self, text: &[u8]) -> Result<(), LowerError> {
+    pub fn raise_failure(&mut self, text: &[u8]) -> Result<()> {
         let (name, objects) = self.failure(text)?;
         self.push(WStmt::Raise(name, objects))
     }
 
     /// Ends the routine with a failure of this text.
-    pub fn signal_failure(&mut self, text: &[u8]) -> Result<(), LowerError> {
+    pub fn signal_failure(&mut self, text: &[u8]) -> Result<()> {
         let (name, objects) = self.failure(text)?;
         self.push(WStmt::Signal(name, objects))
     }
 
     /// The name of a failure and its string.
-    fn failure(&mut self, text: &[u8]) -> Result<(Bytes, Vec<WExpr>), LowerError> {
+    fn failure(&mut self, text: &[u8]) -> Result<(Bytes, Vec<WExpr>)> {
         let mut objects = Vec::new(self.alloc);
         objects.push(self.string(text)?)?;
         let name = Bytes::from_slice(self.alloc, b"failure")?;
@@ -95,7 +95,7 @@ impl Lowering {
     }
 
     /// The name of an exception is one of the routine's constants.
-    pub fn exception(&mut self, name: &Bytes) -> Result<(), LowerError> {
+    pub fn exception(&mut self, name: &Bytes) -> Result<()> {
         let _word = self.string(name.as_slice())?;
         Ok(())
     }

@@ -2,7 +2,7 @@
 //! type. They stand in an arena of their own, with actual parameters put in.
 
 use crate::binding::is_cvt;
-use crate::errors::LowerError;
+use crate::errors::{LowerError, Result};
 use crate::seen::{Sealed, Seen};
 use clu_base::{Bytes, Sequence};
 use clu_core::Checked;
@@ -18,12 +18,7 @@ const FAILURE: &[u8] = b"failure";
 
 /// The heading of a Routine node of a cluster of this type, with the actuals of the type put in. Without actuals the
 /// parameters stay.
-pub fn written_heading(
-    alloc: Global,
-    c: &Checked,
-    routine: &Node,
-    sealed: Sealed,
-) -> Result<Seen, LowerError> {
+pub fn written_heading(alloc: Global, c: &Checked, routine: &Node, sealed: Sealed) -> Result<Seen> {
     let mut reading = Reading { alloc, c, sealed };
     let heading = Box::new(alloc, reading.heading(routine)?)?;
     let Reading { sealed, .. } = reading;
@@ -41,7 +36,7 @@ struct Reading<'a> {
 }
 
 impl Reading<'_> {
-    fn heading(&mut self, node: &Node) -> Result<Heading, LowerError> {
+    fn heading(&mut self, node: &Node) -> Result<Heading> {
         let mut args = Vec::new(self.alloc);
         let mut results = Vec::new(self.alloc);
         let mut signals = IndexMap::new(self.alloc);
@@ -60,7 +55,7 @@ impl Reading<'_> {
         args: &mut Vec<TypeId>,
         results: &mut Vec<TypeId>,
         signals: &mut IndexMap<Bytes, Vec<TypeId>>,
-    ) -> Result<(), LowerError> {
+    ) -> Result<()> {
         for child in node.children.as_slice() {
             let child = node_at(&self.c.tree, *child)?;
             match child.kind {
@@ -73,7 +68,7 @@ impl Reading<'_> {
         Ok(())
     }
 
-    fn add_args(&mut self, decl: &Node, args: &mut Vec<TypeId>) -> Result<(), LowerError> {
+    fn add_args(&mut self, decl: &Node, args: &mut Vec<TypeId>) -> Result<()> {
         let [of] = decl.children.as_slice() else {
             return Err(LowerError::NotYet);
         };
@@ -84,7 +79,7 @@ impl Reading<'_> {
         Ok(())
     }
 
-    fn add_types(&mut self, node: &Node, listed: &mut Vec<TypeId>) -> Result<(), LowerError> {
+    fn add_types(&mut self, node: &Node, listed: &mut Vec<TypeId>) -> Result<()> {
         for of in node.children.as_slice() {
             listed.push(self.seen(*of)?)?;
         }
@@ -95,7 +90,7 @@ impl Reading<'_> {
         &mut self,
         node: &Node,
         signals: &mut IndexMap<Bytes, Vec<TypeId>>,
-    ) -> Result<(), LowerError> {
+    ) -> Result<()> {
         for child in node.children.as_slice() {
             let exception = node_at(&self.c.tree, *child)?;
             self.add_signal(exception, signals)?;
@@ -108,7 +103,7 @@ impl Reading<'_> {
         &mut self,
         exception: &Node,
         signals: &mut IndexMap<Bytes, Vec<TypeId>>,
-    ) -> Result<(), LowerError> {
+    ) -> Result<()> {
         let name = first_name(exception)?;
         if name.as_slice() == FAILURE {
             return Ok(());
@@ -120,7 +115,7 @@ impl Reading<'_> {
     }
 
     /// The type that a node of the heading denotes.
-    fn seen(&mut self, n: u32) -> Result<TypeId, LowerError> {
+    fn seen(&mut self, n: u32) -> Result<TypeId> {
         match self.c.denoted.get(n as usize) {
             Some(Some(of)) => Ok(carry(
                 self.alloc,
@@ -136,10 +131,7 @@ impl Reading<'_> {
 }
 
 /// Exceptions in the ascending order of their names.
-fn ascending(
-    alloc: Global,
-    mut signals: IndexMap<Bytes, Vec<TypeId>>,
-) -> Result<Vec<Exception>, LowerError> {
+fn ascending(alloc: Global, mut signals: IndexMap<Bytes, Vec<TypeId>>) -> Result<Vec<Exception>> {
     let mut listed = Vec::new(alloc);
     signals.sort_keys()?;
     for (name, objects) in signals.drain(..) {

@@ -1,8 +1,10 @@
-//! What a routine's body stands in: the routine's heading as the body sees it, what is given of type parameters, own
-//! variables, and the arms round the statement that is lowered.
+//! What is fixed while the statements of a routine are lowered: the checked file, the routine's heading as its body sees
+//! it, what is given of type parameters, and own variables.
 
-use crate::errors::LowerError;
+use crate::declarations::Declarations;
+use crate::errors::Result;
 use clu_base::{Bytes, Memory};
+use clu_core::Checked;
 use clu_equates::carry;
 use clu_types::{Actual, Demand, TypeArena, TypeId};
 use clu_wir::HoleKind;
@@ -18,27 +20,12 @@ pub struct OwnVariable {
     pub is_any: bool,
 }
 
-/// An arm round a statement, as an exit sees it.
-#[derive(Drop)]
-pub struct OpenArm {
-    /// The names by which an exit goes to it.
-    pub names: Vec<Bytes>,
-    /// Whether it drops the objects.
-    pub drops: bool,
-    /// Whether it binds objects to type any, and takes after them the address of the numbers of their types.
-    pub binds: bool,
-}
-
-/// Where an arm is: how many guards are inside of its own, and its number in that guard.
-#[derive(Clone, Copy, PartialEq, Eq)]
-pub struct ArmPlace {
-    pub inside: u32,
-    pub arm: u32,
-}
-
 /// What stands round the statements of a routine.
 #[derive(Drop)]
-pub struct Body {
+pub struct Fixed<'a> {
+    pub alloc: Global,
+    pub c: &'a Checked,
+    pub declarations: &'a Declarations,
     /// The representation of the cluster round the routine.
     pub rep: Option<TypeId>,
     /// What the where clauses round the statements give of type parameters, and the arena of the types there. Of two
@@ -52,17 +39,17 @@ pub struct Body {
     /// For each exception of the heading that has objects the place of the first of their types, as callers see them,
     /// in the routine's table.
     pub object_types: IndexMap<Bytes, u32>,
-    pub owns: IndexMap<Bytes, OwnVariable>,
-    /// The arms of the guards round the statement, those of the innermost guard last.
-    pub guards: Vec<Vec<OpenArm>>,
-    /// Whether the statement stands directly in one with arms, which see what it declares.
-    pub direct: bool,
+    /// Own variables by their declarations.
+    pub owns: IndexMap<usize, OwnVariable>,
 }
 
-impl Body {
-    /// Nothing is known yet.
-    pub fn new(alloc: Global) -> Body {
-        Body {
+impl<'a> Fixed<'a> {
+    /// Nothing is known yet but the file.
+    pub fn new(alloc: Global, c: &'a Checked, declarations: &'a Declarations) -> Fixed<'a> {
+        Fixed {
+            alloc,
+            c,
+            declarations,
             rep: None,
             given: Vec::new(alloc),
             given_types: TypeArena::new(alloc),
@@ -70,25 +57,18 @@ impl Body {
             signals: IndexMap::new(alloc),
             object_types: IndexMap::new(alloc),
             owns: IndexMap::new(alloc),
-            guards: Vec::new(alloc),
-            direct: false,
         }
     }
 
     /// Adds what a where clause gives, after what others give, with these actuals put in, which are of the arena of
     /// what is given. Without actuals the parameters stay.
-    pub fn give(
-        &mut self,
-        alloc: Global,
-        from: &TypeArena,
-        demands: &[Demand],
-        actuals: &[Actual],
-    ) -> Result<(), LowerError> {
+    pub fn give(&mut self, from: &TypeArena, demands: &[Demand], actuals: &[Actual]) -> Result<()> {
         for demand in demands {
-            let wanted = carry(alloc, &mut self.given_types, from, demand.wanted, actuals)?;
+            let types = &mut self.given_types;
+            let wanted = carry(self.alloc, types, from, demand.wanted, actuals)?;
             self.given.push(Demand {
                 param: demand.param,
-                op: demand.op.copy(alloc)?,
+                op: demand.op.copy(self.alloc)?,
                 wanted,
             })?;
         }
@@ -112,38 +92,6 @@ impl Body {
             None => &[],
         }
     }
-
-    /// The arm to which an exit of this name goes.
-    pub fn exit_target(&self, name: &Bytes) -> Result<ArmPlace, LowerError> {
-        let mut inside = 0u32;
-        for arms in self.guards.as_slice().iter().rev() {
-            match arm_named(arms.as_slice(), name) {
-                Some(arm) => return Ok(ArmPlace { inside, arm }),
-                None => {}
-            }
-            inside = inside.saturating_add(1);
-        }
-        Err(LowerError::NotYet)
-    }
-
-    /// The arm at a place.
-    pub fn arm(&self, place: ArmPlace) -> Option<&OpenArm> {
-        let behind = self.guards.len().checked_sub(1)?;
-        let guard = behind.checked_sub(place.inside as usize)?;
-        self.guards.get(guard)?.get(place.arm as usize)
-    }
-}
-
-/// The number of the first arm with this name.
-fn arm_named(arms: &[OpenArm], name: &Bytes) -> Option<u32> {
-    let mut number = 0u32;
-    for arm in arms {
-        if arm.names.as_slice().contains(name) {
-            return Some(number);
-        }
-        number = number.saturating_add(1);
-    }
-    None
 }
 
 /// Copies of names.
