@@ -6,6 +6,15 @@ use std::alloc::Global;
 use std::fmt::Write;
 use std::test::Fail;
 
+/// What was found is what is due.
+pub fn same(found: String, due: &str) -> Result<(), Fail> {
+    if found.as_str() == due {
+        Ok(())
+    } else {
+        Err(found)?
+    }
+}
+
 /// Reads into so many of three bytes, and writes how many came and the three.
 pub fn put_read<S: Source>(text: &mut String, source: &mut S, room: usize) -> Result<(), Fail> {
     let mut buf = [b'-'; 3];
