@@ -49,23 +49,6 @@ pub fn put_name(text: &mut String, name: &Bytes) -> Result<(), Fail> {
     Ok(())
 }
 
-/// There are as many rows as a table says.
-pub fn counted(alloc: Global, rows: usize, due: usize) -> Result<(), Fail> {
-    if rows != due {
-        return Err(format!(in alloc; "{rows} rows, but {due} are due")?)?;
-    }
-    Ok(())
-}
-
-/// What was found is what is due of a row.
-pub fn same(found: String, due: &str) -> Result<(), Fail> {
-    if found.as_str() == due {
-        Ok(())
-    } else {
-        Err(found)?
-    }
-}
-
 /// The type and the operation that a row begins with.
 pub fn words_of(row: &str) -> (&str, &str) {
     let mut words = row.split(' ');
