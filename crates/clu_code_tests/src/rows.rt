@@ -97,10 +97,10 @@ fn separator(table: Table) -> char {
 fn parts_of(table: Table, row: &str) -> (&str, &str) {
     match table {
         Table::Programs | Table::Flats => {
-            let (due, given) = row.split_once('\n').unwrap_or((row, ""));
+            let (due, given) = row.trim_end().split_once('\n').unwrap_or((row, ""));
             (given, due)
         }
-        Table::Peeps => row.split_once('>').unwrap_or((row, "")),
+        Table::Peeps => row.trim_end().split_once('>').unwrap_or((row, "")),
         _ => row.split_once(" gives").unwrap_or((row, "")),
     }
 }
@@ -108,8 +108,8 @@ fn parts_of(table: Table, row: &str) -> (&str, &str) {
 fn keep_row(alloc: Global, table: Table, row: &str) -> Result<(), Fail> {
     let (given, due) = parts_of(table, row);
     let mut text = String::new(alloc);
-    put(alloc, &mut text, table, given.trim_end())?;
-    if text.as_str().trim_end() == due.trim_end() {
+    put(alloc, &mut text, table, given)?;
+    if text.as_str() == due {
         return Ok(());
     }
     Err(format!(in alloc; "{text} comes of {row}")?)?
