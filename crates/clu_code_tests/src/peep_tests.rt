@@ -4,7 +4,7 @@ use crate::program::{Program, no_routine};
 use crate::regions::put_region;
 use clu_base::Memory;
 use clu_frames::{Flat, FlatRoutine};
-use clu_handlers::Region;
+use clu_handlers::{Region, Regions};
 use clu_peep::{Peeped, is_flattened, peep};
 use std::alloc::Global;
 use std::fmt::Write;
@@ -35,24 +35,17 @@ fn put_left(text: &mut String, peeped: &Peeped) -> Result<(), Fail> {
     Ok(put_regions(text, peeped.regions.as_slice())?)
 }
 
-/// The routine that was begun last, in whose place there is none.
-fn taken(program: &mut Program) -> FlatRoutine {
-    let none = no_routine(program.alloc);
-    mem::replace(&mut program.flat, none)
-}
-
-/// Writes what is left of the routine that was begun, or that it can't be shortened.
-fn put_shortened(text: &mut String, program: &mut Program) -> Result<(), Fail> {
-    let alloc = program.alloc;
-    if !is_flattened(
-        alloc,
-        program.flat.code.as_slice(),
-        program.regions.as_slice(),
-    )? {
+/// Writes what is left of a routine, or that it can't be shortened.
+fn put_shortened(
+    alloc: Global,
+    text: &mut String,
+    flat: Box<FlatRoutine>,
+    regions: &Regions,
+) -> Result<(), Fail> {
+    if !is_flattened(alloc, flat.code.as_slice(), regions.as_slice())? {
         return Ok(text.push_str(" refused")?);
     }
-    let flat = taken(program);
-    match &peep(alloc, flat, &program.regions) {
+    match &peep(alloc, Box::into_inner(flat), regions) {
         Ok(peeped) => put_left(text, peeped),
         Err(_) => Err("out of memory")?,
     }
@@ -64,5 +57,7 @@ pub fn put_peeped(alloc: Global, text: &mut String, lines: &str) -> Result<(), F
     program.line("is", "p 9")?;
     program.flat.nodes = 7;
     program.lines_of(lines)?;
-    put_shortened(text, &mut program)
+    let flat = mem::replace(&mut program.flat, no_routine(alloc));
+    let flat = Box::new(alloc, flat)?;
+    put_shortened(alloc, text, flat, &program.regions)
 }
