@@ -46,8 +46,9 @@ fn carries(
 fn asks(alloc: Global, types: &mut TypeArena, other: &mut TypeArena) -> Result<bool, CheckError> {
     let int = intern(types, Term::Int)?;
     let any = intern(types, Term::Any)?;
-    let is_known = knows(types, int, any) && refuses_foreign(types, int);
-    Ok(is_known && puts(alloc, types, int)? && carries(alloc, types, other, any)?)
+    let is_put = puts(alloc, types, int)?;
+    let is_carried = carries(alloc, types, other, any)?;
+    Ok(is_put && is_carried && knows(types, int, any) && refuses_foreign(types, int))
 }
 
 #[test]

@@ -9,7 +9,7 @@ use std::alloc::Global;
 use std::test::Fail;
 
 /// LUI x5, 0; ADDI x5, x5, 0; JALR x0, x1, 0.
-static CODE: [u32; 3] = [0x0000_02b7, 0x0002_8293, 0x0000_8067];
+const CODE: [u32; 3] = [0x0000_02b7, 0x0002_8293, 0x0000_8067];
 
 /// Appends the texts that have blanks between.
 fn put_texts(alloc: Global, texts: &mut Vec<Bytes>, listed: &str) -> Result<(), Memory> {

@@ -136,7 +136,7 @@ fn keep_groups(alloc: Global, groups: &[(&str, usize, &str)], due: usize) -> Res
     let specs = Box::new(alloc, Specs::new(alloc))?;
     let mut count = 0usize;
     for (unit, times, rows) in groups {
-        count = count.saturating_add(keep(alloc, rows, unit, *times, &specs)?);
+        count = count.saturating_add(keep(alloc, *rows, *unit, *times, &specs)?);
     }
     counted(alloc, count, due)
 }
@@ -235,7 +235,7 @@ fn keep_chain(alloc: Global, last: &str, due: &str, specs: &Specs) -> Result<(),
 
 fn keep_chains(alloc: Global, specs: &Specs) -> Result<(), Fail> {
     for (last, due) in &CHAINS {
-        keep_chain(alloc, last, due, specs)?;
+        keep_chain(alloc, *last, *due, specs)?;
     }
     Ok(())
 }

@@ -37,7 +37,7 @@ const CALLS: u64 = 19;
 /// Puts the sources.
 pub fn put_sources(alloc: Global, outside: &mut Outside) -> Result<(), Fail> {
     for (name, source) in &SOURCES {
-        outside.files.put(alloc, name, source.as_bytes())?;
+        outside.files.put(alloc, *name, source.as_bytes())?;
     }
     Ok(())
 }
@@ -58,10 +58,10 @@ fn fails_well(alloc: Global, call: u64, torn: usize) -> Result<bool, Fail> {
     put_sources(alloc, &mut outside)?;
     for (words, due) in &COMMANDS {
         let before = kept_library(alloc, &outside)?;
-        let status = outside.call(alloc, words)?;
+        let status = outside.call(alloc, *words)?;
         if status == 24 {
             let after = kept_library(alloc, &outside)?;
-            let again = outside.call(alloc, words)?;
+            let again = outside.call(alloc, *words)?;
             return Ok(is_left(&before, &after, torn) && (before != after || again == *due));
         }
         if status != *due {
