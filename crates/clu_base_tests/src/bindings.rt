@@ -58,7 +58,7 @@ fn tell(
     bound: Option<usize>,
 ) -> Result<(), Fail> {
     let at = node.place;
-    let name = std::str::from_utf8(name_at(node, k).as_slice())?;
+    let name = std::str::from_utf8(name_at(node, k).as_slice()).unwrap_or("?");
     let one = match bound {
         Some(place) => names.declared.as_slice().get(place),
         None => None,

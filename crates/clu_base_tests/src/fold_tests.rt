@@ -43,7 +43,7 @@ fn put_constant(text: &mut String, constant: &Const) -> Result<(), Fail> {
 
 fn put_quoted(text: &mut String, quote: &str, bytes: &[u8]) -> Result<(), Fail> {
     text.push_str(quote)?;
-    text.push_str(str::from_utf8(bytes)?)?;
+    text.push_str(str::from_utf8(bytes).unwrap_or("?"))?;
     Ok(())
 }
 

@@ -38,7 +38,7 @@ fn put_term(
     }
     let id = types.intern(term)?;
     let heading = type_text(alloc, types, id)?;
-    Ok(text.push_str(str::from_utf8(heading.as_slice())?)?)
+    Ok(text.push_str(str::from_utf8(heading.as_slice()).unwrap_or("?"))?)
 }
 
 /// Writes of a type and a name the type of the built-in operation, or `none`.

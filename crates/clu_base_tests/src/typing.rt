@@ -71,7 +71,7 @@ fn put_made(alloc: Global, text: &mut String, types: &TypeArena, made: TypeId) -
         return Err("the type is not of the arena")?;
     }
     let made = type_text(alloc, types, made)?;
-    Ok(text.push_str(str::from_utf8(made.as_slice())?)?)
+    Ok(text.push_str(str::from_utf8(made.as_slice()).unwrap_or("?"))?)
 }
 
 /// The same, where the type comes from another arena.

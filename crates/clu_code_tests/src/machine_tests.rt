@@ -253,7 +253,7 @@ fn echo(alloc: Global, row: &str) -> Result<Box<Run>, Fail> {
 fn put_echo(text: &mut String, run: &mut Run) -> Result<(), Fail> {
     put_ending(text, run.run(1000))?;
     text.push_str(" ")?;
-    text.push_str(str::from_utf8(run.output.bytes())?)?;
+    text.push_str(str::from_utf8(run.output.bytes()).unwrap_or("?"))?;
     Ok(())
 }
 

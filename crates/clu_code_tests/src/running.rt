@@ -86,7 +86,7 @@ pub fn started(alloc: Global, image: &Image) -> Result<Box<Machine>, Fail> {
 
 fn put_failure(found: &mut String, text: &[u8]) -> Result<(), Fail> {
     found.push_str(" failure ")?;
-    found.push_str(str::from_utf8(text)?)?;
+    found.push_str(str::from_utf8(text).unwrap_or("?"))?;
     Ok(())
 }
 

@@ -118,7 +118,7 @@ fn shown(error: &LinkError) -> (&str, &[u8]) {
 fn tell_error(out: &mut String, error: &LinkError) -> Result<(), Fail> {
     let (word, name) = shown(error);
     out.push_str(word)?;
-    Ok(out.push_str(str::from_utf8(name)?)?)
+    Ok(out.push_str(str::from_utf8(name).unwrap_or("?"))?)
 }
 
 fn tell_plain(

@@ -152,7 +152,7 @@ fn enter_program(library: &mut Library, alloc: Global, text: &str) -> Result<&'s
 }
 
 fn tell(out: &mut String, name: &Bytes) -> Result<(), Fail> {
-    out.push_str(std::str::from_utf8(name.as_slice())?)?;
+    out.push_str(std::str::from_utf8(name.as_slice()).unwrap_or("?"))?;
     Ok(())
 }
 

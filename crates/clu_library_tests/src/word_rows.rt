@@ -45,7 +45,7 @@ fn put_constants(text: &mut String, constants: &[ObjConst]) -> Result<(), Fail> 
 /// Writes a comma and a name.
 pub fn put_name(text: &mut String, name: &Bytes) -> Result<(), Fail> {
     text.push_str(",")?;
-    text.push_str(str::from_utf8(name.as_slice())?)?;
+    text.push_str(str::from_utf8(name.as_slice()).unwrap_or("?"))?;
     Ok(())
 }
 

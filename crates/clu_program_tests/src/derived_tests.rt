@@ -60,7 +60,7 @@ fn uses_of(alloc: Global, routine: &WRoutine) -> Result<String, Fail> {
     let mut text = String::new(alloc);
     for used in &routine.uses {
         text.push_str(" ")?;
-        text.push_str(str::from_utf8(used.as_slice())?)?;
+        text.push_str(str::from_utf8(used.as_slice()).unwrap_or("?"))?;
     }
     Ok(text)
 }

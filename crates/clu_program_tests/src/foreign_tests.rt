@@ -215,7 +215,7 @@ pub fn found_of_objects(alloc: Global, row: &str) -> Result<String, Fail> {
     let specs = part(row, '\t', 0);
     let lines = part(row, '\t', 1);
     if outside.call(alloc, "link L g p")? != 0 {
-        let told = std::str::from_utf8(outside.errors.bytes())?;
+        let told = std::str::from_utf8(outside.errors.bytes()).unwrap_or("?");
         return Ok(format!(in alloc; "{specs}\t{lines}\t{}", told.trim_end())?);
     }
     if outside.call(alloc, "run L g")? != 0 {

@@ -42,7 +42,7 @@ fn written(alloc: Global, words: &str, content: &str) -> Result<String, Fail> {
     if outside.call(alloc, words)? != 0 {
         return Err("the call fails")?;
     }
-    let output = std::str::from_utf8(outside.output.bytes())?;
+    let output = std::str::from_utf8(outside.output.bytes()).unwrap_or("?");
     Ok(String::from_str(alloc, output)?)
 }
 

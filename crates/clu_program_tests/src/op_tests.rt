@@ -24,8 +24,8 @@ fn written(alloc: Global, words: &str, source: &str) -> Result<String, Fail> {
     let source = spelled(alloc, source)?;
     let mut outside = Outside::new(alloc, INPUT, source.as_bytes(), "")?;
     let _status = outside.call(alloc, words)?;
-    let output = std::str::from_utf8(outside.output.bytes())?;
-    let errors = std::str::from_utf8(outside.errors.bytes())?;
+    let output = std::str::from_utf8(outside.output.bytes()).unwrap_or("?");
+    let errors = std::str::from_utf8(outside.errors.bytes()).unwrap_or("?");
     Ok(format!(in alloc; "{output}{errors}")?)
 }
 

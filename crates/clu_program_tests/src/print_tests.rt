@@ -116,7 +116,7 @@ fn print(alloc: Global, text: &str, tree: &Tree) -> Result<String, Fail> {
     }
     let tokens = lex(alloc, source)?;
     let bytes = printed(alloc, source, tokens.as_slice(), tree)?;
-    Ok(String::from_str(alloc, std::str::from_utf8(bytes.as_slice())?)?)
+    Ok(String::from_str(alloc, std::str::from_utf8(bytes.as_slice()).unwrap_or("?"))?)
 }
 
 fn are_equal(a: &Node, b: &Node) -> bool {

@@ -70,6 +70,6 @@ pub fn found_of_example(alloc: Global, row: &str) -> Result<String, Fail> {
     if status != 0 {
         return Err("the program of an example fails")?;
     }
-    let output = std::str::from_utf8(outside.output.bytes())?;
+    let output = std::str::from_utf8(outside.output.bytes()).unwrap_or("?");
     Ok(format!(in alloc; "{name}\t{input}\t{output}\t{source}")?)
 }

@@ -88,8 +88,8 @@ fn found(alloc: Global, outside: &mut Outside, words: &str) -> Result<String, Fa
     if !outside.is_kept(status) {
         return Err("a refused call puts no file")?;
     }
-    let output = std::str::from_utf8(outside.output.bytes())?;
-    let errors = std::str::from_utf8(outside.errors.bytes())?;
+    let output = std::str::from_utf8(outside.output.bytes()).unwrap_or("?");
+    let errors = std::str::from_utf8(outside.errors.bytes()).unwrap_or("?");
     Ok(format!(in alloc; "{status}\t{output}\t{errors}")?)
 }
 

@@ -61,8 +61,8 @@ fn runs_of(alloc: Global, lines: &str) -> Result<Vec<Vec<String>>, Memory> {
 fn found(alloc: Global, outside: &mut Outside, lines: &str) -> Result<String, Fail> {
     let runs = runs_of(alloc, lines)?;
     let statuses = outside.session(alloc, &runs)?;
-    let output = std::str::from_utf8(outside.output.bytes())?;
-    let errors = std::str::from_utf8(outside.errors.bytes())?;
+    let output = std::str::from_utf8(outside.output.bytes()).unwrap_or("?");
+    let errors = std::str::from_utf8(outside.errors.bytes()).unwrap_or("?");
     Ok(format!(in alloc; "{statuses:?}\n{output}{errors}")?)
 }
 

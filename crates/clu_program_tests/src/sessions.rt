@@ -154,7 +154,7 @@ fn after(bytes: &[u8], start: usize) -> &[u8] {
 
 /// Appends lines, each with a mark and a blank before it.
 fn put_lines(found: &mut String, mark: &str, bytes: &[u8]) -> Result<(), Fail> {
-    let text = std::str::from_utf8(bytes)?;
+    let text = std::str::from_utf8(bytes).unwrap_or("?");
     for line in text.split_terminator('\n') {
         writeln!(found, "{mark} {line}")?;
     }
