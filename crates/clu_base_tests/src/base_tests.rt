@@ -1,7 +1,6 @@
 //! Fields of formats, lists, and the streams and stores that are kept in memory.
 
-use crate::streams::{put_read, put_stored};
-use crate::text::same;
+use crate::streams::{put_read, put_stored, same};
 use clu_base::{
     Bytes, Const, FormatError, MemSink, MemSource, MemStore, Memory, Rule, Sequence, Sink, u16_add,
     u16_at, u32_add, u32_at, u64_add, u64_at, write_all,

@@ -58,7 +58,7 @@ fn tell(
     bound: Option<usize>,
 ) -> Result<(), Fail> {
     let at = node.place;
-    let name = std::str::from_utf8(name_at(node, k).as_slice())?;
+    let name = std::str::from_utf8(name_at(node, k).as_slice()).unwrap_or("?");
     let one = match bound {
         Some(place) => names.declared.as_slice().get(place),
         None => None,
@@ -88,31 +88,32 @@ fn tell_node(out: &mut String, tree: &Tree, names: &Names, n: u32) -> Result<(),
 }
 
 /// Writes the names of all nodes.
-fn tell_all(alloc: Global, tree: &Tree, names: &Names) -> Result<String, Fail>
+fn tell_all(out: &mut String, tree: &Tree, names: &Names) -> Result<(), Fail>
     requires bound { names.now.bound.items ≡ bound_to tree.now names.now.declared.items (length tree.now) }
     requires starts { names.now.starts.items ≡ starts_to tree.now names.now.declared.items (length tree.now) }
 {
-    let mut out = String::from_str(alloc, " ")?;
     for n in 0..tree.len() {
-        tell_node(&mut out, tree, names, n)?;
+        tell_node(out, tree, names, n)?;
     }
-    Ok(out)
+    Ok(())
 }
 
-fn told_over(alloc: Global, tree: &Tree, rounds: &[Round]) -> Result<String, Fail>
+fn tell_over(alloc: Global, out: &mut String, tree: &Tree, rounds: &[Round]) -> Result<(), Fail>
     requires { length rounds.now ≡ length tree.now }
 {
-    match names_of(alloc, tree, rounds) {
-        Ok(names) => tell_all(alloc, tree, &names),
+    match &names_of(alloc, tree, rounds) {
+        Ok(names) => tell_all(out, tree, names),
         Err(_) => Err("no memory for the names")?,
     }
 }
 
-/// All names of a tree, each as `LINE:COL:NAME=LINE:COL`, the last place being that of its declaration, each with a blank
-/// before it and after it.
-pub fn told(alloc: Global, tree: &Tree) -> Result<String, Fail> {
-    match rounds(alloc, tree) {
-        Ok(rounds) => told_over(alloc, tree, rounds.as_slice()),
+/// Writes all names of a source, each as `LINE:COL:NAME=LINE:COL`, the last place being that of its declaration, each with a
+/// blank before it and after it.
+pub fn put_names(alloc: Global, text: &mut String, source: &str) -> Result<(), Fail> {
+    let tree = parsed(alloc, source)?;
+    text.push_str(" ")?;
+    match &rounds(alloc, &tree) {
+        Ok(rounds) => tell_over(alloc, text, &tree, rounds.as_slice()),
         Err(_) => Err("no memory for the surroundings")?,
     }
 }

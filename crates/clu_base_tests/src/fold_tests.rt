@@ -1,7 +1,6 @@
-//! The table of what operators give, and where a text is too long.
+//! What operators give, and where a text is too long.
 
-use crate::fold_rows::{COUNT, ROWS};
-use crate::text::{counted, same};
+use crate::rows::parts;
 use clu_base::{Bytes, Const, Memory};
 use clu_fold::{fold, fold_prefix, infix_operator, is_long, prefix_operator, text_length};
 use std::alloc::Global;
@@ -28,23 +27,23 @@ fn constant(alloc: Global, text: &str) -> Result<Box<Const>, Fail> {
 fn put_found(text: &mut String, found: &Option<Const>) -> Result<(), Fail> {
     match found {
         Some(found) => put_constant(text, found),
-        None => Ok(text.push_str("none")?),
+        None => Ok(text.push_str(" none")?),
     }
 }
 
 fn put_constant(text: &mut String, constant: &Const) -> Result<(), Fail> {
     match constant {
-        Const::Null => Ok(text.push_str("nil")?),
-        Const::Bool(is_so) => Ok(write!(text, "{is_so}")?),
-        Const::Int(number) => Ok(write!(text, "{number}")?),
-        Const::Char(c) => put_quoted(text, "'", &[*c]),
-        Const::Str(bytes) => put_quoted(text, "\"", bytes.as_slice()),
+        Const::Null => Ok(text.push_str(" nil")?),
+        Const::Bool(is_so) => Ok(write!(text, " {is_so}")?),
+        Const::Int(number) => Ok(write!(text, " {number}")?),
+        Const::Char(c) => put_quoted(text, " '", &[*c]),
+        Const::Str(bytes) => put_quoted(text, " \"", bytes.as_slice()),
     }
 }
 
 fn put_quoted(text: &mut String, quote: &str, bytes: &[u8]) -> Result<(), Fail> {
     text.push_str(quote)?;
-    text.push_str(str::from_utf8(bytes)?)?;
+    text.push_str(str::from_utf8(bytes).unwrap_or("?"))?;
     Ok(())
 }
 
@@ -71,41 +70,13 @@ fn put_prefix(alloc: Global, text: &mut String, operator: &str, operand: &str) -
     put_found(text, &fold_prefix(operator, &operand))
 }
 
-fn put_row(alloc: Global, text: &mut String, words: &[&str]) -> Result<(), Fail> {
-    match words {
-        [left, operator, right] => put_infix(alloc, text, left, operator, right),
-        [operator, operand] => put_prefix(alloc, text, operator, operand),
-        _ => Err("no row")?,
+/// Writes what comes of an operator and its operands.
+pub fn put_fold(alloc: Global, text: &mut String, given: &str) -> Result<(), Fail> {
+    let (first, rest) = parts(given);
+    match rest.split_once(' ') {
+        Some((operator, right)) => put_infix(alloc, text, first, operator, right),
+        None => put_prefix(alloc, text, first, rest),
     }
-}
-
-fn words(alloc: Global, row: &'static str) -> Result<Vec<&'static str>, Fail> {
-    let mut words = Vec::new(alloc);
-    for word in row.split(' ') {
-        words.push(word)?;
-    }
-    Ok(words)
-}
-
-/// What comes of the operator of a row is its last word.
-fn keep_row(alloc: Global, row: &'static str) -> Result<(), Fail> {
-    let (given, due) = row.rsplit_once(' ').unwrap_or(("", row));
-    let words = words(alloc, given)?;
-    let mut text = String::new(alloc);
-    put_row(alloc, &mut text, words.as_slice())?;
-    same(text, due)
-}
-
-#[test]
-fn folds_each_row(rt: HostRuntime) -> Result<(), Fail> {
-    let mut rows = 0usize;
-    for row in ROWS.split_terminator('\0') {
-        if !row.starts_with('%') {
-            keep_row(rt.alloc(), row)?;
-            rows = rows.saturating_add(1);
-        }
-    }
-    counted(rt.alloc(), rows, COUNT)
 }
 
 /// The length of the constant that a row writes.

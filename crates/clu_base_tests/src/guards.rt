@@ -2,7 +2,7 @@
 
 ghost use Rattle.std.specs.Prelude.{◌≡◌, ◌<◌, length};
 
-use crate::bindings::place_of;
+use crate::bindings::{parsed, place_of};
 use clu_syntax::{Round, rounds};
 use clu_tree::Tree;
 use std::alloc::Global;
@@ -104,12 +104,12 @@ fn tell_all(out: &mut String, tree: &Tree, rounds: &[Round]) -> Result<(), Fail>
     Ok(())
 }
 
-/// What surrounds each node of a tree, as the rows write it, each with a blank before it and after it.
-pub fn surroundings(alloc: Global, tree: &Tree) -> Result<String, Fail> {
-    let mut out = String::from_str(alloc, " ")?;
-    match rounds(alloc, tree) {
-        Ok(rounds) => tell_all(&mut out, tree, rounds.as_slice())?,
-        Err(_) => return Err("no memory for the surroundings")?,
+/// Writes what surrounds each node of a source, each with a blank before it and after it.
+pub fn put_rounds(alloc: Global, text: &mut String, source: &str) -> Result<(), Fail> {
+    let tree = parsed(alloc, source)?;
+    text.push_str(" ")?;
+    match rounds(alloc, &tree) {
+        Ok(rounds) => tell_all(text, &tree, rounds.as_slice()),
+        Err(_) => Err("no memory for the surroundings")?,
     }
-    Ok(out)
 }

@@ -1,7 +1,6 @@
 //! The streams of a process over buffers, and files of a real disk.
 
-use crate::streams::{put_read, put_stored};
-use crate::text::same;
+use crate::streams::{put_read, put_stored, same};
 use clu_base::{Sink, write_all};
 use clu_host::{Disk, InputStream, OutputStream};
 use std::fs;

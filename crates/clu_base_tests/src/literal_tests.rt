@@ -1,15 +1,15 @@
 //! Spellings of literals with the bytes that they denote.
 
-use crate::text::{counted, parts_of, put_bytes, same};
+use crate::text::put_bytes;
 use clu_literal::{char_byte, string_bytes};
 use std::alloc::Global;
 use std::test::Fail;
 
 /// How many rows `LITERALS` has.
-const LITERALS_COUNT: usize = 16;
+pub const LITERALS_COUNT: usize = 16;
 
 /// Spellings of string literals and of character literals, with the bytes that they denote, in hexadecimal digits.
-const LITERALS: &str = "\
+pub const LITERALS: &str = "\
 \"\" gives\0\
 \"hi\" gives 68 69\0\
 \"a\\tb\\101\" gives 61 09 62 41\0\
@@ -28,7 +28,7 @@ const LITERALS: &str = "\
 '\\400' gives none";
 
 /// Writes what a spelling denotes.
-fn put_denoted(alloc: Global, text: &mut String, spelling: &[u8]) -> Result<(), Fail> {
+pub fn put_denoted(alloc: Global, text: &mut String, spelling: &[u8]) -> Result<(), Fail> {
     if let [b'\'', ..] = spelling {
         return put_byte(text, spelling);
     }
@@ -43,21 +43,4 @@ fn put_byte(text: &mut String, spelling: &[u8]) -> Result<(), Fail> {
         Some(found) => Ok(put_bytes(text, &[found])?),
         None => Ok(text.push_str(" none")?),
     }
-}
-
-fn keep_literal(alloc: Global, row: &str) -> Result<(), Fail> {
-    let (spelling, due) = parts_of(row);
-    let mut text = String::new(alloc);
-    put_denoted(alloc, &mut text, spelling.as_bytes())?;
-    same(text, due)
-}
-
-#[test]
-fn literals_denote_their_bytes(rt: HostRuntime) -> Result<(), Fail> {
-    let mut rows = 0usize;
-    for row in LITERALS.split('\0') {
-        keep_literal(rt.alloc(), row)?;
-        rows = rows.saturating_add(1);
-    }
-    counted(rt.alloc(), rows, LITERALS_COUNT)
 }

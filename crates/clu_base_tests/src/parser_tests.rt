@@ -2,7 +2,8 @@
 
 ghost use Rattle.std.specs.Prelude.{◌≤◌, length};
 
-use crate::text::{counted, parts_of, same};
+use crate::rows::parts;
+use crate::text::number;
 use clu_base::Place;
 use clu_lexer::lex;
 use clu_parser::{ParseError, parse};
@@ -12,10 +13,10 @@ use std::fmt::Write;
 use std::test::Fail;
 
 /// How many rows `SOURCES` has.
-const SOURCES_COUNT: usize = 18;
+pub const SOURCES_COUNT: usize = 18;
 
 /// Sources of the grammar, each production in one of them at least, and sources that are refused, with the place.
-const SOURCES: &str = "\
+pub const SOURCES: &str = "\
 START_UP = proc () % note\nstream$puts(stream$primary_output(), \"a\\tb\\101\"); end start_up gives a tree\0\
 p = proc [t: type, n: int] (a, b: t) returns (int, t) signals (e, f(int)) where t has equal: proctype (t, t) returns (bool), t in s end p gives a tree\0\
 c = cluster [t: type] is x, y where t in {u | u has f: itertype (u) yields (u) signals (e) q = 1;} rep = array[t]; own a: int own b, d: int := f() x = iter () yields (int) end x y = proc () end y end c gives a tree\0\
@@ -46,15 +47,13 @@ fn read(alloc: Global, source: &[u8]) -> Result<Tree, ParseError>
 }
 
 /// Writes what is read of a source.
-fn put_read(alloc: Global, text: &mut String, source: &[u8]) -> Result<(), Fail> {
+pub fn put_read(alloc: Global, text: &mut String, source: &[u8]) -> Result<(), Fail> {
     if source.len() > 1_048_576 {
         return Err("too long")?;
     }
     match read(alloc, source) {
         Ok(_) => Ok(text.push_str(" a tree")?),
-        Err(ParseError::Syntax(Place { line, col })) => {
-            Ok(write!(text, " none at {line} {col}")?)
-        }
+        Err(ParseError::Syntax(Place { line, col })) => Ok(write!(text, " none at {line} {col}")?),
         Err(ParseError::TooDeep(Place { line, col })) => {
             Ok(write!(text, " too deep at {line} {col}")?)
         }
@@ -62,63 +61,33 @@ fn put_read(alloc: Global, text: &mut String, source: &[u8]) -> Result<(), Fail>
     }
 }
 
-fn keep_source(alloc: Global, row: &str) -> Result<(), Fail> {
-    let (source, due) = parts_of(row);
-    let mut text = String::new(alloc);
-    put_read(alloc, &mut text, source.as_bytes())?;
-    same(text, due)
-}
-
-#[test]
-fn reads_files(rt: HostRuntime) -> Result<(), Fail> {
-    let mut rows = 0usize;
-    for row in SOURCES.split('\0') {
-        keep_source(rt.alloc(), row)?;
-        rows = rows.saturating_add(1);
-    }
-    counted(rt.alloc(), rows, SOURCES_COUNT)
-}
-
 /// How many rows `NESTED` has.
-const NESTED_COUNT: usize = 5;
+pub const NESTED_COUNT: usize = 5;
 
 /// What stands so many times behind `p = proc () x := ` and before the end of a source.
-const NESTED: &str = "\
+pub const NESTED: &str = "\
 ~ 196 true end p gives a tree\0\
 ~ 197 true end p gives too deep at 1 215\0\
 ( 199  gives none at 1 217\0\
 ( 200  gives too deep at 1 217\0\
 a+ 100000 a end p gives too deep at 1 18";
 
-/// `p = proc () x := `, so many times the middle, and the end.
-fn nested(alloc: Global, middle: &str, times: u32, end: &str) -> Result<String, Fail> {
-    let mut source = String::from_str(alloc, "p = proc () x := ")?;
+/// Appends a text so many times.
+fn put_times(source: &mut String, middle: &str, times: usize) -> Result<(), Fail> {
     for _ in 0..times {
         source.push_str(middle)?;
     }
+    Ok(())
+}
+
+/// Writes what is read of `p = proc () x := `, so many times the middle, and the end.
+pub fn put_nested(alloc: Global, text: &mut String, given: &str) -> Result<(), Fail> {
+    let (middle, rest) = parts(given);
+    let (times, end) = parts(rest);
+    let mut source = String::from_str(alloc, "p = proc () x := ")?;
+    put_times(&mut source, middle, number(times))?;
     source.push_str(end)?;
-    Ok(source)
-}
-
-fn keep_nested(alloc: Global, row: &str) -> Result<(), Fail> {
-    let (given, due) = parts_of(row);
-    let (middle, rest) = given.split_once(' ').unwrap_or((given, ""));
-    let (times, end) = rest.split_once(' ').unwrap_or((rest, ""));
-    let times = times.parse::<u32>()?;
-    let source = nested(alloc, middle, times, end)?;
-    let mut text = String::new(alloc);
-    put_read(alloc, &mut text, source.as_bytes())?;
-    same(text, due)
-}
-
-#[test]
-fn refuses_what_is_too_deep(rt: HostRuntime) -> Result<(), Fail> {
-    let mut rows = 0usize;
-    for row in NESTED.split('\0') {
-        keep_nested(rt.alloc(), row)?;
-        rows = rows.saturating_add(1);
-    }
-    counted(rt.alloc(), rows, NESTED_COUNT)
+    put_read(alloc, text, source.as_bytes())
 }
 
 /// Whether a tree has two nodes before its file, which is so many nodes, with a module that is named at both ends.
@@ -139,11 +108,11 @@ fn counts_and_names_nodes(rt: HostRuntime) -> Result<(), Fail> {
 }
 
 /// How many rows `COUNTS` has.
-const COUNTS_COUNT: usize = 5;
+pub const COUNTS_COUNT: usize = 5;
 
 /// Each literal with what `p = proc () s := LITERAL end p` counts: the file and its module 1 each, the routine with its
 /// second name 2, the assignment 1, and the literal 1 with one more for each whole 64 bytes that it denotes.
-const COUNTS: &str = "\
+pub const COUNTS: &str = "\
 \"\" gives 6\0\
 \"0123456789012345678901234567890123456789012345678901234567890123\" gives 7\0\
 \"\\t12345678901234567890123456789012345678901234567890123456789012\" gives 6\0\
@@ -160,8 +129,10 @@ fn root_count(tree: &Tree) -> u32 {
     }
 }
 
-/// Writes what a source counts.
-fn put_count(alloc: Global, text: &mut String, source: &[u8]) -> Result<(), Fail> {
+/// Writes what the source counts in which a literal stands.
+pub fn put_count(alloc: Global, text: &mut String, literal: &str) -> Result<(), Fail> {
+    let source = format!(in alloc; "p = proc () s := {literal} end p")?;
+    let source = source.as_bytes();
     if source.len() > 1_048_576 {
         return Err("too long")?;
     }
@@ -169,22 +140,4 @@ fn put_count(alloc: Global, text: &mut String, source: &[u8]) -> Result<(), Fail
         Ok(tree) => Ok(write!(text, " {}", root_count(&tree))?),
         Err(_) => Err("no tree")?,
     }
-}
-
-fn keep_count(alloc: Global, row: &str) -> Result<(), Fail> {
-    let (literal, due) = parts_of(row);
-    let source = format!(in alloc; "p = proc () s := {literal} end p")?;
-    let mut text = String::new(alloc);
-    put_count(alloc, &mut text, source.as_bytes())?;
-    same(text, due)
-}
-
-#[test]
-fn counts_whole_64_bytes_of_a_string(rt: HostRuntime) -> Result<(), Fail> {
-    let mut rows = 0usize;
-    for row in COUNTS.split('\0') {
-        keep_count(rt.alloc(), row)?;
-        rows = rows.saturating_add(1);
-    }
-    counted(rt.alloc(), rows, COUNTS_COUNT)
 }

@@ -6,6 +6,15 @@ use std::alloc::Global;
 use std::fmt::Write;
 use std::test::Fail;
 
+/// What was found is what is due.
+pub fn same(found: String, due: &str) -> Result<(), Fail> {
+    if found.as_str() == due {
+        Ok(())
+    } else {
+        Err(found)?
+    }
+}
+
 /// Reads into so many of three bytes, and writes how many came and the three.
 pub fn put_read<S: Source>(text: &mut String, source: &mut S, room: usize) -> Result<(), Fail> {
     let mut buf = [b'-'; 3];
@@ -16,7 +25,7 @@ pub fn put_read<S: Source>(text: &mut String, source: &mut S, room: usize) -> Re
         Ok(count) => write!(text, " {count} ")?,
         Err(_) => text.push_str(" failed ")?,
     }
-    text.push_str(str::from_utf8(&buf)?)?;
+    text.push_str(str::from_utf8(&buf).unwrap_or("?"))?;
     Ok(())
 }
 
@@ -65,7 +74,7 @@ fn put_got(text: &mut String, got: Result<Option<Vec<u8>>, StoreError>) -> Resul
 
 fn put_content(text: &mut String, bytes: &[u8]) -> Result<(), Fail> {
     text.push_str(" got ")?;
-    text.push_str(str::from_utf8(bytes)?)?;
+    text.push_str(str::from_utf8(bytes).unwrap_or("?"))?;
     Ok(())
 }
 

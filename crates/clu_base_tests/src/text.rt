@@ -1,31 +1,9 @@
-//! The rows of tables, and what comes of them as text.
+//! Numbers and bytes in the rows of tables.
 
 use clu_base::Memory;
 use std::alloc::Global;
 use std::fmt::Write;
 use std::test::Fail;
-
-/// There are as many rows as a table says.
-pub fn counted(alloc: Global, rows: usize, due: usize) -> Result<(), Fail> {
-    if rows != due {
-        return Err(format!(in alloc; "{rows} rows, but {due} are due")?)?;
-    }
-    Ok(())
-}
-
-/// What was found is what is due of a row.
-pub fn same(found: String, due: &str) -> Result<(), Fail> {
-    if found.as_str() == due {
-        Ok(())
-    } else {
-        Err(found)?
-    }
-}
-
-/// What a row gives, and what is due of it.
-pub fn parts_of(row: &str) -> (&str, &str) {
-    row.split_once(" gives").unwrap_or((row, ""))
-}
 
 /// Writes bytes in hexadecimal digits.
 pub fn put_bytes(text: &mut String, bytes: &[u8]) -> Result<(), Memory> {
@@ -35,7 +13,24 @@ pub fn put_bytes(text: &mut String, bytes: &[u8]) -> Result<(), Memory> {
     Ok(())
 }
 
+/// The bytes of numbers of two hexadecimal digits with blanks between them.
+pub fn bytes_of(alloc: Global, digits: &str) -> Result<Vec<u8>, Fail> {
+    let mut bytes = Vec::new(alloc);
+    for byte in digits.split(' ') {
+        bytes.push(u8::from_str_radix(byte, 16).unwrap_or(0))?;
+    }
+    Ok(bytes)
+}
+
 /// A number in decimal digits; the greatest where it is none.
 pub fn number(word: &str) -> usize {
     word.parse::<usize>().unwrap_or(usize::MAX)
+}
+
+/// The number at this place among the words of a text, which count from 0.
+pub fn number_at(text: &str, place: usize) -> usize {
+    match text.split(' ').nth(place) {
+        Some(word) => number(word),
+        None => usize::MAX,
+    }
 }

@@ -1,131 +1,96 @@
 //! Words that are a command, words that are none, and what a command is told.
 
-use crate::text::counted;
 use clu_words::{Command, RunLimits, WordsError, read_command};
 use std::alloc::Global;
 use std::test::Fail;
 
 /// How many rows `COMMANDS` has.
-const COMMANDS_COUNT: usize = 23;
+pub const COMMANDS_COUNT: usize = 61;
 
-/// Words that are a command, one line each.
-const COMMANDS: &str = "go a b
-go --steps 1 a b
-go a --steps=1000000000000000 b --store 4096 --stack 67108864
-go --peep a --trace b
-go -- a b
-go -- -a --
-go a b --
-go - -
-spec L a
-replace L a
-compile L a
-compile --peep L a
-link L g START
-run L g --steps 7 --store=268435456
-exec a
-exec --stack 4096 a
-gen 1
-gen 007
-gen 500
-list a
-asm a b
-print a
-xref L";
-
-/// How many rows `USAGE` has.
-const USAGE_COUNT: usize = 37;
-
-/// Words that are none.
-const USAGE: &str = "go
-go a
-go a b c
-go -a b
-go --steps 0 a b
-go --steps 1000000000000001 a b
-go --steps +1 a b
-go --steps 1 --steps 1 a b
-go --steps a b
-go --step 1 a b
-go --store 4095 a b
-go --store 4104 a b
-go --stack 67108880 a b
-go --peep --peep a b
-go --peep=1 a b
-go --help
-go -h
-spec L
-spec L a --peep
-compile --trace L a
-link L g
-link L g START more
-run L
-exec
-exec a b
-gen
-gen 0
-gen 501
-gen x
-gen -- -1
-list --steps 1 a
-help
-version
---help
--h
-Go a b
-zork";
+/// Words, with whether they are a command. The last row has none.
+pub const COMMANDS: &str = "\
+go a b gives a command\0\
+go --steps 1 a b gives a command\0\
+go a --steps=1000000000000000 b --store 4096 --stack 67108864 gives a command\0\
+go --peep a --trace b gives a command\0\
+go -- a b gives a command\0\
+go -- -a -- gives a command\0\
+go a b -- gives a command\0\
+go - - gives a command\0\
+spec L a gives a command\0\
+replace L a gives a command\0\
+compile L a gives a command\0\
+compile --peep L a gives a command\0\
+link L g START gives a command\0\
+run L g --steps 7 --store=268435456 gives a command\0\
+exec a gives a command\0\
+exec --stack 4096 a gives a command\0\
+gen 1 gives a command\0\
+gen 007 gives a command\0\
+gen 500 gives a command\0\
+list a gives a command\0\
+asm a b gives a command\0\
+print a gives a command\0\
+xref L gives a command\0\
+go gives usage\0\
+go a gives usage\0\
+go a b c gives usage\0\
+go -a b gives usage\0\
+go --steps 0 a b gives usage\0\
+go --steps 1000000000000001 a b gives usage\0\
+go --steps +1 a b gives usage\0\
+go --steps 1 --steps 1 a b gives usage\0\
+go --steps a b gives usage\0\
+go --step 1 a b gives usage\0\
+go --store 4095 a b gives usage\0\
+go --store 4104 a b gives usage\0\
+go --stack 67108880 a b gives usage\0\
+go --peep --peep a b gives usage\0\
+go --peep=1 a b gives usage\0\
+go --help gives usage\0\
+go -h gives usage\0\
+spec L gives usage\0\
+spec L a --peep gives usage\0\
+compile --trace L a gives usage\0\
+link L g gives usage\0\
+link L g START more gives usage\0\
+run L gives usage\0\
+exec gives usage\0\
+exec a b gives usage\0\
+gen gives usage\0\
+gen 0 gives usage\0\
+gen 501 gives usage\0\
+gen x gives usage\0\
+gen -- -1 gives usage\0\
+list --steps 1 a gives usage\0\
+help gives usage\0\
+version gives usage\0\
+--help gives usage\0\
+-h gives usage\0\
+Go a b gives usage\0\
+zork gives usage\0\
+\x20gives usage\0\
+";
 
 /// Appends the words of a line.
 fn put_words(alloc: Global, words: &mut Vec<String>, line: &str) -> Result<(), Fail> {
     for word in line.split(' ') {
-        words.push(String::from_str(alloc, word)?)?;
+        if !word.is_empty() {
+            words.push(String::from_str(alloc, word)?)?;
+        }
     }
     Ok(())
 }
 
-/// Whether words are a command.
-fn is_command(alloc: Global, words: &[String]) -> Result<bool, Fail> {
-    match read_command(alloc, words) {
-        Ok(_) => Ok(true),
-        Err(WordsError::Usage) => Ok(false),
-        Err(WordsError::Memory) => Err("out of memory")?,
-    }
-}
-
-fn keep_line(alloc: Global, line: &str, due: bool) -> Result<(), Fail> {
+/// Writes whether the words of a line are a command.
+pub fn put_command(alloc: Global, text: &mut String, line: &str) -> Result<(), Fail> {
     let mut words = Vec::new(alloc);
     put_words(alloc, &mut words, line)?;
-    if is_command(alloc, words.as_slice())? != due {
-        return Err(format!(in alloc; "not {due}: {line}")?)?;
+    match &read_command(alloc, words.as_slice()) {
+        Ok(_) => Ok(text.push_str(" a command")?),
+        Err(WordsError::Usage) => Ok(text.push_str(" usage")?),
+        Err(WordsError::Memory) => Err("out of memory")?,
     }
-    Ok(())
-}
-
-/// The lines of a table are commands, or are none, and there are so many.
-fn keep(alloc: Global, lines: &str, due: bool, count: usize) -> Result<(), Fail> {
-    let mut rows = 0usize;
-    for line in lines.lines() {
-        keep_line(alloc, line, due)?;
-        rows = rows.saturating_add(1);
-    }
-    counted(alloc, rows, count)
-}
-
-#[test]
-fn words_are_commands(rt: HostRuntime) -> Result<(), Fail> {
-    keep(rt.alloc(), COMMANDS, true, COMMANDS_COUNT)
-}
-
-#[test]
-fn words_are_usage(rt: HostRuntime) -> Result<(), Fail> {
-    keep(rt.alloc(), USAGE, false, USAGE_COUNT)
-}
-
-#[test]
-fn no_words_are_usage(rt: HostRuntime) -> Result<(), Fail> {
-    let is_so = is_command(rt.alloc(), &[])?;
-    assert!(rt; !is_so);
-    Ok(())
 }
 
 fn have_limits(limits: RunLimits) -> bool {

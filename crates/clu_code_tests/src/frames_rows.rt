@@ -1,9 +1,10 @@
 //! Bodies of routines in word code, each after what comes of it: the steps and the regions, or ` refused`.
 
-/// How many rows `ROWS` has.
-pub const COUNT: usize = 34;
+/// How many rows `FLATS` has.
+pub const FLATS_COUNT: usize = 34;
 
-pub const ROWS: &str = "
+/// Rows after `=`.
+pub const FLATS: &str = "
 = Enter(1) Set(0, Binary(Add, Slot(1), Word(5))) Leave(3, 0)
 slot 1; word 5; add; set 0
 = Enter(1) Set(2, Binary(Mul, Binary(Sub, Word(1), Word(2)), Load(Hole(Constant, 0), 8))) Leave(3, 0)

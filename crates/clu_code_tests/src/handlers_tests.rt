@@ -1,7 +1,7 @@
 //! Regions in code, the arms that are found in them, and their cuts. What is found is shown as one text.
 
 use crate::regions::{add_region, parent_of};
-use crate::text::{counted, same, small_at};
+use crate::text::small_at;
 use clu_base::Bytes;
 use clu_handlers::{NO_REGION, Regions};
 use clu_wir::{RegionBuilder, RegionError};
@@ -20,8 +20,8 @@ fn add_all(alloc: Global, regions: &mut Regions, text: &str) -> Result<(), Fail>
     Ok(())
 }
 
-fn two(alloc: Global) -> Result<Regions, Fail> {
-    let mut regions = Regions::new(alloc);
+fn two(alloc: Global) -> Result<Box<Regions>, Fail> {
+    let mut regions = Box::new(alloc, Regions::new(alloc))?;
     add_all(alloc, &mut regions, TWO)?;
     Ok(regions)
 }
@@ -41,28 +41,21 @@ fn put_found(text: &mut String, regions: &Regions, name: &Bytes) -> Result<(), F
     Ok(())
 }
 
-/// What each name finds in the two regions.
-fn found(alloc: Global, names: &str) -> Result<String, Fail> {
+/// How many rows `FOUND` has.
+pub const FOUND_COUNT: usize = 4;
+
+/// Names, and what they find in the two regions at the places from 1 to 10.
+pub const FOUND: &str = "\
+e gives - 0.0 0.0 1.1 1.1 0.0 0.0 0.0 0.0 -\0\
+f gives - 0.2 0.2 0.2 0.2 0.2 0.2 0.2 0.2 -\0\
+g gives - 0.1 0.1 1.0 1.0 0.1 0.1 0.1 0.1 -\0\
+h gives - 0.1 0.1 0.1 0.1 0.1 0.1 0.1 0.1 -";
+
+/// Writes what a name finds in the two regions.
+pub fn put_found_row(alloc: Global, text: &mut String, name: &str) -> Result<(), Fail> {
+    let name = Bytes::from_slice(alloc, name.as_bytes())?;
     let regions = two(alloc)?;
-    let mut text = String::new(alloc);
-    for name in names.split(' ') {
-        let name = Bytes::from_slice(alloc, name.as_bytes())?;
-        put_found(&mut text, &regions, &name)?;
-        text.push_str("\n")?;
-    }
-    Ok(text)
-}
-
-/// What is found of the names e, f, g and h.
-const FOUND: &str = " - 0.0 0.0 1.1 1.1 0.0 0.0 0.0 0.0 -\n \
-    - 0.2 0.2 0.2 0.2 0.2 0.2 0.2 0.2 -\n \
-    - 0.1 0.1 1.0 1.0 0.1 0.1 0.1 0.1 -\n \
-    - 0.1 0.1 0.1 0.1 0.1 0.1 0.1 0.1 -\n";
-
-#[test]
-fn what_is_found(rt: HostRuntime) -> Result<(), Fail> {
-    assert_eq!(rt; found(rt.alloc(), "e f g h")?.as_str(), FOUND);
-    Ok(())
+    put_found(text, &regions, &name)
 }
 
 /// Writes the place and the region of each cut; `-` is no region.
@@ -79,69 +72,51 @@ fn put_cuts(alloc: Global, text: &mut String, regions: &Regions) -> Result<(), F
     Ok(())
 }
 
-/// The cuts of regions.
-fn cuts(alloc: Global, regions: &Regions) -> Result<String, Fail> {
-    let mut text = String::new(alloc);
-    put_cuts(alloc, &mut text, regions)?;
-    Ok(text)
-}
-
 /// How many rows `CUTS` has.
-const CUTS_COUNT: usize = 3;
+pub const CUTS_COUNT: usize = 3;
 
 /// Regions, of which `none` has none, and where the innermost region changes.
-const CUTS: &str = "\
+pub const CUTS: &str = "\
 none gives 0:-\0\
 2 9 - e/20/4 /20/4 f/20/4; 4 5 0 g/20/4 e/20/4 gives 0:- 2:0 4:1 6:0 10:-\0\
 0 3 -; 4 4294967295 - gives 0:0 4:1";
 
-fn keep_cuts(alloc: Global, row: &str) -> Result<(), Fail> {
-    let (given, due) = row.split_once(" gives").unwrap_or((row, ""));
-    let mut regions = Regions::new(alloc);
+/// Writes the cuts of regions.
+pub fn put_cut_row(alloc: Global, text: &mut String, given: &str) -> Result<(), Fail> {
+    let mut regions = Box::new(alloc, Regions::new(alloc))?;
     if given != "none" {
         add_all(alloc, &mut regions, given)?;
     }
-    same(cuts(alloc, &regions)?, due)
-}
-
-#[test]
-fn where_the_innermost_region_changes(rt: HostRuntime) -> Result<(), Fail> {
-    let mut rows = 0usize;
-    for row in CUTS.split('\0') {
-        keep_cuts(rt.alloc(), row)?;
-        rows = rows.saturating_add(1);
-    }
-    counted(rt.alloc(), rows, CUTS_COUNT)
-}
-
-/// Whether the range of a text inside its parent may not be added to the two, and is not.
-fn is_refused(alloc: Global, text: &str) -> Result<bool, Fail> {
-    let mut regions = two(alloc)?;
-    let arms = Vec::new(alloc);
-    let parent = parent_of(text);
-    let added = regions.add(alloc, small_at(text, 0), small_at(text, 1), parent, arms);
-    Ok(matches!(added, Err(RegionError::Misplaced)) && regions.len() == 2)
+    put_cuts(alloc, text, &regions)
 }
 
 /// How many rows `MISPLACED` has.
-const MISPLACED_COUNT: usize = 8;
+pub const MISPLACED_COUNT: usize = 9;
 
-/// An empty range, a parent that is not there, ranges that are not in the parent, and those that meet another region.
-const MISPLACED: &str = "3 2 -; 10 12 2; 1 5 0; 8 10 0; 5 7 0; 9 12 -; 2 9 -; 4 6 1";
+/// An empty range, a parent that is not there, ranges that are not in the parent, those that meet another region, and one
+/// that may be added to the two.
+pub const MISPLACED: &str = "\
+3 2 - gives misplaced 2\0\
+10 12 2 gives misplaced 2\0\
+1 5 0 gives misplaced 2\0\
+8 10 0 gives misplaced 2\0\
+5 7 0 gives misplaced 2\0\
+9 12 - gives misplaced 2\0\
+2 9 - gives misplaced 2\0\
+4 6 1 gives misplaced 2\0\
+5 5 1 gives added 3";
 
-#[test]
-fn what_is_misplaced(rt: HostRuntime) -> Result<(), Fail> {
-    let alloc = rt.alloc();
-    let mut rows = 0usize;
-    for text in MISPLACED.split("; ") {
-        let is_so = is_refused(alloc, text)?;
-        assert!(rt; is_so, "{text}");
-        rows = rows.saturating_add(1);
+/// Writes whether the range of a text inside its parent may be added to the two, and how many there are then.
+pub fn put_misplaced(alloc: Global, text: &mut String, given: &str) -> Result<(), Fail> {
+    let mut regions = two(alloc)?;
+    let arms = Vec::new(alloc);
+    let parent = parent_of(given);
+    match regions.add(alloc, small_at(given, 0), small_at(given, 1), parent, arms) {
+        Ok(_) => text.push_str(" added")?,
+        Err(RegionError::Misplaced) => text.push_str(" misplaced")?,
+        Err(_) => return Err("no region")?,
     }
-    counted(alloc, rows, MISPLACED_COUNT)?;
-    let is_so = is_refused(alloc, "5 5 1")?;
-    assert!(rt; !is_so);
-    Ok(())
+    Ok(write!(text, " {}", regions.len())?)
 }
 
 /// Adds a region from 6 to 9 inside the first one and another before it, and writes their numbers and the cuts.
@@ -167,5 +142,6 @@ fn what_is_added(rt: HostRuntime) -> Result<(), Fail> {
     let mut regions = two(rt.alloc())?;
     put_others(rt.alloc(), &mut text, &mut regions)?;
     assert!(rt; are_taken(&mut regions));
-    same(text, " 2 3 0:3 2:0 4:1 6:2 10:-")
+    assert!(rt; text.as_str() == " 2 3 0:3 2:0 4:1 6:2 10:-");
+    Ok(())
 }

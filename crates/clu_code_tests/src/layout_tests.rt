@@ -2,7 +2,6 @@
 
 use crate::program::Program;
 use crate::regions::{arm, put_region};
-use crate::text::{counted, same};
 use clu_base::Sequence;
 use clu_frames::OUTER_MARK;
 use clu_object::{ObjRoutine, Region};
@@ -12,16 +11,17 @@ use std::alloc::Global;
 use std::fmt::Write;
 use std::test::Fail;
 
+/// How many rows `LAYOUTS` has.
+pub const LAYOUTS_COUNT: usize = 1;
+
 /// Enter has 10 words, labels have none, a word and a slot are set in two each, and Leave has five. The second region has
 /// labels alone.
-const REGIONS: &str = "is p 1
+pub const LAYOUTS: &str = "\
+is p 1
 does enter 0; label 0; label 1; word 0 1; move 0 0; leave 0
 region 0 5 - e/5/3
 region 1 2 0
-region 3 3 0";
-
-/// Its words and its regions.
-const IN_WORDS: &str = " 19 words [0 to 18 in None, 'e' at 14 mark 3] [10 to 11 in Some(0)]";
+region 3 3 0 gives 19 words [0 to 18 in None, 'e' at 14 mark 3] [10 to 11 in Some(0)]";
 
 fn put_layout(text: &mut String, routine: &ObjRoutine) -> Result<(), Fail> {
     let count = routine.code.as_slice().len();
@@ -39,19 +39,13 @@ fn put_layout(text: &mut String, routine: &ObjRoutine) -> Result<(), Fail> {
     Ok(())
 }
 
-fn layouts(alloc: Global, lines: &str) -> Result<String, Fail> {
-    let mut text = String::new(alloc);
+/// Writes the sizes, the regions and the holes of the routines of a text.
+pub fn put_layouts(alloc: Global, text: &mut String, lines: &str) -> Result<(), Fail> {
     let mut program = Program::new(alloc)?;
     program.lines(lines)?;
     for routine in program.objects.as_slice() {
-        put_layout(&mut text, routine)?;
+        put_layout(text, routine)?;
     }
-    Ok(text)
-}
-
-#[test]
-fn regions_of_words(rt: HostRuntime) -> Result<(), Fail> {
-    assert_eq!(rt; layouts(rt.alloc(), REGIONS)?.as_str(), IN_WORDS);
     Ok(())
 }
 
@@ -109,19 +103,34 @@ fn a_table(rt: HostRuntime) -> Result<(), Fail> {
     Ok(())
 }
 
-/// Begins a routine of these steps, whose frame is large, and which uses itself and a type.
-fn begin(program: &mut Program, steps: &str) -> Result<(), Fail> {
-    program.line("is", "p 1000")?;
-    program.line("uses", "p")?;
-    program.line("types", "int")?;
-    program.line("does", steps)
+/// Begins a routine of these steps, whose frame is large, and which uses itself, a type and a constant.
+fn begun(alloc: Global, steps: &str) -> Result<Box<Program>, Fail> {
+    let mut program = Program::new(alloc)?;
+    program.lines_of("is p 1000\nuses p\ntypes int")?;
+    program.line("does", steps)?;
+    Ok(program)
 }
 
-/// How many rows `STEPS` has.
-const STEPS_COUNT: usize = 28;
+/// Writes ` more` if the routine that was begun has more words of code than these.
+fn put_more(text: &mut String, program: &mut Program, most: u64) -> Result<(), Fail> {
+    program.select()?;
+    match program.objects.first() {
+        Some(routine) => {
+            if routine.code.as_slice().len() as u64 > most {
+                text.push_str(" more")?;
+            }
+            Ok(())
+        }
+        None => Ok(text.push_str(" refused")?),
+    }
+}
 
-/// Each step where its words are the most: all slots are far.
-const STEPS: &str = "move 900 901\0\
+/// How many rows `COUNTED` has.
+pub const COUNTED_COUNT: usize = 28;
+
+/// Each step where its words are the most: all slots are far. None takes more than are counted.
+pub const COUNTED: &str = "\
+move 900 901\0\
 word 900 0x123456789abcdef0\0\
 descriptor 900 0\0\
 type_cell 900 0\0\
@@ -150,38 +159,22 @@ write 900\0\
 save_byte 900\0\
 bind 900 901 902";
 
-/// Whether a step has no more words than are counted of it; after it stands a label.
-fn is_counted(alloc: Global, step: &str) -> Result<bool, Fail> {
-    let mut program = Program::new(alloc)?;
-    begin(&mut program, step)?;
+/// Writes whether a step has more words than are counted of it; after it stands a label.
+pub fn put_counted(alloc: Global, text: &mut String, step: &str) -> Result<(), Fail> {
+    let mut program = begun(alloc, step)?;
     let most = match program.flat.code.first() {
         Some(step) => step.words(),
         None => 0,
     };
     program.line("does", "label 1")?;
-    program.select()?;
-    match program.objects.first() {
-        Some(routine) => Ok(routine.code.as_slice().len() as u64 <= most),
-        None => Ok(false),
-    }
+    put_more(text, &mut program, most)
 }
 
-#[test]
-fn no_step_takes_more_words_than_are_counted(rt: HostRuntime) -> Result<(), Fail> {
-    let mut rows = 0usize;
-    for step in STEPS.split('\0') {
-        let is_so = is_counted(rt.alloc(), step)?;
-        assert!(rt; is_so, "{step}");
-        rows = rows.saturating_add(1);
-    }
-    counted(rt.alloc(), rows, STEPS_COUNT)
-}
+/// How many rows `WITHIN` has.
+pub const WITHIN_COUNT: usize = 9;
 
-/// How many rows `WIDE` has.
-const WIDE_COUNT: usize = 9;
-
-/// Expressions where their words are the most: all slots are far, and no word is small.
-const WIDE: &str = "\
+/// Expressions where their words are the most: all slots are far, and no word is small. None takes more than are counted.
+pub const WITHIN: &str = "\
 900 slot 901\0\
 900 word 0x123456789abcdef0\0\
 900 constant 0; load 4096\0\
@@ -192,65 +185,53 @@ const WIDE: &str = "\
 900 slot 901; word 0x123456789abcdef0; bound 1; bound 0; bound 1; choose; with 2\0\
 900 slot 901; slot 902; word 0; choose; slot 903; slot 904; choose";
 
-/// Whether a slot is set to an expression in no more words than are counted.
-fn is_within(alloc: Global, line: &str) -> Result<bool, Fail> {
-    let mut program = Program::new(alloc)?;
-    begin(&mut program, "label 0")?;
+/// Writes whether a slot is set to an expression in more words than are counted.
+pub fn put_within(alloc: Global, text: &mut String, line: &str) -> Result<(), Fail> {
+    let mut program = begun(alloc, "label 0")?;
     program.line("names", "e")?;
     program.line("sets", line)?;
     let most = program.flat.words();
-    program.select()?;
-    match program.objects.first() {
-        Some(routine) => Ok(routine.code.as_slice().len() as u64 <= most),
-        None => Ok(false),
-    }
-}
-
-#[test]
-fn no_expression_takes_more_words_than_are_counted(rt: HostRuntime) -> Result<(), Fail> {
-    let mut rows = 0usize;
-    for line in WIDE.split('\0') {
-        let is_so = is_within(rt.alloc(), line)?;
-        assert!(rt; is_so, "{line}");
-        rows = rows.saturating_add(1);
-    }
-    counted(rt.alloc(), rows, WIDE_COUNT)
+    put_more(text, &mut program, most)
 }
 
 /// How many rows `REFUSED` has.
-const REFUSED_COUNT: usize = 9;
+pub const REFUSED_COUNT: usize = 9;
 
 /// Steps that no source gives.
-const REFUSED: &str = "jump 0\0\
-branch 0 1\0\
-label 1\0\
-prim 5 0\0\
-prim 6 0\0\
-word 268435456 0\0\
-load 0 0 2147483647\0\
-constant 0 0\0\
-entry 0 1";
+pub const REFUSED: &str = "\
+jump 0 gives refused\0\
+branch 0 1 gives refused\0\
+label 1 gives refused\0\
+prim 5 0 gives refused\0\
+prim 6 0 gives refused\0\
+word 268435456 0 gives refused\0\
+load 0 0 2147483647 gives refused\0\
+constant 0 0 gives refused\0\
+entry 0 1 gives refused";
 
-fn is_refused(alloc: Global, steps: &str) -> Result<bool, Fail> {
-    let mut program = Program::new(alloc)?;
-    begin(&mut program, steps)?;
+/// Writes whether steps are refused.
+pub fn put_refused(alloc: Global, text: &mut String, steps: &str) -> Result<(), Fail> {
+    let mut program = begun(alloc, steps)?;
     program.select()?;
-    Ok(program.is_refused)
+    if program.is_refused {
+        text.push_str(" refused")?;
+    }
+    Ok(())
 }
 
-#[test]
-fn what_no_source_gives(rt: HostRuntime) -> Result<(), Fail> {
-    let mut rows = 0usize;
-    for steps in REFUSED.split('\0') {
-        let is_so = is_refused(rt.alloc(), steps)?;
-        assert!(rt; is_so, "{steps}");
-        rows = rows.saturating_add(1);
-    }
-    counted(rt.alloc(), rows, REFUSED_COUNT)
-}
+/// How many rows `ENDS` has.
+pub const ENDS_COUNT: usize = 3;
+
+/// Jumps reach 2^18 - 1 words on and 2^18 words back. A slot is set to itself in two words, and to enter with 200 arguments takes 10
+/// words and two for each: after the first jump stand 639 * 410 + 76 * 2 = 2^18 - 2 words, and the last one is at
+/// word 2^18. Then another word stands before label 0, and another jump back after that one.
+pub const ENDS: &str = "\
+label 1; jump 0; 639*enter 200; 76*move 0 0; label 0; jump 1; jump 1 gives 7fdff06f 8000006f\0\
+label 1; jump 0; 639*enter 200; 76*move 0 0; jump 1; label 0 gives refused\0\
+label 1; jump 0; 639*enter 200; 76*move 0 0; label 0; jump 1; jump 1; jump 1 gives refused";
 
 /// Writes the first and the last word of a routine of these steps, or that it is refused.
-fn put_ends(alloc: Global, text: &mut String, steps: &str) -> Result<(), Fail> {
+pub fn put_ends(alloc: Global, text: &mut String, steps: &str) -> Result<(), Fail> {
     let mut program = Program::new(alloc)?;
     program.line("is", "p 250")?;
     program.line("does", steps)?;
@@ -264,36 +245,7 @@ fn put_ends(alloc: Global, text: &mut String, steps: &str) -> Result<(), Fail> {
 fn put_ends_of(text: &mut String, code: &[u32]) -> Result<(), Fail> {
     let first = code.first().copied().unwrap_or(0);
     let last = code.last().copied().unwrap_or(0);
-    write!(text, " {first:x} {last:x}")?;
-    Ok(())
-}
-
-/// How many rows `FAR` has.
-const FAR_COUNT: usize = 3;
-
-/// Jumps reach 2^18 - 1 words on and 2^18 words back. A slot is set to itself in two words, and to enter with 200 arguments takes 10
-/// words and two for each: after the first jump stand 639 * 410 + 76 * 2 = 2^18 - 2 words, and the last one is at
-/// word 2^18. Then another word stands before label 0, and another jump back after that one.
-const FAR: &str = "\
-label 1; jump 0; 639*enter 200; 76*move 0 0; label 0; jump 1; jump 1 gives 7fdff06f 8000006f\0\
-label 1; jump 0; 639*enter 200; 76*move 0 0; jump 1; label 0 gives refused\0\
-label 1; jump 0; 639*enter 200; 76*move 0 0; label 0; jump 1; jump 1; jump 1 gives refused";
-
-fn keep_ends(alloc: Global, row: &str) -> Result<(), Fail> {
-    let (steps, due) = row.split_once(" gives").unwrap_or((row, ""));
-    let mut text = String::new(alloc);
-    put_ends(alloc, &mut text, steps)?;
-    same(text, due)
-}
-
-#[test]
-fn jumps_that_are_far(rt: HostRuntime) -> Result<(), Fail> {
-    let mut rows = 0usize;
-    for row in FAR.split('\0') {
-        keep_ends(rt.alloc(), row)?;
-        rows = rows.saturating_add(1);
-    }
-    counted(rt.alloc(), rows, FAR_COUNT)
+    Ok(write!(text, " {first:x} {last:x}")?)
 }
 
 /// How many holes of this kind a part has, and how many others.
@@ -335,6 +287,5 @@ fn have_holes(alloc: Global) -> bool {
 
 #[test]
 fn parts_have_their_numbers(rt: HostRuntime) {
-    assert!(rt; have_numbers());
-    assert!(rt; have_holes(rt.alloc()));
+    assert!(rt; have_numbers() && have_holes(rt.alloc()));
 }

@@ -31,11 +31,11 @@ mod peep_rows;
 #[cfg(test)]
 mod peep_tests;
 #[cfg(test)]
-mod peep_text;
-#[cfg(test)]
 mod program;
 #[cfg(test)]
 mod regions;
+#[cfg(test)]
+mod rows;
 #[cfg(test)]
 mod running;
 #[cfg(test)]

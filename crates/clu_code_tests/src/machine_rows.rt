@@ -132,13 +132,27 @@ addi x17, x0, 4, no bytes: 00400893 00000073 gives bad jump 10008";
 pub const ECHOES_COUNT: usize = 8;
 
 /// How many bytes the input gives at once, which two of its reads and which two writes of the output fail, and how
-/// the echo of `abc` ends and what it writes.
+/// the echo of `abc` ends and what it writes, told twice, since an ended run answers the same again.
 pub const ECHOES: &str = "\
-1 63 63 63 63 gives returned abc\0\
-2 63 63 63 63 gives returned abc\0\
-40 63 63 63 63 gives returned abc\0\
-1 0 63 63 63 gives read fault \0\
-1 2 63 63 63 gives read fault ab\0\
-40 1 63 63 63 gives read fault abc\0\
-40 63 63 0 63 gives write fault \0\
-40 63 63 1 63 gives write fault a";
+1 63 63 63 63 gives returned abc returned abc\0\
+2 63 63 63 63 gives returned abc returned abc\0\
+40 63 63 63 63 gives returned abc returned abc\0\
+1 0 63 63 63 gives read fault  read fault \0\
+1 2 63 63 63 gives read fault ab read fault ab\0\
+40 1 63 63 63 gives read fault abc read fault abc\0\
+40 63 63 0 63 gives write fault  write fault \0\
+40 63 63 1 63 gives write fault a write fault a";
+
+/// How many rows `LIMITS` has.
+pub const LIMITS_COUNT: usize = 8;
+
+/// A store and a stack in bytes, and whether there are such limits.
+pub const LIMITS: &str = "\
+4096 4096 gives 4096 4096\0\
+268435456 67108864 gives 268435456 67108864\0\
+4080 4096 gives none\0\
+4096 4080 gives none\0\
+4100 4096 gives none\0\
+4096 4100 gives none\0\
+268435472 4096 gives none\0\
+4096 67108880 gives none";

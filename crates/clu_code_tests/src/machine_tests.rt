@@ -2,11 +2,8 @@
 //! reckoned by hand.
 
 use crate::ending::put_ending;
-use crate::machine_rows::{
-    ECHOES, ECHOES_COUNT, ENDINGS, ENDINGS_COUNT, INSTRUCTIONS, INSTRUCTIONS_COUNT,
-};
 use crate::running::{put_end, started};
-use crate::text::{counted, hex_at, same, small};
+use crate::text::{hex_at, number_at, small};
 use clu_base::{Bytes, MemSink, MemSource};
 use rv_isa::{Image, Reg};
 use rv_machine::{Ending, Limits, Machine};
@@ -117,29 +114,18 @@ fn put_after(text: &mut String, run: &mut Run) -> Result<(), Fail> {
     Ok(())
 }
 
-/// What a row shows, what it is, and what comes of it.
-fn parts_of(row: &str) -> (&str, &str, &str) {
-    let (name, rest) = row.split_once(": ").unwrap_or(("", row));
-    let (given, due) = rest.split_once(" gives").unwrap_or((rest, ""));
-    (name, given, due)
-}
-
-fn keep_instruction(alloc: Global, row: &str) -> Result<(), Fail> {
-    let (_, given, due) = parts_of(row);
-    let mut text = String::new(alloc);
-    let mut run = instruction(alloc, given)?;
-    put_after(&mut text, &mut run)?;
-    same(text, due)
-}
-
-#[test]
-fn instructions(rt: HostRuntime) -> Result<(), Fail> {
-    let mut rows = 0usize;
-    for row in INSTRUCTIONS.split('\0') {
-        keep_instruction(rt.alloc(), row)?;
-        rows = rows.saturating_add(1);
+/// What a row gives after what it shows.
+fn given_of(row: &str) -> &str {
+    match row.split_once(": ") {
+        Some((_, given)) => given,
+        None => row,
     }
-    counted(rt.alloc(), rows, INSTRUCTIONS_COUNT)
+}
+
+/// Writes what an instruction does.
+pub fn put_instruction(alloc: Global, text: &mut String, row: &str) -> Result<(), Fail> {
+    let mut run = instruction(alloc, given_of(row))?;
+    put_after(text, &mut run)
 }
 
 /// Two words of code, and eight bytes of the fixed part and of data each; the first write fails.
@@ -149,22 +135,10 @@ fn ending(alloc: Global, row: &str) -> Result<Box<Run>, Fail> {
     Run::silent(alloc, &image, vec![in alloc; 0]?)
 }
 
-fn keep_ending(alloc: Global, row: &str) -> Result<(), Fail> {
-    let (_, given, due) = parts_of(row);
-    let mut text = String::new(alloc);
-    let mut run = ending(alloc, given)?;
-    put_ending(&mut text, run.run(100))?;
-    same(text, due)
-}
-
-#[test]
-fn endings(rt: HostRuntime) -> Result<(), Fail> {
-    let mut rows = 0usize;
-    for row in ENDINGS.split('\0') {
-        keep_ending(rt.alloc(), row)?;
-        rows = rows.saturating_add(1);
-    }
-    counted(rt.alloc(), rows, ENDINGS_COUNT)
+/// Writes how a run of two words ends.
+pub fn put_ending_row(alloc: Global, text: &mut String, row: &str) -> Result<(), Fail> {
+    let mut run = ending(alloc, given_of(row))?;
+    Ok(put_ending(text, run.run(100))?)
 }
 
 /// Writes `hi` and returns, with the text at 0x10020.
@@ -279,54 +253,21 @@ fn echo(alloc: Global, row: &str) -> Result<Box<Run>, Fail> {
 fn put_echo(text: &mut String, run: &mut Run) -> Result<(), Fail> {
     put_ending(text, run.run(1000))?;
     text.push_str(" ")?;
-    text.push_str(str::from_utf8(run.output.bytes())?)?;
+    text.push_str(str::from_utf8(run.output.bytes()).unwrap_or("?"))?;
     Ok(())
 }
 
-/// An ended run answers the same again.
-fn keep_echo(alloc: Global, row: &str) -> Result<(), Fail> {
-    let (_, given, due) = parts_of(row);
-    let mut run = echo(alloc, given)?;
-    for _ in 0..2 {
-        let mut text = String::new(alloc);
-        put_echo(&mut text, &mut run)?;
-        same(text, due)?;
-    }
-    Ok(())
+/// Writes it twice, since an ended run answers the same again.
+pub fn put_echo_row(alloc: Global, text: &mut String, row: &str) -> Result<(), Fail> {
+    let mut run = echo(alloc, row)?;
+    put_echo(text, &mut run)?;
+    put_echo(text, &mut run)
 }
 
-#[test]
-fn input_and_output(rt: HostRuntime) -> Result<(), Fail> {
-    let mut rows = 0usize;
-    for row in ECHOES.split('\0') {
-        keep_echo(rt.alloc(), row)?;
-        rows = rows.saturating_add(1);
-    }
-    counted(rt.alloc(), rows, ECHOES_COUNT)
-}
-
-/// Whether there are limits of this store and this stack, and have them.
-fn are_limits(store: u64, stack: u64) -> bool {
-    match Limits::new(store, stack) {
-        Some(limits) => limits.store() == store && limits.stack() == stack,
-        None => false,
-    }
-}
-
-const LIMITS: [(u64, u64, bool); 8] = [
-    (4096, 4096, true),
-    (268_435_456, 67_108_864, true),
-    (4080, 4096, false),
-    (4096, 4080, false),
-    (4100, 4096, false),
-    (4096, 4100, false),
-    (268_435_472, 4096, false),
-    (4096, 67_108_880, false),
-];
-
-#[test]
-fn limits(rt: HostRuntime) {
-    for (store, stack, good) in LIMITS {
-        assert_eq!(rt; are_limits(store, stack), good, "{store} {stack}");
+/// Writes the limits of a store and a stack, if there are such.
+pub fn put_limits(text: &mut String, given: &str) -> Result<(), Fail> {
+    match Limits::new(number_at(given, 0), number_at(given, 1)) {
+        Some(limits) => Ok(write!(text, " {} {}", limits.store(), limits.stack())?),
+        None => Ok(text.push_str(" none")?),
     }
 }

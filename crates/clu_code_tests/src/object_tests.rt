@@ -1,7 +1,8 @@
 //! Copies of objects, and holes in their code.
 
+use crate::text::small_at;
 use clu_base::{Bytes, Memory, Sequence};
-use clu_object::{Arm, Const, Hole, HoleKind, ObjConst, ObjRoutine, Object, Region};
+use clu_object::{Arm, Const, Hole, ObjConst, ObjRoutine, Object, Region};
 use std::alloc::Global;
 use std::test::Fail;
 
@@ -50,27 +51,11 @@ fn region(alloc: Global) -> Result<Region, Memory> {
     })
 }
 
-/// The code of a routine and its holes.
-fn put_code(
-    alloc: Global,
-    routine: &mut ObjRoutine,
-    code: &[u32],
-    holes: &[Hole],
-) -> Result<(), Memory> {
-    routine.code = Sequence::from_vec(code.to_vec(alloc)?);
-    routine.holes = Sequence::from_vec(holes.to_vec(alloc)?);
-    Ok(())
-}
-
 /// A word in each part of a routine.
 fn fill(alloc: Global, routine: &mut ObjRoutine) -> Result<(), Memory> {
-    let hole = Hole {
-        at: 0,
-        kind: HoleKind::Constant.number(),
-        number: 0,
-    };
     put_names(alloc, routine)?;
-    put_code(alloc, routine, &[LUI, ADDI], &[hole])?;
+    routine.code = words(alloc, "000002b7 00028293")?;
+    routine.holes = holes(alloc, "0 2 0")?;
     let regions = vec![in alloc; region(alloc)?]?;
     routine.regions = Sequence::from_vec(regions);
     Ok(())
@@ -101,60 +86,62 @@ fn a_copy_is_equal(rt: HostRuntime) -> Result<(), Fail> {
     Ok(())
 }
 
-/// lui x5, 0
-const LUI: u32 = 0x000002b7;
+/// How many rows `HOLES` has.
+pub const HOLES_COUNT: usize = 16;
 
-/// addi x5, x5, 0
-const ADDI: u32 = 0x00028293;
+/// The words of a routine with one use, two constants and one type, and where its holes are, with their kinds and numbers, and
+/// whether they fit. Among the words are LUI and ADDI of x5, whose operands are another number, AUIPC in the place of LUI, SLTI in
+/// that of ADDI, other registers, and these in another order. The last holes are one after the other, over the same words and in
+/// another order.
+pub const HOLES: &str = "\
+000002b7 00028293; 0 2 0 gives fit\0\
+000002b7 00028293; 1 2 0 gives no fit\0\
+000002b7 00028293; 0 2 1 gives fit\0\
+000002b7 00028293; 0 2 2 gives no fit\0\
+000002b7 00028293; 0 0 1 gives no fit\0\
+000002b7 00028293; 0 4 99 gives fit\0\
+000002b7 00028293; 0 9 0 gives no fit\0\
+123452b7 fff28293; 0 2 0 gives fit\0\
+00000297 00028293; 0 2 0 gives no fit\0\
+000002b7 0002a293; 0 2 0 gives no fit\0\
+000002b7 00028313; 0 2 0 gives no fit\0\
+000002b7 00030293; 0 2 0 gives no fit\0\
+00028293 000002b7; 0 2 0 gives no fit\0\
+000002b7 00028293 000002b7 00028293; 0 4 0; 2 4 0 gives fit\0\
+000002b7 00028293 000002b7 00028293; 0 4 0; 0 4 0 gives no fit\0\
+000002b7 00028293 000002b7 00028293; 2 4 0; 0 4 0 gives no fit";
 
-/// Two words of a routine with one use, two constants and one type, where a hole is, its kind and number, and whether
-/// it fits.
-const HOLES: [(u32, u32, u32, u8, u32, bool); 13] = [
-    (LUI, ADDI, 0, 2, 0, true),
-    (LUI, ADDI, 1, 2, 0, false),
-    (LUI, ADDI, 0, 2, 1, true),
-    (LUI, ADDI, 0, 2, 2, false),
-    (LUI, ADDI, 0, 0, 1, false),
-    (LUI, ADDI, 0, 4, 99, true),
-    (LUI, ADDI, 0, 9, 0, false),
-    (0x12345_2b7, 0xfff28293, 0, 2, 0, true),
-    (0x00000297, ADDI, 0, 2, 0, false), // auipc
-    (LUI, 0x0002a293, 0, 2, 0, false), // slti
-    (LUI, 0x00028313, 0, 2, 0, false), // addi x6, x5
-    (LUI, 0x00030293, 0, 2, 0, false), // addi x5, x6
-    (ADDI, LUI, 0, 2, 0, false),
-];
+fn words(alloc: Global, text: &str) -> Result<Sequence<u32>, Memory> {
+    let mut words = Vec::new(alloc);
+    for word in text.split(' ') {
+        words.push(u32::from_str_radix(word, 16).unwrap_or(0))?;
+    }
+    Ok(Sequence::from_vec(words))
+}
 
-/// Whether a routine of this code has these holes.
-fn has_holes(alloc: Global, code: &[u32], holes: &[Hole]) -> Result<bool, Memory> {
+fn holes(alloc: Global, text: &str) -> Result<Sequence<Hole>, Memory> {
+    let mut holes = Vec::new(alloc);
+    for hole in text.split("; ") {
+        holes.push(Hole {
+            at: small_at(hole, 0),
+            kind: u8::try_from(small_at(hole, 1)).unwrap_or(u8::MAX),
+            number: small_at(hole, 2),
+        })?;
+    }
+    Ok(Sequence::from_vec(holes))
+}
+
+/// Writes whether a routine of these words has these holes.
+pub fn put_holes(alloc: Global, text: &mut String, given: &str) -> Result<(), Fail> {
+    let (code, listed) = given.split_once("; ").unwrap_or((given, ""));
     let mut routine = empty(alloc)?;
     put_names(alloc, &mut routine)?;
-    put_code(alloc, &mut routine, code, holes)?;
-    Ok(routine.has_holes())
-}
-
-#[test]
-fn holes_cover_their_words(rt: HostRuntime) -> Result<(), Fail> {
-    for (first, second, at, kind, number, fits) in HOLES {
-        let hole = Hole { at, kind, number };
-        let has = has_holes(rt.alloc(), &[first, second], &[hole])?;
-        assert_eq!(rt; has, fits, "{first:x} {second:x} {at} {kind} {number}");
-    }
-    Ok(())
-}
-
-/// Two holes over the same words, over words that overlap, and one after the other.
-#[test]
-fn holes_are_apart(rt: HostRuntime) -> Result<(), Fail> {
-    let code = [LUI, ADDI, LUI, ADDI];
-    for (first, second, fits) in [(0, 2, true), (0, 0, false), (2, 0, false)] {
-        let hole = |at| Hole {
-            at,
-            kind: 4,
-            number: 0,
-        };
-        let has = has_holes(rt.alloc(), &code, &[hole(first), hole(second)])?;
-        assert_eq!(rt; has, fits, "{first} {second}");
-    }
-    Ok(())
+    routine.code = words(alloc, code)?;
+    routine.holes = holes(alloc, listed)?;
+    let word = if routine.has_holes() {
+        " fit"
+    } else {
+        " no fit"
+    };
+    Ok(text.push_str(word)?)
 }

@@ -30,7 +30,7 @@ pub struct Program {
     pub alloc: Global,
     /// The routine that was begun last.
     pub flat: FlatRoutine,
-    regions: Regions,
+    pub regions: Regions,
     /// The parts of the runtime, and the routines before that one.
     pub objects: Vec<ObjRoutine>,
     /// Whether the selection refused a routine.
@@ -67,12 +67,17 @@ impl Program {
 
     /// The routines of a text.
     pub fn lines(&mut self, text: &str) -> Result<(), Fail> {
+        self.lines_of(text)?;
+        self.select()
+    }
+
+    /// The same, of which the last is not selected.
+    pub fn lines_of(&mut self, text: &str) -> Result<(), Fail> {
         for line in text.lines() {
-            let name = first_word(line);
-            let rest = line.split_once(' ').unwrap_or(("", "")).1;
+            let (name, rest) = line.split_once(' ').unwrap_or((line, ""));
             self.line(name, rest)?;
         }
-        self.select()
+        Ok(())
     }
 
     pub fn line(&mut self, name: &str, rest: &str) -> Result<(), Fail> {
@@ -237,7 +242,8 @@ impl Program {
     }
 }
 
-fn no_routine(alloc: Global) -> FlatRoutine {
+/// A routine without steps.
+pub fn no_routine(alloc: Global) -> FlatRoutine {
     FlatRoutine {
         name: Bytes::from_vec(Vec::new(alloc)),
         frame: 0,

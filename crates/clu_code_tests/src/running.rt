@@ -10,22 +10,44 @@ use std::alloc::Global;
 use std::fmt::Write;
 use std::test::Fail;
 
-/// How the program of a text ends and the words that it wrote, or ` not yet` where the selection refuses a routine.
-pub fn outcome(alloc: Global, text: &str) -> Result<String, Fail> {
-    let mut found = String::new(alloc);
+/// Writes how the program of a text ends and the words that it wrote, or ` not yet` where the selection refuses a routine.
+pub fn put_outcome(alloc: Global, found: &mut String, text: &str) -> Result<(), Fail> {
     let mut program = Program::new(alloc)?;
     program.read(text)?;
-    put_outcome(&mut found, &program)?;
-    Ok(found)
-}
-
-fn put_outcome(found: &mut String, program: &Program) -> Result<(), Fail> {
     if program.is_refused {
         found.push_str(" not yet")?;
         return Ok(());
     }
-    let image = linked(program.alloc, program.objects.as_slice())?;
-    put_run(found, program, &image)
+    let image = linked(alloc, program.objects.as_slice())?;
+    put_run(found, &program, &image)
+}
+
+/// Writes the words that a program writes before it returns.
+fn put_written(alloc: Global, found: &mut String, text: &str) -> Result<(), Fail> {
+    let mut all = String::new(alloc);
+    put_outcome(alloc, &mut all, text)?;
+    match all.as_str().strip_prefix(" returned") {
+        Some(written) => Ok(found.push_str(written)?),
+        None => Err("the program fails")?,
+    }
+}
+
+/// Writes what an operation gives for two words.
+pub fn put_operation(alloc: Global, found: &mut String, given: &str) -> Result<(), Fail> {
+    let (name, words) = given.split_once(' ').unwrap_or(("", ""));
+    let (left, right) = words.split_once(' ').unwrap_or(("", ""));
+    let text = format!(in alloc;
+        "is p 5\ndoes enter 0; word 0 {left}; word 1 {right}; {name} 0 0 1; move 2 0; show 2 3; leave 0"
+    )?;
+    put_written(alloc, found, text.as_str())
+}
+
+/// Writes what an expression gives.
+pub fn put_expression(alloc: Global, found: &mut String, words: &str) -> Result<(), Fail> {
+    let text = format!(in alloc;
+        "is p 5\ndoes enter 0; word 0 7; word 1 8\nsets 2 {words}\ndoes show 2 3; leave 0"
+    )?;
+    put_written(alloc, found, text.as_str())
 }
 
 fn put_run(found: &mut String, program: &Program, image: &Image) -> Result<(), Fail> {
@@ -64,7 +86,7 @@ pub fn started(alloc: Global, image: &Image) -> Result<Box<Machine>, Fail> {
 
 fn put_failure(found: &mut String, text: &[u8]) -> Result<(), Fail> {
     found.push_str(" failure ")?;
-    found.push_str(str::from_utf8(text)?)?;
+    found.push_str(str::from_utf8(text).unwrap_or("?"))?;
     Ok(())
 }
 

@@ -4,23 +4,6 @@ use clu_wir::{HoleKind, Trap, WOp};
 use std::alloc::Global;
 use std::test::Fail;
 
-/// There are as many rows as a table says.
-pub fn counted(alloc: Global, rows: usize, due: usize) -> Result<(), Fail> {
-    if rows != due {
-        return Err(format!(in alloc; "{rows} rows, but {due} are due")?)?;
-    }
-    Ok(())
-}
-
-/// What was found is what is due of a row.
-pub fn same(found: String, due: &str) -> Result<(), Fail> {
-    if found.as_str() == due {
-        Ok(())
-    } else {
-        Err(found)?
-    }
-}
-
 /// The first word of a text.
 pub fn first_word(text: &str) -> &str {
     text.split(' ').next().unwrap_or("")

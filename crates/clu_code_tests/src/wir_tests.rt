@@ -4,20 +4,15 @@ use crate::word_code::{Made, statements};
 use clu_base::Bytes;
 use clu_wir::{HoleKind, Primitive, Room, WRoutine};
 use std::alloc::Global;
+use std::fmt::Write;
 use std::test::Fail;
 
-const HOLES: [(HoleKind, u8); 4] = [
-    (HoleKind::Entry, 0),
-    (HoleKind::TypeWord, 5),
-    (HoleKind::TypeCell, 5),
-    (HoleKind::Code, 8),
-];
-
-#[test]
-fn numbers_of_holes(rt: HostRuntime) {
-    for (kind, number) in HOLES {
-        assert_eq!(rt; kind.number(), number);
-    }
+/// Whether kinds of holes have their numbers.
+fn have_numbers() -> bool {
+    HoleKind::Entry.number() == 0
+        && HoleKind::TypeWord.number() == 5
+        && HoleKind::TypeCell.number() == 5
+        && HoleKind::Code.number() == 8
 }
 
 /// Whether the primitive of this number has it.
@@ -29,18 +24,37 @@ fn has_number(number: u32) -> bool {
 }
 
 #[test]
-fn primitives_have_their_numbers(rt: HostRuntime) {
+fn holes_and_primitives_have_their_numbers(rt: HostRuntime) {
+    assert!(rt; have_numbers());
     for number in 0..6 {
-        assert_eq!(rt; has_number(number), number < 5, "{number}");
+        assert!(rt; has_number(number) == (number < 5), "{number}");
     }
 }
 
-/// How many words of code the expression of a text takes, and how many slots there must be for it.
-fn taken(alloc: Global, text: &str) -> Result<(u64, u64), Fail> {
+/// How many rows `TAKEN` has.
+pub const TAKEN_COUNT: usize = 9;
+
+/// Expressions, with their words of code and the slots that there must be. A slot takes 3 words, a known one 1 or 6, a hole 4,
+/// what is bound 1.
+pub const TAKEN: &str = "\
+slot 6; word 1; add gives 6 7\0\
+word 2047; word 2048; add gives 9 0\0\
+word 0xfffffffffffff800; word 0xfffffffffffff7ff; add gives 9 0\0\
+word 0xffffffffffffffff gives 1 0\0\
+constant 0; load 8; byte gives 8 0\0\
+slot 1; slot 4; slot 2; choose gives 14 5\0\
+slot 1; slot 0; check bounds gives 11 2\0\
+slot 3; word 1; bound 0; bound 1; sub; with 2 gives 8 4\0\
+bound 0 gives 1 0";
+
+/// Writes how many words of code the expression of a text takes, and how many slots there must be for it.
+pub fn put_taken(alloc: Global, text: &mut String, given: &str) -> Result<(), Fail> {
     let mut made = Made::new(alloc)?;
-    made.read(text)?;
+    made.read(given)?;
     let value = made.boxed()?;
-    Ok((value.words(), value.slots()))
+    let words = value.words();
+    let slots = value.slots();
+    Ok(write!(text, " {words} {slots}")?)
 }
 
 /// A routine with an argument and two slots, whose body a text says.
@@ -59,66 +73,32 @@ fn routine(alloc: Global, text: &str) -> Result<Box<WRoutine>, Fail> {
     Ok(Box::new(alloc, routine)?)
 }
 
-/// How many words a routine of two slots needs whose body a text says.
-fn width(alloc: Global, text: &str) -> Result<u32, Fail> {
-    Ok(routine(alloc, text)?.width())
+/// How many rows `ROOMS` has.
+pub const ROOMS_COUNT: usize = 3;
+
+/// Bodies, with the words of code and the bytes of tables that their routines may take. To begin and to end, a routine with one
+/// argument has 26 words of code, and a descriptor, a cell and an empty table have 56 bytes. A region has two cuts and a row, in
+/// 56 bytes, and each name a row of 24.
+pub const ROOMS: &str = "\
+slot 0; slot 1; put 0 gives 35 56\0\
+slot 0; slot 0; check uninitialized; set 0 gives 40 56\0\
+begin; resignal e f gives 34 160";
+
+/// Writes how much of an image the routine with the body of a text may take.
+pub fn put_room(alloc: Global, text: &mut String, given: &str) -> Result<(), Fail> {
+    let Room { code, data } = routine(alloc, given)?.room();
+    Ok(write!(text, " {code} {data}")?)
 }
 
-/// A slot takes 3 words, a known one 1 or 6, a hole 4, what is bound 1.
-const TAKEN: [(&str, u64, u64); 9] = [
-    ("slot 6; word 1; add", 6, 7),
-    ("word 2047; word 2048; add", 9, 0),
-    (
-        "word 0xfffffffffffff800; word 0xfffffffffffff7ff; add",
-        9,
-        0,
-    ),
-    ("word 0xffffffffffffffff", 1, 0),
-    ("constant 0; load 8; byte", 8, 0),
-    ("slot 1; slot 4; slot 2; choose", 14, 5),
-    ("slot 1; slot 0; check bounds", 11, 2),
-    ("slot 3; word 1; bound 0; bound 1; sub; with 2", 8, 4),
-    ("bound 0", 1, 0),
-];
+/// How many rows `WIDTHS` has.
+pub const WIDTHS_COUNT: usize = 1;
 
-#[test]
-fn what_expressions_take(rt: HostRuntime) -> Result<(), Fail> {
-    for (text, words, slots) in TAKEN {
-        let found = taken(rt.alloc(), text)?;
-        assert_eq!(rt; found, (words, slots), "{text}");
-    }
-    Ok(())
-}
+/// Bodies, with how many slots their routines need. The loop has two slots, one word for itself, and two for arguments.
+pub const WIDTHS: &str = "\
+slot 0; begin; descriptor 0; slot 0; word 1; word 2; word 3; add; add; call 2 1; iterate 0 gives 5";
 
-/// Two slots, one word for the loop, and two arguments.
-const CALL: &str =
-    "slot 0; begin; descriptor 0; slot 0; word 1; word 2; word 3; add; add; call 2 1; iterate 0";
-
-#[test]
-fn a_routine_is_as_wide_as_its_widest_statement(rt: HostRuntime) -> Result<(), Fail> {
-    let found = width(rt.alloc(), CALL)?;
-    assert_eq!(rt; found, 5);
-    Ok(())
-}
-
-/// What a routine may take whose body a text says.
-fn room(alloc: Global, text: &str) -> Result<Room, Fail> {
-    Ok(routine(alloc, text)?.room())
-}
-
-/// To begin and to end, a routine with one argument has 26 words of code, and a descriptor, a cell and an empty table have 56
-/// bytes. A region has two cuts and a row, in 56 bytes, and each name a row of 24.
-const ROOMS: [(&str, u64, u64); 3] = [
-    ("slot 0; slot 1; put 0", 26 + 9, 56),
-    ("slot 0; slot 0; check uninitialized; set 0", 26 + 14, 56),
-    ("begin; resignal e f", 26 + 8, 56 + 56 + 48),
-];
-
-#[test]
-fn what_statements_take(rt: HostRuntime) -> Result<(), Fail> {
-    for (text, code, data) in ROOMS {
-        let found = room(rt.alloc(), text)?;
-        assert_eq!(rt; found, Room { code, data }, "{text}");
-    }
-    Ok(())
+/// Writes how many slots the routine with the body of a text needs: as many as its widest statement.
+pub fn put_width(alloc: Global, text: &mut String, given: &str) -> Result<(), Fail> {
+    let width = routine(alloc, given)?.width();
+    Ok(write!(text, " {width}")?)
 }

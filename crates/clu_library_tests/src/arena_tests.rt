@@ -22,36 +22,13 @@ fn refuses_foreign(types: &mut TypeArena, int: TypeId) -> bool {
         && matches!(included(types, FOREIGN, int), Err(CheckError::NotYet))
 }
 
-fn asks(types: &mut TypeArena) -> Result<bool, CheckError> {
-    let int = intern(types, Term::Int)?;
-    let any = intern(types, Term::Any)?;
-    Ok(knows(types, int, any) && refuses_foreign(types, int))
-}
-
-#[test]
-fn asks_an_arena_for_its_own_types(rt: HostRuntime) -> Result<(), Fail> {
-    let mut types = Box::new(rt.alloc(), TypeArena::new(rt.alloc()))?;
-    let is_so = asks(&mut types)?;
-    assert!(rt; is_so);
-    Ok(())
-}
-
 /// Whether int takes the place of a parameter, and a type that the arena has not is `NotYet`.
-fn puts(alloc: Global, types: &mut TypeArena) -> Result<bool, CheckError> {
+fn puts(alloc: Global, types: &mut TypeArena, int: TypeId) -> Result<bool, CheckError> {
     let param = intern(types, Term::Param(1))?;
-    let int = intern(types, Term::Int)?;
     let actuals = [Actual::Of(int)];
     let put = subst(alloc, types, param, &actuals)?;
     let foreign = subst(alloc, types, FOREIGN, &actuals);
     Ok(put == int && matches!(foreign, Err(CheckError::NotYet)))
-}
-
-#[test]
-fn puts_actuals_in(rt: HostRuntime) -> Result<(), Fail> {
-    let mut types = Box::new(rt.alloc(), TypeArena::new(rt.alloc()))?;
-    let is_so = puts(rt.alloc(), &mut types)?;
-    assert!(rt; is_so);
-    Ok(())
 }
 
 /// Whether any is carried to another arena as any, and a type that the first has not is `NotYet`.
@@ -59,18 +36,26 @@ fn carries(
     alloc: Global,
     types: &mut TypeArena,
     other: &mut TypeArena,
+    any: TypeId,
 ) -> Result<bool, CheckError> {
-    let any = intern(types, Term::Any)?;
     let carried = carry(alloc, other, types, any, &[])?;
     let foreign = carry(alloc, other, types, FOREIGN, &[]);
     Ok(matches!(term(other, carried), Ok(Term::Any)) && matches!(foreign, Err(CheckError::NotYet)))
 }
 
+fn asks(alloc: Global, types: &mut TypeArena, other: &mut TypeArena) -> Result<bool, CheckError> {
+    let int = intern(types, Term::Int)?;
+    let any = intern(types, Term::Any)?;
+    let is_put = puts(alloc, types, int)?;
+    let is_carried = carries(alloc, types, other, any)?;
+    Ok(is_put && is_carried && knows(types, int, any) && refuses_foreign(types, int))
+}
+
 #[test]
-fn carries_types_over(rt: HostRuntime) -> Result<(), Fail> {
+fn asks_an_arena_for_its_own_types(rt: HostRuntime) -> Result<(), Fail> {
     let mut types = Box::new(rt.alloc(), TypeArena::new(rt.alloc()))?;
     let mut other = Box::new(rt.alloc(), TypeArena::new(rt.alloc()))?;
-    let is_so = carries(rt.alloc(), &mut types, &mut other)?;
+    let is_so = asks(rt.alloc(), &mut types, &mut other)?;
     assert!(rt; is_so);
     Ok(())
 }

@@ -1,47 +1,18 @@
-//! The tables of files, run.
+//! Files of objects and libraries by their fields: read and written again, cut at each byte, and with each byte altered.
 
 use crate::fields::Fields;
-use crate::file_rows;
-use clu_base::{Bytes, FormatError, Memory};
+use clu_base::{Bytes, FormatError};
 use clu_library::Library;
-use clu_object::{Object, is_object, read, write};
+use clu_object::{is_object, read, write};
 use std::alloc::Global;
 use std::test::Fail;
 
-/// What came of bytes that were read as a file and written again.
-#[derive(Drop)]
-enum Reading {
-    Written(Vec<u8>),
-    Bad(u64),
-}
-
-/// Reads and writes an object.
-fn object(alloc: Global, b: &[u8]) -> Result<Reading, Fail> {
-    match read(alloc, b) {
-        Ok(object) => rewritten(alloc, &object),
-        Err(error) => refusal(error),
-    }
-}
-
-fn rewritten(alloc: Global, object: &Object) -> Result<Reading, Fail> {
-    if is_object(alloc, object)? {
-        written(write(alloc, object))
+fn object_again(alloc: Global, b: &[u8]) -> Result<Bytes, FormatError> {
+    let object = Box::new(alloc, read(alloc, b)?)?;
+    if is_object(alloc, &object)? {
+        Ok(write(alloc, &object)?)
     } else {
-        Err("what was read is no object")?
-    }
-}
-
-fn written(bytes: Result<Bytes, Memory>) -> Result<Reading, Fail> {
-    match bytes {
-        Ok(bytes) => Ok(Reading::Written(bytes.into_vec())),
-        Err(_) => Err("no memory")?,
-    }
-}
-
-fn refusal(error: FormatError) -> Result<Reading, Fail> {
-    match error {
-        FormatError::Bad(at) => Ok(Reading::Bad(at)),
-        FormatError::Memory => Err("no memory")?,
+        Err(FormatError::Memory)
     }
 }
 
@@ -50,96 +21,73 @@ pub fn read_library(alloc: Global, b: &[u8]) -> Result<Box<Library>, FormatError
     Ok(Box::new(alloc, Library::read(alloc, b)?)?)
 }
 
-/// Reads and writes a library.
-fn library(alloc: Global, b: &[u8]) -> Result<Reading, Fail> {
-    match read_library(alloc, b) {
-        Ok(library) => written(library.write(alloc)),
-        Err(error) => refusal(error),
-    }
+fn library_again(alloc: Global, b: &[u8]) -> Result<Bytes, FormatError> {
+    let library = read_library(alloc, b)?;
+    Ok(library.write(alloc)?)
 }
 
-/// What comes of bytes as an object or as a library.
-fn outcome(alloc: Global, is_object: bool, b: &[u8]) -> Result<Reading, Fail> {
+/// What is written of bytes that are read as an object or as a library. What is read as an object and is none is not written.
+fn again(alloc: Global, is_object: bool, b: &[u8]) -> Result<Bytes, FormatError> {
     if is_object {
-        object(alloc, b)
+        object_again(alloc, b)
     } else {
-        library(alloc, b)
+        library_again(alloc, b)
     }
 }
 
-/// What a row came to in place of what is due.
-fn differs(alloc: Global, found: &str, row: &str) -> Result<(), Fail> {
-    Err(format!(in alloc; "{found}: {row}")?)?
-}
-
-fn is_bad_at(alloc: Global, at: u64, due: u64, row: &str) -> Result<(), Fail> {
-    if at == due {
-        Ok(())
-    } else {
-        Err(format!(in alloc; "bad at {at}, not {due}: {row}")?)?
+/// Whether a file is refused at this place.
+fn is_refused(alloc: Global, is_object: bool, b: &[u8], due: u64) -> bool {
+    match &again(alloc, is_object, b) {
+        Err(FormatError::Bad(at)) => *at == due,
+        _ => false,
     }
 }
 
-/// A file is refused at this place.
-fn keep_refusal(alloc: Global, is_object: bool, b: &[u8], due: u64, row: &str) -> Result<(), Fail> {
-    match outcome(alloc, is_object, b)? {
-        Reading::Bad(at) => is_bad_at(alloc, at, due, row),
-        Reading::Written(_) => differs(alloc, "not bad", row),
+/// Whether a file is read, and written as these bytes.
+fn is_written(alloc: Global, is_object: bool, b: &[u8], due: &[u8]) -> bool {
+    match &again(alloc, is_object, b) {
+        Ok(written) => written.as_slice() == due,
+        Err(_) => false,
     }
 }
 
-fn is_written_as(alloc: Global, bytes: &[u8], due: &[u8], row: &str) -> Result<(), Fail> {
-    if bytes == due {
-        Ok(())
-    } else {
-        differs(alloc, "written otherwise", row)
+/// Whether a file is refused, or written as it is.
+fn is_kept(alloc: Global, is_object: bool, b: &[u8]) -> bool {
+    match &again(alloc, is_object, b) {
+        Ok(written) => written.as_slice() == b,
+        Err(FormatError::Bad(_)) => true,
+        Err(FormatError::Memory) => false,
     }
 }
 
-/// A file is read, and written as these bytes.
-fn keep_written(
-    alloc: Global,
-    is_object: bool,
-    b: &[u8],
-    due: &[u8],
-    row: &str,
-) -> Result<(), Fail> {
-    match outcome(alloc, is_object, b)? {
-        Reading::Written(bytes) => is_written_as(alloc, bytes.as_slice(), due, row),
-        Reading::Bad(_) => differs(alloc, "bad", row),
-    }
-}
-
-/// Each proper front is refused at the field that it cuts.
-fn keep_fronts(alloc: Global, is_object: bool, fields: &Fields, row: &str) -> Result<(), Fail> {
+/// Whether each proper front is refused at the field that it cuts.
+fn are_fronts_refused(alloc: Global, is_object: bool, fields: &Fields) -> bool {
     for n in 0..fields.bytes.len() {
         let due = fields.start_round(n) as u64;
-        keep_refusal(alloc, is_object, &fields.bytes[..n], due, row)?;
-    }
-    Ok(())
-}
-
-/// With the complement of any one byte in its place a file is refused, or written as it was read.
-fn keep_complements(
-    alloc: Global,
-    is_object: bool,
-    fields: &Fields,
-    row: &str,
-) -> Result<(), Fail> {
-    for n in 0..fields.bytes.len() {
-        let mut altered = fields.bytes.as_slice().to_vec(alloc)?;
-        if let Some(byte) = altered.get_mut(n) {
-            *byte = !*byte;
+        if !is_refused(alloc, is_object, &fields.bytes[..n], due) {
+            return false;
         }
-        keep_altered(alloc, is_object, altered.as_slice(), row)?;
     }
-    Ok(())
+    true
 }
 
-fn keep_altered(alloc: Global, is_object: bool, b: &[u8], row: &str) -> Result<(), Fail> {
-    match outcome(alloc, is_object, b)? {
-        Reading::Written(bytes) => is_written_as(alloc, bytes.as_slice(), b, row),
-        Reading::Bad(_) => Ok(()),
+/// Whether with the complement of any one byte in its place a file is refused, or written as it was read.
+fn are_altered_kept(alloc: Global, is_object: bool, b: &[u8]) -> Result<bool, Fail> {
+    let mut altered = b.to_vec(alloc)?;
+    for n in 0..b.len() {
+        turn(altered.as_mut_slice(), n);
+        if !is_kept(alloc, is_object, altered.as_slice()) {
+            return Ok(false);
+        }
+        turn(altered.as_mut_slice(), n);
+    }
+    Ok(true)
+}
+
+/// Puts the complement of a byte in its place.
+fn turn(bytes: &mut [u8], n: usize) {
+    if let Some(byte) = bytes.get_mut(n) {
+        *byte = !*byte;
     }
 }
 
@@ -149,81 +97,49 @@ fn split(row: &str) -> (bool, &str) {
     (sort == "O", fields)
 }
 
-/// A whole file: it is written as it was read, and its fronts and what is altered in it are refused.
-fn keep_whole(alloc: Global, row: &str) -> Result<(), Fail> {
-    let (is_object, text) = split(row);
-    let fields = Fields::of(alloc, text)?;
+/// Of a whole file: writes ` kept` if it is written as it was read, and its fronts and what is altered in it are refused.
+pub fn put_whole(alloc: Global, text: &mut String, row: &str) -> Result<(), Fail> {
+    let (is_object, row) = split(row);
+    let fields = Fields::of(alloc, row)?;
     let bytes = fields.bytes.as_slice();
-    keep_written(alloc, is_object, bytes, bytes, row)?;
-    keep_fronts(alloc, is_object, &fields, row)?;
-    keep_complements(alloc, is_object, &fields, row)
+    if is_written(alloc, is_object, bytes, bytes)
+        && are_fronts_refused(alloc, is_object, &fields)
+        && are_altered_kept(alloc, is_object, bytes)?
+    {
+        text.push_str(" kept")?;
+    }
+    Ok(())
 }
 
-/// A file is refused at its wrong field.
-fn keep_bad(alloc: Global, row: &str) -> Result<(), Fail> {
-    let (is_object, text) = split(row);
-    let fields = Fields::of(alloc, text)?;
-    keep_refusal(
+/// Of a file with a wrong field: writes ` kept` if it is refused there.
+pub fn put_bad(alloc: Global, text: &mut String, row: &str) -> Result<(), Fail> {
+    let (is_object, row) = split(row);
+    let fields = Fields::of(alloc, row)?;
+    if is_refused(
         alloc,
         is_object,
         fields.bytes.as_slice(),
         fields.wrong as u64,
-        row,
-    )
+    ) {
+        text.push_str(" kept")?;
+    }
+    Ok(())
 }
 
-/// A library of version 1, and after a tab the one of version 2 that is written for it.
-fn keep_first_version(alloc: Global, row: &str) -> Result<(), Fail> {
+/// Of a library of version 1, and after a tab one of version 2: writes ` kept` if this is written for it, and its fronts are
+/// refused.
+pub fn put_first(alloc: Global, text: &mut String, row: &str) -> Result<(), Fail> {
     let (first, second) = row.split_once('\t').unwrap_or(("", row));
     let first = Fields::of(alloc, first)?;
     let second = Fields::of(alloc, second)?;
-    keep_written(
+    if is_written(
         alloc,
         false,
         first.bytes.as_slice(),
         second.bytes.as_slice(),
-        row,
-    )?;
-    keep_fronts(alloc, false, &first, row)
-}
-
-#[test]
-fn whole_files(rt: HostRuntime) -> Result<(), Fail> {
-    let mut count = 0usize;
-    for row in file_rows::WHOLE.split_terminator('\0') {
-        if !row.starts_with('%') {
-            keep_whole(rt.alloc(), row)?;
-            count = count.saturating_add(1);
-        }
-    }
-    counted(count, file_rows::WHOLE_COUNT)
-}
-
-#[test]
-fn bad_files(rt: HostRuntime) -> Result<(), Fail> {
-    let mut count = 0usize;
-    for row in file_rows::BAD.split_terminator('\0') {
-        if !row.starts_with('%') {
-            keep_bad(rt.alloc(), row)?;
-            count = count.saturating_add(1);
-        }
-    }
-    counted(count, file_rows::BAD_COUNT)
-}
-
-#[test]
-fn first_versions(rt: HostRuntime) -> Result<(), Fail> {
-    let mut count = 0usize;
-    for row in file_rows::FIRST.split_terminator('\0') {
-        keep_first_version(rt.alloc(), row)?;
-        count = count.saturating_add(1);
-    }
-    counted(count, file_rows::FIRST_COUNT)
-}
-
-pub fn counted(count: usize, due: usize) -> Result<(), Fail> {
-    if count != due {
-        return Err("another number of rows")?;
+    ) && are_fronts_refused(alloc, false, &first)
+    {
+        text.push_str(" kept")?;
     }
     Ok(())
 }

@@ -12,7 +12,7 @@ mod file_rows;
 #[cfg(test)]
 mod file_tests;
 #[cfg(test)]
-mod library_tests;
+mod link_rows;
 #[cfg(test)]
 mod link_tests;
 #[cfg(test)]
@@ -21,8 +21,6 @@ mod lower_tests;
 mod refusals;
 #[cfg(test)]
 mod rt_data_tests;
-#[cfg(test)]
-mod rt_text_tests;
 #[cfg(test)]
 mod rules_actuals;
 #[cfg(test)]
@@ -68,6 +66,8 @@ mod script_tests;
 #[cfg(test)]
 mod scripts;
 #[cfg(test)]
-mod specs;
+mod table_tests;
+#[cfg(test)]
+mod tables;
 #[cfg(test)]
 mod word_rows;

@@ -131,107 +131,73 @@ pub fn keep_under(alloc: Global, rows: &str, due: usize, specs: &Specs) -> Resul
     counted(alloc, count, due)
 }
 
-/// Keeps tables, each with its number of rows.
-fn keep_tables(alloc: Global, tables: &[(&str, usize)], specs: &Specs) -> Result<(), Fail> {
-    for table in tables {
-        let (rows, due) = *table;
-        keep_under(alloc, rows, due, specs)?;
-    }
-    Ok(())
-}
-
-/// The same over no specifications.
-fn keep_all(alloc: Global, tables: &[(&str, usize)]) -> Result<(), Fail> {
-    keep_tables(alloc, tables, &Specs::new(alloc))
-}
-
 /// Keeps groups of rows, each after what stands for `#` and how often, which have so many rows together.
-fn keep_groups_under(
-    alloc: Global,
-    groups: &[(&str, usize, &str)],
-    due: usize,
-    specs: &Specs,
-) -> Result<(), Fail> {
+fn keep_groups(alloc: Global, groups: &[(&str, usize, &str)], due: usize) -> Result<(), Fail> {
+    let specs = Box::new(alloc, Specs::new(alloc))?;
     let mut count = 0usize;
-    for group in groups {
-        let (unit, times, rows) = *group;
-        count = count.saturating_add(keep(alloc, rows, unit, times, specs)?);
+    for (unit, times, rows) in groups {
+        count = count.saturating_add(keep(alloc, *rows, *unit, *times, &specs)?);
     }
     counted(alloc, count, due)
 }
 
-/// The same over no specifications.
-fn keep_groups(alloc: Global, groups: &[(&str, usize, &str)], due: usize) -> Result<(), Fail> {
-    keep_groups_under(alloc, groups, due, &Specs::new(alloc))
+#[test]
+fn refuses_names_constants_and_types(rt: HostRuntime) -> Result<(), Fail> {
+    let alloc = rt.alloc();
+    let none = Box::new(alloc, Specs::new(alloc))?;
+    keep_under(alloc, rules_names::ROWS, rules_names::COUNT, &none)?;
+    keep_under(
+        alloc,
+        rules_definitions::ROWS,
+        rules_definitions::COUNT,
+        &none,
+    )?;
+    keep_under(alloc, rules_constants::ROWS, rules_constants::COUNT, &none)?;
+    keep_under(
+        alloc,
+        rules_operations::ROWS,
+        rules_operations::COUNT,
+        &none,
+    )?;
+    keep_under(alloc, rules_results::ROWS, rules_results::COUNT, &none)?;
+    keep_under(alloc, rules_selectors::ROWS, rules_selectors::COUNT, &none)?;
+    keep_under(alloc, rules_actuals::ROWS, rules_actuals::COUNT, &none)?;
+    keep_under(alloc, rules_clusters::ROWS, rules_clusters::COUNT, &none)?;
+    keep_under(alloc, rules_instances::ROWS, rules_instances::COUNT, &none)
 }
-
-const NAMES_AND_CONSTANTS: [(&str, usize); 3] = [
-    (rules_names::ROWS, rules_names::COUNT),
-    (rules_definitions::ROWS, rules_definitions::COUNT),
-    (rules_constants::ROWS, rules_constants::COUNT),
-];
 
 #[test]
-fn refuses_names_and_constants(rt: HostRuntime) -> Result<(), Fail> {
-    keep_all(rt.alloc(), &NAMES_AND_CONSTANTS)
+fn refuses_statements_and_expressions(rt: HostRuntime) -> Result<(), Fail> {
+    let alloc = rt.alloc();
+    let none = Box::new(alloc, Specs::new(alloc))?;
+    keep_under(alloc, rules_arms::ROWS, rules_arms::COUNT, &none)?;
+    keep_under(alloc, rules_signals::ROWS, rules_signals::COUNT, &none)?;
+    keep_under(alloc, rules_order::ROWS, rules_order::COUNT, &none)?;
+    keep_under(
+        alloc,
+        rules_expressions::ROWS,
+        rules_expressions::COUNT,
+        &none,
+    )?;
+    keep_under(
+        alloc,
+        rules_statements::ROWS,
+        rules_statements::COUNT,
+        &none,
+    )?;
+    keep_under(alloc, rules_leaving::ROWS, rules_leaving::COUNT, &none)?;
+    keep_under(alloc, rules_examples::ROWS, rules_examples::COUNT, &none)
 }
 
-const OPERATIONS_AND_TYPES: [(&str, usize); 6] = [
-    (rules_operations::ROWS, rules_operations::COUNT),
-    (rules_results::ROWS, rules_results::COUNT),
-    (rules_selectors::ROWS, rules_selectors::COUNT),
-    (rules_actuals::ROWS, rules_actuals::COUNT),
-    (rules_clusters::ROWS, rules_clusters::COUNT),
-    (rules_instances::ROWS, rules_instances::COUNT),
-];
-
-#[test]
-fn refuses_operations_and_types(rt: HostRuntime) -> Result<(), Fail> {
-    keep_all(rt.alloc(), &OPERATIONS_AND_TYPES)
-}
-
-const STATEMENTS_IN_ORDER: [(&str, usize); 3] = [
-    (rules_arms::ROWS, rules_arms::COUNT),
-    (rules_signals::ROWS, rules_signals::COUNT),
-    (rules_order::ROWS, rules_order::COUNT),
-];
-
-#[test]
-fn refuses_statements_in_order(rt: HostRuntime) -> Result<(), Fail> {
-    keep_all(rt.alloc(), &STATEMENTS_IN_ORDER)
-}
-
-const EXPRESSIONS_AND_STATEMENTS: [(&str, usize); 3] = [
-    (rules_expressions::ROWS, rules_expressions::COUNT),
-    (rules_statements::ROWS, rules_statements::COUNT),
-    (rules_leaving::ROWS, rules_leaving::COUNT),
-];
-
-#[test]
-fn refuses_expressions_and_statements(rt: HostRuntime) -> Result<(), Fail> {
-    keep_all(rt.alloc(), &EXPRESSIONS_AND_STATEMENTS)
-}
-
-const LONG_NAMES: [(&str, usize, &str); 2] = [
+static LONG_NAMES: [(&str, usize, &str); 2] = [
     ("n", 201, rules_statements::LONG_NAMES),
     ("n", 200, rules_statements::LONGEST_NAMES),
 ];
 
 #[test]
-fn refuses_long_names(rt: HostRuntime) -> Result<(), Fail> {
-    let due = rules_statements::LONG_COUNT + rules_statements::LONGEST_COUNT;
-    keep_groups(rt.alloc(), &LONG_NAMES, due)
-}
-
-const EXAMPLES: [(&str, usize); 1] = [(rules_examples::ROWS, rules_examples::COUNT)];
-
-#[test]
-fn refuses_the_examples_of_the_docs(rt: HostRuntime) -> Result<(), Fail> {
-    keep_all(rt.alloc(), &EXAMPLES)
-}
-
-#[test]
 fn keeps_the_limits(rt: HostRuntime) -> Result<(), Fail> {
+    let due = rules_statements::LONG_COUNT + rules_statements::LONGEST_COUNT;
+    keep_groups(rt.alloc(), &LONG_NAMES, due)?;
     keep_groups(rt.alloc(), &rules_limits::GROUPS, rules_limits::COUNT)
 }
 
@@ -250,7 +216,7 @@ fn chained(alloc: Global, last: &str) -> Result<String, Fail> {
     Ok(source)
 }
 
-const CHAINS: [(&str, &str); 4] = [
+static CHAINS: [(&str, &str); 4] = [
     ("7", "ok"),
     ("a900", "1:18:V7"),
     ("a1000", "1:18:V7"),
@@ -268,8 +234,8 @@ fn keep_chain(alloc: Global, last: &str, due: &str, specs: &Specs) -> Result<(),
 }
 
 fn keep_chains(alloc: Global, specs: &Specs) -> Result<(), Fail> {
-    for (last, due) in CHAINS {
-        keep_chain(alloc, last, due, specs)?;
+    for (last, due) in &CHAINS {
+        keep_chain(alloc, *last, *due, specs)?;
     }
     Ok(())
 }

@@ -1,89 +1,149 @@
-//! The operations of arrays, sequences and types with components in word code.
+//! The operations of the built-in types in word code.
 
-use crate::word_rows::{counted, put_code, put_name, same, words_of};
+use crate::word_rows::{put_code, put_name, words_of};
 use clu_base::{Bytes, Const, Memory, Sequence};
-use clu_rt_data::{force_code, scheme, select_operation, word_code};
+use clu_rt_data::{force_code, scheme, select_operation};
 use clu_types::{Field, Term, TypeArena, TypeId};
 use clu_wir::{WCode, WRoutine};
 use std::alloc::Global;
 use std::fmt::Write;
 use std::test::Fail;
 
-/// Rows that each end with byte 0: an operation, by its type and name, and whether it is a value or puts one, or how many
-/// arguments it takes in a frame, or `-` where no code is kept here; and after commas its constants.
-const ROWS: &str = "\
-array create 1,bounds out of range,failure\0\
-array new 0\0\
-array predict 2,bounds out of range,failure\0\
-array fill 3,negative_size,bounds out of range,failure\0\
-array size value\0\
-array high value\0\
-array set_low 2,bounds out of range,failure\0\
-array fetch value\0\
-array store put\0\
-array top value\0\
-array addh 2,bounds out of range,failure\0\
-array addl 2,bounds out of range,failure\0\
-array remh 1,bounds\0\
-array reml 1,bounds,bounds out of range,failure\0\
-array trim 3,negative_size,bounds\0\
-array copy1 1\0\
-array equal value\0\
-array elements -\0\
-array similar -\0\
-sequence new 0\0\
-sequence e2s 1\0\
-sequence fill 2,negative_size\0\
-sequence fetch value\0\
-sequence replace 3,bounds\0\
-sequence addh 2\0\
-sequence reml 1,bounds\0\
-sequence concat 2\0\
-sequence subseq 3,negative_size,bounds\0\
-sequence a2s 1\0\
-sequence s2a 1\0\
-sequence store -\0\
-int add -";
+/// How many rows `TEXT_CODE` has.
+pub const TEXT_CODE_COUNT: usize = 47;
+
+/// Operations of null, bool, int, char, string and stream, by their types and names, and whether each is a value or puts one, or how
+/// many arguments it takes in a frame, or `-` where no code is kept here; and after commas its constants.
+pub const TEXT_CODE: &str = "\
+null equal gives value\0\
+null copy gives value\0\
+null lt gives -\0\
+bool and gives value\0\
+bool or gives value\0\
+bool not gives value\0\
+bool similar gives value\0\
+bool add gives -\0\
+int add gives value\0\
+int sub gives value\0\
+int mul gives value\0\
+int minus gives value\0\
+int div gives value\0\
+int mod gives value\0\
+int power gives 2,negative_exponent,overflow\0\
+int lt gives value\0\
+int le gives value\0\
+int ge gives value\0\
+int gt gives value\0\
+int parse gives 1,bad_format,overflow\0\
+int unparse gives 1\0\
+int from_to gives -\0\
+int from_to_by gives -\0\
+int copy gives value\0\
+char i2c gives value\0\
+char c2i gives value\0\
+char gt gives value\0\
+string size gives value\0\
+string lt gives 2\0\
+string concat gives 2\0\
+string fetch gives value\0\
+string rest gives 2,bounds\0\
+string substr gives 3,negative_size,bounds\0\
+string indexs gives 2\0\
+string indexc gives 2\0\
+string chars gives -\0\
+string s2ac gives -\0\
+stream primary_input gives value\0\
+stream primary_output gives value\0\
+stream getc gives 1,cannot read,not_possible,end_of_file\0\
+stream getl gives 1,cannot read,not_possible,end_of_file\0\
+stream empty gives 1,cannot read,not_possible\0\
+stream puts gives 2,cannot write,not_possible\0\
+stream putl gives 2,cannot write,not_possible,\n\0\
+stream equal gives value\0\
+stream copy gives -\0\
+any equal gives -";
+
+/// How many rows `DATA_CODE` has.
+pub const DATA_CODE_COUNT: usize = 32;
+
+/// The same of arrays and sequences.
+pub const DATA_CODE: &str = "\
+array create gives 1,bounds out of range,failure\0\
+array new gives 0\0\
+array predict gives 2,bounds out of range,failure\0\
+array fill gives 3,negative_size,bounds out of range,failure\0\
+array size gives value\0\
+array high gives value\0\
+array set_low gives 2,bounds out of range,failure\0\
+array fetch gives value\0\
+array store gives put\0\
+array top gives value\0\
+array addh gives 2,bounds out of range,failure\0\
+array addl gives 2,bounds out of range,failure\0\
+array remh gives 1,bounds\0\
+array reml gives 1,bounds,bounds out of range,failure\0\
+array trim gives 3,negative_size,bounds\0\
+array copy1 gives 1\0\
+array equal gives value\0\
+array elements gives -\0\
+array similar gives -\0\
+sequence new gives 0\0\
+sequence e2s gives 1\0\
+sequence fill gives 2,negative_size\0\
+sequence fetch gives value\0\
+sequence replace gives 3,bounds\0\
+sequence addh gives 2\0\
+sequence reml gives 1,bounds\0\
+sequence concat gives 2\0\
+sequence subseq gives 3,negative_size,bounds\0\
+sequence a2s gives 1\0\
+sequence s2a gives 1\0\
+sequence store gives -\0\
+int add gives -";
 
 fn type_named(types: &mut TypeArena, word: &str) -> Result<TypeId, Memory> {
     let int = types.intern(Term::Int)?;
     match word {
         "array" => types.intern(Term::Array(int)),
         "sequence" => types.intern(Term::Sequence(int)),
-        _ => Ok(int),
+        "null" => types.intern(Term::Null),
+        "bool" => types.intern(Term::Bool),
+        "int" => Ok(int),
+        "char" => types.intern(Term::Char),
+        "string" => types.intern(Term::Str),
+        "stream" => types.intern(Term::Stream),
+        _ => types.intern(Term::Any),
     }
 }
 
 /// The code of the operation that a row begins with.
-fn code(alloc: Global, of: &str, op: &str) -> Result<Option<WCode>, Memory> {
+fn text_code(alloc: Global, row: &str) -> Result<Option<WCode>, Memory> {
+    let (of, op) = words_of(row);
     let op = Bytes::from_slice(alloc, op.as_bytes())?;
     let mut types = Box::new(alloc, TypeArena::new(alloc))?;
     let of = type_named(&mut types, of)?;
-    word_code(alloc, &types, of, &op)
+    clu_rt_text::word_code(alloc, &types, of, &op)
 }
 
-/// Writes the operation that a row begins with, the number of its arguments and its constants, as the row has them.
-fn put_row(alloc: Global, text: &mut String, row: &str) -> Result<(), Fail> {
+/// The same of arrays and sequences.
+fn data_code(alloc: Global, row: &str) -> Result<Option<WCode>, Memory> {
     let (of, op) = words_of(row);
-    write!(text, "{of} {op} ")?;
-    put_code(text, &code(alloc, of, op)?)
+    let op = Bytes::from_slice(alloc, op.as_bytes())?;
+    let mut types = Box::new(alloc, TypeArena::new(alloc))?;
+    let of = type_named(&mut types, of)?;
+    clu_rt_data::word_code(alloc, &types, of, &op)
 }
 
-/// What is written of a row is the row.
-fn keep_row(alloc: Global, row: &str) -> Result<(), Fail> {
-    let mut text = String::new(alloc);
-    put_row(alloc, &mut text, row)?;
-    same(text, row)
+/// Writes the number of arguments of the operation that a row begins with, and its constants.
+pub fn put_text_code(alloc: Global, text: &mut String, row: &str) -> Result<(), Fail> {
+    text.push_str(" ")?;
+    put_code(text, &text_code(alloc, row)?)
 }
 
-#[test]
-fn rows(rt: HostRuntime) -> Result<(), Fail> {
-    let mut rows = 0usize;
-    for row in ROWS.split('\0') {
-        keep_row(rt.alloc(), row)?;
-        rows = rows.saturating_add(1);
-    }
-    counted(rt.alloc(), rows, 32)
+/// The same of arrays and sequences.
+pub fn put_data_code(alloc: Global, text: &mut String, row: &str) -> Result<(), Fail> {
+    text.push_str(" ")?;
+    put_code(text, &data_code(alloc, row)?)
 }
 
 /// Two components, of one type.
@@ -123,24 +183,28 @@ fn pair_named(alloc: Global, types: &mut TypeArena, word: &str) -> Result<TypeId
     number_of(types, type_of(word, fields))
 }
 
-/// Rows that each end with byte 0: an operation that uses those of two components, by its type and name, and how many
-/// arguments it takes, or `-` where there is none of this name; and after commas its uses.
-const SCHEMES: &str = "\
-struct equal 2,#1$equal,#2$equal\0\
-struct similar 2,#1$similar,#2$similar\0\
-struct similar1 -\0\
-struct copy 1,#1$copy,#2$copy\0\
-record equal -\0\
-record similar 2,#1$similar,#2$similar\0\
-record similar1 2,#1$equal,#2$equal\0\
-record copy 1,#1$copy,#2$copy\0\
-oneof equal 2,#1$equal,#2$equal\0\
-variant similar1 2,#1$equal,#2$equal\0\
-variant copy 1,#1$copy,#2$copy\0\
-variant copy1 -";
+/// How many rows `SCHEMES` has.
+pub const SCHEMES_COUNT: usize = 12;
+
+/// Operations that use those of two components, by their types and names, and how many arguments each takes, or `-` where there is
+/// none of this name; and after commas its uses.
+pub const SCHEMES: &str = "\
+struct equal gives 2,#1$equal,#2$equal\0\
+struct similar gives 2,#1$similar,#2$similar\0\
+struct similar1 gives -\0\
+struct copy gives 1,#1$copy,#2$copy\0\
+record equal gives -\0\
+record similar gives 2,#1$similar,#2$similar\0\
+record similar1 gives 2,#1$equal,#2$equal\0\
+record copy gives 1,#1$copy,#2$copy\0\
+oneof equal gives 2,#1$equal,#2$equal\0\
+variant similar1 gives 2,#1$equal,#2$equal\0\
+variant copy gives 1,#1$copy,#2$copy\0\
+variant copy1 gives -";
 
 /// The scheme that a row begins with.
-fn scheme_named(alloc: Global, of: &str, op: &str) -> Result<Option<WRoutine>, Fail> {
+fn scheme_named(alloc: Global, row: &str) -> Result<Option<WRoutine>, Fail> {
+    let (of, op) = words_of(row);
     let name = Bytes::from_slice(alloc, op.as_bytes())?;
     let mut types = Box::new(alloc, TypeArena::new(alloc))?;
     let of = pair_named(alloc, &mut types, of)?;
@@ -166,36 +230,18 @@ fn put_scheme(text: &mut String, code: &WRoutine) -> Result<(), Fail> {
     Ok(())
 }
 
-/// Writes the scheme that a row begins with, as the row has it.
-fn put_scheme_row(alloc: Global, text: &mut String, row: &str) -> Result<(), Fail> {
-    let (of, op) = words_of(row);
-    write!(text, "{of} {op} ")?;
-    match &scheme_named(alloc, of, op)? {
+/// Writes the scheme that a row begins with.
+pub fn put_scheme_row(alloc: Global, text: &mut String, row: &str) -> Result<(), Fail> {
+    text.push_str(" ")?;
+    match &scheme_named(alloc, row)? {
         None => Ok(text.push_str("-")?),
         Some(code) => put_scheme(text, code),
     }
 }
 
-/// What is written of a row is the row.
-fn keep_scheme(alloc: Global, row: &str) -> Result<(), Fail> {
-    let mut text = String::new(alloc);
-    put_scheme_row(alloc, &mut text, row)?;
-    same(text, row)
-}
-
-#[test]
-fn schemes_of_two_components(rt: HostRuntime) -> Result<(), Fail> {
-    let mut rows = 0usize;
-    for row in SCHEMES.split('\0') {
-        keep_scheme(rt.alloc(), row)?;
-        rows = rows.saturating_add(1);
-    }
-    counted(rt.alloc(), rows, 12)
-}
-
 /// Writes what is known of a type where an operation is done: the distance of a component and the words of the
 /// object, or the number of a tag; a point where the operation is none.
-fn put_known(alloc: Global, text: &mut String, row: &str) -> Result<(), Fail> {
+pub fn put_known(alloc: Global, text: &mut String, row: &str) -> Result<(), Fail> {
     let (of, op) = words_of(row);
     let name = Bytes::from_slice(alloc, op.as_bytes())?;
     let mut types = Box::new(alloc, TypeArena::new(alloc))?;
@@ -215,27 +261,14 @@ fn put_numbers(text: &mut String, known: &[Const]) -> Result<(), Fail> {
     Ok(())
 }
 
-const KNOWN: &str = "\
+/// How many rows `KNOWN` has.
+pub const KNOWN_COUNT: usize = 3;
+
+/// Operations, and what is known of their types.
+pub const KNOWN: &str = "\
 struct get_b gives 16 3\0\
 variant change_b gives 1\0\
 struct get_c gives .";
-
-fn keep_known(alloc: Global, row: &str) -> Result<(), Fail> {
-    let (given, due) = row.split_once(" gives").unwrap_or((row, ""));
-    let mut text = String::new(alloc);
-    put_known(alloc, &mut text, given)?;
-    same(text, due)
-}
-
-#[test]
-fn what_is_known_of_a_type(rt: HostRuntime) -> Result<(), Fail> {
-    let mut rows = 0usize;
-    for row in KNOWN.split('\0') {
-        keep_known(rt.alloc(), row)?;
-        rows = rows.saturating_add(1);
-    }
-    counted(rt.alloc(), rows, 3)
-}
 
 fn has_force_code(alloc: Global) -> bool {
     match &force_code(alloc) {

@@ -5,7 +5,7 @@
 pub const COUNT: usize = 138;
 
 /// What stands in a source for each `#`, how often, and rows as in the other tables.
-pub const GROUPS: [(&str, usize, &str); 9] = [
+pub static GROUPS: [(&str, usize, &str); 9] = [
     (
         "end p c = cluster [n: int] is f rep = null f = proc () end f end c",
         1,

@@ -4,7 +4,7 @@
 pub const COUNT: usize = 88;
 
 /// What stands in a source for each `#`, how often, and rows as in the other tables.
-pub const GROUPS: [(&str, usize, &str); 31] = [
+pub static GROUPS: [(&str, usize, &str); 31] = [
     (
         "a",
         200,

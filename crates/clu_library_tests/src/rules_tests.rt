@@ -90,7 +90,7 @@ fn keep_text(alloc: Global, row: &str, none: &Specs) -> Result<(), Fail> {
     let tree = parsed(alloc, source)?;
     let found = first_text(alloc, &tree, none)?;
     if found.as_slice() != due.as_bytes() {
-        return Err(format!(in alloc; "{}", std::str::from_utf8(found.as_slice())?)?)?;
+        return Err(format!(in alloc; "{}", std::str::from_utf8(found.as_slice()).unwrap_or("?"))?)?;
     }
     if !has_one(alloc, &tree, source, none)? {
         return Err("not one specification")?;
@@ -151,7 +151,7 @@ fn spec_names(alloc: Global, checked: &Checked) -> Result<String, Fail> {
 }
 
 fn put_name(names: &mut String, name: &Bytes) -> Result<(), Fail> {
-    names.push_str(std::str::from_utf8(name.as_slice())?)?;
+    names.push_str(std::str::from_utf8(name.as_slice()).unwrap_or("?"))?;
     names.push(' ')?;
     Ok(())
 }

@@ -1,7 +1,7 @@
 //! Scripts over libraries.
 
 /// How many rows `SCRIPTS` has besides comments.
-pub const SCRIPT_COUNT: usize = 18;
+pub const SCRIPT_COUNT: usize = 20;
 
 /// Rows that each end with byte 0: lines with steps, and after a tab what comes of each. One that begins with `%` is a
 /// comment.
@@ -65,4 +65,7 @@ pub const SCRIPTS: &str = "\
     s a=proc(array[record[x:sequence[s[c]]]])\tok\nu\t-\ns b=proc(oneof[x:struct[y:itertype(s[int])]])\tok\nu\tb\n\
     s d=proc(s[s[c]])\tok\nu b\td\ns k=cluster[type] where #1 has f:proctype(int) is;m:proc(s[#1]) where #1 has f:proctype() \tok\n\
     u b d\tk\ns l=cluster[type] where #1 has f:proctype(int) is;m:proc(s[#1]) where #1 has g:proctype() \tok\nu b d k\t-\0\
+    % A specification enters once, and a body takes away the programs of its module.\0\
+    s q=proc()\tok\ns p=proc()\tok\ns q=proc()\tok\ns q=iter()\tdiffers\nw\t0 p 0,q 0,\0\
+    s p=proc()\tok\np f p\tok\np g q\tok\nb p\tok\nw\t0 p 0 0,g\0\
 ";

@@ -1,7 +1,6 @@
-//! The table of scripts, run.
+//! Scripts, run.
 
-use crate::file_tests::{counted, read_library};
-use crate::script_rows;
+use crate::file_tests::read_library;
 use crate::scripts::step;
 use clu_base::Bytes;
 use clu_library::Library;
@@ -43,20 +42,9 @@ fn keep_again(library: &Library, alloc: Global, file: &Bytes, row: &str) -> Resu
     Ok(())
 }
 
-fn keep_script(alloc: Global, row: &str) -> Result<(), Fail> {
+/// Does the steps of a script, and compares what comes of each.
+pub fn keep_script(alloc: Global, row: &str) -> Result<(), Fail> {
     let mut library = Box::new(alloc, Library::empty(alloc))?;
     keep_lines(&mut library, alloc, row)?;
     keep_file(&library, alloc, row)
-}
-
-#[test]
-fn scripts(rt: HostRuntime) -> Result<(), Fail> {
-    let mut count = 0usize;
-    for row in script_rows::SCRIPTS.split_terminator('\0') {
-        if !row.starts_with('%') {
-            keep_script(rt.alloc(), row)?;
-            count = count.saturating_add(1);
-        }
-    }
-    counted(count, script_rows::SCRIPT_COUNT)
 }

@@ -1,10 +1,13 @@
 //! Scripts over a library: steps on lines of their own, each a letter, a blank and what it takes, and after a tab what
 //! comes of it. `s` enters a specification, `r` enters one in the place of a kept one, `b` enters a body with the names of
-//! its text (`*` for all), `p` a program with its modules, `m` so many procedures; `f` reads a file by its fields; `t` asks
-//! why a body is stale, `u` which specification is not met besides these; `w` tells all that is kept.
+//! its text (`*` for all), `o` one with the object of a procedure by its nodes, a constant (`#` and its number, or a string), a
+//! type that it names and its uses, `p` a program with its modules, `m` so many procedures; `f` reads a file by its fields; `t` asks
+//! why a body is stale, `u` which specification is not met besides these, `l` what comes of linking from a module; `w` tells all
+//! that is kept.
 
 use crate::fields::Fields;
 use crate::file_tests::read_library;
+use crate::link_tests::{enter_object, tell_linked};
 use clu_base::{Bytes, Memory, Sequence};
 use clu_library::{Body, EnterError, Library, Program, StaleBy};
 use clu_object::Object;
@@ -149,7 +152,7 @@ fn enter_program(library: &mut Library, alloc: Global, text: &str) -> Result<&'s
 }
 
 fn tell(out: &mut String, name: &Bytes) -> Result<(), Fail> {
-    out.push_str(std::str::from_utf8(name.as_slice())?)?;
+    out.push_str(std::str::from_utf8(name.as_slice()).unwrap_or("?"))?;
     Ok(())
 }
 
@@ -237,9 +240,11 @@ pub fn step(
         [b'b'] => tell_word(out, enter_body(library, alloc, text)),
         [b'p'] => tell_word(out, enter_program(library, alloc, text)),
         [b'm'] => tell_word(out, enter_many(library, alloc, text)),
+        [b'o'] => tell_word(out, enter_object(library, alloc, text)),
         [b'f'] => tell_word(out, read_fields(library, alloc, text)),
         [b't'] => tell_stale(out, library, alloc, text),
         [b'u'] => tell_unmet(out, library, alloc, text),
+        [b'l'] => tell_linked(out, library, alloc, text),
         [b'w'] => tell_all(out, library, alloc),
         _ => Err("no step")?,
     }

@@ -45,25 +45,8 @@ fn put_constants(text: &mut String, constants: &[ObjConst]) -> Result<(), Fail> 
 /// Writes a comma and a name.
 pub fn put_name(text: &mut String, name: &Bytes) -> Result<(), Fail> {
     text.push_str(",")?;
-    text.push_str(str::from_utf8(name.as_slice())?)?;
+    text.push_str(str::from_utf8(name.as_slice()).unwrap_or("?"))?;
     Ok(())
-}
-
-/// There are as many rows as a table says.
-pub fn counted(alloc: Global, rows: usize, due: usize) -> Result<(), Fail> {
-    if rows != due {
-        return Err(format!(in alloc; "{rows} rows, but {due} are due")?)?;
-    }
-    Ok(())
-}
-
-/// What was found is what is due of a row.
-pub fn same(found: String, due: &str) -> Result<(), Fail> {
-    if found.as_str() == due {
-        Ok(())
-    } else {
-        Err(found)?
-    }
 }
 
 /// The type and the operation that a row begins with.

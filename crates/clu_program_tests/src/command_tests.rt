@@ -4,7 +4,7 @@ ghost use Rattle.std.specs.Prelude.{◌≤◌};
 
 use crate::order_rows::{GO_PAIR_COUNT, GO_PAIRS, OTHER_PAIR_COUNT, OTHER_PAIRS};
 use crate::outside::{IMAGE, Outside};
-use crate::rows::keep_calls;
+use crate::rows::{ALL, Table, keep};
 use crate::status_rows::{
     EXEC_COUNT, EXEC_STATUSES, GO_COUNT, GO_STATUSES, OTHER_COUNT, OTHER_STATUSES, RULE_COUNT,
     RULES,
@@ -14,33 +14,18 @@ use std::alloc::Global;
 use std::test::Fail;
 
 #[test]
-fn statuses_of_go(rt: HostRuntime) -> Result<(), Fail> {
-    keep_calls(rt.alloc(), GO_STATUSES, GO_COUNT)
+fn statuses_of_commands(rt: HostRuntime) -> Result<(), Fail> {
+    let alloc = rt.alloc();
+    keep(alloc, Table::Calls, GO_STATUSES, GO_COUNT, ALL)?;
+    keep(alloc, Table::Calls, EXEC_STATUSES, EXEC_COUNT, ALL)?;
+    keep(alloc, Table::Calls, OTHER_STATUSES, OTHER_COUNT, ALL)?;
+    keep(alloc, Table::Calls, RULES, RULE_COUNT, ALL)
 }
 
 #[test]
-fn statuses_of_exec(rt: HostRuntime) -> Result<(), Fail> {
-    keep_calls(rt.alloc(), EXEC_STATUSES, EXEC_COUNT)
-}
-
-#[test]
-fn statuses_of_other_words(rt: HostRuntime) -> Result<(), Fail> {
-    keep_calls(rt.alloc(), OTHER_STATUSES, OTHER_COUNT)
-}
-
-#[test]
-fn rules_and_literals(rt: HostRuntime) -> Result<(), Fail> {
-    keep_calls(rt.alloc(), RULES, RULE_COUNT)
-}
-
-#[test]
-fn what_go_refuses_first(rt: HostRuntime) -> Result<(), Fail> {
-    keep_calls(rt.alloc(), GO_PAIRS, GO_PAIR_COUNT)
-}
-
-#[test]
-fn what_other_words_refuse_first(rt: HostRuntime) -> Result<(), Fail> {
-    keep_calls(rt.alloc(), OTHER_PAIRS, OTHER_PAIR_COUNT)
+fn what_is_refused_first(rt: HostRuntime) -> Result<(), Fail> {
+    keep(rt.alloc(), Table::Calls, GO_PAIRS, GO_PAIR_COUNT, ALL)?;
+    keep(rt.alloc(), Table::Calls, OTHER_PAIRS, OTHER_PAIR_COUNT, ALL)
 }
 
 /// The put of the image fails and leaves five bytes.
@@ -67,12 +52,12 @@ fn writes_before_fault(alloc: Global, piece: usize, failing: u64, due: &[u8]) ->
 }
 
 /// The size of the pieces, the number of the write that fails, and what is written before it.
-const WRITES: [(usize, u64, &[u8]); 4] = [(64, 0, b""), (1, 0, b""), (1, 1, b"h"), (1, 2, b"hi")];
+static WRITES: [(usize, u64, &[u8]); 4] = [(64, 0, b""), (1, 0, b""), (1, 1, b"h"), (1, 2, b"hi")];
 
 #[test]
 fn each_write_fails_in_turn(rt: HostRuntime) -> Result<(), Fail> {
-    for (piece, failing, due) in WRITES {
-        let is_due = writes_before_fault(rt.alloc(), piece.max(1), failing, due)?;
+    for (piece, failing, due) in &WRITES {
+        let is_due = writes_before_fault(rt.alloc(), (*piece).max(1), *failing, *due)?;
         assert!(rt; is_due, "{failing}");
     }
     Ok(())

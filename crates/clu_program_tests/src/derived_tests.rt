@@ -1,7 +1,7 @@
 //! Tests of the routines of operations that are texts: each counts as many nodes as its text, which gives its frame room.
 
 use crate::derived_texts::{TEXT_COUNT, TEXTS};
-use crate::rows::{counted, same};
+use crate::rows::{ALL, Table, keep};
 use crate::trees::tree_of;
 use clu_base::{Bytes, Memory};
 use clu_rt_data::derived;
@@ -60,13 +60,13 @@ fn uses_of(alloc: Global, routine: &WRoutine) -> Result<String, Fail> {
     let mut text = String::new(alloc);
     for used in &routine.uses {
         text.push_str(" ")?;
-        text.push_str(str::from_utf8(used.as_slice())?)?;
+        text.push_str(str::from_utf8(used.as_slice()).unwrap_or("?"))?;
     }
     Ok(text)
 }
 
 /// What a row is found to be whose routine counts as many nodes as its text.
-fn found(alloc: Global, row: &str) -> Result<String, Fail> {
+pub fn found_of_text(alloc: Global, row: &str) -> Result<String, Fail> {
     let mut parts = row.split('\t');
     let of = parts.next().unwrap_or("");
     let op = parts.next().unwrap_or("");
@@ -82,11 +82,5 @@ fn found(alloc: Global, row: &str) -> Result<String, Fail> {
 
 #[test]
 fn routines_of_texts(rt: HostRuntime) -> Result<(), Fail> {
-    let alloc = rt.alloc();
-    let mut rows = 0usize;
-    for row in TEXTS.split_terminator('\0') {
-        same(row, found(alloc, row)?)?;
-        rows = rows.saturating_add(1);
-    }
-    counted(alloc, rows, TEXT_COUNT)
+    keep(rt.alloc(), Table::Derived, TEXTS, TEXT_COUNT, ALL)
 }

@@ -6,7 +6,7 @@ use std::alloc::Global;
 use std::test::Fail;
 
 /// The sources, which calls 0 to 3 of the store put.
-const SOURCES: [(&str, &str); 4] = [
+static SOURCES: [(&str, &str); 4] = [
     ("p", "p = proc () q() end p"),
     (
         "q",
@@ -20,7 +20,7 @@ const SOURCES: [(&str, &str); 4] = [
 ];
 
 /// Commands with their statuses if no call fails. All have the library as their second word.
-const COMMANDS: [(&str, u8); 8] = [
+static COMMANDS: [(&str, u8); 8] = [
     ("spec L q", 0),
     ("compile L p", 0),
     ("compile L q", 0),
@@ -36,8 +36,8 @@ const CALLS: u64 = 19;
 
 /// Puts the sources.
 pub fn put_sources(alloc: Global, outside: &mut Outside) -> Result<(), Fail> {
-    for (name, source) in SOURCES {
-        outside.files.put(alloc, name, source.as_bytes())?;
+    for (name, source) in &SOURCES {
+        outside.files.put(alloc, *name, source.as_bytes())?;
     }
     Ok(())
 }
@@ -56,15 +56,15 @@ fn is_left(before: &[u8], after: &[u8], torn: usize) -> bool {
 fn fails_well(alloc: Global, call: u64, torn: usize) -> Result<bool, Fail> {
     let mut outside = Outside::with_failing_call(alloc, call, torn)?;
     put_sources(alloc, &mut outside)?;
-    for (words, due) in COMMANDS {
+    for (words, due) in &COMMANDS {
         let before = kept_library(alloc, &outside)?;
-        let status = outside.call(alloc, words)?;
+        let status = outside.call(alloc, *words)?;
         if status == 24 {
             let after = kept_library(alloc, &outside)?;
-            let again = outside.call(alloc, words)?;
-            return Ok(is_left(&before, &after, torn) && (before != after || again == due));
+            let again = outside.call(alloc, *words)?;
+            return Ok(is_left(&before, &after, torn) && (before != after || again == *due));
         }
-        if status != due {
+        if status != *due {
             return Err("another status than is due")?;
         }
     }

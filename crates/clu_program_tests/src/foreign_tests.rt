@@ -3,7 +3,7 @@
 
 use crate::foreign_rows::{FOREIGN, FOREIGN_COUNT};
 use crate::outside::Outside;
-use crate::rows::counted;
+use crate::rows::{ALL, Table, keep};
 use clu_base::{Bytes, Const, ObjConst, Sequence, Store};
 use clu_library::{Body, Library};
 use clu_object::{Arm, Hole, ObjRoutine, Object, Region};
@@ -209,26 +209,22 @@ fn outside_of(alloc: Global, row: &str) -> Result<Box<Outside>, Fail> {
     Ok(outside)
 }
 
-/// Whether linking comes to what is due, and what is linked can be run.
-fn holds(alloc: Global, row: &str) -> Result<bool, Fail> {
+/// A row as what linking comes to. What is linked can be run.
+pub fn found_of_objects(alloc: Global, row: &str) -> Result<String, Fail> {
     let mut outside = outside_of(alloc, row)?;
-    let due = part(row, '\t', 2);
-    let status = outside.call(alloc, "link L g p")?;
-    if due == "linked" {
-        return Ok(status == 0 && outside.call(alloc, "run L g")? == 0);
+    let specs = part(row, '\t', 0);
+    let lines = part(row, '\t', 1);
+    if outside.call(alloc, "link L g p")? != 0 {
+        let told = std::str::from_utf8(outside.errors.bytes()).unwrap_or("?");
+        return Ok(format!(in alloc; "{specs}\t{lines}\t{}", told.trim_end())?);
     }
-    match outside.errors.bytes().split_last() {
-        Some((_, line)) => Ok(line == due.as_bytes()),
-        None => Ok(false),
+    if outside.call(alloc, "run L g")? != 0 {
+        return Err("the program fails")?;
     }
+    Ok(format!(in alloc; "{specs}\t{lines}\tlinked")?)
 }
 
 #[test]
 fn foreign_objects_are_linked_or_do_not_fit(rt: HostRuntime) -> Result<(), Fail> {
-    let mut rows = 0usize;
-    for row in FOREIGN.split_terminator('\0') {
-        assert!(rt; holds(rt.alloc(), row)?, "{row}");
-        rows = rows.saturating_add(1);
-    }
-    counted(rt.alloc(), rows, FOREIGN_COUNT)
+    keep(rt.alloc(), Table::Foreign, FOREIGN, FOREIGN_COUNT, ALL)
 }

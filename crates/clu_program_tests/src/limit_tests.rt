@@ -1,27 +1,12 @@
-//! Tests of the limits of a program, and of programs that are large.
+//! Tests of programs that are large.
 
 use crate::go_bound_rows::{OPERATION_COUNT, OPERATIONS};
-use crate::limit_rows::{LARGE, LARGE_NODES, LIMIT_COUNT, LIMITS};
+use crate::limit_rows::{LARGE, LARGE_NODES};
 use crate::outside::{IMAGE, Outside};
-use crate::rows::{counted, keep, spelled};
+use crate::rows::{counted, spelled};
 use clu_image::load;
 use std::alloc::Global;
 use std::test::Fail;
-
-#[test]
-fn limits_first(rt: HostRuntime) -> Result<(), Fail> {
-    keep(rt.alloc(), LIMITS, LIMIT_COUNT, 0)
-}
-
-#[test]
-fn limits_second(rt: HostRuntime) -> Result<(), Fail> {
-    keep(rt.alloc(), LIMITS, LIMIT_COUNT, 1)
-}
-
-#[test]
-fn limits_third(rt: HostRuntime) -> Result<(), Fail> {
-    keep(rt.alloc(), LIMITS, LIMIT_COUNT, 2)
-}
 
 /// The outside after `go` of a source, which comes to status 0.
 fn gone(alloc: Global, source: &str) -> Result<Box<Outside>, Fail> {
@@ -57,7 +42,7 @@ fn written(alloc: Global, words: &str, content: &str) -> Result<String, Fail> {
     if outside.call(alloc, words)? != 0 {
         return Err("the call fails")?;
     }
-    let output = std::str::from_utf8(outside.output.bytes())?;
+    let output = std::str::from_utf8(outside.output.bytes()).unwrap_or("?");
     Ok(String::from_str(alloc, output)?)
 }
 

@@ -6,7 +6,7 @@ use crate::op_helpers::HELPERS;
 use crate::op_rows_data::{DATA_ROW_COUNT, DATA_ROWS};
 use crate::op_rows_text::{TEXT_ROW_COUNT, TEXT_ROWS};
 use crate::outside::Outside;
-use crate::rows::{PARTS, counted, same, spelled};
+use crate::rows::{PARTS, Table, counted, keep, spelled};
 use crate::text_rows::{TEXT_HELPERS, TEXT_OPERATION_COUNT, TEXT_OPERATIONS};
 use std::alloc::Global;
 use std::fmt::Write;
@@ -24,8 +24,8 @@ fn written(alloc: Global, words: &str, source: &str) -> Result<String, Fail> {
     let source = spelled(alloc, source)?;
     let mut outside = Outside::new(alloc, INPUT, source.as_bytes(), "")?;
     let _status = outside.call(alloc, words)?;
-    let output = std::str::from_utf8(outside.output.bytes())?;
-    let errors = std::str::from_utf8(outside.errors.bytes())?;
+    let output = std::str::from_utf8(outside.output.bytes()).unwrap_or("?");
+    let errors = std::str::from_utf8(outside.errors.bytes()).unwrap_or("?");
     Ok(format!(in alloc; "{output}{errors}")?)
 }
 
@@ -64,7 +64,13 @@ fn keep_group(alloc: Global, helpers: &str, group: &str) -> Result<(), Fail> {
 }
 
 /// The groups of a part are kept, and there are so many rows in all, those of declarations among them.
-fn keep(alloc: Global, helpers: &str, groups: &str, count: usize, part: usize) -> Result<(), Fail> {
+fn keep_groups(
+    alloc: Global,
+    helpers: &str,
+    groups: &str,
+    count: usize,
+    part: usize,
+) -> Result<(), Fail> {
     let mut rows = 0usize;
     let mut number = 0usize;
     for group in groups.split('\u{1}').skip(1) {
@@ -75,69 +81,6 @@ fn keep(alloc: Global, helpers: &str, groups: &str, count: usize, part: usize) -
         number = number.saturating_add(1);
     }
     counted(alloc, rows, count)
-}
-
-#[test]
-fn operations_on_text_first(rt: HostRuntime) -> Result<(), Fail> {
-    keep(rt.alloc(), "", TEXT_ROWS, TEXT_ROW_COUNT, 0)
-}
-
-#[test]
-fn operations_on_text_second(rt: HostRuntime) -> Result<(), Fail> {
-    keep(rt.alloc(), "", TEXT_ROWS, TEXT_ROW_COUNT, 1)
-}
-
-#[test]
-fn operations_on_text_third(rt: HostRuntime) -> Result<(), Fail> {
-    keep(rt.alloc(), "", TEXT_ROWS, TEXT_ROW_COUNT, 2)
-}
-
-#[test]
-fn operations_on_data_first(rt: HostRuntime) -> Result<(), Fail> {
-    keep(rt.alloc(), "", DATA_ROWS, DATA_ROW_COUNT, 0)
-}
-
-#[test]
-fn operations_on_data_second(rt: HostRuntime) -> Result<(), Fail> {
-    keep(rt.alloc(), "", DATA_ROWS, DATA_ROW_COUNT, 1)
-}
-
-#[test]
-fn operations_on_data_third(rt: HostRuntime) -> Result<(), Fail> {
-    keep(rt.alloc(), "", DATA_ROWS, DATA_ROW_COUNT, 2)
-}
-
-#[test]
-fn operations_that_are_texts_first(rt: HostRuntime) -> Result<(), Fail> {
-    keep(
-        rt.alloc(),
-        TEXT_HELPERS,
-        TEXT_OPERATIONS,
-        TEXT_OPERATION_COUNT,
-        0,
-    )
-}
-
-#[test]
-fn operations_that_are_texts_second(rt: HostRuntime) -> Result<(), Fail> {
-    keep(
-        rt.alloc(),
-        TEXT_HELPERS,
-        TEXT_OPERATIONS,
-        TEXT_OPERATION_COUNT,
-        1,
-    )
-}
-
-#[test]
-fn operations_that_are_texts_third(rt: HostRuntime) -> Result<(), Fail> {
-    keep(
-        rt.alloc(),
-        TEXT_HELPERS,
-        TEXT_OPERATIONS,
-        TEXT_OPERATION_COUNT,
-        2,
-    )
 }
 
 /// How often statements are done until a store of 512 words is full, as they write it.
@@ -151,7 +94,7 @@ fn turns(alloc: Global, declarations: &str, statements: &str) -> Result<usize, F
 }
 
 /// What comes of a row of declarations, statements and how often these are done.
-fn cost(alloc: Global, row: &str) -> Result<String, Fail> {
+pub fn found_of_cost(alloc: Global, row: &str) -> Result<String, Fail> {
     let mut parts = row.split('\t');
     let declarations = parts.next().unwrap_or("");
     let statements = parts.next().unwrap_or("");
@@ -159,29 +102,46 @@ fn cost(alloc: Global, row: &str) -> Result<String, Fail> {
     Ok(format!(in alloc; "{declarations}\t{statements}\t{found}")?)
 }
 
-/// The costs of a part are kept.
-fn costs(alloc: Global, part: usize) -> Result<(), Fail> {
-    let mut number = 0usize;
-    for row in COSTS.split_terminator('\0') {
-        if number % PARTS == part {
-            same(row, cost(alloc, row)?)?;
-        }
-        number = number.saturating_add(1);
-    }
-    counted(alloc, number, COST_COUNT)
+/// The rows of a part of each table are kept.
+fn operations(alloc: Global, part: usize) -> Result<(), Fail> {
+    keep_groups(alloc, "", TEXT_ROWS, TEXT_ROW_COUNT, part)?;
+    keep_groups(alloc, "", DATA_ROWS, DATA_ROW_COUNT, part)?;
+    keep_groups(
+        alloc,
+        TEXT_HELPERS,
+        TEXT_OPERATIONS,
+        TEXT_OPERATION_COUNT,
+        part,
+    )?;
+    keep(alloc, Table::Costs, COSTS, COST_COUNT, part)
 }
 
 #[test]
-fn costs_of_operations_first(rt: HostRuntime) -> Result<(), Fail> {
-    costs(rt.alloc(), 0)
+fn operations_first(rt: HostRuntime) -> Result<(), Fail> {
+    operations(rt.alloc(), 0)
 }
 
 #[test]
-fn costs_of_operations_second(rt: HostRuntime) -> Result<(), Fail> {
-    costs(rt.alloc(), 1)
+fn operations_second(rt: HostRuntime) -> Result<(), Fail> {
+    operations(rt.alloc(), 1)
 }
 
 #[test]
-fn costs_of_operations_third(rt: HostRuntime) -> Result<(), Fail> {
-    costs(rt.alloc(), 2)
+fn operations_third(rt: HostRuntime) -> Result<(), Fail> {
+    operations(rt.alloc(), 2)
+}
+
+#[test]
+fn operations_fourth(rt: HostRuntime) -> Result<(), Fail> {
+    operations(rt.alloc(), 3)
+}
+
+#[test]
+fn operations_fifth(rt: HostRuntime) -> Result<(), Fail> {
+    operations(rt.alloc(), 4)
+}
+
+#[test]
+fn operations_sixth(rt: HostRuntime) -> Result<(), Fail> {
+    operations(rt.alloc(), 5)
 }

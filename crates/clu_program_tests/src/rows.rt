@@ -1,13 +1,23 @@
 //! Rows of calls, and what comes of them. The parts of a row stand between tabs, and a row that has not all of them differs
 //! from what is found.
 
+use crate::derived_tests::found_of_text;
+use crate::foreign_tests::found_of_objects;
+use crate::op_tests::found_of_cost;
 use crate::outside::Outside;
+use crate::print_tests::found_of_printed;
+use crate::program_tests::found_of_example;
+use crate::sessions::found_of_session;
+use crate::syntax_tests::found_of_refused;
 use std::alloc::Global;
 use std::fmt::Write;
 use std::test::Fail;
 
 /// In how many parts a table is run. Part `n` has the rows whose numbers leave `n`, so that each test is short.
-pub const PARTS: usize = 3;
+pub const PARTS: usize = 6;
+
+/// In the place of a part: all rows.
+pub const ALL: usize = PARTS;
 
 /// There are as many rows as a table says.
 pub fn counted(alloc: Global, rows: usize, due: usize) -> Result<(), Fail> {
@@ -78,8 +88,8 @@ fn found(alloc: Global, outside: &mut Outside, words: &str) -> Result<String, Fa
     if !outside.is_kept(status) {
         return Err("a refused call puts no file")?;
     }
-    let output = std::str::from_utf8(outside.output.bytes())?;
-    let errors = std::str::from_utf8(outside.errors.bytes())?;
+    let output = std::str::from_utf8(outside.output.bytes()).unwrap_or("?");
+    let errors = std::str::from_utf8(outside.errors.bytes()).unwrap_or("?");
     Ok(format!(in alloc; "{status}\t{output}\t{errors}")?)
 }
 
@@ -115,24 +125,64 @@ pub fn same(row: &str, found: String) -> Result<(), Fail> {
     }
 }
 
-/// The rows of a part are kept, and there are so many rows in all.
-pub fn keep(alloc: Global, rows: &str, count: usize, part: usize) -> Result<(), Fail> {
-    let mut number = 0usize;
-    for row in rows.split_terminator('\0') {
-        if number % PARTS == part {
-            same(row, found_of_go(alloc, row)?)?;
-        }
-        number = number.saturating_add(1);
-    }
-    counted(alloc, number, count)
+/// What is asked of the rows of a table.
+#[derive(Clone, Copy)]
+pub enum Table {
+    /// The words, the input, the status, the output, the errors and the source of `go`.
+    Go,
+    /// The same, with what fails after the input.
+    Calls,
+    /// The name, the input, the output and the source of an example.
+    Examples,
+    /// Operations that are texts.
+    Derived,
+    /// What operations take of the store.
+    Costs,
+    /// Sessions of commands.
+    Sessions,
+    /// Objects of another program.
+    Foreign,
+    /// Sources that are refused at a mark.
+    Refused,
+    /// Sources and how they are printed.
+    Printed,
 }
 
-/// The rows of calls are kept, and there are so many.
-pub fn keep_calls(alloc: Global, rows: &str, count: usize) -> Result<(), Fail> {
+/// A row as it was found.
+fn found_of(alloc: Global, table: Table, row: &str) -> Result<String, Fail> {
+    match table {
+        Table::Go => found_of_go(alloc, row),
+        Table::Calls => found_of_call(alloc, row),
+        Table::Examples => found_of_example(alloc, row),
+        Table::Derived => found_of_text(alloc, row),
+        Table::Costs => found_of_cost(alloc, row),
+        Table::Sessions => found_of_session(alloc, row),
+        Table::Foreign => found_of_objects(alloc, row),
+        Table::Refused => found_of_refused(alloc, row),
+        Table::Printed => found_of_printed(alloc, row),
+    }
+}
+
+fn keep_row(alloc: Global, table: Table, row: &str) -> Result<(), Fail> {
+    same(row, found_of(alloc, table, row)?)
+}
+
+/// The rows of a part are kept, or all of them for `ALL`, and there are so many rows besides comments.
+pub fn keep(
+    alloc: Global,
+    table: Table,
+    rows: &str,
+    count: usize,
+    part: usize,
+) -> Result<(), Fail> {
     let mut number = 0usize;
     for row in rows.split_terminator('\0') {
-        same(row, found_of_call(alloc, row)?)?;
-        number = number.saturating_add(1);
+        if !row.starts_with('%') {
+            if part == ALL || number % PARTS == part {
+                keep_row(alloc, table, row)?;
+            }
+            number = number.saturating_add(1);
+        }
     }
     counted(alloc, number, count)
 }

@@ -2,32 +2,21 @@
 
 use crate::fault_tests::put_sources;
 use crate::outside::{Outside, words_of};
-use crate::rows::{counted, same};
+use crate::rows::{ALL, Table, keep, same};
 use crate::session_rows::{SESSION_COUNT, SESSIONS};
-use crate::sessions::keep_session;
 use crate::walk_rows::{WALK_COUNT, WALKS};
 use clu_base::Memory;
 use std::alloc::Global;
 use std::test::Fail;
 
-/// The sessions are kept, and there are so many.
-fn keep_sessions(alloc: Global, sessions: &str, count: usize) -> Result<(), Fail> {
-    let mut number = 0usize;
-    for session in sessions.split_terminator('\0') {
-        keep_session(alloc, session)?;
-        number = number.saturating_add(1);
-    }
-    counted(alloc, number, count)
-}
-
 #[test]
 fn sessions_of_libraries(rt: HostRuntime) -> Result<(), Fail> {
-    keep_sessions(rt.alloc(), SESSIONS, SESSION_COUNT)
+    keep(rt.alloc(), Table::Sessions, SESSIONS, SESSION_COUNT, ALL)
 }
 
 #[test]
 fn the_walks_of_the_docs(rt: HostRuntime) -> Result<(), Fail> {
-    keep_sessions(rt.alloc(), WALKS, WALK_COUNT)
+    keep(rt.alloc(), Table::Sessions, WALKS, WALK_COUNT, ALL)
 }
 
 /// The words of calls one after the other.
@@ -72,8 +61,8 @@ fn runs_of(alloc: Global, lines: &str) -> Result<Vec<Vec<String>>, Memory> {
 fn found(alloc: Global, outside: &mut Outside, lines: &str) -> Result<String, Fail> {
     let runs = runs_of(alloc, lines)?;
     let statuses = outside.session(alloc, &runs)?;
-    let output = std::str::from_utf8(outside.output.bytes())?;
-    let errors = std::str::from_utf8(outside.errors.bytes())?;
+    let output = std::str::from_utf8(outside.output.bytes()).unwrap_or("?");
+    let errors = std::str::from_utf8(outside.errors.bytes()).unwrap_or("?");
     Ok(format!(in alloc; "{statuses:?}\n{output}{errors}")?)
 }
 

@@ -8,7 +8,7 @@
 //! - `head NAME` shows the first bytes of a file: after it stand `& ` and their digits.
 
 use crate::outside::Outside;
-use crate::rows::{bytes_of, same, spelled};
+use crate::rows::{bytes_of, spelled};
 use clu_base::Store;
 use std::alloc::Global;
 use std::fmt::Write;
@@ -154,18 +154,18 @@ fn after(bytes: &[u8], start: usize) -> &[u8] {
 
 /// Appends lines, each with a mark and a blank before it.
 fn put_lines(found: &mut String, mark: &str, bytes: &[u8]) -> Result<(), Fail> {
-    let text = std::str::from_utf8(bytes)?;
+    let text = std::str::from_utf8(bytes).unwrap_or("?");
     for line in text.split_terminator('\n') {
         writeln!(found, "{mark} {line}")?;
     }
     Ok(())
 }
 
-/// A session is what was found of it.
-pub fn keep_session(alloc: Global, text: &str) -> Result<(), Fail> {
+/// A session as it was found.
+pub fn found_of_session(alloc: Global, text: &str) -> Result<String, Fail> {
     let mut session = Session::new(alloc)?;
     for line in text.split_terminator('\n') {
         session.do_line(alloc, line)?;
     }
-    same(text, Box::into_inner(session).found)
+    Ok(Box::into_inner(session).found)
 }

@@ -1,6 +1,6 @@
-//! Rows of needs and of sound specifications are kept.
+//! Needs that are met, and specifications that are sound.
 
-use crate::demanded_texts::{NEEDS, NEEDS_COUNT, SOUND, SOUND_COUNT};
+use crate::typing::word_of;
 use clu_base::Bytes;
 use clu_demands::{holds_demands, is_whole, meets};
 use clu_sound::is_sound;
@@ -75,32 +75,15 @@ fn ask(alloc: Global, own: &Spec, kept: &str, texts: (&str, &str, &str)) -> Resu
     answer(alloc, own, &specs, &mut types, texts)
 }
 
-/// Whether a row says what is answered.
-fn is_kept(alloc: Global, row: &str) -> Result<bool, Fail> {
-    let (due, rest) = parts(row);
-    let (of, rest) = parts(rest);
+/// Writes whether a need is met, of the parts of a row after its answer.
+pub fn put_need(alloc: Global, text: &mut String, given: &str) -> Result<(), Fail> {
+    let (of, rest) = parts(given);
     let (op, rest) = parts(rest);
     let (wanted, rest) = parts(rest);
     let (own, kept) = parts(rest);
     let own = Box::new(alloc, read_spec(alloc, own.as_bytes())?)?;
     let found = ask(alloc, &own, kept, (of, op, wanted))?;
-    Ok(found == (due == "yes"))
-}
-
-#[test]
-fn needs_are_met(rt: HostRuntime) -> Result<(), Fail> {
-    let alloc = rt.alloc();
-    let mut number = 0usize;
-    for row in NEEDS.split_terminator('\0') {
-        if !is_kept(alloc, row)? {
-            return Err(format!(in alloc; "row {number}")?)?;
-        }
-        number = number.saturating_add(1);
-    }
-    if number != NEEDS_COUNT {
-        return Err(format!(in alloc; "{number} rows, but {NEEDS_COUNT} are due")?)?;
-    }
-    Ok(())
+    Ok(text.push_str(word_of(found))?)
 }
 
 fn sound(alloc: Global, spec: &Spec, specs: &Specs) -> Result<bool, Fail> {
@@ -110,29 +93,11 @@ fn sound(alloc: Global, spec: &Spec, specs: &Specs) -> Result<bool, Fail> {
     Ok(is_sound(alloc, spec, specs)?)
 }
 
-/// Whether a row says whether its first specification is sound among all of them.
-fn is_told(alloc: Global, row: &str) -> Result<bool, Fail> {
-    let (due, texts) = parts(row);
-    let (own, _) = parts(texts);
+/// Writes whether the first specification is sound among all of them.
+pub fn put_sound(alloc: Global, text: &mut String, given: &str) -> Result<(), Fail> {
+    let (own, _) = parts(given);
     let own = Box::new(alloc, read_spec(alloc, own.as_bytes())?)?;
     let mut specs = Box::new(alloc, Specs::new(alloc))?;
-    fill(alloc, &mut specs, texts)?;
-    let found = sound(alloc, &own, &specs)?;
-    Ok(found == (due == "yes"))
-}
-
-#[test]
-fn specifications_are_sound(rt: HostRuntime) -> Result<(), Fail> {
-    let alloc = rt.alloc();
-    let mut number = 0usize;
-    for row in SOUND.split_terminator('\0') {
-        if !is_told(alloc, row)? {
-            return Err(format!(in alloc; "row {number}")?)?;
-        }
-        number = number.saturating_add(1);
-    }
-    if number != SOUND_COUNT {
-        return Err(format!(in alloc; "{number} rows, but {SOUND_COUNT} are due")?)?;
-    }
-    Ok(())
+    fill(alloc, &mut specs, given)?;
+    Ok(text.push_str(word_of(sound(alloc, &own, &specs)?))?)
 }

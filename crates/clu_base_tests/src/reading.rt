@@ -1,6 +1,5 @@
 //! Texts of types, uses and specifications, read and written again, and parts of what was read.
 
-use crate::answers::{number, word};
 use crate::rows::parts;
 use crate::texts::{SPECIFICATIONS, TALLY};
 use clu_base::{Bytes, FormatError};
@@ -9,6 +8,7 @@ use clu_specs::{
 };
 use clu_types::TypeArena;
 use std::alloc::Global;
+use std::fmt::Write;
 use std::test::Fail;
 
 /// The text of a row: `*` stands for the byte before it, 198 times more.
@@ -33,83 +33,116 @@ fn extend(bytes: &mut Vec<u8>, byte: u8) -> Result<(), Fail> {
     Ok(())
 }
 
-/// What came of a text, from what was written of it: `ok` where it is the same, and else where it was refused.
-fn refusal(alloc: Global, text: &[u8], written: Result<Bytes, FormatError>) -> Result<Bytes, Fail> {
+/// Writes what came of a text, from what was written of it: `ok` where it is the same, and else where it was refused.
+fn put_again(
+    text: &mut String,
+    given: &[u8],
+    written: &Result<Bytes, FormatError>,
+) -> Result<(), Fail> {
     match written {
         Ok(written) => {
-            if written.as_slice() == text {
-                word(alloc, "ok")
-            } else {
-                word(alloc, "written as another text")
+            if written.as_slice() != given {
+                return Err("written as another text")?;
             }
+            Ok(text.push_str("ok")?)
         }
-        Err(FormatError::Bad(at)) => number(alloc, at),
-        Err(FormatError::Memory) => word(alloc, "out of memory"),
+        Err(FormatError::Bad(at)) => Ok(write!(text, "{at}")?),
+        Err(FormatError::Memory) => Err("out of memory")?,
     }
 }
 
-fn spec_again(alloc: Global, text: &[u8]) -> Result<Bytes, FormatError> {
-    let spec = Box::new(alloc, read_spec(alloc, text)?)?;
+fn spec_again(alloc: Global, given: &[u8]) -> Result<Bytes, FormatError> {
+    let spec = Box::new(alloc, read_spec(alloc, given)?)?;
     Ok(spec_text(alloc, &spec)?)
 }
 
-pub fn spec_refusal(alloc: Global, text: &str) -> Result<Bytes, Fail> {
-    let text = expanded(alloc, text)?;
-    refusal(alloc, text.as_slice(), spec_again(alloc, text.as_slice()))
+/// Writes `ok`, or where a specification is refused.
+pub fn put_spec(alloc: Global, text: &mut String, given: &str) -> Result<(), Fail> {
+    let given = expanded(alloc, given)?;
+    put_again(text, given.as_slice(), &spec_again(alloc, given.as_slice()))
 }
 
-fn type_again(alloc: Global, types: &mut TypeArena, text: &[u8]) -> Result<Bytes, FormatError> {
-    let id = read_type(alloc, types, text)?;
+fn type_again(alloc: Global, types: &mut TypeArena, given: &[u8]) -> Result<Bytes, FormatError> {
+    let id = read_type(alloc, types, given)?;
     Ok(type_text(alloc, types, id)?)
 }
 
-pub fn type_refusal(alloc: Global, types: &mut TypeArena, text: &str) -> Result<Bytes, Fail> {
-    let text = expanded(alloc, text)?;
-    refusal(
-        alloc,
-        text.as_slice(),
-        type_again(alloc, types, text.as_slice()),
-    )
+/// Writes `ok`, or where a type is refused.
+pub fn put_type(
+    alloc: Global,
+    text: &mut String,
+    types: &mut TypeArena,
+    given: &str,
+) -> Result<(), Fail> {
+    let given = expanded(alloc, given)?;
+    put_type_bytes(alloc, text, types, given.as_slice())
+}
+
+/// The same of bytes as they are.
+pub fn put_type_bytes(
+    alloc: Global,
+    text: &mut String,
+    types: &mut TypeArena,
+    given: &[u8],
+) -> Result<(), Fail> {
+    put_again(text, given, &type_again(alloc, types, given))
 }
 
 /// What a use names.
 pub fn target(
     alloc: Global,
     types: &mut TypeArena,
-    text: &[u8],
+    given: &[u8],
 ) -> Result<Box<Target>, FormatError> {
-    Ok(Box::new(alloc, read_use(alloc, types, text)?)?)
+    Ok(Box::new(alloc, read_use(alloc, types, given)?)?)
 }
 
-fn use_again(alloc: Global, types: &mut TypeArena, text: &[u8]) -> Result<Bytes, FormatError> {
-    let target = read_use(alloc, types, text)?;
+fn use_again(alloc: Global, types: &mut TypeArena, given: &[u8]) -> Result<Bytes, FormatError> {
+    let target = target(alloc, types, given)?;
     Ok(use_text(alloc, types, &target)?)
 }
 
-pub fn use_refusal(alloc: Global, types: &mut TypeArena, text: &str) -> Result<Bytes, Fail> {
-    let text = expanded(alloc, text)?;
-    refusal(
-        alloc,
-        text.as_slice(),
-        use_again(alloc, types, text.as_slice()),
+/// Writes `ok`, or where a use is refused.
+pub fn put_use(
+    alloc: Global,
+    text: &mut String,
+    types: &mut TypeArena,
+    given: &str,
+) -> Result<(), Fail> {
+    let given = expanded(alloc, given)?;
+    put_again(
+        text,
+        given.as_slice(),
+        &use_again(alloc, types, given.as_slice()),
     )
 }
 
-/// The number of the type that is read.
-pub fn number_of(alloc: Global, types: &mut TypeArena, text: &str) -> Result<Bytes, Fail> {
-    let id = read_type(alloc, types, text.as_bytes())?;
-    number(alloc, id.0)
+/// Writes the number of the type that is read.
+pub fn put_number(
+    alloc: Global,
+    text: &mut String,
+    types: &mut TypeArena,
+    given: &str,
+) -> Result<(), Fail> {
+    let id = read_type(alloc, types, given.as_bytes())?;
+    Ok(write!(text, "{}", id.0)?)
 }
 
-/// What a use names, in a word.
-pub fn named(alloc: Global, types: &mut TypeArena, text: &str) -> Result<Bytes, Fail> {
-    let target = target(alloc, types, text.as_bytes())?;
-    match &*target {
-        Target::Module(_, _) => word(alloc, "module"),
-        Target::Op(_, _) => word(alloc, "operation"),
-        Target::OwnSetUp(_) => word(alloc, "own"),
-        Target::ForceOf(_) => word(alloc, "force"),
-    }
+/// Writes what a use names, in a word.
+pub fn put_named(
+    alloc: Global,
+    text: &mut String,
+    types: &mut TypeArena,
+    given: &str,
+) -> Result<(), Fail> {
+    let target = target(alloc, types, given.as_bytes())?;
+    let word = match &*target {
+        Target::Module(_, _) => "module",
+        Target::Op(_, _) => "operation",
+        Target::OwnSetUp(_) => "own",
+        Target::ForceOf(_) => "force",
+    };
+    Ok(text.push_str(word)?)
 }
 
 /// Whether a front is accepted, or refused at its end.

@@ -14,22 +14,15 @@ enum Shape {
     Doubled,
 }
 
-fn array_of(types: &mut TypeArena, of: TypeId) -> Result<TypeId, Fail> {
-    if !types.contains(of) {
-        return Err("the type is of another arena")?;
-    }
-    Ok(types.intern(Term::Array(of))?)
-}
-
 fn nested(types: &mut TypeArena, of: TypeId) -> Result<TypeId, Fail> {
     let mut whole = of;
     for _ in 0..10_000 {
-        whole = array_of(types, whole)?;
+        whole = intern(types, Term::Array(whole))?;
     }
     Ok(whole)
 }
 
-fn intern(types: &mut TypeArena, term: Term) -> Result<TypeId, Fail> {
+pub fn intern(types: &mut TypeArena, term: Term) -> Result<TypeId, Fail> {
     if !types.holds(&term) {
         return Err("a part is of another arena")?;
     }
