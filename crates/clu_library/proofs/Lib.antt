@@ -8,12 +8,17 @@ pub mod Contained
 pub mod Entering
 pub mod Firsts
 pub mod Found
+pub mod ImageRead
 pub mod Kept
 pub mod Leading
 pub mod LibraryAgain
+pub mod LibraryRead
+pub mod Lookups
 pub mod Losing
 pub mod ModulesAgain
+pub mod ModulesRead
 pub mod Placed
+pub mod ProgramsRead
 pub mod Replaced
 pub mod Stepping
 pub mod Terms

@@ -21,7 +21,7 @@ use Rattle.clu_library.specs.ByName.{with_item}
 use Rattle.clu_library.specs.Contents.{Contents, limit, nothing}
 use Rattle.clu_library.specs.ImageReading.{image_read}
 use Rattle.clu_library.specs.Libraries.{IsLibrary, IsProgram, ArePrograms}
-use Rattle.clu_library.specs.LibraryFile.{list_of_names, module_bytes, program_bytes, start_bytes, library_bytes}
+use Rattle.clu_library.specs.LibraryFile.{list_of_names, module_bytes, program_bytes, start_bytes, library_with, library_bytes}
 use Rattle.clu_library.specs.LibraryReading.{SeenLibrary, library_seen, stepped, beside, content_in, number_up_to, counts_read, second_head_read, head_by, head_read, names_but, modules_kept, is_program_name, program_name_read, image_kept, program_kept, next_program_kept, programs_kept, library_into, library_read}
 use Rattle.clu_library.specs.declared.body.Change.{Change}
 use Rattle.clu_library.specs.declared.body.ModuleBody.{ModuleBody}
@@ -30,7 +30,7 @@ use Rattle.clu_library.specs.declared.reading.Head.{Head}
 use Rattle.clu_library.specs.declared.read_modules.Version.TheVariants as version
 use Rattle.clu_library.proofs.Appending.{AllBefore, less_of_after, put_last, before_pushed}
 use Rattle.clu_library.proofs.Contained.{image_ok, image_small}
-use Rattle.clu_library.proofs.ModulesAgain.{up_to_again, if_so, names_again, text64_again, joined, modules_again}
+use Rattle.clu_library.proofs.ModulesAgain.{four_parts, up_to_again, if_so, names_again, text64_again, joined, modules_again}
 
 -- Programs.
 
@@ -60,10 +60,7 @@ one_program previous made p rest good before =
     let from_image : List ℕ = text64_bytes (image_bytes p.image) ++ rest in
     let from_modules : List ℕ = list_of_names p.modules ++ from_image in
     let from_start : List ℕ = text16_bytes p.start ++ from_modules in
-    let shape : program_bytes p ++ rest ≡ text16_bytes p.name ++ from_start =
-    append_assoc (text16_bytes p.name ++ text16_bytes p.start ++ list_of_names p.modules) (text64_bytes (image_bytes p.image)) rest
-    ∙ append_assoc (text16_bytes p.name ++ text16_bytes p.start) (list_of_names p.modules) from_image
-    ∙ append_assoc (text16_bytes p.name) (text16_bytes p.start) from_modules in
+    let shape : program_bytes p ++ rest ≡ text16_bytes p.name ++ from_start = four_parts (text16_bytes p.name) (text16_bytes p.start) (list_of_names p.modules) (text64_bytes (image_bytes p.image)) rest in
     let bytes : List ℕ = text16_bytes p.name ++ from_start in
     let name : program_name_read previous bytes ≡ Ok (p.name, from_start) =
     then_ok (text_read 2 bytes) (λ x. if is_program_name x.0 && is_after previous x.0 then Ok x else Err (length bytes)) (p.name, from_start) (Ok (p.name, from_start)) (text16_again p.name from_start (program_name_short p.name good.named))
@@ -77,7 +74,7 @@ one_program previous made p rest good before =
     ∙ then_ok (program_name_read previous bytes) (λ name. program_kept name.0 made name.1 >>= λ more. Ok ((name.0, more.0), more.1)) (p.name, from_start) (Ok ((p.name, made ++ p ∷ []), rest)) name
     (then_ok (program_kept p.name made from_start) (λ more. Ok ((p.name, more.0), more.1)) (made ++ p ∷ [], rest) (Ok ((p.name, made ++ p ∷ []), rest)) program refl)
 
-abbrev IsReady : List ℕ → List Program → Type 0
+abbrev pub IsReady : List ℕ → List Program → Type 0
 IsReady previous made = (name : List ℕ) → name_order previous name ≡ Less → AllBefore (λ (p : Program). p.name) made name
 
 programs_again : (programs : List Program) (previous : List ℕ) (made : List Program) (rest : List ℕ) → ArePrograms previous programs → IsReady previous made
@@ -127,22 +124,22 @@ module _ (library : Contents) (is : IsLibrary (library_seen library)) where
   few_specs : length library.specs ≤ limit
   few_specs = omega (arith, length-map library.specs seen, is.few_modules)
 
-  shape : library_bytes library
-      ≡ codes "CLUL" ++ (number_bytes 2 ++ (number_bytes library.revision ++ (number_bytes (length library.specs) ++ (number_bytes (length library.programs) ++ (modules_part ++ programs_part)))))
+  pub shape : (programs : List ℕ)
+      → library_with programs library ≡ codes "CLUL" ++ (number_bytes 2 ++ (number_bytes library.revision ++ (number_bytes (length library.specs) ++ (number_bytes (length library.programs) ++ (modules_part ++ programs)))))
   unfolding start_bytes
-  shape =
+  shape last =
       let modules : min (length library.specs) limit ≡ length library.specs = omega (arith, few_specs) in
       let programs : min (length library.programs) 0xffff_ffff ≡ length library.programs = omega (arith, is.few_programs) in
       let all : take limit library.specs ≡ library.specs = take_all limit library.specs few_specs in
       rw (modules, programs, all) joined_up
     where
-      joined_up : ((codes "CLUL" ++ number_bytes 2 ++ number_bytes library.revision) ++ number_bytes (length library.specs) ++ number_bytes (length library.programs)) ++ modules_part ++ programs_part
-          ≡ codes "CLUL" ++ (number_bytes 2 ++ (number_bytes library.revision ++ (number_bytes (length library.specs) ++ (number_bytes (length library.programs) ++ (modules_part ++ programs_part)))))
+      joined_up : ((codes "CLUL" ++ number_bytes 2 ++ number_bytes library.revision) ++ number_bytes (length library.specs) ++ number_bytes (length library.programs)) ++ modules_part ++ last
+          ≡ codes "CLUL" ++ (number_bytes 2 ++ (number_bytes library.revision ++ (number_bytes (length library.specs) ++ (number_bytes (length library.programs) ++ (modules_part ++ last)))))
       joined_up =
-          let parts : List ℕ = modules_part ++ programs_part in
+          let parts : List ℕ = modules_part ++ last in
           let from_programs : List ℕ = number_bytes (length library.programs) ++ parts in
           let from_modules : List ℕ = number_bytes (length library.specs) ++ from_programs in
-          append_assoc ((codes "CLUL" ++ number_bytes 2 ++ number_bytes library.revision) ++ number_bytes (length library.specs) ++ number_bytes (length library.programs)) modules_part programs_part
+          append_assoc ((codes "CLUL" ++ number_bytes 2 ++ number_bytes library.revision) ++ number_bytes (length library.specs) ++ number_bytes (length library.programs)) modules_part last
           ∙ append_assoc ((codes "CLUL" ++ number_bytes 2 ++ number_bytes library.revision) ++ number_bytes (length library.specs)) (number_bytes (length library.programs)) parts
           ∙ append_assoc (codes "CLUL" ++ number_bytes 2 ++ number_bytes library.revision) (number_bytes (length library.specs)) from_programs
           ∙ append_assoc (codes "CLUL" ++ number_bytes 2) (number_bytes library.revision) from_modules
@@ -173,7 +170,7 @@ module _ (library : Contents) (is : IsLibrary (library_seen library)) where
       let programs = programs_again library.programs [] [] [] is.programs (λ name less. tt) in
       let programs_read : programs_kept (length library.programs) [] programs_part ≡ Ok (library.programs, []) =
       ap (programs_kept (length library.programs) []) (sym (append-nil programs_part)) ∙ ap beside programs.1 in
-      ap (library_into (library_seen nothing)) shape
+      ap (library_into (library_seen nothing)) (shape programs_part)
       ∙ then_ok (head_read bytes)
       (λ head. modules_kept head.0.version head.0.modules (record (library_seen nothing) { revision = head.0.revision }) head.1 >>= λ modules. programs_kept head.0.programs modules.0.programs modules.1 >>= λ programs. end_at (record modules.0 { programs = programs.0 }) programs.1)
       (head, parts) whole read_head

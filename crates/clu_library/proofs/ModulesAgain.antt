@@ -34,6 +34,13 @@ use Rattle.clu_library.proofs.Appending.{AllBefore, less_of_after, put_last, bef
 use Rattle.clu_library.proofs.Contained.{named_same}
 use Rattle.clu_library.proofs.Stepping.{behind_pushed}
 
+-- parts in a row, one behind the other
+pub four_parts : (a b c d rest : List ℕ) → (a ++ b ++ c ++ d) ++ rest ≡ a ++ (b ++ (c ++ (d ++ rest)))
+four_parts a b c d rest = append_assoc (a ++ b ++ c) d rest ∙ append_assoc (a ++ b) c (d ++ rest) ∙ append_assoc a b (c ++ (d ++ rest))
+
+pub body_shape : (b : Body) (rest : List ℕ) → body_bytes b ++ rest ≡ 1 ∷ (text64_bytes b.text ++ (number_bytes b.checked ++ (names_bytes b.names ++ (text64_bytes (object_bytes b.object) ++ rest))))
+body_shape b rest = four_parts ((1 ∷ []) ++ text64_bytes b.text) (number_bytes b.checked) (names_bytes b.names) (text64_bytes (object_bytes b.object)) rest
+
 -- Numbers and names.
 
 pub up_to_again : (most n : ℕ) (rest : List ℕ) → n ≤ most → n ≤ 0xffff_ffff → number_up_to most (number_bytes n ++ rest) ≡ Ok (n, rest)
@@ -138,11 +145,6 @@ body_again most name made (Some b) rest small h before =
     let from_names : List ℕ = names_bytes b.names ++ from_object in
     let from_checked : List ℕ = number_bytes b.checked ++ from_names in
     let from_text : List ℕ = text64_bytes b.text ++ from_checked in
-    let shape : body_bytes b ++ rest ≡ 1 ∷ from_text =
-    append_assoc ((1 ∷ []) ++ text64_bytes b.text ++ number_bytes b.checked ++ names_bytes b.names) (text64_bytes (object_bytes b.object)) rest
-    ∙ append_assoc ((1 ∷ []) ++ text64_bytes b.text ++ number_bytes b.checked) (names_bytes b.names) from_object
-    ∙ append_assoc ((1 ∷ []) ++ text64_bytes b.text) (number_bytes b.checked) from_names
-    ∙ append_assoc (1 ∷ []) (text64_bytes b.text) from_checked in
     let whole : Read (List ModuleBody) = Ok (made ++ record { name = name; body = b } ∷ [], rest) in
     let object : object_kept name b.text b.checked b.names made from_object ≡ whole = object_again_kept name made b rest third.1 outer.1 before in
     let names : checked_kept most name b.text made from_checked ≡ whole =
@@ -150,7 +152,7 @@ body_again most name made (Some b) rest small h before =
     (then_ok (names_read name from_names) (λ names. object_kept name b.text b.checked names.0 made names.1) (b.names, from_object) whole (names_of_body name b.names from_object second.1) object) in
     let text : text_kept version.Second most name made from_text ≡ whole =
     then_ok (text_read 8 from_text) (λ text. checked_kept most name text.0 made text.1) (b.text, from_checked) whole (text64_again b.text from_checked first.0) names in
-    ap (body_kept version.Second most name made) shape ∙ text
+    ap (body_kept version.Second most name made) (body_shape b rest) ∙ text
 
 -- One module after the other.
 
@@ -187,10 +189,7 @@ module _ (library : Contents) (small : library.revision ≤ 0xffff_ffff) where
       let from_body : List ℕ = kept_bytes o ++ rest in
       let from_change : List ℕ = number_bytes n ++ from_body in
       let from_spec : List ℕ = text64_bytes (spec_text (seen s)) ++ from_change in
-      let shape : module_bytes library s ++ rest ≡ text16_bytes s.name ++ from_spec =
-      append_assoc (text16_bytes s.name ++ text64_bytes (spec_text (seen s)) ++ number_bytes n) (kept_bytes o) rest
-      ∙ append_assoc (text16_bytes s.name ++ text64_bytes (spec_text (seen s))) (number_bytes n) from_body
-      ∙ append_assoc (text16_bytes s.name) (text64_bytes (spec_text (seen s))) from_change in
+      let shape : module_bytes library s ++ rest ≡ text16_bytes s.name ++ from_spec = four_parts (text16_bytes s.name) (text64_bytes (spec_text (seen s))) (number_bytes n) (kept_bytes o) rest in
       let with_spec : SeenLibrary = record made { specs = made.specs ++ seen s ∷ [] } in
       let changes : List Change = made.changes ++ cons_option (change_at s.name n) [] in
       let bodies : List ModuleBody = made.bodies ++ cons_option (body_at s.name o) [] in

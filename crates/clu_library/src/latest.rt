@@ -364,12 +364,17 @@ impl Table {
             let Some(spec) = specs.at(n) else {
                 return Ok(());
             };
-            self.modules.insert(spec.name.copy(alloc)?)?;
-            self.named_by.push(Vec::new(alloc))?;
-            self.latest.push(0)?;
-            self.ranks.push(usize::MAX)?;
+            self.add_module(alloc, &spec.name)?;
         }
         Ok(())
+    }
+
+    /// Gives a module the next number. Nothing names it yet, and it has no revision.
+    fn add_module(&mut self, alloc: Global, name: &Bytes) -> Result<(), Memory> {
+        self.modules.insert(name.copy(alloc)?)?;
+        self.named_by.push(Vec::new(alloc))?;
+        self.latest.push(0)?;
+        Ok(self.ranks.push(usize::MAX)?)
     }
 
     /// Notes of each module which specifications name it.

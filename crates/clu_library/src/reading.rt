@@ -1,11 +1,11 @@
 //! Libraries, read from files: one part after the other from the left.
 
-ghost use Rattle.std.specs.Prelude.{◌≡◌, length};
+ghost use Rattle.std.specs.Prelude.{◌≡◌, length, IfOk};
 ghost use Rattle.std.specs.Result.{MatchResult};
 ghost use Rattle.clu_specs.specs.Reading.{Gives, offset_of};
 ghost use Rattle.clu_library.specs.Contents.{Contents};
 ghost use Rattle.clu_library.specs.Libraries.{IsLibrary};
-ghost use Rattle.clu_library.specs.LibraryFile.{library_bytes};
+ghost use Rattle.clu_library.specs.LibraryFile.{library_bytes, IsFile, IsPresent};
 ghost use Rattle.clu_library.specs.LibraryReading.{library_seen, number_up_to, counts_read, second_head_read, head_by, head_read, library_into, library_read};
 
 use crate::library::{LIMIT, Library};
@@ -30,6 +30,9 @@ impl Library {
     /// `FormatError::Memory` comes only when memory runs out.
     pub fn read(alloc: Global, b: &[u8]) -> Result<Library, FormatError>
         ensures reads { Gives library_seen result (offset_of (length b.now) (library_read b.now)) }
+        ensures library { IfOk result (λ l. IsLibrary (library_seen l)) }
+        ensures file { IfOk result (IsFile b.now) }
+        ensures written { IfOk result (λ l. IsPresent b.now l → library_bytes l ≡ b.now) }
         ensures every_library { (l : Contents) → IsLibrary (library_seen l) → b.now ≡ library_bytes l → MatchResult result (λ p. library_seen p ≡ library_seen l) (λ e. e ≡ FormatError.Memory) }
     {
         let mut library = Library::empty(alloc);
