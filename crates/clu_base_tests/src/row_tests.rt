@@ -73,8 +73,12 @@ fn texts_are_read_and_written(rt: HostRuntime) -> Result<(), Fail> {
     )?;
     keep(alloc, Table::Type, TYPES, TYPES_COUNT)?;
     keep(alloc, Table::Use, USES, USES_COUNT)?;
-    keep(alloc, Table::Named, TARGETS, TARGETS_COUNT)?;
-    keep(alloc, Table::Deep, DEEP, DEEP_COUNT)
+    keep(alloc, Table::Named, TARGETS, TARGETS_COUNT)
+}
+
+#[test]
+fn deep_types_are_read_and_written(rt: HostRuntime) -> Result<(), Fail> {
+    keep(rt.alloc(), Table::Deep, DEEP, DEEP_COUNT)
 }
 
 #[test]
