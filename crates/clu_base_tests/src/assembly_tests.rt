@@ -107,7 +107,7 @@ pub const REFUSALS_COUNT: usize = 93;
 
 /// Texts that are refused, each with the place.
 pub const REFUSALS: &str = "\
- gives 0\0\
+\x20gives 0\0\
 e gives 1\0\
 entry 0 gives 7\0\
 entry 00 gives 0\0\
