@@ -1,8 +1,6 @@
 //! Numbers and names in the rows of tests.
 
 use clu_wir::{HoleKind, Trap, WOp};
-use std::alloc::Global;
-use std::test::Fail;
 
 /// The first word of a text.
 pub fn first_word(text: &str) -> &str {

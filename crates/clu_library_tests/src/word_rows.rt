@@ -2,7 +2,6 @@
 
 use clu_base::{Bytes, Const, ObjConst};
 use clu_wir::{WCode, WDeed, WLeaf, WRoutine};
-use std::alloc::Global;
 use std::fmt::Write;
 use std::test::Fail;
 
