@@ -1,5 +1,6 @@
-//! Tests of types, built-in operations, texts of specifications, what is demanded of types and contexts of a check. Most are
-//! rows of texts: what a row says must come of its text. It has tests alone, so that no crate below is proved twice.
+//! Tests of types, built-in operations, texts of specifications, what is demanded of types, what equates come to and contexts
+//! of a check. Most are rows of texts: what a row says must come of its text. It has tests alone, so that no crate below is
+//! proved twice.
 #![tactic(auto)]
 
 #[cfg(test)]
@@ -29,4 +30,10 @@ mod rows;
 #[cfg(test)]
 mod texts;
 #[cfg(test)]
+mod told_values;
+#[cfg(test)]
 mod typing;
+#[cfg(test)]
+mod value_rows;
+#[cfg(test)]
+mod value_tests;
