@@ -1,7 +1,7 @@
 //! Tests of what stands below the checker and below the machine: formats and streams, tokens, literals, trees, names,
 //! constants, words of commands, instructions, and images with their texts; types, built-in operations, texts of
-//! specifications, what is demanded of types and contexts of a check. Most are rows of texts: what a row says must come of its
-//! text. It has tests alone, so that no crate below is proved twice.
+//! specifications, what is demanded of types, what equates come to and contexts of a check. Most are rows of texts: what a row
+//! says must come of its text. It has tests alone, so that no crate below is proved twice.
 #![tactic(auto)]
 
 #[cfg(test)]
@@ -61,6 +61,12 @@ mod text;
 #[cfg(test)]
 mod texts;
 #[cfg(test)]
+mod told_values;
+#[cfg(test)]
 mod typing;
+#[cfg(test)]
+mod value_rows;
+#[cfg(test)]
+mod value_tests;
 #[cfg(test)]
 mod words_tests;

@@ -1,0 +1,8 @@
+-- What constants and types come to.
+pub mod Values
+pub mod Inserted
+pub mod Lists
+pub mod Names
+pub mod Agreeing
+pub mod Graph
+pub mod Operators

@@ -1,0 +1,169 @@
+//! The equates whose unfolding meets itself, whatever they are equated to: constants, types and type sets.
+
+ghost use Rattle.std.specs.Prelude.{◌≡◌, ◌<◌, ◌++◌, [], OnOk, IfOk, length, map};
+ghost use Rattle.clu_names.specs.Denotes.{bound_to, starts_to};
+ghost use Rattle.clu_settle.specs.Graph.{is_equate_at, equate_of, unfolded_at, unfolded_to};
+
+use clu_base::Memory;
+use clu_circles::{Span, find_circles};
+use clu_names::{Declared, Names};
+use clu_syntax::Round;
+use clu_tree::{NodeKind, Tree};
+use std::alloc::Global;
+
+/// The names by which equates are unfolded: for each node those of the declarations that they denote, by their places.
+#[derive(Drop)]
+struct Unfolded {
+    /// None where no equate is denoted.
+    targets: Vec<Option<usize>>,
+    /// Where those of each node begin.
+    starts: Vec<usize>,
+}
+
+fn is_equate(tree: &Tree, n: u32) -> bool
+    ensures { result ≡ is_equate_at tree.now n }
+{
+    if n < tree.len() {
+        match tree.node(n).kind {
+            NodeKind::Equate => true,
+            _ => false,
+        }
+    } else {
+        false
+    }
+}
+
+/// The declaration, if it is an equate.
+fn equate_of(tree: &Tree, declared: &[Declared], bound: Option<usize>) -> Option<usize>
+    ensures { result ≡ equate_of tree.now declared.now bound }
+{
+    match bound {
+        Some(place) => match declared.get(place) {
+            Some(one) => {
+                if is_equate(tree, one.node) {
+                    Some(place)
+                } else {
+                    None
+                }
+            }
+            None => None,
+        },
+        None => None,
+    }
+}
+
+fn push_names(
+    targets: &mut Vec<Option<usize>>,
+    tree: &Tree,
+    declared: &[Declared],
+    names: &[Option<usize>],
+) -> Result<(), Memory>
+    ensures { OnOk result (targets.new.items ≡ targets.old.items ++ map (equate_of tree.now declared.now) names.now) }
+{
+    for bound in names {
+        targets.push(equate_of(tree, declared, *bound))?;
+    }
+    Ok(())
+}
+
+fn push_node(
+    targets: &mut Vec<Option<usize>>,
+    tree: &Tree,
+    names: &Names,
+    n: u32,
+) -> Result<(), Memory>
+    requires inside { n < length tree.now }
+    requires bound { names.now.bound.items ≡ bound_to tree.now names.now.declared.items (length tree.now) }
+    requires starts { names.now.starts.items ≡ starts_to tree.now names.now.declared.items (length tree.now) }
+    ensures { OnOk result (targets.new.items ≡ targets.old.items ++ unfolded_at tree.now names.now.declared.items n) }
+{
+    match tree.node(n).kind {
+        NodeKind::Name | NodeKind::NameT | NodeKind::Simple => {
+            push_names(targets, tree, names.declared.as_slice(), names.of(tree, n))
+        }
+        _ => Ok(()),
+    }
+}
+
+#[tactic(auto, unfolding(crate::specs::Graph::unfolded_to))]
+fn push_all(unfolded: &mut Unfolded, tree: &Tree, names: &Names) -> Result<(), Memory>
+    requires bound { names.now.bound.items ≡ bound_to tree.now names.now.declared.items (length tree.now) }
+    requires starts { names.now.starts.items ≡ starts_to tree.now names.now.declared.items (length tree.now) }
+    requires none { unfolded.old.targets.items ≡ [] }
+    ensures { OnOk result (unfolded.new.targets.items ≡ unfolded_to tree.now names.now.declared.items (length tree.now)) }
+{
+    for n in 0..tree.len() {
+        unfolded.starts.push(unfolded.targets.len())?;
+        push_node(&mut unfolded.targets, tree, names, n)?;
+    }
+    Ok(())
+}
+
+/// Where the names of the node n begin.
+fn start_of(unfolded: &Unfolded, n: u32) -> usize {
+    match unfolded.starts.as_slice().get(n as usize) {
+        Some(start) => *start,
+        None => unfolded.targets.len(),
+    }
+}
+
+/// The names in an equate: those at the nodes from its first one on, up to itself, which has none. Nothing else has any.
+fn span_of(unfolded: &Unfolded, tree: &Tree, rounds: &[Round], one: &Declared) -> Span {
+    if is_equate(tree, one.node) {
+        match rounds.get(one.node as usize) {
+            Some(round) => Span {
+                from: start_of(unfolded, round.first),
+                to: start_of(unfolded, one.node),
+            },
+            None => Span { from: 0, to: 0 },
+        }
+    } else {
+        Span { from: 0, to: 0 }
+    }
+}
+
+fn spans_of(
+    alloc: Global,
+    unfolded: &Unfolded,
+    tree: &Tree,
+    rounds: &[Round],
+    declared: &[Declared],
+) -> Result<Vec<Span>, Memory>
+    ensures { IfOk result (λ spans. length spans.items ≡ length declared.now) }
+{
+    let mut spans = Vec::new(alloc);
+    for one in declared {
+        spans.push(span_of(unfolded, tree, rounds, one))?;
+    }
+    Ok(spans)
+}
+
+fn unfolded_names(alloc: Global, tree: &Tree, names: &Names) -> Result<Unfolded, Memory>
+    requires bound { names.now.bound.items ≡ bound_to tree.now names.now.declared.items (length tree.now) }
+    requires starts { names.now.starts.items ≡ starts_to tree.now names.now.declared.items (length tree.now) }
+    ensures { IfOk result (λ unfolded. unfolded.targets.items ≡ unfolded_to tree.now names.now.declared.items (length tree.now)) }
+{
+    let mut unfolded = Unfolded {
+        targets: Vec::new(alloc),
+        starts: Vec::new(alloc),
+    };
+    push_all(&mut unfolded, tree, names)?;
+    Ok(unfolded)
+}
+
+/// For each declaration whether it is an equate whose unfolding meets itself. The only error is that memory runs out.
+pub fn circular_equates(
+    alloc: Global,
+    tree: &Tree,
+    rounds: &[Round],
+    names: &Names,
+) -> Result<Vec<bool>, Memory>
+    requires bound { names.now.bound.items ≡ bound_to tree.now names.now.declared.items (length tree.now) }
+    requires starts { names.now.starts.items ≡ starts_to tree.now names.now.declared.items (length tree.now) }
+{
+    let unfolded = unfolded_names(alloc, tree, names)?;
+    let declared = names.declared.as_slice();
+    let spans = spans_of(alloc, &unfolded, tree, rounds, declared)?;
+    let found = find_circles(alloc, unfolded.targets.as_slice(), spans.as_slice())?;
+    Ok(found.circular)
+}

@@ -1,0 +1,242 @@
+//! The value of a node, by those of the nodes from which it is made.
+
+ghost use Rattle.std.specs.Prelude.{◌<◌, length};
+ghost use Rattle.clu_types.specs.Arena.{Grows};
+ghost use Rattle.clu_settle.specs.Values.{Kept};
+
+use crate::literals::literal_value;
+use crate::meanings::{Meaning, meaning_at};
+use crate::named::{value_of_name, with_brackets};
+use crate::operators::{infix_value, prefix_value};
+use crate::type_values::{fields_value, list_value, routine_value, type_value};
+use crate::value::{Value, value_at};
+use clu_base::{Bytes, Const, Memory};
+use clu_syntax::{Expression, SimpleType, Syntax, TypeExpression, is_expression, is_type};
+use clu_types::{Term, TypeArena};
+use std::alloc::Global;
+
+/// What values are made from.
+#[derive(Clone, Copy)]
+pub struct Asked<'a> {
+    pub alloc: Global,
+    pub syntax: &'a Syntax,
+    /// What the name of each node stands for.
+    pub meanings: &'a [Meaning],
+}
+
+/// A type from what stands for one; `no_type` is the parameter 0, of which no object is.
+fn as_type(types: &mut TypeArena, value: Value) -> Result<Value, Memory>
+    ensures kept { Grows types.old types.new }
+{
+    match value {
+        Value::Type(id) => Ok(Value::Type(id)),
+        Value::Lost => Ok(Value::Lost),
+        _ => type_value(types, Term::Param(0)),
+    }
+}
+
+/// The type at the node n that has this name and these actual parameters.
+fn named_type(
+    asked: Asked<'_>,
+    types: &mut TypeArena,
+    constants: &[Const],
+    values: &[Value],
+    n: u32,
+    name: &Bytes,
+    given: &[u32],
+) -> Result<Value, Memory>
+    ensures kept { Grows types.old types.new }
+{
+    let meaning = meaning_at(asked.meanings, n);
+    let value = value_of_name(asked.alloc, types, constants, values, meaning, name, given)?;
+    as_type(types, value)
+}
+
+/// The type of the word `rep` at the node n.
+fn representation(
+    asked: Asked<'_>,
+    types: &mut TypeArena,
+    constants: &[Const],
+    values: &[Value],
+    n: u32,
+) -> Result<Value, Memory>
+    ensures kept { Grows types.old types.new }
+{
+    let name = Bytes::from_slice(asked.alloc, b"rep")?;
+    named_type(asked, types, constants, values, n, &name, &[])
+}
+
+/// The value of a type that is one word. `rep` is the name of an equate; `cvt` has two types, of which the heading says
+/// which one is meant.
+fn simple_value(
+    asked: Asked<'_>,
+    types: &mut TypeArena,
+    constants: &[Const],
+    values: &[Value],
+    n: u32,
+    word: SimpleType,
+) -> Result<Value, Memory>
+    ensures kept { Grows types.old types.new }
+{
+    match word {
+        SimpleType::Null => type_value(types, Term::Null),
+        SimpleType::Bool => type_value(types, Term::Bool),
+        SimpleType::Int => type_value(types, Term::Int),
+        SimpleType::Real => type_value(types, Term::Param(0)),
+        SimpleType::Char => type_value(types, Term::Char),
+        SimpleType::String => type_value(types, Term::Str),
+        SimpleType::Any => type_value(types, Term::Any),
+        SimpleType::Rep => representation(asked, types, constants, values, n),
+        SimpleType::Cvt => Ok(Value::Lost),
+    }
+}
+
+/// The value of the type at the node n.
+fn value_of_type(
+    asked: Asked<'_>,
+    types: &mut TypeArena,
+    constants: &[Const],
+    values: &[Value],
+    n: u32,
+) -> Result<Value, Memory>
+    requires { n < length asked.syntax.now }
+    ensures kept { Grows types.old types.new }
+{
+    match asked.syntax.type_expression(n) {
+        TypeExpression::Simple(word) => simple_value(asked, types, constants, values, n, word),
+        TypeExpression::List { word, of } => list_value(types, values, word, of),
+        TypeExpression::Fields { word, selectors } => {
+            let tree = asked.syntax.tree();
+            fields_value(asked.alloc, types, tree, values, word, selectors)
+        }
+        TypeExpression::Routine {
+            kind,
+            arguments,
+            results,
+            exceptions,
+        } => {
+            let tree = asked.syntax.tree();
+            routine_value(
+                asked.alloc,
+                types,
+                tree,
+                values,
+                kind,
+                arguments,
+                results,
+                exceptions,
+            )
+        }
+        TypeExpression::Named {
+            name,
+            constants: given,
+        } => named_type(asked, types, constants, values, n, name, given),
+    }
+}
+
+/// The value of a name with brackets, whose node is `of`; brackets behind anything else make no constant.
+fn index_value(
+    asked: Asked<'_>,
+    types: &mut TypeArena,
+    constants: &[Const],
+    values: &[Value],
+    of: u32,
+    given: &[u32],
+) -> Result<Value, Memory>
+    requires { of < length asked.syntax.now }
+    ensures kept { Grows types.old types.new }
+{
+    match asked.syntax.expression(of) {
+        Expression::Name(name) => {
+            let meaning = meaning_at(asked.meanings, of);
+            let value = value_of_name(asked.alloc, types, constants, values, meaning, name, given)?;
+            Ok(with_brackets(value))
+        }
+        _ => Ok(Value::Nothing),
+    }
+}
+
+/// The same, where a child stands below its node.
+fn index_value_at(
+    asked: Asked<'_>,
+    types: &mut TypeArena,
+    constants: &[Const],
+    values: &[Value],
+    of: u32,
+    given: &[u32],
+) -> Result<Value, Memory>
+    ensures kept { Grows types.old types.new }
+{
+    if of < asked.syntax.tree().len() {
+        index_value(asked, types, constants, values, of, given)
+    } else {
+        Ok(Value::Lost)
+    }
+}
+
+/// The value of the expression at the node n.
+fn value_of_expression(
+    asked: Asked<'_>,
+    types: &mut TypeArena,
+    constants: &mut Vec<Const>,
+    values: &[Value],
+    n: u32,
+) -> Result<Value, Memory>
+    requires { n < length asked.syntax.now }
+    ensures types_kept { Grows types.old types.new }
+    ensures constants_kept { Kept constants.old.items constants.new.items }
+{
+    match asked.syntax.expression(n) {
+        Expression::Infix {
+            operator,
+            left,
+            right,
+        } => {
+            let left = value_at(values, left);
+            infix_value(
+                asked.alloc,
+                constants,
+                operator,
+                left,
+                value_at(values, right),
+            )
+        }
+        Expression::Prefix { sign, operand } => {
+            prefix_value(asked.alloc, constants, sign, value_at(values, operand))
+        }
+        Expression::Paren { inside } => Ok(value_at(values, inside)),
+        Expression::Literal(literal) => literal_value(asked.alloc, constants, literal),
+        Expression::Name(name) => {
+            let meaning = meaning_at(asked.meanings, n);
+            let constants = constants.as_slice();
+            value_of_name(asked.alloc, types, constants, values, meaning, name, &[])
+        }
+        Expression::Index {
+            of,
+            constants: given,
+        } => index_value_at(asked, types, constants.as_slice(), values, of, given),
+        _ => Ok(Value::Nothing),
+    }
+}
+
+/// The value of the node n. One that is neither an expression nor a type has none.
+pub fn node_value(
+    asked: Asked<'_>,
+    types: &mut TypeArena,
+    constants: &mut Vec<Const>,
+    values: &[Value],
+    n: u32,
+) -> Result<Value, Memory>
+    requires { n < length asked.syntax.now }
+    ensures types_kept { Grows types.old types.new }
+    ensures constants_kept { Kept constants.old.items constants.new.items }
+{
+    let kind = asked.syntax.tree().node(n).kind;
+    if is_type(kind) {
+        value_of_type(asked, types, constants.as_slice(), values, n)
+    } else if is_expression(kind) {
+        value_of_expression(asked, types, constants, values, n)
+    } else {
+        Ok(Value::Nothing)
+    }
+}

@@ -1,0 +1,119 @@
+//! Operators over constants.
+
+ghost use Rattle.std.specs.Prelude.{◌≡◌, ℕ, IfOk, length};
+ghost use Rattle.clu_settle.specs.Operators.{folded_by, prefix_by, nothing_beside};
+ghost use Rattle.clu_settle.specs.Values.{Kept, TypeWithin, ConstantWithin};
+
+use crate::constants::{constant_at, keep};
+use crate::value::Value;
+use clu_base::{Const, Memory};
+use clu_fold::{Operator as FoldOperator, Prefix, fold, fold_prefix};
+use clu_syntax::{Operator, Sign};
+use std::alloc::Global;
+
+fn folded_by(operator: Operator) -> FoldOperator
+    ensures { result ≡ folded_by operator }
+{
+    match operator {
+        Operator::Power => FoldOperator::Power,
+        Operator::Multiply => FoldOperator::Multiply,
+        Operator::Divide => FoldOperator::Divide,
+        Operator::Remainder => FoldOperator::Modulo,
+        Operator::Add => FoldOperator::Add,
+        Operator::Subtract => FoldOperator::Subtract,
+        Operator::Concatenate => FoldOperator::Concat,
+        Operator::Less => FoldOperator::Less,
+        Operator::AtMost => FoldOperator::LessEqual,
+        Operator::Equal => FoldOperator::Equal,
+        Operator::AtLeast => FoldOperator::GreaterEqual,
+        Operator::Greater => FoldOperator::Greater,
+        Operator::NotLess => FoldOperator::NotLess,
+        Operator::NotAtMost => FoldOperator::NotLessEqual,
+        Operator::NotEqual => FoldOperator::NotEqual,
+        Operator::NotAtLeast => FoldOperator::NotGreaterEqual,
+        Operator::NotGreater => FoldOperator::NotGreater,
+        Operator::And => FoldOperator::And,
+        Operator::Cand => FoldOperator::Cand,
+        Operator::Or => FoldOperator::Or,
+        Operator::Cor => FoldOperator::Cor,
+    }
+}
+
+fn prefix_by(sign: Sign) -> Prefix
+    ensures { result ≡ prefix_by sign }
+{
+    match sign {
+        Sign::Not => Prefix::Not,
+        Sign::Minus => Prefix::Minus,
+    }
+}
+
+/// The operator over the constants of these places.
+fn folded_value(
+    alloc: Global,
+    constants: &mut Vec<Const>,
+    operator: Operator,
+    a: usize,
+    b: usize,
+) -> Result<Value, Memory>
+    ensures constant_in { IfOk result (λ v. ConstantWithin (length constants.new.items) v) }
+    ensures type_in { IfOk result (λ v. (n : ℕ) → TypeWithin n v) }
+    ensures kept { Kept constants.old.items constants.new.items }
+{
+    let left = constant_at(alloc, constants.as_slice(), a)?;
+    let right = constant_at(alloc, constants.as_slice(), b)?;
+    let found = fold(left, folded_by(operator), &right)?;
+    keep(constants, found)
+}
+
+/// What is no constant beside an operand that is none.
+fn nothing_beside(value: Value) -> Value
+    ensures { result ≡ nothing_beside value }
+{
+    match value {
+        Value::Lost => Value::Lost,
+        _ => Value::Nothing,
+    }
+}
+
+/// The value of an infix operator over two values.
+pub fn infix_value(
+    alloc: Global,
+    constants: &mut Vec<Const>,
+    operator: Operator,
+    left: Value,
+    right: Value,
+) -> Result<Value, Memory>
+    ensures constant_in { IfOk result (λ v. ConstantWithin (length constants.new.items) v) }
+    ensures type_in { IfOk result (λ v. (n : ℕ) → TypeWithin n v) }
+    ensures kept { Kept constants.old.items constants.new.items }
+{
+    match left {
+        Value::Lost => Ok(Value::Lost),
+        Value::Constant(a) => match right {
+            Value::Constant(b) => folded_value(alloc, constants, operator, a, b),
+            _ => Ok(nothing_beside(right)),
+        },
+        _ => Ok(nothing_beside(right)),
+    }
+}
+
+/// The value of a prefix operator over a value.
+pub fn prefix_value(
+    alloc: Global,
+    constants: &mut Vec<Const>,
+    sign: Sign,
+    operand: Value,
+) -> Result<Value, Memory>
+    ensures constant_in { IfOk result (λ v. ConstantWithin (length constants.new.items) v) }
+    ensures type_in { IfOk result (λ v. (n : ℕ) → TypeWithin n v) }
+    ensures kept { Kept constants.old.items constants.new.items }
+{
+    match operand {
+        Value::Constant(a) => {
+            let operand = constant_at(alloc, constants.as_slice(), a)?;
+            keep(constants, fold_prefix(prefix_by(sign), &operand))
+        }
+        _ => Ok(nothing_beside(operand)),
+    }
+}
