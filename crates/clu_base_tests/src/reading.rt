@@ -98,7 +98,7 @@ pub fn target(
 }
 
 fn use_again(alloc: Global, types: &mut TypeArena, given: &[u8]) -> Result<Bytes, FormatError> {
-    let target = target(alloc, types, given)?;
+    let target = read_use(alloc, types, given)?;
     Ok(use_text(alloc, types, &target)?)
 }
 

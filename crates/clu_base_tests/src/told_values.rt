@@ -1,6 +1,7 @@
 //! The values of a source, as text.
 
-ghost use Rattle.std.specs.Prelude.{◌≡◌, ◌<◌, length};
+ghost use Rattle.std.specs.Prelude.{◌≡◌, length};
+ghost use Rattle.clu_names.specs.Denotes.{bound_to, starts_to};
 
 use clu_base::{Bytes, Const};
 use clu_lexer::lex;
@@ -130,7 +131,10 @@ fn told_over(
     syntax: &Syntax,
     rounds: &[Round],
     names: &Names,
-) -> Result<String, Fail> {
+) -> Result<String, Fail>
+    requires bound { names.now.bound.items ≡ bound_to syntax.now names.now.declared.items (length syntax.now) }
+    requires starts { names.now.starts.items ≡ starts_to syntax.now names.now.declared.items (length syntax.now) }
+{
     let mut out = match settle(alloc, syntax, names) {
         Ok(values) => tell_all(alloc, syntax.tree(), &values)?,
         Err(_) => return Err("no memory for the values")?,
