@@ -39,14 +39,27 @@ fn inner_demands(
     let equates = inner_equates(alloc, tree, set)?;
     settle_equates(alloc, tree, scope, types, equates.as_slice())?;
     let mut wanted = BTreeMap::new(alloc);
+    note_all(alloc, tree, scope, types, set, &mut wanted)?;
+    demands_of(alloc, wanted, variable)
+}
+
+/// Notes the types that the Opers in a TypeSet want.
+fn note_all(
+    alloc: Global,
+    tree: &Tree,
+    scope: &Scope,
+    types: &mut TypeArena,
+    set: &Node,
+    wanted: &mut BTreeMap<Bytes, TypeId>,
+) -> Result<(), CheckError> {
     for child in set.children.as_slice() {
         let part = node_at(tree, *child)?;
         if part.kind == NodeKind::Oper {
             let of = wanted_type(alloc, tree, scope, types, part)?;
-            note_wanted(alloc, &mut wanted, part, of)?;
+            note_wanted(alloc, wanted, part, of)?;
         }
     }
-    demands_of(alloc, wanted, variable)
+    Ok(())
 }
 
 /// The Equate nodes that stand directly in a node. The errors are that memory runs out, and NotYet where a child is

@@ -14,20 +14,18 @@ pub fn code_of(alloc: Global, operation: &Operation) -> Result<WCode, Memory>
     ensures { IfOk result (IsCodeNamed operation.now.name.now) }
 {
     let name = operation.name;
-    match operation.deed {
+    let mut assembly = Assembly::new(alloc);
+    match &operation.deed {
         Deed::Value(value) => {
-            let mut assembly = Assembly::new(alloc);
-            let deed = WDeed::Value(assembly.expression(&value)?);
+            let deed = assembly.value_deed(value)?;
             Ok(WCode::Leaf(assembly.leaf(name, deed)?))
         }
         Deed::Put(address, by, value) => {
-            let mut assembly = Assembly::new(alloc);
-            let address = assembly.expression(&address)?;
-            let deed = WDeed::Put(address, by, assembly.expression(&value)?);
+            let deed = assembly.put_deed(address, *by, value)?;
             Ok(WCode::Leaf(assembly.leaf(name, deed)?))
         }
         Deed::Steps(slots, steps) => {
-            let made = routine(alloc, name, operation.args, slots, steps)?;
+            let made = routine(alloc, name, operation.args, *slots, steps)?;
             Ok(WCode::Routine(made))
         }
     }
@@ -43,12 +41,9 @@ pub fn in_place(
     known: &[u64],
 ) -> Result<Option<WDeed>, Memory> {
     let mut assembly = Assembly::with(alloc, args, known);
-    match operation.deed {
-        Deed::Value(value) => Ok(Some(WDeed::Value(assembly.expression(&value)?))),
-        Deed::Put(address, by, value) => {
-            let address = assembly.expression(&address)?;
-            Ok(Some(WDeed::Put(address, by, assembly.expression(&value)?)))
-        }
+    match &operation.deed {
+        Deed::Value(value) => Ok(Some(assembly.value_deed(value)?)),
+        Deed::Put(address, by, value) => Ok(Some(assembly.put_deed(address, *by, value)?)),
         Deed::Steps(_, _) => Ok(None),
     }
 }
@@ -134,6 +129,16 @@ impl<'a> Assembly<'a> {
         })
     }
 
+    fn value_deed(&mut self, value: &Expr) -> Result<WDeed, Memory> {
+        Ok(WDeed::Value(self.expression(value)?))
+    }
+
+    fn put_deed(&mut self, address: &Expr, by: u32, value: &Expr) -> Result<WDeed, Memory> {
+        let address = self.expression(address)?;
+        let value = self.expression(value)?;
+        Ok(WDeed::Put(address, by, value))
+    }
+
     fn steps(&mut self, steps: &[Step]) -> Result<Vec<WStmt>, Memory> {
         let mut made = Vec::new(self.alloc);
         for step in steps {
@@ -153,27 +158,43 @@ impl<'a> Assembly<'a> {
     /// A step whose inner steps are made.
     fn step(&mut self, step: &Step, inner: Vec<WStmt>) -> Result<WStmt, Memory> {
         match step {
-            Step::Set(slot, value) => Ok(WStmt::Set(*slot, self.expression(value)?)),
+            Step::Set(slot, value) => self.set(*slot, value),
             Step::Put(address, by, value) => self.put(address, *by, value),
             Step::Do(primitive, values) => self.primitive(*primitive, values, &[]),
             Step::Get(slot, primitive, values) => self.primitive(*primitive, values, &[*slot]),
-            Step::When(condition, _) => {
-                let condition = self.expression(condition)?;
-                Ok(WStmt::If(condition, inner, Vec::new(self.alloc)))
-            }
-            Step::Unless(condition, _) => {
-                let condition = self.expression(condition)?;
-                Ok(WStmt::If(condition, Vec::new(self.alloc), inner))
-            }
+            Step::When(condition, _) => self.branch(condition, inner, Vec::new(self.alloc)),
+            Step::Unless(condition, _) => self.branch(condition, Vec::new(self.alloc), inner),
             Step::Loop(_) => Ok(WStmt::Loop(inner)),
             Step::Break => Ok(WStmt::Break),
             Step::Handle(name, _) => self.handle(name, inner),
             Step::Signal(name, objects) => self.signal(name, objects),
-            Step::Return(values) => Ok(WStmt::Return(self.expressions(values)?)),
+            Step::Return(values) => self.leave(values),
             Step::Call(used, values, results) => self.call(*used, values, results),
             Step::Iterate(used, values, slot, _) => self.iterate(*used, values, *slot, inner),
-            Step::Yield(values) => Ok(WStmt::Yield(self.expressions(values)?)),
+            Step::Yield(values) => self.give(values),
         }
+    }
+
+    fn set(&mut self, slot: u32, value: &Expr) -> Result<WStmt, Memory> {
+        Ok(WStmt::Set(slot, self.expression(value)?))
+    }
+
+    fn branch(
+        &mut self,
+        condition: &Expr,
+        then: Vec<WStmt>,
+        otherwise: Vec<WStmt>,
+    ) -> Result<WStmt, Memory> {
+        let condition = self.expression(condition)?;
+        Ok(WStmt::If(condition, then, otherwise))
+    }
+
+    fn leave(&mut self, values: &[Expr]) -> Result<WStmt, Memory> {
+        Ok(WStmt::Return(self.expressions(values)?))
+    }
+
+    fn give(&mut self, values: &[Expr]) -> Result<WStmt, Memory> {
+        Ok(WStmt::Yield(self.expressions(values)?))
     }
 
     /// An arm that does nothing takes the exceptions of this name.

@@ -17,5 +17,6 @@ mod type_values;
 mod value;
 
 pub use crate::circular::circular_equates;
+pub use crate::parameters::{Parameters, number_parameters};
 pub use crate::settling::{Values, settle};
 pub use crate::value::Value;

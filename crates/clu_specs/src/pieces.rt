@@ -46,6 +46,14 @@ pub fn push<'a>(stack: &mut Vec<Piece<'a>>, pieces: &[Piece<'a>]) -> Result<(), 
     Ok(())
 }
 
+/// Puts a piece on the stack.
+#[tactic(auto, using(crate::proofs::Writing::over_last))]
+pub fn push_one<'a>(stack: &mut Vec<Piece<'a>>, piece: Piece<'a>) -> Result<(), Memory>
+    ensures { (ks : List CluType) → OnOk result (stack_text ks stack.new.items ≡ piece_text ks piece.entry ++ stack_text ks stack.old.items) }
+{
+    Ok(stack.push(piece)?)
+}
+
 /// Puts the parts of a type on the stack. A number that is none of the arena's stands for `null`, as in `type_at`.
 #[tactic(auto, using(crate::proofs::Writing::null_outside))]
 pub fn push_type<'a>(
@@ -58,7 +66,7 @@ pub fn push_type<'a>(
     if id.0 < types.len() as u64 {
         push_term(stack, types.view(id))
     } else {
-        push(stack, &[Piece::Text(b"null")])
+        push_one(stack, Piece::Text(b"null"))
     }
 }
 
@@ -67,13 +75,13 @@ fn push_term<'a>(stack: &mut Vec<Piece<'a>>, term: &'a Term) -> Result<(), Memor
     ensures { (ks : List CluType) → OnOk result (stack_text ks stack.new.items ≡ type_text (type_of ks term.now) ++ stack_text ks stack.old.items) }
 {
     match term {
-        Term::Null => push(stack, &[Piece::Text(b"null")]),
-        Term::Bool => push(stack, &[Piece::Text(b"bool")]),
-        Term::Int => push(stack, &[Piece::Text(b"int")]),
-        Term::Char => push(stack, &[Piece::Text(b"char")]),
-        Term::Str => push(stack, &[Piece::Text(b"string")]),
-        Term::Any => push(stack, &[Piece::Text(b"any")]),
-        Term::Stream => push(stack, &[Piece::Text(b"stream")]),
+        Term::Null => push_one(stack, Piece::Text(b"null")),
+        Term::Bool => push_one(stack, Piece::Text(b"bool")),
+        Term::Int => push_one(stack, Piece::Text(b"int")),
+        Term::Char => push_one(stack, Piece::Text(b"char")),
+        Term::Str => push_one(stack, Piece::Text(b"string")),
+        Term::Any => push_one(stack, Piece::Text(b"any")),
+        Term::Stream => push_one(stack, Piece::Text(b"stream")),
         Term::Array(of) => push_listing(stack, b"array[", *of),
         Term::Sequence(of) => push_listing(stack, b"sequence[", *of),
         Term::Record(fields) => push_selecting(stack, b"record[", fields.as_slice()),
@@ -83,7 +91,7 @@ fn push_term<'a>(stack: &mut Vec<Piece<'a>>, term: &'a Term) -> Result<(), Memor
         Term::Proc(heading) => push_routine(stack, b"proctype", false, heading),
         Term::Iter(heading) => push_routine(stack, b"itertype", true, heading),
         Term::Cluster(name, actuals) => push_cluster(stack, name.as_slice(), actuals.as_slice()),
-        Term::Param(n) => push(stack, &[Piece::Parameter(b'#', *n)]),
+        Term::Param(n) => push_one(stack, Piece::Parameter(b'#', *n)),
     }
 }
 
@@ -111,7 +119,7 @@ fn push_selecting<'a>(
 {
     push(stack, &[Piece::Text(b"]")])?;
     push_fields(stack, fields)?;
-    push(stack, &[Piece::Text(word)])
+    push_one(stack, Piece::Text(word))
 }
 
 /// Puts a selector with its type on the stack.
@@ -135,7 +143,7 @@ fn push_fields<'a>(stack: &mut Vec<Piece<'a>>, fields: &'a [Field]) -> Result<()
     match fields {
         [] => Ok(()),
         [first, rest @ ..] => {
-            push(stack, &[Piece::Fields(rest)])?;
+            push_one(stack, Piece::Fields(rest))?;
             push_field(stack, first)
         }
     }
@@ -148,9 +156,9 @@ pub fn push_more_fields<'a>(stack: &mut Vec<Piece<'a>>, fields: &'a [Field]) -> 
     match fields {
         [] => Ok(()),
         [first, rest @ ..] => {
-            push(stack, &[Piece::Fields(rest)])?;
+            push_one(stack, Piece::Fields(rest))?;
             push_field(stack, first)?;
-            push(stack, &[Piece::Text(b",")])
+            push_one(stack, Piece::Text(b","))
         }
     }
 }
@@ -165,7 +173,7 @@ fn push_routine<'a>(
     ensures { (ks : List CluType) → OnOk result (stack_text ks stack.new.items ≡ (word.now ++ heading_text iter (types_at ks heading.now.args) (types_at ks heading.now.results) (signals_at ks heading.now.signals)) ++ stack_text ks stack.old.items) }
 {
     push_heading(stack, iter, heading)?;
-    push(stack, &[Piece::Text(word)])
+    push_one(stack, Piece::Text(word))
 }
 
 /// Puts on the stack what a routine takes, gives and signals.
@@ -178,9 +186,9 @@ pub fn push_heading<'a>(
 {
     push_all_signals(stack, heading.signals.as_slice())?;
     push_closed_types(stack, results_word(iter), heading.results.as_slice())?;
-    push(stack, &[Piece::Text(b")")])?;
+    push_one(stack, Piece::Text(b")"))?;
     push_types(stack, heading.args.as_slice())?;
-    push(stack, &[Piece::Text(b"(")])
+    push_one(stack, Piece::Text(b"("))
 }
 
 /// The word before what a procedure returns, or an iterator yields.
@@ -219,7 +227,7 @@ pub fn push_more_types<'a>(stack: &mut Vec<Piece<'a>>, ids: &'a [TypeId]) -> Res
         [] => Ok(()),
         [first, rest @ ..] => {
             push_first_type(stack, *first, rest)?;
-            push(stack, &[Piece::Text(b",")])
+            push_one(stack, Piece::Text(b","))
         }
     }
 }
@@ -235,9 +243,9 @@ fn push_closed_types<'a>(
     match ids {
         [] => Ok(()),
         [first, rest @ ..] => {
-            push(stack, &[Piece::Text(b")")])?;
+            push_one(stack, Piece::Text(b")"))?;
             push_first_type(stack, *first, rest)?;
-            push(stack, &[Piece::Text(word)])
+            push_one(stack, Piece::Text(word))
         }
     }
 }
@@ -247,7 +255,7 @@ fn push_signal<'a>(stack: &mut Vec<Piece<'a>>, signal: &'a Exception) -> Result<
     ensures { (ks : List CluType) → OnOk result (stack_text ks stack.new.items ≡ (signal.now.name ++ closed_text (40 ∷ []) (types_at ks signal.now.objects)) ++ stack_text ks stack.old.items) }
 {
     push_closed_types(stack, b"(", signal.objects.as_slice())?;
-    push(stack, &[Piece::Text(signal.name.as_slice())])
+    push_one(stack, Piece::Text(signal.name.as_slice()))
 }
 
 /// Puts signals, each after a comma, on the stack.
@@ -260,9 +268,9 @@ pub fn push_more_signals<'a>(
     match signals {
         [] => Ok(()),
         [first, rest @ ..] => {
-            push(stack, &[Piece::Signals(rest)])?;
+            push_one(stack, Piece::Signals(rest))?;
             push_signal(stack, first)?;
-            push(stack, &[Piece::Text(b",")])
+            push_one(stack, Piece::Text(b","))
         }
     }
 }
@@ -276,7 +284,7 @@ fn push_all_signals<'a>(stack: &mut Vec<Piece<'a>>, signals: &'a [Exception]) ->
         [first, rest @ ..] => {
             push(stack, &[Piece::Text(b")"), Piece::Signals(rest)])?;
             push_signal(stack, first)?;
-            push(stack, &[Piece::Text(b"signals(")])
+            push_one(stack, Piece::Text(b"signals("))
         }
     }
 }
@@ -290,7 +298,7 @@ pub fn push_cluster<'a>(
     ensures { (ks : List CluType) → OnOk result (stack_text ks stack.new.items ≡ (name.now ++ all_actuals_text (actuals_at ks actuals.now)) ++ stack_text ks stack.old.items) }
 {
     push_all_actuals(stack, actuals)?;
-    push(stack, &[Piece::Text(name)])
+    push_one(stack, Piece::Text(name))
 }
 
 /// Puts actual parameters in brackets on the stack; nothing if there are none.
@@ -319,9 +327,9 @@ pub fn push_more_actuals<'a>(
     match actuals {
         [] => Ok(()),
         [first, rest @ ..] => {
-            push(stack, &[Piece::Actuals(rest)])?;
+            push_one(stack, Piece::Actuals(rest))?;
             push_actual(stack, first)?;
-            push(stack, &[Piece::Text(b",")])
+            push_one(stack, Piece::Text(b","))
         }
     }
 }
@@ -331,8 +339,8 @@ fn push_actual<'a>(stack: &mut Vec<Piece<'a>>, actual: &'a Actual) -> Result<(),
     ensures { (ks : List CluType) → OnOk result (stack_text ks stack.new.items ≡ actual_text ks actual.now ++ stack_text ks stack.old.items) }
 {
     match actual {
-        Actual::Of(id) => push(stack, &[Piece::Type(*id)]),
-        Actual::Const(constant) => push(stack, &[Piece::Constant(constant)]),
-        Actual::ConstParam(n) => push(stack, &[Piece::Parameter(b'%', *n)]),
+        Actual::Of(id) => push_one(stack, Piece::Type(*id)),
+        Actual::Const(constant) => push_one(stack, Piece::Constant(constant)),
+        Actual::ConstParam(n) => push_one(stack, Piece::Parameter(b'%', *n)),
     }
 }

@@ -8,7 +8,7 @@ ghost use Rattle.clu_specs.specs.Seen.{demand_seen, op_seen, form_seen, seen, ki
 ghost use Rattle.clu_specs.specs.Specifications.{SpecHolds};
 ghost use Rattle.clu_specs.specs.Pieces.{stack_text};
 
-use crate::pieces::{Piece, push, push_heading};
+use crate::pieces::{Piece, push, push_heading, push_one};
 use crate::write_types::written;
 use clu_base::{Bytes, Memory};
 use clu_types::{Demand, Form, OpSpec, ParamKind, Spec};
@@ -29,7 +29,7 @@ fn push_spec<'a>(stack: &mut Vec<Piece<'a>>, s: &'a Spec) -> Result<(), Memory>
     ensures { OnOk result (stack_text (types_of s.now.types) stack.new.items ≡ spec_text (seen s.now) ++ stack_text (types_of s.now.types) stack.old.items) }
 {
     push_form(stack, s.kinds.as_slice(), &s.form)?;
-    push(stack, &[Piece::Text(s.name.as_slice())])
+    push_one(stack, Piece::Text(s.name.as_slice()))
 }
 
 /// Puts what follows the name of a specification on the stack.
@@ -56,7 +56,7 @@ fn push_form<'a>(
             )?;
             push_demands(stack, demands.as_slice())?;
             push_kinds(stack, kinds)?;
-            push(stack, &[Piece::Text(b"=cluster")])
+            push_one(stack, Piece::Text(b"=cluster"))
         }
     }
 }
@@ -100,7 +100,7 @@ pub fn push_more_kinds<'a>(stack: &mut Vec<Piece<'a>>, kinds: &'a [ParamKind]) -
         [] => Ok(()),
         [first, rest @ ..] => {
             push_first_kind(stack, *first, rest)?;
-            push(stack, &[Piece::Text(b",")])
+            push_one(stack, Piece::Text(b","))
         }
     }
 }
@@ -153,9 +153,9 @@ pub fn push_more_demands<'a>(
     match demands {
         [] => Ok(()),
         [first, rest @ ..] => {
-            push(stack, &[Piece::Demands(rest)])?;
+            push_one(stack, Piece::Demands(rest))?;
             push_demand(stack, first)?;
-            push(stack, &[Piece::Text(b",")])
+            push_one(stack, Piece::Text(b","))
         }
     }
 }
@@ -169,7 +169,7 @@ fn push_demands<'a>(stack: &mut Vec<Piece<'a>>, demands: &'a [Demand]) -> Result
         [first, rest @ ..] => {
             push(stack, &[Piece::Text(b" "), Piece::Demands(rest)])?;
             push_demand(stack, first)?;
-            push(stack, &[Piece::Text(b" where ")])
+            push_one(stack, Piece::Text(b" where "))
         }
     }
 }
@@ -181,7 +181,7 @@ pub fn push_operations<'a>(stack: &mut Vec<Piece<'a>>, ops: &'a [OpSpec]) -> Res
     match ops {
         [] => Ok(()),
         [first, rest @ ..] => {
-            push(stack, &[Piece::Operations(rest)])?;
+            push_one(stack, Piece::Operations(rest))?;
             push_operation(stack, first)
         }
     }
