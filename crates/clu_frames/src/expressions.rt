@@ -1,5 +1,9 @@
 //! Expressions of word code in steps.
 
+ghost use Rattle.std.specs.Prelude.{◌≡◌, IfOk, OnOk, pos};
+ghost use Rattle.clu_frames.specs.Flattening.{are_row, first_of_row, first_slot, invoke_onto, is_slot, made, none, pushed, row_at, row_onto, sets_onto, slot_of};
+ghost use Rattle.clu_frames.specs.declared.flat.Flat.TheVariants as flat;
+
 use crate::errors::FrameError;
 use crate::flat::Flat;
 use crate::steps::{Steps, above};
@@ -7,13 +11,17 @@ use clu_wir::WExpr;
 
 impl Steps<'_> {
     /// To a slot the word of an expression.
-    pub fn set(&mut self, to: u32, value: &WExpr) -> Result<(), FrameError> {
+    pub fn set(&mut self, to: u32, value: &WExpr) -> Result<(), FrameError>
+        ensures made { OnOk result (made self.new ≡ pushed (flat.Set to none) (made self.old)) }
+    {
         let value = value.copy(self.alloc)?;
         self.push(Flat::Set(to, value))
     }
 
     /// To the slots from `to` on the words of expressions.
-    pub fn set_row(&mut self, to: u32, values: &[WExpr]) -> Result<(), FrameError> {
+    pub fn set_row(&mut self, to: u32, values: &[WExpr]) -> Result<(), FrameError>
+        ensures made { OnOk result (made self.new ≡ sets_onto to values.now (made self.old)) }
+    {
         let mut to = to;
         for value in values {
             self.set(to, value)?;
@@ -24,7 +32,10 @@ impl Steps<'_> {
 
     /// The first of the slots in which the words of expressions lie side by side: their own, if they do so already, else
     /// those from `work` on.
-    pub fn row(&mut self, work: u32, values: &[WExpr]) -> Result<u32, FrameError> {
+    pub fn row(&mut self, work: u32, values: &[WExpr]) -> Result<u32, FrameError>
+        ensures slot { IfOk result (λ slot. slot ≡ row_at work values.now) }
+        ensures made { OnOk result (made self.new ≡ row_onto work values.now (made self.old)) }
+    {
         match first_of_row(values) {
             Some(first) => Ok(first),
             None => {
@@ -35,20 +46,26 @@ impl Steps<'_> {
     }
 
     /// Goes on at a label where the condition is not 0 if `sense` is true, else where it is 0.
-    pub fn branch(&mut self, condition: &WExpr, sense: bool, label: u32) -> Result<(), FrameError> {
+    pub fn branch(&mut self, condition: &WExpr, sense: bool, label: u32) -> Result<(), FrameError>
+        ensures made { OnOk result (made self.new ≡ pushed (flat.Branch none sense label) (made self.old)) }
+    {
         let condition = condition.copy(self.alloc)?;
         self.push(Flat::Branch(condition, sense, label))
     }
 
     /// A word so many bytes after an address.
-    pub fn put(&mut self, address: &WExpr, bytes: u32, value: &WExpr) -> Result<(), FrameError> {
+    pub fn put(&mut self, address: &WExpr, bytes: u32, value: &WExpr) -> Result<(), FrameError>
+        ensures made { OnOk result (made self.new ≡ pushed (flat.Put none (pos bytes) none) (made self.old)) }
+    {
         let address = address.copy(self.alloc)?;
         let value = value.copy(self.alloc)?;
         self.push(Flat::Put(address, offset(bytes)?, value))
     }
 
     /// Puts an object, by the number of its type and its word, into a slot as one of type any.
-    pub fn bind(&mut self, number: &WExpr, value: &WExpr, to: u32) -> Result<(), FrameError> {
+    pub fn bind(&mut self, number: &WExpr, value: &WExpr, to: u32) -> Result<(), FrameError>
+        ensures made { OnOk result (made self.new ≡ pushed (flat.Bind none none to) (made self.old)) }
+    {
         let number = number.copy(self.alloc)?;
         let value = value.copy(self.alloc)?;
         self.push(Flat::Bind(number, value, to))
@@ -60,7 +77,9 @@ impl Steps<'_> {
         routine: &WExpr,
         arguments: &[WExpr],
         work: u32,
-    ) -> Result<(), FrameError> {
+    ) -> Result<(), FrameError>
+        ensures made { OnOk result (made self.new ≡ invoke_onto arguments.now work (made self.old)) }
+    {
         let first = self.row(work, arguments)?;
         let routine = routine.copy(self.alloc)?;
         self.push(Flat::Invoke(routine, first))
@@ -68,22 +87,67 @@ impl Steps<'_> {
 }
 
 /// The first of slots that lie side by side.
-fn first_of_row(values: &[WExpr]) -> Option<u32> {
-    let first = match values.first() {
-        Some(WExpr::Slot(slot)) => *slot,
-        _ => return None,
-    };
+fn first_of_row(values: &[WExpr]) -> Option<u32>
+    ensures { result ≡ first_of_row values.now }
+{
+    match first_slot(values) {
+        Some(first) => {
+            if are_row(values, first) {
+                Some(first)
+            } else {
+                None
+            }
+        }
+        None => None,
+    }
+}
+
+/// The slot whose word the first value is.
+fn first_slot(values: &[WExpr]) -> Option<u32>
+    ensures { result ≡ first_slot values.now }
+{
+    match values {
+        [first, ..] => slot_of(first),
+        [] => None,
+    }
+}
+
+/// The slot whose word an expression is.
+fn slot_of(value: &WExpr) -> Option<u32>
+    ensures { result ≡ slot_of value.now }
+{
+    match value {
+        WExpr::Slot(slot) => Some(*slot),
+        _ => None,
+    }
+}
+
+/// Whether values are the words of slots side by side, from this one on.
+fn are_row(values: &[WExpr], first: u32) -> bool
+    ensures { result ≡ are_row first values.now }
+{
     let mut next = first;
     for value in values {
-        match value {
-            WExpr::Slot(slot) if *slot == next => next = next.saturating_add(1),
-            _ => return None,
+        if !is_slot(next, slot_of(value)) {
+            return false;
         }
+        next = next.saturating_add(1);
     }
-    Some(first)
+    true
+}
+
+fn is_slot(number: u32, slot: Option<u32>) -> bool
+    ensures { result ≡ is_slot number slot }
+{
+    match slot {
+        Some(slot) => slot == number,
+        None => false,
+    }
 }
 
 /// A number of bytes as the offset of a load or a save.
-fn offset(bytes: u32) -> Result<i32, FrameError> {
+fn offset(bytes: u32) -> Result<i32, FrameError>
+    ensures { IfOk result (λ offset. offset ≡ pos bytes) }
+{
     i32::try_from(bytes).map_err(|_| FrameError::NotYet)
 }

@@ -1,5 +1,9 @@
 //! How guards and their arms begin.
 
+ghost use Rattle.std.specs.Prelude.{◌≡◌, ◌+◌, IfOk, OnOk, length, map};
+ghost use Rattle.clu_frames.specs.Flattening.{arm_begun, arm_of, guard_at, guarding_of, labelled, made, pushed};
+ghost use Rattle.clu_frames.specs.declared.flat.Flat.TheVariants as flat;
+
 use crate::errors::FrameError;
 use crate::flat::Flat;
 use crate::steps::{Steps, number};
@@ -13,7 +17,11 @@ impl Steps<'_> {
         &mut self,
         arms: &'a [WArm],
         round: Surroundings<'_>,
-    ) -> Result<Guard<'a>, FrameError> {
+    ) -> Result<Guard<'a>, FrameError>
+        ensures guard { IfOk result (λ guard. guarding_of guard ≡ guard_at (map arm_of arms.now) (made self.old).labels round.entry.mark) }
+        ensures end { IfOk result (λ guard. guard.end ≡ (made self.old).labels + length arms.now) }
+        ensures made { OnOk result (made self.new ≡ labelled 1 (labelled (length arms.now) (made self.old))) }
+    {
         let label = self.labels(number(arms.len())?)?;
         let end = self.label()?;
         let region = self.open_region(round.region)?;
@@ -27,30 +35,33 @@ impl Steps<'_> {
     }
 
     /// Where exceptions of these names come that are signalled on.
-    pub fn pass_on(&mut self, names: &[Bytes], region: u32, mark: u32) -> Result<(), FrameError> {
-        for name in names {
-            self.add_arm(region, Some(name), mark)?;
-        }
+    pub fn pass_on(&mut self, names: &[Bytes], region: u32, mark: u32) -> Result<(), FrameError>
+        ensures made { OnOk result (made self.new ≡ pushed flat.Pass (made self.old)) }
+    {
+        self.name_arm(names, region, mark)?;
         self.push(Flat::Pass)
     }
 
     /// Where an exception comes to an arm: the objects, or for an arm that takes all names the name, go into the
     /// arm's slots.
-    pub fn begin_arm(
-        &mut self,
-        arm: &WArm,
-        region: u32,
-        round: Surroundings<'_>,
-    ) -> Result<(), FrameError> {
-        for name in &arm.names {
-            self.add_arm(region, Some(name), round.mark)?;
-        }
+    pub fn begin_arm(&mut self, arm: &WArm, region: u32, mark: u32) -> Result<(), FrameError>
+        ensures made { OnOk result (made self.new ≡ arm_begun arm.now.others arm.now.slots.items (made self.old)) }
+    {
+        self.name_arm(arm.names.as_slice(), region, mark)?;
         if arm.others {
-            self.add_arm(region, None, round.mark)?;
+            self.add_arm(region, None, mark)?;
+            return self.take(arm.slots.as_slice());
         }
-        match arm.slots.as_slice() {
-            [name] if arm.others => self.push(Flat::Take(*name)),
-            objects => self.push_results(objects),
+        self.push_results(arm.slots.as_slice())
+    }
+
+    /// Gives a region an arm for each of these names that begins at the next step.
+    fn name_arm(&mut self, names: &[Bytes], region: u32, mark: u32) -> Result<(), FrameError>
+        ensures made { OnOk result (made self.new ≡ made self.old) }
+    {
+        for name in names {
+            self.add_arm(region, Some(name), mark)?;
         }
+        Ok(())
     }
 }

@@ -1,7 +1,9 @@
 //! A routine in word code to flat code.
 
-ghost use Rattle.std.specs.Prelude.{◌≡◌, IfOk};
+ghost use Rattle.std.specs.Prelude.{◌≡◌, ◌<◌, ◌^◌, IfOk, length};
 ghost use Rattle.clu_frames.specs.Flattened.{HandsOn, HasRoom};
+ghost use Rattle.clu_frames.specs.Flattening.{bare_code, steps_of};
+ghost use Rattle.clu_frames.specs.Labels.{IsFlat};
 
 use crate::errors::FrameError;
 use crate::flat::{Flat, FlatRoutine};
@@ -24,6 +26,8 @@ pub fn flatten<B: RegionBuilder>(
 ) -> Result<FlatRoutine, FrameError>
     ensures handed { IfOk result (HandsOn r.now) }
     ensures room { IfOk result (HasRoom r.now) }
+    ensures steps { IfOk result (λ flat. bare_code flat.code.items ≡ steps_of r.now) }
+    ensures flat { IfOk result (λ flat. IsFlat flat.code.items) }
 {
     regions.clear();
     let flat = bounded(alloc, r, regions);
@@ -41,6 +45,8 @@ fn bounded<B: RegionBuilder>(
 ) -> Result<FlatRoutine, FrameError>
     ensures handed { IfOk result (HandsOn r.now) }
     ensures room { IfOk result (HasRoom r.now) }
+    ensures steps { IfOk result (λ flat. bare_code flat.code.items ≡ steps_of r.now) }
+    ensures flat { IfOk result (λ flat. IsFlat flat.code.items) }
 {
     let flat = routine_of(alloc, r, regions)?;
     if flat.words() > r.room().code {
@@ -56,12 +62,30 @@ fn code_of<B: RegionBuilder>(
     alloc: Global,
     r: &WRoutine,
     regions: &mut B,
-) -> Result<Vec<Flat>, FrameError> {
+) -> Result<Vec<Flat>, FrameError>
+    ensures few { IfOk result (λ code. length code.items < 2 ^ 32) }
+    ensures steps { IfOk result (λ code. bare_code code.items ≡ steps_of r.now) }
+{
     let mut steps = Steps::new(alloc, r.constants.as_slice());
     steps.push(Flat::Enter(r.args))?;
     steps.list(r.body.as_slice(), Surroundings::outermost(r.slots))?;
     steps.push(Flat::Leave(r.slots, 0))?;
-    steps.finish(regions)
+    let code = steps.finish(regions)?;
+    Ok(code)
+}
+
+/// The same, with what holds of the code of each routine.
+#[tactic(auto, using(crate::proofs::Whole::routine_flat))]
+fn flat_code_of<B: RegionBuilder>(
+    alloc: Global,
+    r: &WRoutine,
+    regions: &mut B,
+) -> Result<Vec<Flat>, FrameError>
+    ensures steps { IfOk result (λ code. bare_code code.items ≡ steps_of r.now) }
+    ensures flat { IfOk result (λ code. IsFlat code.items) }
+{
+    let code = code_of(alloc, r, regions)?;
+    Ok(code)
 }
 
 fn routine_of<B: RegionBuilder>(
@@ -69,12 +93,14 @@ fn routine_of<B: RegionBuilder>(
     r: &WRoutine,
     regions: &mut B,
 ) -> Result<FlatRoutine, FrameError>
-    ensures { IfOk result (HandsOn r.now) }
+    ensures handed { IfOk result (HandsOn r.now) }
+    ensures steps { IfOk result (λ flat. bare_code flat.code.items ≡ steps_of r.now) }
+    ensures flat { IfOk result (λ flat. IsFlat flat.code.items) }
 {
     Ok(FlatRoutine {
         name: r.name.copy(alloc)?,
         frame: r.width(),
-        code: code_of(alloc, r, regions)?,
+        code: flat_code_of(alloc, r, regions)?,
         nodes: r.nodes,
         uses: texts(alloc, r.uses.as_slice())?,
         constants: constants(alloc, r.constants.as_slice())?,

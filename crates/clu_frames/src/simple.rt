@@ -1,5 +1,8 @@
 //! Statements that go on with the next one and have none inside.
 
+ghost use Rattle.std.specs.Prelude.{◌≡◌, OnOk};
+ghost use Rattle.clu_frames.specs.Flattening.{call_onto, made, primitive_onto, taken_onto, yield_onto};
+
 use crate::errors::FrameError;
 use crate::flat::Flat;
 use crate::steps::{Steps, number};
@@ -12,12 +15,21 @@ impl Steps<'_> {
         arguments: &[WExpr],
         results: &[u32],
         work: u32,
-    ) -> Result<(), FrameError> {
+    ) -> Result<(), FrameError>
+        ensures made { OnOk result (made self.new ≡ call_onto arguments.now results.now work (made self.old)) }
+    {
         self.invoke(routine, arguments, work)?;
-        match results {
+        self.take(results)
+    }
+
+    /// To the slots the words that travelled: one is the value itself.
+    pub fn take(&mut self, slots: &[u32]) -> Result<(), FrameError>
+        ensures made { OnOk result (made self.new ≡ taken_onto slots.now (made self.old)) }
+    {
+        match slots {
             [] => Ok(()),
             [only] => self.push(Flat::Take(*only)),
-            _ => self.push_results(results),
+            [_, _, ..] => self.push_results(slots),
         }
     }
 
@@ -27,13 +39,17 @@ impl Steps<'_> {
         arguments: &[WExpr],
         results: &[u32],
         work: u32,
-    ) -> Result<(), FrameError> {
+    ) -> Result<(), FrameError>
+        ensures made { OnOk result (made self.new ≡ primitive_onto number arguments.now results.now work (made self.old)) }
+    {
         self.set_row(work, arguments)?;
         self.push(Flat::Prim(number, work))?;
         self.push_moves(results, work)
     }
 
-    pub fn yield_words(&mut self, words: &[WExpr], work: u32) -> Result<(), FrameError> {
+    pub fn yield_words(&mut self, words: &[WExpr], work: u32) -> Result<(), FrameError>
+        ensures made { OnOk result (made self.new ≡ yield_onto words.now work (made self.old)) }
+    {
         let first = self.row(work, words)?;
         self.push(Flat::Yield(first, number(words.len())?))
     }

@@ -1,19 +1,20 @@
 //! The walk over the statements of word code.
 
+ghost use Rattle.std.specs.Prelude.{◌≡◌, OnOk, map};
+ghost use Rattle.clu_frames.specs.Flattening.{all_onto, arm_of, arms_onto, end_of_turns, end_uncut, exit_of, guarded_onto, guarding_of, is_none, is_only_break, made, part_of, resignal_onto, round_of, turns_ended, turns_onto, unless_onto};
+
 use crate::errors::FrameError;
 use crate::flat::Flat;
 use crate::steps::{Steps, above, mark_of};
 use crate::surroundings::{Guard, Guards, Surroundings, Turns};
 use clu_base::Bytes;
-use clu_wir::{WArm, WStmt};
+use clu_wir::{WArm, WExpr, WStmt};
 
 impl Steps<'_> {
     #[cycle(statements)]
-    pub fn list(
-        &mut self,
-        statements: &[WStmt],
-        round: Surroundings<'_>,
-    ) -> Result<(), FrameError> {
+    pub fn list(&mut self, statements: &[WStmt], round: Surroundings<'_>) -> Result<(), FrameError>
+        ensures made { OnOk result (made self.new ≡ all_onto (map part_of statements.now) (round_of round.entry) (made self.old)) }
+    {
         for statement in statements {
             self.statement(statement, round)?;
         }
@@ -21,7 +22,9 @@ impl Steps<'_> {
     }
 
     #[cycle(statements)]
-    fn statement(&mut self, statement: &WStmt, round: Surroundings<'_>) -> Result<(), FrameError> {
+    fn statement(&mut self, statement: &WStmt, round: Surroundings<'_>) -> Result<(), FrameError>
+        ensures made { OnOk result (made self.new ≡ (part_of statement.now).onto (round_of round.entry) (made self.old)) }
+    {
         let work = round.work;
         match statement {
             WStmt::Set(slot, value) => self.set(*slot, value),
@@ -33,25 +36,19 @@ impl Steps<'_> {
                 self.primitive(*number, arguments.as_slice(), results.as_slice(), work)
             }
             WStmt::Bind(number, value, to) => self.bind(number, value, *to),
-            WStmt::If(condition, then, other) if then.is_empty() => {
-                if let Some(end) = exit_of(other.as_slice(), round) {
-                    return self.branch(condition, false, end);
-                }
-                let end = self.label()?;
-                self.branch(condition, true, end)?;
-                self.list(other.as_slice(), round)?;
-                self.push(Flat::Label(end))
-            }
             WStmt::If(condition, then, other) => {
+                if is_none(then.as_slice()) {
+                    return self.unless(other.as_slice(), condition, round);
+                }
                 let otherwise = self.begin_choice(condition)?;
                 self.list(then.as_slice(), round)?;
-                let end = self.begin_other(otherwise, other.is_empty())?;
+                let end = self.begin_other(otherwise, is_none(other.as_slice()))?;
                 self.list(other.as_slice(), round)?;
                 self.push(Flat::Label(end))
             }
             WStmt::Loop(body) => self.turns(body.as_slice(), round),
-            WStmt::Break => self.break_loop(round),
-            WStmt::Continue => self.continue_loop(round),
+            WStmt::Break => self.break_loop(round.turns),
+            WStmt::Continue => self.continue_loop(round.turns),
             WStmt::Iterate(routine, arguments, items, body) => {
                 let turns = self.begin_turns(
                     routine,
@@ -77,8 +74,31 @@ impl Steps<'_> {
         }
     }
 
+    /// A list that runs where the condition is 0.
     #[cycle(statements)]
-    fn turns(&mut self, body: &[WStmt], round: Surroundings<'_>) -> Result<(), FrameError> {
+    fn unless(
+        &mut self,
+        other: &[WStmt],
+        condition: &WExpr,
+        round: Surroundings<'_>,
+    ) -> Result<(), FrameError>
+        ensures made { OnOk result (made self.new ≡ unless_onto (map part_of other.now) (round_of round.entry) (made self.old)) }
+    {
+        match exit_of(other, round.turns) {
+            Some(end) => self.branch(condition, false, end),
+            None => {
+                let end = self.label()?;
+                self.branch(condition, true, end)?;
+                self.list(other, round)?;
+                self.push(Flat::Label(end))
+            }
+        }
+    }
+
+    #[cycle(statements)]
+    fn turns(&mut self, body: &[WStmt], round: Surroundings<'_>) -> Result<(), FrameError>
+        ensures made { OnOk result (made self.new ≡ turns_onto (map part_of body.now) (round_of round.entry) (made self.old)) }
+    {
         let next = self.labels(2)?;
         let end = above(next, 1)?;
         let turns = Some(Turns {
@@ -99,7 +119,9 @@ impl Steps<'_> {
         body: &[WStmt],
         turns: Turns,
         round: Surroundings<'_>,
-    ) -> Result<(), FrameError> {
+    ) -> Result<(), FrameError>
+        ensures made { OnOk result (made self.new ≡ turns_ended (map part_of body.now) turns (round_of round.entry) (made self.old)) }
+    {
         let top = round.work;
         let work = above(top, 1)?;
         let mark = mark_of(top)?;
@@ -124,7 +146,9 @@ impl Steps<'_> {
         body: &[WStmt],
         guard: Guard<'_>,
         round: Surroundings<'_>,
-    ) -> Result<(), FrameError> {
+    ) -> Result<(), FrameError>
+        ensures made { OnOk result (made self.new ≡ guarded_onto (map part_of body.now) (guarding_of guard.entry) guard.entry.end (round_of round.entry) (made self.old)) }
+    {
         let guards = Guards {
             guard,
             outside: round.guards,
@@ -147,7 +171,9 @@ impl Steps<'_> {
         body: &[WStmt],
         names: &[Bytes],
         round: Surroundings<'_>,
-    ) -> Result<(), FrameError> {
+    ) -> Result<(), FrameError>
+        ensures made { OnOk result (made self.new ≡ resignal_onto (map part_of body.now) (round_of round.entry) (made self.old)) }
+    {
         let end = self.label()?;
         let region = self.open_region(round.region)?;
         self.list(
@@ -168,10 +194,12 @@ impl Steps<'_> {
         arms: &[WArm],
         guard: Guard<'_>,
         round: Surroundings<'_>,
-    ) -> Result<(), FrameError> {
+    ) -> Result<(), FrameError>
+        ensures made { OnOk result (made self.new ≡ arms_onto guard.entry.label guard.entry.end (map arm_of arms.now) (round_of round.entry) (made self.old)) }
+    {
         let mut label = guard.label;
         for arm in arms {
-            self.begin_arm(arm, guard.region, round)?;
+            self.begin_arm(arm, guard.region, round.mark)?;
             self.push(Flat::Label(label))?;
             self.list(arm.body.as_slice(), round)?;
             self.push(Flat::Jump(guard.end))?;
@@ -182,15 +210,59 @@ impl Steps<'_> {
 }
 
 /// The label at which a list leaves its loop that does nothing else.
-fn exit_of(list: &[WStmt], round: Surroundings<'_>) -> Option<u32> {
+fn exit_of(list: &[WStmt], turns: Option<Turns>) -> Option<u32>
+    ensures { result ≡ exit_of (map part_of list.now) turns }
+{
+    if is_only_break(list) {
+        end_of_turns(turns)
+    } else {
+        None
+    }
+}
+
+fn is_none(list: &[WStmt]) -> bool
+    ensures { result ≡ is_none (map part_of list.now) }
+{
     match list {
-        [WStmt::Break] => {
-            let turns = round.turns?;
-            match turns.cut {
-                None => Some(turns.end),
-                Some(_) => None,
-            }
-        }
-        _ => None,
+        [] => true,
+        [_, ..] => false,
+    }
+}
+
+fn is_only_break(list: &[WStmt]) -> bool
+    ensures { result ≡ is_only_break (map part_of list.now) }
+{
+    match list {
+        [] => false,
+        [only] => is_break(only),
+        [_, _, ..] => false,
+    }
+}
+
+fn is_break(statement: &WStmt) -> bool
+    ensures { result ≡ (part_of statement.now).is_break }
+{
+    match statement {
+        WStmt::Break => true,
+        _ => false,
+    }
+}
+
+/// The label of the loop's end, if there is nothing to cut before it.
+fn end_of_turns(turns: Option<Turns>) -> Option<u32>
+    ensures { result ≡ end_of_turns turns }
+{
+    match turns {
+        Some(turns) => end_uncut(turns.cut, turns.end),
+        None => None,
+    }
+}
+
+fn end_uncut(cut: Option<u32>, end: u32) -> Option<u32>
+    ensures { result ≡ end_uncut cut end }
+{
+    match cut {
+        None => Some(end),
+        Some(_) => None,
     }
 }

@@ -1,5 +1,9 @@
 //! Flat code in the making: its steps, its labels and its regions.
 
+ghost use Rattle.std.specs.Prelude.{◌≡◌, ◌+◌, ◌<◌, ◌^◌, [], IfOk, OnOk, length};
+ghost use Rattle.clu_frames.specs.Flattening.{labelled, made, moves_onto, none, pushed, results_onto};
+ghost use Rattle.clu_frames.specs.declared.flat.Flat.TheVariants as flat;
+
 use crate::errors::FrameError;
 use crate::flat::{FOOT, Flat};
 use clu_base::{Bytes, Const, ObjConst};
@@ -29,7 +33,10 @@ struct Planned {
 
 impl<'a> Steps<'a> {
     /// No steps, of a routine with these constants.
-    pub fn new(alloc: Global, constants: &'a [ObjConst]) -> Steps<'a> {
+    pub fn new(alloc: Global, constants: &'a [ObjConst]) -> Steps<'a>
+        ensures code { result.code.items ≡ [] }
+        ensures labels { result.labels ≡ 0 }
+    {
         Steps {
             alloc,
             constants,
@@ -39,7 +46,10 @@ impl<'a> Steps<'a> {
         }
     }
 
-    pub fn push(&mut self, step: Flat) -> Result<(), FrameError> {
+    #[tactic(auto, using(crate::proofs::Pushing::pushing))]
+    pub fn push(&mut self, step: Flat) -> Result<(), FrameError>
+        ensures made { OnOk result (made self.new ≡ pushed step (made self.old)) }
+    {
         self.code.push(step)?;
         Ok(())
     }
@@ -50,19 +60,27 @@ impl<'a> Steps<'a> {
     }
 
     /// A number for a label.
-    pub fn label(&mut self) -> Result<u32, FrameError> {
+    pub fn label(&mut self) -> Result<u32, FrameError>
+        ensures first { IfOk result (λ label. label ≡ (made self.old).labels) }
+        ensures made { OnOk result (made self.new ≡ labelled 1 (made self.old)) }
+    {
         self.labels(1)
     }
 
     /// So many numbers for labels, by the first of them.
-    pub fn labels(&mut self, count: u32) -> Result<u32, FrameError> {
+    pub fn labels(&mut self, count: u32) -> Result<u32, FrameError>
+        ensures first { IfOk result (λ label. label ≡ (made self.old).labels) }
+        ensures made { OnOk result (made self.new ≡ labelled count (made self.old)) }
+    {
         let first = self.labels;
         self.labels = above(first, count)?;
         Ok(first)
     }
 
     /// To a slot the name of an exception.
-    pub fn push_name(&mut self, slot: u32, name: &Bytes) -> Result<(), FrameError> {
+    pub fn push_name(&mut self, slot: u32, name: &Bytes) -> Result<(), FrameError>
+        ensures made { OnOk result (made self.new ≡ pushed (flat.Set slot none) (made self.old)) }
+    {
         let place = self
             .constants
             .iter()
@@ -73,7 +91,9 @@ impl<'a> Steps<'a> {
     }
 
     /// To the slots the words at the address that travelled.
-    pub fn push_results(&mut self, slots: &[u32]) -> Result<(), FrameError> {
+    pub fn push_results(&mut self, slots: &[u32]) -> Result<(), FrameError>
+        ensures made { OnOk result (made self.new ≡ results_onto 0 slots.now (made self.old)) }
+    {
         let mut number = 0u32;
         for slot in slots {
             self.push(Flat::Result(*slot, number))?;
@@ -83,7 +103,9 @@ impl<'a> Steps<'a> {
     }
 
     /// To the slots the words of those from `from` on.
-    pub fn push_moves(&mut self, slots: &[u32], from: u32) -> Result<(), FrameError> {
+    pub fn push_moves(&mut self, slots: &[u32], from: u32) -> Result<(), FrameError>
+        ensures made { OnOk result (made self.new ≡ moves_onto slots.now (made self.old)) }
+    {
         let mut from = from;
         for slot in slots {
             self.push(Flat::Set(*slot, WExpr::Slot(from)))?;
@@ -93,7 +115,9 @@ impl<'a> Steps<'a> {
     }
 
     /// Begins a region, and gives its number.
-    pub fn open_region(&mut self, parent: Option<u32>) -> Result<u32, FrameError> {
+    pub fn open_region(&mut self, parent: Option<u32>) -> Result<u32, FrameError>
+        ensures made { OnOk result (made self.new ≡ made self.old) }
+    {
         let region = number(self.regions.len())?;
         let first = self.place()?;
         let arms = Vec::new(self.alloc);
@@ -107,7 +131,9 @@ impl<'a> Steps<'a> {
     }
 
     /// Pushes the last step of a region: a jump to its end.
-    pub fn close_region(&mut self, region: u32, end: u32) -> Result<(), FrameError> {
+    pub fn close_region(&mut self, region: u32, end: u32) -> Result<(), FrameError>
+        ensures made { OnOk result (made self.new ≡ pushed (flat.Jump end) (made self.old)) }
+    {
         let last = self.place()?;
         self.push(Flat::Jump(end))?;
         let planned = self
@@ -124,7 +150,9 @@ impl<'a> Steps<'a> {
         region: u32,
         name: Option<&Bytes>,
         mark: u32,
-    ) -> Result<(), FrameError> {
+    ) -> Result<(), FrameError>
+        ensures made { OnOk result (made self.new ≡ made self.old) }
+    {
         let target = self.place()?;
         let name = match name {
             Some(name) => name.copy(self.alloc)?,
@@ -138,8 +166,11 @@ impl<'a> Steps<'a> {
         Ok(())
     }
 
-    /// Gives the regions to their builder, and the steps to the caller.
-    pub fn finish<B: RegionBuilder>(self, builder: &mut B) -> Result<Vec<Flat>, FrameError> {
+    /// Gives the regions to their builder, and the steps to the caller. Places have numbers of 32 bits.
+    pub fn finish<B: RegionBuilder>(self, builder: &mut B) -> Result<Vec<Flat>, FrameError>
+        ensures code { IfOk result (λ code. code.items ≡ self.entry.code.items) }
+        ensures few { IfOk result (λ code. length code.items < 2 ^ 32) }
+    {
         let Steps {
             alloc,
             constants: _,
@@ -156,6 +187,9 @@ impl<'a> Steps<'a> {
             } = region;
             builder.add(alloc, first, last, parent, arms)?;
         }
+        if code.len() > u32::MAX as usize {
+            return Err(FrameError::NotYet);
+        }
         Ok(code)
     }
 }
@@ -169,16 +203,22 @@ fn is_text(constant: &ObjConst, text: &Bytes) -> bool {
 }
 
 /// A count as a number of 32 bits.
-pub fn number(count: usize) -> Result<u32, FrameError> {
+pub fn number(count: usize) -> Result<u32, FrameError>
+    ensures { IfOk result (λ number. number ≡ count) }
+{
     u32::try_from(count).map_err(|_| FrameError::NotYet)
 }
 
 /// The number so many above another, of a slot or a label.
-pub fn above(number: u32, count: u32) -> Result<u32, FrameError> {
+pub fn above(number: u32, count: u32) -> Result<u32, FrameError>
+    ensures { IfOk result (λ sum. sum ≡ number + count) }
+{
     number.checked_add(count).ok_or(FrameError::NotYet)
 }
 
 /// The word of the frame that is this slot.
-pub fn mark_of(slot: u32) -> Result<u32, FrameError> {
+pub fn mark_of(slot: u32) -> Result<u32, FrameError>
+    ensures { IfOk result (λ mark. mark ≡ slot + FOOT) }
+{
     above(slot, FOOT)
 }

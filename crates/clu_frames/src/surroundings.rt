@@ -1,5 +1,8 @@
 //! What stands round a statement of word code.
 
+ghost use Rattle.std.specs.Prelude.{◌≡◌, option_map, slice_get};
+ghost use Rattle.clu_frames.specs.Flattening.{guarding_of, guards_of, outermost, round_of};
+
 use crate::flat::OUTER_MARK;
 use clu_wir::WArm;
 
@@ -49,7 +52,9 @@ pub struct Guards<'a> {
 
 impl<'a> Surroundings<'a> {
     /// What stands round the body of a routine with so many slots.
-    pub fn outermost(slots: u32) -> Surroundings<'a> {
+    pub fn outermost(slots: u32) -> Surroundings<'a>
+        ensures { round_of result ≡ outermost slots }
+    {
         Surroundings {
             work: slots,
             turns: None,
@@ -60,10 +65,14 @@ impl<'a> Surroundings<'a> {
     }
 
     /// The guard that so many others stand inside of.
-    pub fn guard(self, inside: u32) -> Option<Guard<'a>> {
+    pub fn guard(self, inside: u32) -> Option<Guard<'a>>
+        ensures { option_map guarding_of result ≡ slice_get (guards_of self.entry) inside }
+    {
         let mut guards = self.guards?;
-        for _ in 0..inside {
+        let mut left = inside;
+        while left > 0 {
             guards = guards.outside?;
+            left -= 1;
         }
         Some(guards.guard)
     }

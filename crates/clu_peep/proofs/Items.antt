@@ -4,7 +4,7 @@ use Rattle.std.proofs.lemmas.Bool.{false≢true}
 use Rattle.std.proofs.lemmas.List.{length_push}
 use Rattle.std.specs.Vec.Iter.{into_iter_items, into_iter_steps}
 use Rattle.std.specs.declared.vec.IntoIter.{IntoIter}
-use Rattle.clu_peep.specs.Lists.{at_last}
+use Rattle.clu_frames.specs.Labels.{at_last}
 
 pub none_is_not : {X A : Type 0} (x : X) → None ≡ Some x → A
 none_is_not x e = absurd (false≢true (ap is_some e))

@@ -2,13 +2,13 @@
 use Rattle.std.proofs.Common.{◌≡◌, ℕ, zero, suc, ◌+◌, List, [], ◌∷◌, ◌++◌, length, Bool, true, false, not, ◌&&◌, ◌||◌, IsTrue, Option, None, refl, sym, ◌∙◌, ap, subst, ⊎_elim, arith, append_assoc}
 use Rattle.std.proofs.lemmas.Bool.{and_from, and_parts, and_right, false≢true, not-true, not_from_false, or_cases, or_from, or_right}
 use Rattle.clu_wir.specs.declared.expression.WExpr.{WExpr, Slot}
+use Rattle.clu_frames.specs.Labels.{at_last, jump_of, label_of, same}
 use Rattle.clu_frames.specs.declared.flat.Flat.{Flat}
 use Rattle.clu_frames.specs.declared.flat.Flat.TheVariants as flat
 use Rattle.clu_peep.specs.declared.places.Place.{Place}
 use Rattle.clu_peep.specs.declared.steps.Move.{Move}
-use Rattle.clu_peep.specs.Steps.{from_slot, is_back, jump_of, label_of, move_of, same, with_word, word_slot}
+use Rattle.clu_peep.specs.Steps.{from_slot, is_back, move_of, with_word, word_slot}
 use Rattle.clu_peep.specs.Rows.{goes_alone, goes_first, goes_second}
-use Rattle.clu_peep.specs.Lists.{at_last}
 use Rattle.clu_peep.specs.Left.{Adds, Leaves, Removal, Removed, is_settled, is_undone, is_useless, marked, next_goes, passed, places}
 
 -- Removals, one after the other.

@@ -4,6 +4,7 @@ use Rattle.std.specs.List.{AllZip, list_all}
 use Rattle.std.proofs.lemmas.Bool.{and_from, and_parts, false≢true, not_from_true, or_cases}
 use Rattle.std.proofs.lemmas.List.{length-map}
 use Rattle.clu_wir.specs.declared.region.Arm.{Arm}
+use Rattle.clu_frames.specs.Labels.{at_last, goes_on}
 use Rattle.clu_frames.specs.declared.flat.Flat.{Flat}
 use Rattle.clu_frames.specs.declared.flat.Flat.TheVariants as flat
 use Rattle.clu_handlers.specs.declared.region.Region.{Region}
@@ -11,11 +12,10 @@ use Rattle.clu_peep.specs.declared.places.Place.{Place}
 use Rattle.clu_peep.specs.declared.steps.Move.{Move}
 use Rattle.clu_peep.specs.Flattened.{Flattened, is_placed}
 use Rattle.clu_peep.specs.Left.{Removed, begins, goes, is_undone, is_useless, marked, passed, places}
-use Rattle.clu_peep.specs.Lists.{at_last}
 use Rattle.clu_peep.specs.Moved.{IsMoved, before, has_place, moved_arm, staying}
 use Rattle.clu_peep.specs.Peeped.{IsPeeped}
 use Rattle.clu_peep.specs.Rows.{goes_alone, goes_second}
-use Rattle.clu_peep.specs.Steps.{goes_on, is_back, is_idle, move_of}
+use Rattle.clu_peep.specs.Steps.{is_back, is_idle, move_of}
 
 -- A place that goes and isn't before another one is a move.
 

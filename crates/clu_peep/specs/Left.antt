@@ -2,10 +2,10 @@
 use Rattle.std.specs.Prelude.{◌≡◌, ℕ, zero, suc, ◌+◌, ◌==◌, Bool, true, false, not, ◌&&◌, ◌||◌, IsTrue, List, [], ◌∷◌, ◌++◌}
 use Rattle.std.specs.List.{list_any}
 use Rattle.clu_wir.specs.declared.region.Arm.{Arm}
+use Rattle.clu_frames.specs.Labels.{at_last}
 use Rattle.clu_frames.specs.declared.flat.Flat.{Flat}
 use Rattle.clu_handlers.specs.declared.region.Region.{Region}
 use Rattle.clu_peep.specs.declared.places.Place.{Place}
-use Rattle.clu_peep.specs.Lists.{at_last}
 use Rattle.clu_peep.specs.Rows.{goes_alone, goes_first, goes_second}
 
 -- whether an arm of a region begins at a place

@@ -1,7 +1,6 @@
 -- Which flat code can be shortened, which places the rows take away, and where the bounds and targets of regions go.
 pub mod Flattened
 pub mod Left
-pub mod Lists
 pub mod Moved
 pub mod Peeped
 pub mod Rows

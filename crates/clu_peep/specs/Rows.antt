@@ -5,8 +5,9 @@
 --   Jump(l), Label(l)          the first goes
 --   Word(a, v), Word(a, w)     the first goes, if no arm begins at the second
 use Rattle.std.specs.Prelude.{Bool, not, ◌&&◌, ◌||◌}
+use Rattle.clu_frames.specs.Labels.{jump_of, label_of, same}
 use Rattle.clu_peep.specs.declared.places.Place.{Place}
-use Rattle.clu_peep.specs.Steps.{is_back, is_idle, jump_of, label_of, move_of, same, word_slot}
+use Rattle.clu_peep.specs.Steps.{is_back, is_idle, move_of, word_slot}
 
 abbrev pub goes_alone : Place → Bool
 goes_alone x = is_idle (move_of x.step)

@@ -4,10 +4,9 @@ ghost use Rattle.std.specs.Prelude.{◌≡◌, ◌↔◌, ◌++◌, IfOk, IsTrue
 ghost use Rattle.std.specs.List.{list_all};
 ghost use Rattle.std.specs.Option.{option_to_list};
 ghost use Rattle.clu_wir.specs.declared.region.Arm.{Arm};
+ghost use Rattle.clu_frames.specs.Labels.{at_last, differ, goes_on, is_among, is_known, label_of, labels_of};
 ghost use Rattle.clu_frames.specs.declared.flat.Flat.{Flat};
-ghost use Rattle.clu_peep.specs.Flattened.{Flattened, is_flattened, is_known, is_placed, labels_of};
-ghost use Rattle.clu_peep.specs.Lists.{at_last, differ, is_among};
-ghost use Rattle.clu_peep.specs.Steps.{goes_on, label_of};
+ghost use Rattle.clu_peep.specs.Flattened.{Flattened, is_flattened, is_placed};
 
 use crate::loops::are_loops;
 use crate::steps::{goes_on, label_of, target_of};

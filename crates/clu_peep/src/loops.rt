@@ -1,7 +1,7 @@
 //! Whether what resumes ends a loop over an iterator.
 
 ghost use Rattle.std.specs.Prelude.{◌≡◌};
-ghost use Rattle.clu_peep.specs.Flattened.{are_loops, begins_loop, ends_loop, has_loop, loop_before, loop_to};
+ghost use Rattle.clu_frames.specs.Labels.{are_loops, begins_loop, ends_loop, has_loop, loop_before, loop_to};
 
 use crate::steps::{is_invoke, jump_of, label_of, resumed_slot, same, taken_slot};
 use clu_frames::Flat;

@@ -4,9 +4,9 @@
 ghost use Rattle.std.specs.Prelude.{◌≡◌, ◌<◌, ◌^◌, ◌==◌, ◌++◌, ◌∷◌, [], false, length, List, IfOk, IsTrue, OnOk};
 ghost use Rattle.std.specs.List.{list_any};
 ghost use Rattle.clu_wir.specs.declared.region.Arm.{Arm};
+ghost use Rattle.clu_frames.specs.Labels.{at_last};
 ghost use Rattle.clu_peep.specs.declared.places.Place.{Place};
 ghost use Rattle.clu_peep.specs.Left.{Adds, Leaves, begins, has_target, is_settled, is_undone, marked, places};
-ghost use Rattle.clu_peep.specs.Lists.{at_last};
 ghost use Rattle.clu_peep.specs.Rows.{goes_alone, goes_first};
 
 use crate::places::Place;

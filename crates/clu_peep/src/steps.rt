@@ -1,7 +1,8 @@
 //! What a step says to its neighbours.
 
 ghost use Rattle.std.specs.Prelude.{◌≡◌};
-ghost use Rattle.clu_peep.specs.Steps.{from_slot, goes_on, is_back, is_idle, is_invoke, jump_of, label_of, move_of, resumed_slot, same, taken_slot, target_of, with_word, word_slot};
+ghost use Rattle.clu_frames.specs.Labels.{goes_on, is_invoke, jump_of, label_of, resumed_slot, same, taken_slot, target_of};
+ghost use Rattle.clu_peep.specs.Steps.{from_slot, is_back, is_idle, move_of, with_word, word_slot};
 
 use clu_frames::Flat;
 use clu_wir::WExpr;

@@ -1,6 +1,6 @@
 use Rattle.std.proofs.Common.{◌≡◌, drop}
 use Rattle.std.specs.List.{list_all}
-use Rattle.clu_peep.specs.Flattened.{is_known}
+use Rattle.clu_frames.specs.Labels.{is_known}
 use Rattle.clu_peep.proofs.flattened.all_known.Given as goal
 
 -- the steps that are left decide

@@ -1,5 +1,5 @@
 use Rattle.std.proofs.Common.{◌≡◌, length}
-use Rattle.clu_peep.specs.Lists.{differ}
+use Rattle.clu_frames.specs.Labels.{differ}
 use Rattle.clu_peep.proofs.flattened.differ.Given as goal
 
 -- the labels that are left decide

@@ -1,6 +1,6 @@
 use Rattle.std.proofs.Common.{◌∙◌, not, ap, sym}
+use Rattle.clu_frames.specs.Labels.{goes_on}
 use Rattle.clu_frames.specs.declared.flat.Flat.{Flat}
-use Rattle.clu_peep.specs.Steps.{goes_on}
 use Rattle.clu_peep.proofs.Items.{at_last_of}
 use Rattle.clu_peep.proofs.flattened.ends.Goals as goal
 

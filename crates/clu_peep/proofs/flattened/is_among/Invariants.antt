@@ -1,5 +1,5 @@
 use Rattle.std.proofs.Common.{◌≡◌, drop}
-use Rattle.clu_peep.specs.Lists.{is_among}
+use Rattle.clu_frames.specs.Labels.{is_among}
 use Rattle.clu_peep.proofs.flattened.is_among.Given as goal
 
 -- the labels that are left decide

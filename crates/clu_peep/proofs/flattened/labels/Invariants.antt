@@ -1,5 +1,5 @@
 use Rattle.std.proofs.Common.{◌≡◌, take}
-use Rattle.clu_peep.specs.Flattened.{labels_of}
+use Rattle.clu_frames.specs.Labels.{labels_of}
 use Rattle.clu_peep.proofs.flattened.labels.Given as goal
 
 abbrev pub invariant-loop-step : goal.invariant-loop-step

@@ -1,5 +1,5 @@
 use Rattle.std.proofs.Common.{◌≡◌, length}
-use Rattle.clu_peep.specs.Flattened.{are_loops}
+use Rattle.clu_frames.specs.Labels.{are_loops}
 use Rattle.clu_peep.proofs.loops.are_loops.Given as goal
 
 -- the places that are left decide

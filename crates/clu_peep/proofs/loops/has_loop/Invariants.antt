@@ -1,5 +1,5 @@
 use Rattle.std.proofs.Common.{◌≡◌, length}
-use Rattle.clu_peep.specs.Flattened.{has_loop}
+use Rattle.clu_frames.specs.Labels.{has_loop}
 use Rattle.clu_peep.proofs.loops.has_loop.Given as goal
 
 -- the places that are left decide

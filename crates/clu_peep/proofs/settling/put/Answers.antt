@@ -1,7 +1,7 @@
 use Rattle.std.proofs.Common.{◌≡◌, ◌∙◌, false, true, IsTrue, List, ap, sym, subst}
+use Rattle.clu_frames.specs.Labels.{at_last}
 use Rattle.clu_peep.specs.declared.places.Place.{Place}
 use Rattle.clu_peep.specs.Left.{Adds, is_settled}
-use Rattle.clu_peep.specs.Lists.{at_last}
 use Rattle.clu_peep.specs.Rows.{goes_first}
 use Rattle.clu_peep.proofs.Items.{last_found, one_less}
 use Rattle.clu_peep.proofs.Passing.{PutsSoFar, puts_end, puts_next, puts_settled}

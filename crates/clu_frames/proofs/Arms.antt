@@ -1,0 +1,38 @@
+-- The arms of a guard in the code: their slots, and that what a guard adds is put together from its parts.
+use Rattle.std.proofs.Common.{◌≡◌, ◌∙◌, ℕ, ◌+◌, ◌<◌, List, length, get_or, map, Some, refl, sym, ap}
+use Rattle.std.specs.Prelude.{Option, option_map, slice_get}
+use Rattle.std.proofs.lemmas.List.{length-map}
+use Rattle.std.proofs.lemmas.Option.{slice_get-map, slice_get_read}
+use Rattle.clu_wir.specs.declared.statement.WStmt.{WStmt, WStmt-F, fold-roll-WStmt, fold_out-WStmt, map-WStmt, out-WStmt, roll-WStmt}
+use Rattle.clu_wir.specs.declared.statement.WArm.{WArm, fold_out-WArm}
+use Rattle.clu_frames.specs.Flattening.{ArmPart, Guarding, Made, Part, Round, arm_of, arm_step, arms_onto, guard_at, guard_onto, guarded_onto, labelled, part_of, part_step}
+
+slots_of : (arm : WArm) → (arm_of arm).slots ≡ arm.slots.items
+slots_of arm = ap (λ (a : ArmPart). a.slots) (fold_out-WArm Part ArmPart part_step arm_step arm)
+
+pub slots_at : (arms : List WArm) (n : ℕ) (arm : WArm) → n < length arms → arm ≡ get_or arms n arm
+    → slice_get (map (λ (a : ArmPart). a.slots) (map arm_of arms)) n ≡ Some arm.slots.items
+slots_at arms n arm inside is =
+    slice_get-map (λ (a : ArmPart). a.slots) (map arm_of arms) n
+    ∙ ap (option_map (λ (a : ArmPart). a.slots)) (slice_get-map arm_of arms n)
+    ∙ ap (λ (o : Option WArm). option_map (λ (a : ArmPart). a.slots) (option_map arm_of o)) (slice_get_read arms (length arms) n arm refl inside is)
+    ∙ ap Some (slots_of arm)
+
+pub part_roll : (x : WStmt-F WStmt WArm) → part_of (roll-WStmt x) ≡ part_step (map-WStmt WStmt WArm Part ArmPart part_of arm_of x)
+part_roll = fold-roll-WStmt Part ArmPart part_step arm_step
+
+pub part_out : (s : WStmt) → part_of s ≡ part_step (map-WStmt WStmt WArm Part ArmPart part_of arm_of (out-WStmt s))
+part_out = fold_out-WStmt Part ArmPart part_step arm_step
+
+pub guard_made : (body : List Part) (arms : List WArm) (round : Round) (m m1 m2 m3 : Made) (g : Guarding) (end : ℕ)
+    → g ≡ guard_at (map arm_of arms) m.labels round.mark → end ≡ m.labels + length arms → m1 ≡ labelled 1 (labelled (length arms) m)
+    → m2 ≡ guarded_onto body g end round m1 → m3 ≡ arms_onto g.label end (map arm_of arms) round m2 → m3 ≡ guard_onto body (map arm_of arms) round m
+guard_made body arms round m m1 m2 m3 g end at last begun inside after =
+    let parts : List ArmPart = map arm_of arms in
+    let count : length arms ≡ length parts = sym (length-map arms arm_of) in
+    let whole : Guarding → ℕ → ℕ → Made = λ h e n. arms_onto h.label e parts round (guarded_onto body h e round (labelled 1 (labelled n m))) in
+    after
+    ∙ ap (arms_onto g.label end parts round) (inside ∙ ap (guarded_onto body g end round) begun)
+    ∙ ap (λ (h : Guarding). whole h end (length arms)) at
+    ∙ ap (λ (e : ℕ). whole (guard_at parts m.labels round.mark) e (length arms)) (last ∙ ap (λ (n : ℕ). m.labels + n) count)
+    ∙ ap (λ (n : ℕ). whole (guard_at parts m.labels round.mark) (m.labels + length parts) n) count

@@ -1,0 +1,4 @@
+-- Steps that are added at the end.
+use Rattle.std.proofs.lemmas.List.{map-append}
+
+pub ruleset pushing = (map-append)

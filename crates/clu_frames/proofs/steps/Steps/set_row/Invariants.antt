@@ -1,0 +1,7 @@
+use Rattle.std.proofs.Common.{◌≡◌, drop}
+use Rattle.clu_frames.specs.Flattening.{made, sets_onto}
+use Rattle.clu_frames.proofs.steps.Steps.set_row.Given as goal
+
+-- the values that are left add the rest
+abbrev pub invariant-loop-value : goal.invariant-loop-value
+invariant-loop-value l = sets_onto l.to (drop l.value-index l.values) (made l.self) ≡ sets_onto l.fn.to l.fn.values (made l.fn.self)
