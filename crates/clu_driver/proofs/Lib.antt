@@ -1,8 +1,9 @@
 pub mod Asked
 pub mod ByStatus
+pub mod Entered
 pub mod FailureText
 pub mod Found
-pub mod Entered
 pub mod Held
+pub mod OneMore
 pub mod Repeated
 pub mod Runs

@@ -5,6 +5,7 @@ pub mod Held
 pub mod Libraries
 pub mod Puts
 pub mod Refusals
+pub mod Sessions
 pub mod Shows
 pub mod Sources
 pub mod World

@@ -19,8 +19,10 @@ mod referring;
 mod refusals;
 mod running;
 mod separate;
+mod sessions;
 mod sources;
 mod specifying;
 mod top;
 
+pub use crate::sessions::session;
 pub use crate::top::clu;

@@ -1,8 +1,7 @@
 //! The outside of a call, in memory.
 
 use clu_base::{Bytes, MemSink, MemSource, MemStore, Memory, Store};
-use clu_driver::clu;
-use clu_session::session;
+use clu_driver::{clu, session};
 use std::alloc::Global;
 use std::test::Fail;
 

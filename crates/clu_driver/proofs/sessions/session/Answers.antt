@@ -1,6 +1,6 @@
 use Rattle.std.proofs.Common.{ap, map, rules, string_bytes}
-use Rattle.clu_session.proofs.OneMore.{next_call}
-use Rattle.clu_session.proofs.sessions.session.Goals as goal
+use Rattle.clu_driver.proofs.OneMore.{next_call}
+use Rattle.clu_driver.proofs.sessions.session.Goals as goal
 
 -- the call of this turn is one more
 pub loop-words-preserved : goal.loop-words-preserved

@@ -1,10 +1,10 @@
 //! Calls one after the other.
 
 ghost use Rattle.std.specs.Prelude.{◌≡◌, IfOk, OnErr, map, string_bytes};
-ghost use Rattle.clu_session.specs.Sessions.{IsCall, IsSession, state_of};
+ghost use Rattle.clu_driver.specs.Sessions.{IsCall, IsSession, state_of};
 
+use crate::top::clu;
 use clu_base::{Memory, Sink, Source, Store};
-use clu_driver::clu;
 use std::alloc::Global;
 
 /// Calls `clu` with each list of words in turn, and gives the statuses. If memory for the statuses is refused, which

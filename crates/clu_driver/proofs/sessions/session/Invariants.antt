@@ -1,6 +1,6 @@
 use Rattle.std.proofs.Common.{◌≡◌, ◌≤◌, length, map, string_bytes, take, vec_capacity, vec_len}
-use Rattle.clu_session.specs.Sessions.{IsSession, state_of}
-use Rattle.clu_session.proofs.sessions.session.Given as goal
+use Rattle.clu_driver.specs.Sessions.{IsSession, state_of}
+use Rattle.clu_driver.proofs.sessions.session.Given as goal
 
 -- the calls so far, each with its status, and room for the statuses of all
 abbrev pub invariant-loop-words : goal.invariant-loop-words

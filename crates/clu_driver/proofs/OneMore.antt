@@ -1,7 +1,7 @@
 -- A session and one call more.
 use Rattle.std.proofs.Common.{◌≡◌, ◌+◌, ◌<◌, ◌∙◌, ℕ, List, [], ◌∷◌, ◌++◌, ap, get_or, length, map, refl, sym, subst, take}
 use Rattle.std.proofs.lemmas.List.{map_more}
-use Rattle.clu_session.specs.Sessions.{IsCall, IsSession, State}
+use Rattle.clu_driver.specs.Sessions.{IsCall, IsSession, State}
 
 -- behind a session stands one call more
 pub one_more : (runs : List (List (List ℕ))) (statuses : List ℕ) (words : List (List ℕ)) (status : ℕ) (start now next : State)

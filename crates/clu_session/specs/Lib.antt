@@ -1,2 +1,0 @@
--- Calls of `clu` one after the other.
-pub mod Sessions
