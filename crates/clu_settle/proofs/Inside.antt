@@ -63,7 +63,7 @@ module _ (nodes : List Node) (meanings : List Meaning) where
       (below_of nodes tree n (slice_get nodes n) refl (omega (arith, l)))
       (named_below (length nodes) (meaning_in (slice_get meanings n))))
 
-  spans_size : (n : ℕ) → length (spans_to nodes meanings n) ≡ n
+  pub spans_size : (n : ℕ) → length (spans_to nodes meanings n) ≡ n
   unfolding spans_to
   spans_size zero = refl
   spans_size (suc n) =

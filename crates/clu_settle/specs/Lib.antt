@@ -4,5 +4,9 @@ pub mod Inserted
 pub mod Lists
 pub mod Names
 pub mod Agreeing
+pub mod Known
+pub mod Indexed
+pub mod Steps
 pub mod Graph
 pub mod Operators
+pub mod Settled

@@ -2,12 +2,16 @@
 
 ghost use Rattle.std.specs.Prelude.{◌≡◌, ℕ, List, IfOk, Some, length};
 ghost use Rattle.clu_base.specs.declared.constants.Const.{Const};
-ghost use Rattle.clu_types.specs.CluType.{CluType, no_actuals, cluster_of};
+ghost use Rattle.clu_types.specs.CluType.{CluType, Actuals, no_actuals, cluster_of};
 ghost use Rattle.clu_types.specs.Arena.{ActualsBelow, Grows, actuals_at};
 ghost use Rattle.clu_types.specs.Arena.{types_of as arena_types};
-ghost use Rattle.clu_meaning.specs.Settling.{Value as Settled, settled_type, module_type};
+ghost use Rattle.clu_syntax.specs.Syntax.{Constant};
+ghost use Rattle.clu_meaning.specs.Scoping.{Scope};
+ghost use Rattle.clu_meaning.specs.Scoping.{Meaning as Meant};
+ghost use Rattle.clu_meaning.specs.Settling.{Value as Settled, settled_type, module_type, value_of_meaning};
 ghost use Rattle.clu_meaning.specs.Settling.{with_brackets as settled_with_brackets};
-ghost use Rattle.clu_settle.specs.Values.{told, Agrees, IsWithin};
+ghost use Rattle.clu_settle.specs.Values.{told, Agrees, IsWithin, AreWithin};
+ghost use Rattle.clu_settle.specs.Agreeing.{ActualsAgree, MeaningAgrees};
 
 use crate::lists::actuals_of;
 use crate::meanings::Meaning;
@@ -56,6 +60,7 @@ fn module_type(
     given: Sequence<Actual>,
 ) -> Result<Value, Memory>
     requires { ActualsBelow (length types.old) given }
+    ensures known { IfOk result (λ v. (constants : List Const) → told (arena_types types.new) constants v ≡ Some (settled_type (module_type name.now (actuals_at (arena_types types.old) given)))) }
     ensures within { IfOk result (λ v. (n : ℕ) → IsWithin (length types.new) n v) }
     ensures kept { Grows types.old types.new }
 {
@@ -74,6 +79,7 @@ fn module_value(
     name: &Bytes,
     given: &[u32],
 ) -> Result<Value, Memory>
+    ensures known { IfOk result (λ v. (gs : Actuals) → ActualsAgree (arena_types types.old) constants.now values.now given.now gs → Agrees (told (arena_types types.new) constants.now v) (settled_type (module_type name.now gs))) }
     ensures within { IfOk result (λ v. (n : ℕ) → IsWithin (length types.new) n v) }
     ensures kept { Grows types.old types.new }
 {
@@ -99,6 +105,8 @@ pub fn value_of_name(
     name: &Bytes,
     given: &[u32],
 ) -> Result<Value, Memory>
+    ensures known { IfOk result (λ v. (scope : Scope) (unfolded : Constant → Settled) (m : Meant) (gs : Actuals) → MeaningAgrees (arena_types types.old) constants.now values.now unfolded meaning m → ActualsAgree (arena_types types.old) constants.now values.now given.now gs → Agrees (told (arena_types types.new) constants.now v) (value_of_meaning scope unfolded name.now gs m)) }
+    ensures within { IfOk result (λ v. (n : ℕ) → AreWithin (length types.old) n values.now → IsWithin (length types.new) n v) }
     ensures kept { Grows types.old types.new }
 {
     match meaning {

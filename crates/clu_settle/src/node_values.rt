@@ -1,8 +1,22 @@
 //! The value of a node, by those of the nodes from which it is made.
 
-ghost use Rattle.std.specs.Prelude.{◌<◌, length};
+ghost use Rattle.std.specs.Prelude.{◌≡◌, ◌<◌, ℕ, true, List, IfOk, length, slice_get, codes};
+ghost use Rattle.clu_base.specs.declared.constants.Const.{Const};
+ghost use Rattle.clu_types.specs.CluType.{Actuals};
 ghost use Rattle.clu_types.specs.Arena.{Grows};
-ghost use Rattle.clu_settle.specs.Values.{Kept};
+ghost use Rattle.clu_types.specs.Arena.{types_of as arena_types};
+ghost use Rattle.clu_syntax.specs.declared.words.SimpleType.{SimpleType};
+ghost use Rattle.clu_syntax.specs.Kinds.{is_expression, is_type, kind_at};
+ghost use Rattle.clu_syntax.specs.Nodes.{item_at};
+ghost use Rattle.clu_syntax.specs.Syntax.{Constant};
+ghost use Rattle.clu_meaning.specs.Scoping.{Scope, meaning_of};
+ghost use Rattle.clu_meaning.specs.Scoping.{Meaning as Meant};
+ghost use Rattle.clu_meaning.specs.Settling.{Value as Settled, settled_type, type_in, simple_type, representation_at, value_of_meaning, value_of_constant, value_of_expression, type_of};
+ghost use Rattle.clu_settle.specs.Values.{told, Agrees, Kept, IsWithin, AreWithin};
+ghost use Rattle.clu_settle.specs.Names.{is_constant, meaning_in};
+ghost use Rattle.clu_settle.specs.Agreeing.{ActualsAgree, MeaningAgrees};
+ghost use Rattle.clu_settle.specs.Known.{AreKnown};
+ghost use Rattle.clu_settle.specs.Indexed.{indexed};
 
 use crate::literals::literal_value;
 use crate::meanings::{Meaning, meaning_at};
@@ -26,6 +40,8 @@ pub struct Asked<'a> {
 
 /// A type from what stands for one; `no_type` is the parameter 0, of which no object is.
 fn as_type(types: &mut TypeArena, value: Value) -> Result<Value, Memory>
+    ensures known { IfOk result (λ v. (constants : List Const) (s : Settled) → Agrees (told (arena_types types.old) constants value) s → Agrees (told (arena_types types.new) constants v) (settled_type (type_in s))) }
+    ensures within { IfOk result (λ v. (n : ℕ) → IsWithin (length types.old) n value → IsWithin (length types.new) n v) }
     ensures kept { Grows types.old types.new }
 {
     match value {
@@ -45,6 +61,8 @@ fn named_type(
     name: &Bytes,
     given: &[u32],
 ) -> Result<Value, Memory>
+    ensures known { IfOk result (λ v. (scope : Scope) (unfolded : Constant → Settled) (m : Meant) (gs : Actuals) → MeaningAgrees (arena_types types.old) constants.now values.now unfolded (meaning_in (slice_get asked.entry.meanings.now n)) m → ActualsAgree (arena_types types.old) constants.now values.now given.now gs → Agrees (told (arena_types types.new) constants.now v) (settled_type (type_in (value_of_meaning scope unfolded name.now gs m)))) }
+    ensures within { IfOk result (λ v. (n : ℕ) → AreWithin (length types.old) n values.now → IsWithin (length types.new) n v) }
     ensures kept { Grows types.old types.new }
 {
     let meaning = meaning_at(asked.meanings, n);
@@ -60,6 +78,8 @@ fn representation(
     values: &[Value],
     n: u32,
 ) -> Result<Value, Memory>
+    ensures known { IfOk result (λ v. (scope : Scope) (unfolded : Constant → Settled) → MeaningAgrees (arena_types types.old) constants.now values.now unfolded (meaning_in (slice_get asked.entry.meanings.now n)) (meaning_of scope n (codes "rep")) → Agrees (told (arena_types types.new) constants.now v) (settled_type (representation_at scope unfolded n))) }
+    ensures within { IfOk result (λ v. (n : ℕ) → AreWithin (length types.old) n values.now → IsWithin (length types.new) n v) }
     ensures kept { Grows types.old types.new }
 {
     let name = Bytes::from_slice(asked.alloc, b"rep")?;
@@ -76,6 +96,8 @@ fn simple_value(
     n: u32,
     word: SimpleType,
 ) -> Result<Value, Memory>
+    ensures known { IfOk result (λ v. (scope : Scope) (unfolded : Constant → Settled) → (word ≡ SimpleType.Rep → MeaningAgrees (arena_types types.old) constants.now values.now unfolded (meaning_in (slice_get asked.entry.meanings.now n)) (meaning_of scope n (codes "rep"))) → Agrees (told (arena_types types.new) constants.now v) (settled_type (simple_type scope unfolded n word))) }
+    ensures within { IfOk result (λ v. (n : ℕ) → AreWithin (length types.old) n values.now → IsWithin (length types.new) n v) }
     ensures kept { Grows types.old types.new }
 {
     match word {
@@ -100,13 +122,15 @@ fn value_of_type(
     n: u32,
 ) -> Result<Value, Memory>
     requires { n < length asked.syntax.now }
+    ensures known { IfOk result (λ v. (scope : Scope) (unfolded : Constant → Settled) → AreKnown asked.entry.syntax.now scope asked.entry.meanings.now (arena_types types.old) constants.now values.now unfolded → is_type (kind_at asked.entry.syntax.now n) ≡ true → Agrees (told (arena_types types.new) constants.now v) (settled_type (type_of scope unfolded (item_at asked.entry.syntax.now n).type))) }
+    ensures within { IfOk result (λ v. (n : ℕ) → AreWithin (length types.old) n values.now → IsWithin (length types.new) n v) }
     ensures kept { Grows types.old types.new }
 {
+    let tree = asked.syntax.tree();
     match asked.syntax.type_expression(n) {
         TypeExpression::Simple(word) => simple_value(asked, types, constants, values, n, word),
         TypeExpression::List { word, of } => list_value(types, values, word, of),
         TypeExpression::Fields { word, selectors } => {
-            let tree = asked.syntax.tree();
             fields_value(asked.alloc, types, tree, values, word, selectors)
         }
         TypeExpression::Routine {
@@ -114,19 +138,16 @@ fn value_of_type(
             arguments,
             results,
             exceptions,
-        } => {
-            let tree = asked.syntax.tree();
-            routine_value(
-                asked.alloc,
-                types,
-                tree,
-                values,
-                kind,
-                arguments,
-                results,
-                exceptions,
-            )
-        }
+        } => routine_value(
+            asked.alloc,
+            types,
+            tree,
+            values,
+            kind,
+            arguments,
+            results,
+            exceptions,
+        ),
         TypeExpression::Named {
             name,
             constants: given,
@@ -144,6 +165,8 @@ fn index_value(
     given: &[u32],
 ) -> Result<Value, Memory>
     requires { of < length asked.syntax.now }
+    ensures known { IfOk result (λ v. (scope : Scope) (unfolded : Constant → Settled) (gs : Actuals) → AreKnown asked.entry.syntax.now scope asked.entry.meanings.now (arena_types types.old) constants.now values.now unfolded → is_expression (kind_at asked.entry.syntax.now of) ≡ true → ActualsAgree (arena_types types.old) constants.now values.now given.now gs → Agrees (told (arena_types types.new) constants.now v) (indexed scope unfolded (item_at asked.entry.syntax.now of).expression gs)) }
+    ensures within { IfOk result (λ v. (n : ℕ) → AreWithin (length types.old) n values.now → IsWithin (length types.new) n v) }
     ensures kept { Grows types.old types.new }
 {
     match asked.syntax.expression(of) {
@@ -165,6 +188,8 @@ fn index_value_at(
     of: u32,
     given: &[u32],
 ) -> Result<Value, Memory>
+    ensures known { IfOk result (λ v. (scope : Scope) (unfolded : Constant → Settled) (gs : Actuals) → AreKnown asked.entry.syntax.now scope asked.entry.meanings.now (arena_types types.old) constants.now values.now unfolded → is_expression (kind_at asked.entry.syntax.now of) ≡ true → ActualsAgree (arena_types types.old) constants.now values.now given.now gs → Agrees (told (arena_types types.new) constants.now v) (indexed scope unfolded (item_at asked.entry.syntax.now of).expression gs)) }
+    ensures within { IfOk result (λ v. (n : ℕ) → AreWithin (length types.old) n values.now → IsWithin (length types.new) n v) }
     ensures kept { Grows types.old types.new }
 {
     if of < asked.syntax.tree().len() {
@@ -183,6 +208,8 @@ fn value_of_expression(
     n: u32,
 ) -> Result<Value, Memory>
     requires { n < length asked.syntax.now }
+    ensures known { IfOk result (λ v. (scope : Scope) (unfolded : Constant → Settled) → AreKnown asked.entry.syntax.now scope asked.entry.meanings.now (arena_types types.old) constants.old.items values.now unfolded → is_expression (kind_at asked.entry.syntax.now n) ≡ true → Agrees (told (arena_types types.new) constants.new.items v) (value_of_expression scope unfolded (item_at asked.entry.syntax.now n).expression)) }
+    ensures within { IfOk result (λ v. AreWithin (length types.old) (length constants.old.items) values.now → IsWithin (length types.new) (length constants.new.items) v) }
     ensures types_kept { Grows types.old types.new }
     ensures constants_kept { Kept constants.old.items constants.new.items }
 {
@@ -228,6 +255,8 @@ pub fn node_value(
     n: u32,
 ) -> Result<Value, Memory>
     requires { n < length asked.syntax.now }
+    ensures known { IfOk result (λ v. (scope : Scope) (unfolded : Constant → Settled) → AreKnown asked.entry.syntax.now scope asked.entry.meanings.now (arena_types types.old) constants.old.items values.now unfolded → is_constant asked.entry.syntax.now n ≡ true → Agrees (told (arena_types types.new) constants.new.items v) (value_of_constant scope unfolded (item_at asked.entry.syntax.now n).constant)) }
+    ensures within { IfOk result (λ v. AreWithin (length types.old) (length constants.old.items) values.now → IsWithin (length types.new) (length constants.new.items) v) }
     ensures types_kept { Grows types.old types.new }
     ensures constants_kept { Kept constants.old.items constants.new.items }
 {

@@ -1,8 +1,12 @@
 //! Operators over constants.
 
-ghost use Rattle.std.specs.Prelude.{◌≡◌, ℕ, IfOk, length};
+ghost use Rattle.std.specs.Prelude.{◌≡◌, ℕ, List, IfOk, Some, length};
+ghost use Rattle.std.specs.Option.{option_and_then};
+ghost use Rattle.clu_types.specs.CluType.{CluType};
+ghost use Rattle.clu_meaning.specs.Constants.{prefixed};
+ghost use Rattle.clu_meaning.specs.Settling.{Value as Settled, constant_in as constant_of, constant_value, infix_value};
 ghost use Rattle.clu_settle.specs.Operators.{folded_by, prefix_by, nothing_beside};
-ghost use Rattle.clu_settle.specs.Values.{Kept, TypeWithin, ConstantWithin};
+ghost use Rattle.clu_settle.specs.Values.{told, Agrees, Kept, TypeWithin, ConstantWithin, constant_at};
 
 use crate::constants::{constant_at, keep};
 use crate::value::Value;
@@ -56,6 +60,7 @@ fn folded_value(
     a: usize,
     b: usize,
 ) -> Result<Value, Memory>
+    ensures known { IfOk result (λ v. (types : List CluType) → told types constants.new.items v ≡ Some (infix_value operator (Some (constant_at constants.old.items a)) (Some (constant_at constants.old.items b)))) }
     ensures constant_in { IfOk result (λ v. ConstantWithin (length constants.new.items) v) }
     ensures type_in { IfOk result (λ v. (n : ℕ) → TypeWithin n v) }
     ensures kept { Kept constants.old.items constants.new.items }
@@ -84,6 +89,7 @@ pub fn infix_value(
     left: Value,
     right: Value,
 ) -> Result<Value, Memory>
+    ensures known { IfOk result (λ v. (types : List CluType) (a b : Settled) → Agrees (told types constants.old.items left) a → Agrees (told types constants.old.items right) b → Agrees (told types constants.new.items v) (infix_value operator (constant_of a) (constant_of b))) }
     ensures constant_in { IfOk result (λ v. ConstantWithin (length constants.new.items) v) }
     ensures type_in { IfOk result (λ v. (n : ℕ) → TypeWithin n v) }
     ensures kept { Kept constants.old.items constants.new.items }
@@ -105,6 +111,7 @@ pub fn prefix_value(
     sign: Sign,
     operand: Value,
 ) -> Result<Value, Memory>
+    ensures known { IfOk result (λ v. (types : List CluType) (a : Settled) → Agrees (told types constants.old.items operand) a → Agrees (told types constants.new.items v) (constant_value (option_and_then (prefixed sign) (constant_of a)))) }
     ensures constant_in { IfOk result (λ v. ConstantWithin (length constants.new.items) v) }
     ensures type_in { IfOk result (λ v. (n : ℕ) → TypeWithin n v) }
     ensures kept { Kept constants.old.items constants.new.items }

@@ -1,7 +1,12 @@
 //! The values of all nodes of a tree, each found once, after those from which it is made.
 
-ghost use Rattle.std.specs.Prelude.{◌≡◌, length};
+ghost use Rattle.std.specs.Prelude.{◌≡◌, ◌<◌, ◌+◌, ℕ, List, Some, IfOk, OnOk, length, slice_get, eqb};
+ghost use Rattle.std.specs.List.{IsDistinct};
 ghost use Rattle.clu_names.specs.Denotes.{bound_to, starts_to};
+ghost use Rattle.clu_meaning.specs.Scoping.{Scope};
+ghost use Rattle.clu_settle.specs.Names.{AreMeanings};
+ghost use Rattle.clu_settle.specs.Steps.{ArePassed};
+ghost use Rattle.clu_settle.specs.Settled.{AreSettled};
 
 use crate::graph::graph_of;
 use crate::meanings::{Meaning, meanings};
@@ -24,21 +29,36 @@ pub struct Values {
     pub values: Vec<Value>,
 }
 
-/// Settles the node of this number, if there is one.
+/// Settles the node n, which stands next in an order.
 fn settle_one(
     asked: Asked<'_>,
     types: &mut TypeArena,
     constants: &mut Vec<Const>,
     values: &mut [Value],
+    n: u32,
+) -> Result<(), Memory>
+    requires inside { n < length asked.syntax.now }
+    requires size { length values.old ≡ length asked.syntax.now }
+    ensures { OnOk result ((order : List ℕ) (p : ℕ) → slice_get order p ≡ Some n → ArePassed asked.entry.syntax.now asked.entry.meanings.now order p types.old constants.old.items values.old → ArePassed asked.entry.syntax.now asked.entry.meanings.now order (p + 1) types.new constants.new.items values.new) }
+{
+    let value = node_value(asked, types, constants, values, n)?;
+    values[n as usize] = value;
+    Ok(())
+}
+
+/// The same of a number that may be no node.
+fn settle_at(
+    asked: Asked<'_>,
+    types: &mut TypeArena,
+    constants: &mut Vec<Const>,
+    values: &mut [Value],
     place: usize,
-) -> Result<(), Memory> {
-    if place >= values.len() {
-        return Ok(());
-    }
+) -> Result<(), Memory>
+    requires { length values.old ≡ length asked.syntax.now }
+    ensures { OnOk result ((order : List ℕ) (p : ℕ) → slice_get order p ≡ Some place → ArePassed asked.entry.syntax.now asked.entry.meanings.now order p types.old constants.old.items values.old → ArePassed asked.entry.syntax.now asked.entry.meanings.now order (p + 1) types.new constants.new.items values.new) }
+{
     if place < asked.syntax.tree().len() as usize {
-        let value = node_value(asked, types, constants, values, place as u32)?;
-        values[place] = value;
-        Ok(())
+        settle_one(asked, types, constants, values, place as u32)
     } else {
         Ok(())
     }
@@ -50,14 +70,20 @@ fn settle_all(
     constants: &mut Vec<Const>,
     values: &mut [Value],
     order: &[usize],
-) -> Result<(), Memory> {
+) -> Result<(), Memory>
+    requires { ArePassed asked.syntax.now asked.meanings.now order.now 0 types.old constants.old.items values.old }
+    ensures { OnOk result (ArePassed asked.entry.syntax.now asked.entry.meanings.now order.now (length order.now) types.new constants.new.items values.new) }
+{
     for place in order {
-        settle_one(asked, types, constants, values, *place)?;
+        settle_at(asked, types, constants, values, *place)?;
     }
     Ok(())
 }
 
-fn settle_in(alloc: Global, asked: Asked<'_>, order: &[usize]) -> Result<Values, Memory> {
+fn settle_in(alloc: Global, asked: Asked<'_>, order: &[usize]) -> Result<Values, Memory>
+    requires { IsDistinct eqb order.now }
+    ensures { IfOk result (λ all. (scope : Scope) → AreMeanings asked.entry.syntax.now scope asked.entry.meanings.now → AreSettled asked.entry.syntax.now scope all.types all.constants.items all.values.items) }
+{
     let len = asked.syntax.tree().len();
     let mut values = vec![in alloc; Value::Lost; len as usize]?;
     let mut constants = Vec::new(alloc);
@@ -70,13 +96,17 @@ fn settle_in(alloc: Global, asked: Asked<'_>, order: &[usize]) -> Result<Values,
     })
 }
 
-fn order_of(alloc: Global, syntax: &Syntax, meanings: &[Meaning]) -> Result<Circles, Memory> {
+fn order_of(alloc: Global, syntax: &Syntax, meanings: &[Meaning]) -> Result<Circles, Memory>
+    ensures { IfOk result (λ found. IsDistinct eqb found.order.items) }
+{
     let graph = graph_of(alloc, syntax.tree(), meanings)?;
     find_circles(alloc, graph.targets.as_slice(), graph.spans.as_slice())
 }
 
 /// The values of the nodes of a tree, by what the name of each node stands for.
-fn settle_by(alloc: Global, syntax: &Syntax, meanings: &[Meaning]) -> Result<Values, Memory> {
+fn settle_by(alloc: Global, syntax: &Syntax, meanings: &[Meaning]) -> Result<Values, Memory>
+    ensures { IfOk result (λ all. (scope : Scope) → AreMeanings syntax.now scope meanings.now → AreSettled syntax.now scope all.types all.constants.items all.values.items) }
+{
     let found = order_of(alloc, syntax, meanings)?;
     let asked = Asked {
         alloc,

@@ -2,13 +2,13 @@
 
 ghost use Rattle.std.specs.Prelude.{◌≡◌, ℕ, List, IfOk, Some, length};
 ghost use Rattle.clu_base.specs.declared.constants.Const.{Const};
-ghost use Rattle.clu_types.specs.CluType.{CluType, Fields};
+ghost use Rattle.clu_types.specs.CluType.{CluType, CluTypes, Fields, Signals};
 ghost use Rattle.clu_types.specs.Arena.{PartsBelow, Grows, type_of, type_at, types_at, fields_at, signals_at};
 ghost use Rattle.clu_types.specs.Arena.{types_of as arena_types};
 ghost use Rattle.clu_meaning.specs.Settling.{settled_type, list_type, fields_type, routine_type};
 ghost use Rattle.clu_settle.specs.Values.{told, Agrees, TypeWithin, ConstantWithin};
 ghost use Rattle.clu_settle.specs.Lists.{value_of};
-ghost use Rattle.clu_settle.specs.Agreeing.{SelectorsAgree};
+ghost use Rattle.clu_settle.specs.Agreeing.{TypesAgree, SelectorsAgree, SignalsAgree};
 
 use crate::lists::{fields_of, signals_of, types_of};
 use crate::value::{Value, value_at};
@@ -131,6 +131,7 @@ pub fn routine_value(
     results: &[u32],
     exceptions: &[u32],
 ) -> Result<Value, Memory>
+    ensures known { IfOk result (λ v. (constants : List Const) (args given : CluTypes) (ss : Signals) → TypesAgree (arena_types types.old) constants values.now arguments.now args → TypesAgree (arena_types types.old) constants values.now results.now given → SignalsAgree (arena_types types.old) constants values.now tree.now exceptions.now ss → Agrees (told (arena_types types.new) constants v) (settled_type (routine_type kind args given ss))) }
     ensures constant_in { IfOk result (λ v. (n : ℕ) → ConstantWithin n v) }
     ensures type_in { IfOk result (λ v. TypeWithin (length types.new) v) }
     ensures kept { Grows types.old types.new }

@@ -1,0 +1,12 @@
+use Rattle.std.proofs.Common.{sym}
+use Rattle.clu_meaning.specs.Settling.{value_of_meaning}
+use Rattle.clu_settle.proofs.Made.{ok_more, meant_as}
+use Rattle.clu_settle.proofs.node_values.named_type.Goals as goal
+
+pub returns-clause-known : goal.returns-clause-known
+returns-clause-known c = ok_more _ _ c.as_type.result c.as_type.ensures.known (λ v p scope unfolded m gs a b.
+    p c.args.constants.now (value_of_meaning scope unfolded c.args.name.now gs m)
+    (c.in_ok-value.ensures.known scope unfolded m gs (meant_as _ _ _ unfolded _ c.meaning_at-meaning.result m (sym c.meaning_at-meaning.ensures) a) b))
+
+pub returns-clause-within : goal.returns-clause-within
+returns-clause-within c = ok_more _ _ c.as_type.result c.as_type.ensures.within (λ v p n all. p n (c.in_ok-value.ensures.within n all))
