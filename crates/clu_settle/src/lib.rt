@@ -17,6 +17,7 @@ mod type_values;
 mod value;
 
 pub use crate::circular::circular_equates;
+pub use crate::meanings::Meaning;
 pub use crate::parameters::{Parameters, number_parameters};
 pub use crate::settling::{Values, settle};
 pub use crate::value::Value;

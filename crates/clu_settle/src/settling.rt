@@ -27,6 +27,16 @@ pub struct Values {
     pub constants: Vec<Const>,
     /// For each node, by its number, what it comes to.
     pub values: Vec<Value>,
+    /// For each node what its name stands for.
+    pub meanings: Vec<Meaning>,
+}
+
+/// The same without what names stand for.
+#[derive(Drop)]
+struct Tables {
+    types: TypeArena,
+    constants: Vec<Const>,
+    values: Vec<Value>,
 }
 
 /// Settles the node n, which stands next in an order.
@@ -80,7 +90,7 @@ fn settle_all(
     Ok(())
 }
 
-fn settle_in(alloc: Global, asked: Asked<'_>, order: &[usize]) -> Result<Values, Memory>
+fn settle_in(alloc: Global, asked: Asked<'_>, order: &[usize]) -> Result<Tables, Memory>
     requires { IsDistinct eqb order.now }
     ensures { IfOk result (λ all. (scope : Scope) → AreMeanings asked.entry.syntax.now scope asked.entry.meanings.now → AreSettled asked.entry.syntax.now scope all.types all.constants.items all.values.items) }
 {
@@ -89,7 +99,7 @@ fn settle_in(alloc: Global, asked: Asked<'_>, order: &[usize]) -> Result<Values,
     let mut constants = Vec::new(alloc);
     let mut types = TypeArena::new(alloc);
     settle_all(asked, &mut types, &mut constants, &mut values, order)?;
-    Ok(Values {
+    Ok(Tables {
         types,
         constants,
         values,
@@ -104,7 +114,7 @@ fn order_of(alloc: Global, syntax: &Syntax, meanings: &[Meaning]) -> Result<Circ
 }
 
 /// The values of the nodes of a tree, by what the name of each node stands for.
-fn settle_by(alloc: Global, syntax: &Syntax, meanings: &[Meaning]) -> Result<Values, Memory>
+fn settle_by(alloc: Global, syntax: &Syntax, meanings: &[Meaning]) -> Result<Tables, Memory>
     ensures { IfOk result (λ all. (scope : Scope) → AreMeanings syntax.now scope meanings.now → AreSettled syntax.now scope all.types all.constants.items all.values.items) }
 {
     let found = order_of(alloc, syntax, meanings)?;
@@ -120,7 +130,18 @@ fn settle_by(alloc: Global, syntax: &Syntax, meanings: &[Meaning]) -> Result<Val
 pub fn settle(alloc: Global, syntax: &Syntax, names: &Names) -> Result<Values, Memory>
     requires bound { names.now.bound.items ≡ bound_to syntax.now names.now.declared.items (length syntax.now) }
     requires starts { names.now.starts.items ≡ starts_to syntax.now names.now.declared.items (length syntax.now) }
+    ensures known { IfOk result (λ all. (scope : Scope) → AreMeanings syntax.now scope all.meanings.items → AreSettled syntax.now scope all.types all.constants.items all.values.items) }
 {
     let meanings = meanings(alloc, syntax, names)?;
-    settle_by(alloc, syntax, meanings.as_slice())
+    let Tables {
+        types,
+        constants,
+        values,
+    } = settle_by(alloc, syntax, meanings.as_slice())?;
+    Ok(Values {
+        types,
+        constants,
+        values,
+        meanings,
+    })
 }
