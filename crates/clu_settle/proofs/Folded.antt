@@ -18,14 +18,9 @@ use Rattle.clu_meaning.specs.Settling.{Value as Settled, settled_type, settled_c
 use Rattle.clu_settle.specs.declared.value.Value.{Value}
 use Rattle.clu_settle.specs.declared.value.Value.TheVariants as value
 use Rattle.clu_settle.specs.Values.{told, Agrees, constant_at}
-use Rattle.clu_settle.specs.Operators.{folded_by, prefix_by, nothing_beside}
+use Rattle.clu_settle.specs.Operators.{folded_by, prefix_by, nothing_beside, IsInRange}
 use Rattle.clu_settle.proofs.Operations as plain
 use Rattle.clu_settle.proofs.Ints.{of_ints, of_opposite}
-
--- an int has 64 bits
-abbrev pub IsInRange : Const → Type 0
-IsInRange (constant.Int n) = FitsSigned w64 n
-IsInRange _ = Unit {0}
 
 pub as_folded : (o : Operator) (a b : Const) (r : Option Const) → IsInRange a → IsInRange b → IsFolded a (folded_by o) b r → r ≡ folded (sugar o) a b
 as_folded o constant.Null constant.Null r f g h = h ∙ plain.of_nulls o

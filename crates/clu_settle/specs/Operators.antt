@@ -1,4 +1,8 @@
 -- The operators of expressions, as clu_fold names them, and their values where an operand is no constant.
+use Rattle.std.specs.Prelude.{FitsSigned}
+use Rattle.std.specs.Int.{w64}
+use Rattle.clu_base.specs.declared.constants.Const.{Const}
+use Rattle.clu_base.specs.declared.constants.Const.TheVariants as constant
 use Rattle.clu_syntax.specs.declared.words.Operator.{Operator}
 use Rattle.clu_syntax.specs.declared.words.Operator.TheVariants as op
 use Rattle.clu_syntax.specs.declared.words.Sign.{Sign}
@@ -41,3 +45,8 @@ prefix_by sign.Minus = prefix.Minus
 abbrev pub nothing_beside : Value → Value
 nothing_beside value.Lost = value.Lost
 nothing_beside _ = value.Nothing
+
+-- an int has 64 bits
+abbrev pub IsInRange : Const → Type 0
+IsInRange (constant.Int n) = FitsSigned w64 n
+IsInRange _ = Unit {0}

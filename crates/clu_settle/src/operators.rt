@@ -1,11 +1,12 @@
 //! Operators over constants.
 
-ghost use Rattle.std.specs.Prelude.{◌≡◌, ℕ, List, IfOk, Some, length};
+ghost use Rattle.std.specs.Prelude.{◌≡◌, ℕ, List, FitsSigned, IfOk, Some, length};
+ghost use Rattle.std.specs.Int.{w64};
 ghost use Rattle.std.specs.Option.{option_and_then};
 ghost use Rattle.clu_types.specs.CluType.{CluType};
 ghost use Rattle.clu_meaning.specs.Constants.{prefixed};
 ghost use Rattle.clu_meaning.specs.Settling.{Value as Settled, constant_in as constant_of, constant_value, infix_value};
-ghost use Rattle.clu_settle.specs.Operators.{folded_by, prefix_by, nothing_beside};
+ghost use Rattle.clu_settle.specs.Operators.{folded_by, prefix_by, nothing_beside, IsInRange};
 ghost use Rattle.clu_settle.specs.Values.{told, Agrees, Kept, TypeWithin, ConstantWithin, constant_at};
 
 use crate::constants::{constant_at, keep};
@@ -52,6 +53,24 @@ fn prefix_by(sign: Sign) -> Prefix
     }
 }
 
+/// An int has 64 bits.
+fn int_in_range(int: i64)
+    ensures { FitsSigned w64 int }
+{}
+
+/// So has that of a constant; the definitions of the operators speak of ints that have.
+fn in_range(constant: &Const)
+    ensures { IsInRange constant.now }
+{
+    match constant {
+        Const::Null => {}
+        Const::Bool(_) => {}
+        Const::Int(int) => int_in_range(*int),
+        Const::Char(_) => {}
+        Const::Str(_) => {}
+    }
+}
+
 /// The operator over the constants of these places.
 fn folded_value(
     alloc: Global,
@@ -67,6 +86,8 @@ fn folded_value(
 {
     let left = constant_at(alloc, constants.as_slice(), a)?;
     let right = constant_at(alloc, constants.as_slice(), b)?;
+    in_range(&left);
+    in_range(&right);
     let found = fold(left, folded_by(operator), &right)?;
     keep(constants, found)
 }

@@ -10,4 +10,4 @@ returns-clause-known c = ok_more _ _ c.keep.result c.keep.ensures.known (λ v p 
     (folded_as c.args.operator c.folded_by.result c.in_ok-left.left c.in_ok-right.right (constant_at c.args.constants.now.items c.args.a) (constant_at c.args.constants.now.items c.args.b) c.in_ok-found.found c.folded_by.ensures
     (c.in_ok-left.ensures ∙ ap (λ (xs : List Const). constant_at xs c.args.a) c.as_slice.ensures.value)
     (c.in_ok-right.ensures ∙ ap (λ (xs : List Const). constant_at xs c.args.b) c.as_slice-2.ensures.value)
-    ? ? c.in_ok-found.ensures))
+    c.in_range.ensures c.in_range-2.ensures c.in_ok-found.ensures))
