@@ -1,8 +1,6 @@
 -- The values of operators: what clu_fold gives is what the operations of the constants' types give.
-use Rattle.std.proofs.Common.{◌≡◌, ◌∙◌, ℕ, Bool, true, false, List, Option, Some, None, refl, ap, sym, subst}
-use Rattle.std.specs.Prelude.{FitsSigned}
+use Rattle.std.proofs.Common.{◌≡◌, ◌∙◌, ℕ, List, Option, Some, None, refl, ap, sym, subst}
 use Rattle.std.specs.Option.{option_and_then}
-use Rattle.std.specs.Int.{w64}
 use Rattle.clu_base.specs.declared.constants.Const.{Const}
 use Rattle.clu_base.specs.declared.constants.Const.TheVariants as constant
 use Rattle.clu_types.specs.CluType.{CluType}
@@ -14,7 +12,7 @@ use Rattle.clu_fold.specs.declared.folding.Prefix as folding_prefix
 use Rattle.clu_fold.specs.Folding.{IsFolded, IsPrefixed}
 use Rattle.clu_layout.specs.Computing.{computing}
 use Rattle.clu_meaning.specs.Constants.{sugar, folded, prefixed}
-use Rattle.clu_meaning.specs.Settling.{Value as Settled, settled_type, settled_constant, settled_parameter, unsettled, constant_in, constant_value, infix_value}
+use Rattle.clu_meaning.specs.Settling.{Value as Settled, unsettled, constant_in, constant_value, infix_value}
 use Rattle.clu_settle.specs.declared.value.Value.{Value}
 use Rattle.clu_settle.specs.declared.value.Value.TheVariants as value
 use Rattle.clu_settle.specs.Values.{told, Agrees, constant_at}

@@ -1,5 +1,5 @@
 -- Each node adds what it leads to.
-use Rattle.std.proofs.Common.{◌≡◌, ◌∙◌, ℕ, zero, suc, ◌+◌, List, [], ◌∷◌, ◌++◌, length, Option, refl, ap, sym, subst, add-one}
+use Rattle.std.proofs.Common.{◌≡◌, ◌∙◌, ℕ, ◌+◌, List, [], ◌∷◌, ◌++◌, length, Option, ap, sym, subst, add-one}
 use Rattle.clu_tree.specs.declared.node.Node.{Node}
 use Rattle.clu_names.specs.declared.scopes.Declared.{Declared}
 use Rattle.clu_circles.specs.declared.states.Span.{Span}

@@ -1,5 +1,5 @@
 -- What the functions of nodes hand on: what is no constant by its form, and results in other words.
-use Rattle.std.proofs.Common.{◌≡◌, ◌∙◌, ℕ, Bool, true, false, ◌||◌, List, Option, Some, None, Result, Ok, Err, IfOk, refl, ap, sym, subst}
+use Rattle.std.proofs.Common.{◌≡◌, ◌∙◌, ℕ, Bool, true, false, ◌||◌, List, Some, Result, Ok, Err, IfOk, refl, ap, sym}
 use Rattle.std.specs.Prelude.{slice_get}
 use Rattle.std.proofs.lemmas.Bool.{true≢false}
 use Rattle.clu_tree.specs.declared.node.Node.{Node}
@@ -18,7 +18,7 @@ use Rattle.clu_syntax.proofs.Items.{item_is}
 use Rattle.clu_meaning.specs.Scoping.{Scope}
 use Rattle.clu_meaning.specs.Settling.{Value as Settled, unsettled, value_of_expression}
 use Rattle.clu_settle.specs.declared.value.Value.{Value}
-use Rattle.clu_settle.specs.Values.{Agrees, TypeWithin, ConstantWithin, IsWithin}
+use Rattle.clu_settle.specs.Values.{TypeWithin, ConstantWithin, IsWithin}
 use Rattle.clu_settle.specs.Names.{is_constant}
 use Rattle.clu_settle.specs.Indexed.{indexed}
 

@@ -1,7 +1,6 @@
 -- Which nodes the parts of a node are: a reading of the nodes before it that gives each number a name of its own tells one
 -- part from another.
-use Rattle.std.proofs.Common.{◌≡◌, ◌∙◌, ℕ, suc, ◌+◌, ◌-◌, Bool, true, false, if◌then◌else◌, List, [], ◌∷◌, length, take, drop, get_or, Option, Some, None, refl, ap, sym, subst}
-use Rattle.std.specs.Prelude.{slice_get}
+use Rattle.std.proofs.Common.{◌≡◌, ◌∙◌, ℕ, Bool, true, false, List, [], ◌∷◌, take, drop, Option, Some, None, refl, ap, sym}
 use Rattle.std.proofs.lemmas.Bool.{true≢false}
 use Rattle.clu_tree.specs.declared.node.Node.{Node}
 use Rattle.clu_tree.specs.declared.node.NodeKind.{NodeKind}
@@ -15,7 +14,7 @@ use Rattle.clu_syntax.specs.declared.words.RoutineKind.{RoutineKind}
 use Rattle.clu_syntax.specs.Words.{symbol_in, simple_type}
 use Rattle.clu_syntax.specs.Kinds.{is_expression, is_type}
 use Rattle.clu_syntax.specs.Splits.{child, first_name, leading_types, run, parts, after_one}
-use Rattle.clu_syntax.specs.Syntax.{Identifier, Expression, a_name, an_infix, a_prefix, a_paren, an_index, elements, elements_from, an_expression, Constants, no_constants, constant_and, TypeExpression, a_simple_type, a_list_type, a_fields_type, a_routine_type, a_named_type, no_types}
+use Rattle.clu_syntax.specs.Syntax.{Identifier, Expression, a_name, an_infix, a_prefix, a_paren, an_index, elements, elements_from, an_expression, no_constants, TypeExpression, a_simple_type, a_list_type, a_fields_type, a_routine_type, a_named_type, no_types}
 use Rattle.clu_syntax.specs.Items.{Item, no_item, no_type, types_at, selectors_at, exceptions_at, constants_at}
 use Rattle.clu_syntax.specs.Nodes.{elements_of, expression_of, type_expression_of}
 

@@ -17,13 +17,13 @@ use Rattle.clu_types.specs.declared.term.Actual.{Actual}
 use Rattle.clu_types.specs.declared.term.Actual.TheVariants as actual
 use Rattle.clu_meaning.specs.Scoping as means
 use Rattle.clu_meaning.specs.Scoping.{Scope}
-use Rattle.clu_meaning.specs.Settling.{Value as Settled, settled_type, settled_constant, settled_parameter, unsettled, list_type, fields_type, routine_type, module_type, value_of_meaning, with_brackets}
+use Rattle.clu_meaning.specs.Settling.{Value as Settled, settled_type, unsettled, list_type, fields_type, routine_type, module_type, value_of_meaning}
 use Rattle.clu_settle.specs.declared.value.Value.{Value}
 use Rattle.clu_settle.specs.declared.value.Value.TheVariants as value
 use Rattle.clu_settle.specs.Inserted.{in_order}
 use Rattle.clu_settle.specs.Values.{told, Agrees}
 use Rattle.clu_settle.specs.Names.{is_other}
-use Rattle.clu_settle.specs.Lists.{value_of, ids_behind, field_before, selectors_behind, exception_before, signals_behind, actuals_behind}
+use Rattle.clu_settle.specs.Lists.{ids_behind, field_before, selectors_behind, exception_before, signals_behind, actuals_behind}
 use Rattle.clu_settle.specs.declared.meanings.Meaning.{Meaning}
 use Rattle.clu_settle.specs.Agreeing.{TypesAgree, SelectorsAgree, SignalsAgree, ActualsAgree, MeaningAgrees}
 use Rattle.clu_settle.proofs.Telling.{type_agrees_at, types_are, actuals_are, agrees_so}

@@ -1,5 +1,5 @@
 -- The value of a node by what is known of those from which it is made, for each form of a type or an expression.
-use Rattle.std.proofs.Common.{◌≡◌, ◌∙◌, ℕ, ◌<◌, Bool, true, false, List, [], ◌∷◌, drop, Option, Some, None, refl, ap, sym, subst}
+use Rattle.std.proofs.Common.{◌≡◌, ◌∙◌, ℕ, true, false, List, [], ◌∷◌, drop, Option, Some, refl, ap, sym, subst}
 use Rattle.std.specs.Prelude.{slice_get, codes}
 use Rattle.std.specs.Option.{option_and_then}
 use Rattle.clu_base.specs.declared.constants.Const.{Const}
@@ -22,24 +22,24 @@ use Rattle.clu_syntax.specs.Slots.{is_constant as is_constant_kind}
 use Rattle.clu_syntax.specs.Splits.{child, first_name, leading_types, parts, after_one, is_of}
 use Rattle.clu_syntax.specs.Syntax.{Identifier, Literal, Constant, Constants, Expression, a_name, an_infix, a_prefix, a_paren, a_literal, an_index, TypeExpression, a_simple_type, a_list_type, a_fields_type, a_routine_type, a_named_type}
 use Rattle.clu_syntax.specs.Items.{Item, types_at, selectors_at, exceptions_at, constants_at}
-use Rattle.clu_syntax.specs.Nodes.{before, item_with, item_at, expression_of, type_expression_of, constant_of}
+use Rattle.clu_syntax.specs.Nodes.{before, item_with, item_at, expression_of, type_expression_of}
 use Rattle.clu_syntax.proofs.Items.{item_is}
 use Rattle.clu_meaning.specs.Constants.{denoted, prefixed}
 use Rattle.clu_meaning.specs.Scoping as means
 use Rattle.clu_meaning.specs.Scoping.{Scope, meaning_of}
-use Rattle.clu_meaning.specs.Settling.{Value as Settled, settled_type, unsettled, constant_in, constant_value, infix_value, type_in, list_type, fields_type, routine_type, simple_type, with_brackets, value_of_meaning, value_of_name, value_of_constant, value_of_expression, type_of, types_of, fields_of, signals_of, actuals}
+use Rattle.clu_meaning.specs.Settling.{Value as Settled, settled_type, constant_in, constant_value, infix_value, type_in, list_type, fields_type, routine_type, simple_type, with_brackets, value_of_meaning, value_of_name, value_of_constant, value_of_expression, type_of, types_of, fields_of, signals_of, actuals}
 use Rattle.clu_settle.specs.declared.value.Value.{Value}
 use Rattle.clu_settle.specs.declared.meanings.Meaning.{Meaning}
 use Rattle.clu_settle.specs.declared.meanings.Meaning.TheVariants as meaning
 use Rattle.clu_settle.specs.Values.{told, Agrees}
 use Rattle.clu_settle.specs.Lists.{value_of}
-use Rattle.clu_settle.specs.Names.{is_constant, is_rep, may_stand, may_name, meaning_in, name_at, name_in, names_of, Means}
+use Rattle.clu_settle.specs.Names.{is_rep, may_stand, may_name, meaning_in, name_at, name_in, names_of, Means}
 use Rattle.clu_settle.specs.Agreeing.{TypesAgree, SelectorsAgree, SignalsAgree, ActualsAgree, no_more_actuals, MeaningAgrees}
 use Rattle.clu_settle.specs.Known.{AreKnown}
 use Rattle.clu_settle.specs.Indexed.{indexed}
 use Rattle.clu_settle.proofs.Shapes.{IsPart, AreParts, AreBefore, first_part, second_part, any_fits, all_parts, run_parts, types_leading, parts_of_first, children_before, all_before, before_dropped, before_after_one}
 use Rattle.clu_settle.proofs.Parts.{before_is, no_type_kind, constant_is, type_part, expression_part, types_part, constants_part, selectors_part, exceptions_part}
-use Rattle.clu_settle.proofs.Labels.{label, of_word, of_list, of_fields, of_routine, of_named, of_infix, of_prefix, of_paren, of_index, of_name, arguments_in, behind_arguments, results_in, exceptions_in}
+use Rattle.clu_settle.proofs.Labels.{label, of_word, of_list, of_fields, of_routine, of_named, of_infix, of_prefix, of_paren, of_index, of_name, behind_arguments, exceptions_in}
 
 indexed_so : (scope : Scope) (unfolded : Constant → Settled) (n : ℕ) (e : Expression) (cs : Constants) → value_of_expression scope unfolded (an_index n e cs) ≡ indexed scope unfolded e (actuals scope unfolded cs)
 indexed_so scope unfolded n (a_name m name) cs = refl

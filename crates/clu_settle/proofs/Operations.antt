@@ -1,10 +1,9 @@
 -- What clu_fold gives for constants is what the operations of their types give, but for two ints.
-use Rattle.std.proofs.Common.{◌≡◌, ℕ, ℤ, Bool, true, false, not, List, Option, Some, None, refl, ap}
+use Rattle.std.proofs.Common.{◌≡◌, ℕ, ℤ, Bool, true, false, not, List, Some, None, refl, ap}
 use Rattle.std.specs.declared.cmp.Ordering.{Ordering}
 use Rattle.std.specs.declared.cmp.Ordering.TheVariants.{Less, Equal, Greater}
-use Rattle.std.specs.Ordering.{is_lt, is_le, is_ge, is_gt, nat_cmp, int_cmp}
+use Rattle.std.specs.Ordering.{is_lt, is_le, is_ge, is_gt, nat_cmp}
 use Rattle.std.specs.Cmp.Lexicographic.{slice_cmp}
-use Rattle.clu_base.specs.declared.constants.Const.{Const}
 use Rattle.clu_base.specs.declared.constants.Const.TheVariants as constant
 use Rattle.clu_syntax.specs.declared.words.Operator.{Operator}
 use Rattle.clu_syntax.specs.declared.words.Operator.TheVariants as op

@@ -1,15 +1,14 @@
 -- What is known of the parts of a node is so: types, selectors, exceptions and constants that stand before it.
-use Rattle.std.proofs.Common.{◌≡◌, ◌∙◌, ℕ, zero, suc, ◌+◌, ◌<◌, Bool, true, false, ◌||◌, if◌then◌else◌, List, [], ◌∷◌, length, drop, get_or, Option, Some, None, refl, ap, sym, subst, arith}
-use Rattle.std.specs.Prelude.{slice_get, nat_lt}
+use Rattle.std.proofs.Common.{◌≡◌, ◌∙◌, ℕ, zero, suc, ◌<◌, Bool, true, false, ◌||◌, if◌then◌else◌, List, [], ◌∷◌, length, Option, Some, None, refl, ap, sym, subst, arith}
+use Rattle.std.specs.Prelude.{slice_get}
 use Rattle.std.proofs.lemmas.Bool.{true≢false, lt-ltb}
-use Rattle.std.proofs.lemmas.Option.{same_Some}
 use Rattle.clu_base.specs.declared.constants.Const.{Const}
 use Rattle.clu_tree.specs.declared.node.Node.{Node}
 use Rattle.clu_tree.specs.declared.node.NodeKind.{NodeKind}
 use Rattle.clu_tree.specs.declared.node.NodeKind.TheVariants as kind
 use Rattle.clu_tree.specs.Nodes.{IsTree}
 use Rattle.clu_parser.specs.Shape.{HaveForms}
-use Rattle.clu_types.specs.CluType.{CluType, CluTypes, Fields, Signals, Actuals}
+use Rattle.clu_types.specs.CluType.{CluType, CluTypes, Fields, Signals}
 use Rattle.clu_syntax.specs.Kinds.{is_expression, is_type, kind_of, kind_at}
 use Rattle.clu_syntax.specs.Slots.{slots}
 use Rattle.clu_syntax.specs.Slots.{is_constant as is_constant_kind}

@@ -1,9 +1,9 @@
 -- One node more is settled, and the end of the pass.
-use Rattle.std.proofs.Common.{◌≡◌, ◌∙◌, ℕ, zero, suc, ◌+◌, ◌<◌, ◌≤◌, Bool, true, false, if◌then◌else◌, eqb, ◌||◌, List, [], ◌∷◌, ◌++◌, length, set, replicate, Option, Some, None, refl, ap, sym, subst, inl, inr, ◌⊎◌, arith, length-append, eqb-true}
+use Rattle.std.proofs.Common.{◌≡◌, ◌∙◌, ℕ, zero, suc, ◌+◌, ◌<◌, ◌≤◌, Bool, true, false, eqb, ◌||◌, List, [], ◌∷◌, ◌++◌, length, set, replicate, Option, Some, None, refl, ap, sym, subst, inl, inr, arith, length-append}
 use Rattle.std.specs.Prelude.{slice_get}
 use Rattle.std.specs.List.{All, IsDistinct, AllByRecursion, list_any}
-use Rattle.std.proofs.lemmas.Bool.{cases_Bool, cases_eq, true≢false, ne_eqb, eq-eqb}
-use Rattle.std.proofs.lemmas.List.Elements.{All-set, All-head, All-tail, All-nil, All-cons}
+use Rattle.std.proofs.lemmas.Bool.{cases_eq, ne_eqb, eq-eqb}
+use Rattle.std.proofs.lemmas.List.Elements.{All-set, All-nil, All-cons}
 use Rattle.std.proofs.lemmas.Option.{none-some, same_Some}
 use Rattle.std.proofs.Math.ListN.{length-set}
 use Rattle.clu_base.specs.declared.constants.Const.{Const}
@@ -16,19 +16,19 @@ use Rattle.clu_types.specs.declared.term.Term.{Term}
 use Rattle.clu_types.specs.Arena.{types_of, Grows}
 use Rattle.clu_names.specs.declared.scopes.Declared.{Declared}
 use Rattle.clu_names.specs.Denotes.{found}
-use Rattle.clu_syntax.specs.Syntax.{Identifier, Expression, Constant, TypeExpression}
-use Rattle.clu_syntax.specs.Kinds.{is_type, kind_of, kind_at}
+use Rattle.clu_syntax.specs.Syntax.{Identifier, Constant, TypeExpression}
+use Rattle.clu_syntax.specs.Kinds.{is_type}
 use Rattle.clu_syntax.specs.Splits.{child}
 use Rattle.clu_syntax.specs.Items.{Item}
 use Rattle.clu_syntax.specs.Nodes.{before, item_with, item_at, constant_of, elements_of, expression_of, type_expression_of}
 use Rattle.clu_meaning.specs.Scoping as means
 use Rattle.clu_meaning.specs.Scoping.{Bindings, Scope, meaning_of, bound_at, declared_at, declaration_at}
-use Rattle.clu_meaning.specs.Settling.{Value as Settled, value_of_constant, unfolded_to, settled}
+use Rattle.clu_meaning.specs.Settling.{Value as Settled, value_of_constant, unfolded_to}
 use Rattle.clu_settle.specs.declared.value.Value.{Value}
 use Rattle.clu_settle.specs.declared.value.Value.TheVariants as value
 use Rattle.clu_settle.specs.declared.meanings.Meaning.{Meaning}
 use Rattle.clu_settle.specs.declared.meanings.Meaning.TheVariants as meaning
-use Rattle.clu_settle.specs.Values.{told, Agrees, value_in, TypeWithin, ConstantWithin, IsWithin, AreWithin, Kept}
+use Rattle.clu_settle.specs.Values.{told, Agrees, TypeWithin, ConstantWithin, IsWithin, AreWithin, Kept}
 use Rattle.clu_settle.specs.Lists.{value_of}
 use Rattle.clu_settle.specs.Names.{is_constant, may_name, meaning_in, name_at, Means, AreMeanings}
 use Rattle.clu_settle.specs.Known.{AreKnown}
@@ -37,7 +37,6 @@ use Rattle.clu_settle.specs.Settled.{AreSettled}
 use Rattle.clu_settle.proofs.Counted.{counted_more, counted_here, counted_few}
 use Rattle.clu_settle.proofs.Telling.{told_kept}
 use Rattle.clu_settle.proofs.Within.{value_has, all_more, more_types, more_constants}
-use Rattle.clu_settle.proofs.Parts.{constant_is}
 use Rattle.clu_syntax.proofs.Items.{item_is}
 
 -- ---- the node of a constant
@@ -255,7 +254,7 @@ lost_at zero n = refl
 lost_at (suc k) zero = refl
 lost_at (suc k) (suc n) = lost_at k n
 
-length_replicate : (k : ℕ) (v : Value) → length (replicate k v) ≡ k
+pub length_replicate : (k : ℕ) (v : Value) → length (replicate k v) ≡ k
 length_replicate zero v = refl
 length_replicate (suc k) v = ap suc (length_replicate k v)
 

@@ -1,21 +1,19 @@
 -- Of which kinds the children of a node are.
-use Rattle.std.proofs.Common.{◌≡◌, ◌∙◌, ℕ, zero, suc, ◌+◌, ◌<◌, Bool, true, false, if◌then◌else◌, ◌||◌, List, [], ◌∷◌, map, take, drop, get_or, length, Option, Some, None, refl, ap, sym, subst, inl, inr, rules, arith, add-one}
+use Rattle.std.proofs.Common.{◌≡◌, ◌∙◌, ℕ, zero, suc, ◌+◌, ◌<◌, Bool, true, false, if◌then◌else◌, List, [], ◌∷◌, map, take, drop, get_or, Option, Some, None, refl, ap, sym, subst, inl, inr, rules, arith, add-one}
 use Rattle.std.specs.Prelude.{slice_get}
 use Rattle.std.specs.List.{All, AllByRecursion}
 use Rattle.std.proofs.lemmas.Bool.{cases_Bool, true≢false}
 use Rattle.std.proofs.lemmas.List.Elements.{All-head, All-tail}
 use Rattle.clu_tree.specs.declared.node.Node.{Node}
 use Rattle.clu_tree.specs.declared.node.NodeKind.{NodeKind}
-use Rattle.clu_tree.specs.declared.node.NodeKind.TheVariants as kind
 use Rattle.clu_tree.specs.contracts.node.NodeKind.{the_type}
 use Rattle.clu_tree.specs.Nodes.{IsTree}
 use Rattle.clu_parser.specs.Shape.{HaveForms}
-use Rattle.clu_syntax.specs.Kinds.{is_expression, is_type, kind_at, kind_of}
+use Rattle.clu_syntax.specs.Kinds.{is_type, kind_at, kind_of}
 use Rattle.clu_syntax.specs.Slots.{Slot, one, any, slots, after, may_end, fit}
-use Rattle.clu_syntax.specs.Slots.{is_constant as is_constant_kind}
 use Rattle.clu_syntax.specs.Splits.{child, is_of, leading, leading_types, run, children_of, parts, after_one}
 use Rattle.clu_syntax.proofs.Slots.{children_fit}
-use denote.Enum.Bare.{sameb, same_true}
+use denote.Enum.Bare.{same_true}
 
 -- ---- slots
 

@@ -1,23 +1,22 @@
 -- What is told stays while types and constants are added; lists of types and of actuals, by what is told of their nodes.
-use Rattle.std.proofs.Common.{◌≡◌, ◌∙◌, ℕ, zero, suc, ◌+◌, ◌<◌, List, [], ◌∷◌, ◌++◌, length, Option, Some, None, refl, ap, sym, subst, arith, append_assoc}
-use Rattle.std.specs.Prelude.{slice_get, slice_index_or}
+use Rattle.std.proofs.Common.{◌≡◌, ◌∙◌, ℕ, List, [], ◌∷◌, ◌++◌, length, Option, Some, None, refl, ap, sym, subst, append_assoc}
+use Rattle.std.specs.Prelude.{slice_index_or}
 use Rattle.std.specs.Option.{option_and_then, option_map}
 use Rattle.std.proofs.Math.ListN.{get_or-append}
 use Rattle.std.proofs.lemmas.List.{append-nil}
 use Rattle.std.proofs.lemmas.Option.{none-some, same_Some}
 use Rattle.clu_base.specs.declared.constants.Const.{Const}
 use Rattle.clu_base.specs.declared.constants.Const.TheVariants as constant
-use Rattle.clu_types.specs.CluType.{CluType, CluTypes, no_types, type_and, Actuals, no_actuals, actual_type, actual_const, actual_param}
-use Rattle.clu_types.specs.Arena.{type_at, types_at, types_of, actuals_at, actual_at, Grows}
+use Rattle.clu_types.specs.CluType.{CluType, CluTypes, no_types, Actuals, no_actuals}
+use Rattle.clu_types.specs.Arena.{type_at, types_at, types_of, actuals_at, Grows}
 use Rattle.clu_types.specs.declared.term.TypeId.{TypeId}
 use Rattle.clu_types.specs.declared.term.Term.{Term}
 use Rattle.clu_types.specs.declared.term.Actual.{Actual}
-use Rattle.clu_types.specs.declared.term.Actual.TheVariants as actual
 use Rattle.clu_types.proofs.Arenas.{types_grown}
-use Rattle.clu_meaning.specs.Settling.{Value as Settled, settled_type, settled_constant, settled_parameter, unsettled, with_actual}
+use Rattle.clu_meaning.specs.Settling.{Value as Settled, settled_type, settled_constant, with_actual}
 use Rattle.clu_settle.specs.declared.value.Value.{Value}
 use Rattle.clu_settle.specs.declared.value.Value.TheVariants as value
-use Rattle.clu_settle.specs.Values.{told, Agrees, value_in, TypeWithin, ConstantWithin, Kept, constant_at}
+use Rattle.clu_settle.specs.Values.{told, Agrees, TypeWithin, ConstantWithin, Kept}
 use Rattle.clu_settle.specs.Lists.{type_id, value_of, ids_behind, actual_in, actuals_behind}
 use Rattle.clu_settle.specs.Agreeing.{TypesAgree, no_more_types, type_agrees, ActualsAgree, no_more_actuals, actual_agrees}
 

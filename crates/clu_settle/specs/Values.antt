@@ -1,5 +1,5 @@
 -- What a value tells of a constant or type, where the types of an arena and the list of constants are known.
-use Rattle.std.specs.Prelude.{◌≡◌, ◌<◌, ◌++◌, ℕ, List, length, All, slice_index_or, Option, Some, None}
+use Rattle.std.specs.Prelude.{◌≡◌, ◌<◌, ◌++◌, ℕ, List, All, slice_index_or, Option, Some, None}
 use Rattle.clu_base.specs.declared.constants.Const.{Const}
 use Rattle.clu_base.specs.declared.constants.Const.TheVariants as constant
 use Rattle.clu_types.specs.CluType.{CluType}

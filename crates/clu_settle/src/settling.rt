@@ -1,9 +1,10 @@
 //! The values of all nodes of a tree, each found once, after those from which it is made.
 
-ghost use Rattle.std.specs.Prelude.{◌≡◌, ◌<◌, ◌+◌, ℕ, List, Some, IfOk, OnOk, length, slice_get, eqb};
+ghost use Rattle.std.specs.Prelude.{◌≡◌, ◌<◌, ◌+◌, ℕ, List, Some, IfOk, OnOk, length, replicate, slice_get, eqb};
 ghost use Rattle.std.specs.List.{IsDistinct};
 ghost use Rattle.clu_names.specs.Denotes.{bound_to, starts_to};
 ghost use Rattle.clu_meaning.specs.Scoping.{Scope};
+ghost use Rattle.clu_settle.specs.declared.value.Value.{Value};
 ghost use Rattle.clu_settle.specs.Names.{AreMeanings};
 ghost use Rattle.clu_settle.specs.Steps.{ArePassed};
 ghost use Rattle.clu_settle.specs.Settled.{AreSettled};
@@ -90,12 +91,19 @@ fn settle_all(
     Ok(())
 }
 
+/// So many values, of which nothing is known yet.
+fn all_lost(alloc: Global, count: u32) -> Result<Vec<Value>, Memory>
+    ensures { IfOk result (λ values. values.items ≡ replicate count Value.Lost) }
+{
+    Ok(vec![in alloc; Value::Lost; count as usize]?)
+}
+
 fn settle_in(alloc: Global, asked: Asked<'_>, order: &[usize]) -> Result<Tables, Memory>
     requires { IsDistinct eqb order.now }
     ensures { IfOk result (λ all. (scope : Scope) → AreMeanings asked.entry.syntax.now scope asked.entry.meanings.now → AreSettled asked.entry.syntax.now scope all.types all.constants.items all.values.items) }
 {
     let len = asked.syntax.tree().len();
-    let mut values = vec![in alloc; Value::Lost; len as usize]?;
+    let mut values = all_lost(alloc, len)?;
     let mut constants = Vec::new(alloc);
     let mut types = TypeArena::new(alloc);
     settle_all(asked, &mut types, &mut constants, &mut values, order)?;

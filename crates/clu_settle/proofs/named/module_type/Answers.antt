@@ -1,6 +1,6 @@
-use Rattle.std.proofs.Common.{◌≡◌, ◌∙◌, ◌<◌, ◌==◌, ℕ, zero, suc, Bool, true, false, ap, sym, subst, length, arith, Some}
+use Rattle.std.proofs.Common.{◌≡◌, ◌∙◌, ◌<◌, ◌==◌, ℕ, zero, suc, Bool, false, ap, sym, length, arith, Some}
 use Rattle.std.proofs.lemmas.Bool.{true≢false}
-use Rattle.clu_types.specs.Arena.{types_of, actuals_at}
+use Rattle.clu_types.specs.Arena.{types_of}
 use Rattle.clu_types.specs.CluType.{CluType}
 use Rattle.clu_meaning.specs.Settling.{settled_type}
 use Rattle.clu_settle.proofs.Made.{ok_more, applied}

@@ -1,4 +1,4 @@
-use Rattle.std.proofs.Common.{◌≡◌, ◌∙◌, [], ℕ, true, length, sym, ap, subst, List}
+use Rattle.std.proofs.Common.{◌≡◌, ◌∙◌, [], true, length, sym, ap, subst, List}
 use Rattle.clu_base.specs.declared.constants.Const.{Const}
 use Rattle.clu_types.specs.CluType.{Actuals}
 use Rattle.clu_types.specs.Arena.{types_of}

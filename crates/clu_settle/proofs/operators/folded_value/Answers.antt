@@ -1,4 +1,4 @@
-use Rattle.std.proofs.Common.{◌∙◌, ap, List, ℕ, Some}
+use Rattle.std.proofs.Common.{◌∙◌, ap, List, Some}
 use Rattle.clu_base.specs.declared.constants.Const.{Const}
 use Rattle.clu_settle.specs.Values.{constant_at}
 use Rattle.clu_settle.proofs.Made.{ok_more}

@@ -1,6 +1,5 @@
-use Rattle.std.proofs.Common.{◌∙◌, ap, List, ℕ, Some, sym}
+use Rattle.std.proofs.Common.{◌∙◌, ap, List, sym}
 use Rattle.clu_base.specs.declared.constants.Const.{Const}
-use Rattle.clu_types.specs.Arena.{types_of}
 use Rattle.clu_settle.specs.Values.{constant_at, told}
 use Rattle.clu_settle.proofs.Made.{ok_more, agrees_as}
 use Rattle.clu_settle.proofs.Telling.{agrees_so}
