@@ -21,7 +21,6 @@ use clu_base::{Bytes, Memory};
 use clu_types::{Spec, Specs};
 use indexmap::IndexSet;
 use std::alloc::Global;
-use std::boxed::Box;
 
 /// What is kept of the module of a specification that is entered.
 #[derive(Clone, Copy)]
@@ -43,10 +42,9 @@ impl Library {
         ensures unchanged { OnErr result (self.new ≡ self.old) }
         ensures refused { IfErr result (λ e. NotReplaced e self.old s (spec_of self.old s.name)) }
     {
-        let s = boxed(alloc, s)?;
         match self.kept(alloc, &s)? {
             Kept::Nothing => {
-                self.add_spec(Box::into_inner(s))?;
+                self.add_spec(s)?;
                 Ok(true)
             }
             Kept::Same => Ok(false),
@@ -74,9 +72,9 @@ impl Library {
 
     /// Changes the specification of a module. All that takes memory comes first.
     #[tactic(auto, using(crate::proofs::Replaced::changings))]
-    fn change_spec(&mut self, alloc: Global, s: Box<Spec>) -> Result<(), EnterError>
-        requires { SpecHolds s.value }
-        ensures replaced { OnOk result (IsReplaced self.old s.value self.new) }
+    fn change_spec(&mut self, alloc: Global, s: Spec) -> Result<(), EnterError>
+        requires { SpecHolds s }
+        ensures replaced { OnOk result (IsReplaced self.old s self.new) }
         ensures room { OnOk result (self.old.revision < last_revision) }
         ensures unchanged { OnErr result (self.new ≡ self.old) }
         ensures refused { IfErr result (λ e. NotChanged e self.old) }
@@ -105,18 +103,18 @@ impl Library {
     fn put_changed(
         &mut self,
         alloc: Global,
-        s: Box<Spec>,
+        s: Spec,
         changes: ByName<Change>,
         lost: &IndexSet<Bytes>,
     ) -> Result<(), Memory>
-        requires holds { SpecHolds s.value }
+        requires holds { SpecHolds s }
         requires room { self.old.revision < last_revision }
-        requires changed { changes ≡ with_change self.old.changes s.value.name self.old.revision }
-        ensures put { OnOk result (self.new ≡ record (with_replaced self.old s.value) { programs = without_any lost.now.keys self.old.programs }) }
+        requires changed { changes ≡ with_change self.old.changes s.name self.old.revision }
+        ensures put { OnOk result (self.new ≡ record (with_replaced self.old s) { programs = without_any lost.now.keys self.old.programs }) }
         ensures unchanged { OnErr result (self.new ≡ self.old) }
     {
         let name = s.name.copy(alloc)?;
-        self.specs.with(Box::into_inner(s))?;
+        self.specs.with(s)?;
         self.bodies.leave_out(&name);
         self.programs.leave_without_any(lost);
         self.changes = changes;
@@ -182,12 +180,6 @@ impl Library {
             self.bodies.as_slice(),
         )
     }
-}
-
-fn boxed(alloc: Global, s: Spec) -> Result<Box<Spec>, Memory>
-    ensures { IfOk result (λ boxed. boxed.value ≡ s) }
-{
-    Ok(Box::new(alloc, s)?)
 }
 
 /// Adds the modules of the bodies that are stale, if the specification `changed` stands in the place of the kept one of its
