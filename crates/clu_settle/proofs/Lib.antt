@@ -17,3 +17,6 @@ pub mod Parts
 pub mod Labels
 pub mod Nodes
 pub mod Handed
+pub mod Members
+pub mod Losing
+pub mod Lasting

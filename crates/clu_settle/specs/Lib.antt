@@ -10,3 +10,4 @@ pub mod Steps
 pub mod Graph
 pub mod Operators
 pub mod Settled
+pub mod Lost

@@ -1,12 +1,14 @@
 //! The constants that literals denote.
 
-ghost use Rattle.std.specs.Prelude.{◌≡◌, ◌<◌, ◌≤◌, ◌^◌, ◌-◌, ◌+◌, ◌*◌, ℕ, List, IfOk, length, pos, MatchOption, ⊤};
+ghost use Rattle.std.specs.Prelude.{◌≡◌, true, ◌<◌, ◌≤◌, ◌^◌, ◌-◌, ◌+◌, ◌*◌, ℕ, List, IfOk, length, pos, MatchOption};
 ghost use Rattle.clu_base.specs.declared.constants.Const.{Const};
 ghost use Rattle.clu_types.specs.CluType.{CluType};
 ghost use Rattle.clu_syntax.specs.Syntax.{integer, character, string};
 ghost use Rattle.clu_syntax.specs.Words.{literal_told};
 ghost use Rattle.clu_meaning.specs.Constants.{denoted, number_after};
 ghost use Rattle.clu_meaning.specs.Settling.{constant_value};
+ghost use Rattle.clu_settle.specs.declared.value.Value.TheVariants as value;
+ghost use Rattle.clu_settle.specs.Lost.{is_too_large};
 ghost use Rattle.clu_settle.specs.Values.{told, Agrees, Kept, TypeWithin, ConstantWithin};
 
 use crate::constants::keep;
@@ -30,7 +32,7 @@ fn with_digit(number: u64, digit: u8) -> Option<u64>
 
 /// The number that these decimal digits write, if it has 64 bits.
 fn number(mut digits: &[u8]) -> Option<u64>
-    ensures { MatchOption result ⊤ (λ n. n ≡ number_after 0 digits.entry.now) }
+    ensures { MatchOption result (2 ^ 64 ≤ number_after 0 digits.entry.now) (λ n. n ≡ number_after 0 digits.entry.now) }
 {
     let mut number = 0u64;
     'digits: while let [digit, rest @ ..] = digits {
@@ -45,7 +47,7 @@ fn number(mut digits: &[u8]) -> Option<u64>
 
 /// The int that these digits write, if it is one.
 fn int_of(digits: &[u8]) -> Option<i64>
-    ensures { MatchOption result ⊤ (λ n. n ≡ pos (number_after 0 digits.now)) }
+    ensures { MatchOption result (2 ^ 63 ≤ number_after 0 digits.now) (λ n. n ≡ pos (number_after 0 digits.now)) }
 {
     match number(digits) {
         Some(number) => {
@@ -65,6 +67,7 @@ fn integer_value(constants: &mut Vec<Const>, digits: &[u8]) -> Result<Value, Mem
     ensures constant_in { IfOk result (λ v. ConstantWithin (length constants.new.items) v) }
     ensures type_in { IfOk result (λ v. (n : ℕ) → TypeWithin n v) }
     ensures kept { Kept constants.old.items constants.new.items }
+    ensures lost { IfOk result (λ v. v ≡ value.Lost → is_too_large (integer digits.now) ≡ true) }
 {
     match int_of(digits) {
         Some(int) => keep(constants, Some(Const::Int(int))),
@@ -77,6 +80,7 @@ fn character_value(constants: &mut Vec<Const>, text: &[u8]) -> Result<Value, Mem
     ensures constant_in { IfOk result (λ v. ConstantWithin (length constants.new.items) v) }
     ensures type_in { IfOk result (λ v. (n : ℕ) → TypeWithin n v) }
     ensures kept { Kept constants.old.items constants.new.items }
+    ensures lost { IfOk result (λ v. v ≡ value.Lost → ⊥) }
 {
     match char_byte(text) {
         Some(byte) => keep(constants, Some(Const::Char(byte))),
@@ -89,6 +93,7 @@ fn string_value(alloc: Global, constants: &mut Vec<Const>, text: &[u8]) -> Resul
     ensures constant_in { IfOk result (λ v. ConstantWithin (length constants.new.items) v) }
     ensures type_in { IfOk result (λ v. (n : ℕ) → TypeWithin n v) }
     ensures kept { Kept constants.old.items constants.new.items }
+    ensures lost { IfOk result (λ v. v ≡ value.Lost → ⊥) }
 {
     match string_bytes(alloc, text)? {
         Some(bytes) => keep(constants, Some(Const::Str(bytes))),
@@ -106,6 +111,7 @@ pub fn literal_value(
     ensures constant_in { IfOk result (λ v. ConstantWithin (length constants.new.items) v) }
     ensures type_in { IfOk result (λ v. (n : ℕ) → TypeWithin n v) }
     ensures kept { Kept constants.old.items constants.new.items }
+    ensures lost { IfOk result (λ v. v ≡ value.Lost → is_too_large (literal_told literal.entry) ≡ true) }
 {
     match literal {
         Literal::Nil => keep(constants, Some(Const::Null)),

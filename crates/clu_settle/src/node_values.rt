@@ -1,6 +1,6 @@
 //! The value of a node, by those of the nodes from which it is made.
 
-ghost use Rattle.std.specs.Prelude.{◌≡◌, ◌<◌, ℕ, true, List, IfOk, length, slice_get, codes};
+ghost use Rattle.std.specs.Prelude.{◌≡◌, ◌<◌, ◌⊎◌, ℕ, true, [], List, All, IfOk, length, slice_get, codes};
 ghost use Rattle.clu_base.specs.declared.constants.Const.{Const};
 ghost use Rattle.clu_types.specs.CluType.{Actuals};
 ghost use Rattle.clu_types.specs.Arena.{Grows};
@@ -12,7 +12,9 @@ ghost use Rattle.clu_syntax.specs.Syntax.{Constant};
 ghost use Rattle.clu_meaning.specs.Scoping.{Scope, meaning_of};
 ghost use Rattle.clu_meaning.specs.Scoping.{Meaning as Meant};
 ghost use Rattle.clu_meaning.specs.Settling.{Value as Settled, settled_type, type_in, simple_type, representation_at, value_of_meaning, value_of_constant, value_of_expression, type_of};
-ghost use Rattle.clu_settle.specs.Values.{told, Agrees, Kept, IsWithin, AreWithin};
+ghost use Rattle.clu_settle.specs.declared.value.Value.TheVariants as value;
+ghost use Rattle.clu_settle.specs.Values.{told, Agrees, Kept, TypeWithin, IsWithin, AreWithin};
+ghost use Rattle.clu_settle.specs.Lost.{is_cvt, is_typed, AreTyped, IsNameLost, IsExplained};
 ghost use Rattle.clu_settle.specs.Names.{is_constant, meaning_in};
 ghost use Rattle.clu_settle.specs.Agreeing.{ActualsAgree, MeaningAgrees};
 ghost use Rattle.clu_settle.specs.Known.{AreKnown};
@@ -43,6 +45,8 @@ fn as_type(types: &mut TypeArena, value: Value) -> Result<Value, Memory>
     ensures known { IfOk result (λ v. (constants : List Const) (s : Settled) → Agrees (told (arena_types types.old) constants value) s → Agrees (told (arena_types types.new) constants v) (settled_type (type_in s))) }
     ensures within { IfOk result (λ v. (n : ℕ) → IsWithin (length types.old) n value → IsWithin (length types.new) n v) }
     ensures kept { Grows types.old types.new }
+    ensures typed { IfOk result (λ v. is_typed v ≡ true) }
+    ensures lost { IfOk result (λ v. v ≡ value.Lost → value ≡ value.Lost) }
 {
     match value {
         Value::Type(id) => Ok(Value::Type(id)),
@@ -64,6 +68,8 @@ fn named_type(
     ensures known { IfOk result (λ v. (scope : Scope) (unfolded : Constant → Settled) (m : Meant) (gs : Actuals) → MeaningAgrees (arena_types types.old) constants.now values.now unfolded (meaning_in (slice_get asked.entry.meanings.now n)) m → ActualsAgree (arena_types types.old) constants.now values.now given.now gs → Agrees (told (arena_types types.new) constants.now v) (settled_type (type_in (value_of_meaning scope unfolded name.now gs m)))) }
     ensures within { IfOk result (λ v. (n : ℕ) → AreWithin (length types.old) n values.now → IsWithin (length types.new) n v) }
     ensures kept { Grows types.old types.new }
+    ensures typed { IfOk result (λ v. is_typed v ≡ true) }
+    ensures lost { IfOk result (λ v. v ≡ value.Lost → All (TypeWithin (length types.old)) values.now → IsNameLost values.now constants.now given.now (meaning_in (slice_get asked.entry.meanings.now n))) }
 {
     let meaning = meaning_at(asked.meanings, n);
     let value = value_of_name(asked.alloc, types, constants, values, meaning, name, given)?;
@@ -81,6 +87,8 @@ fn representation(
     ensures known { IfOk result (λ v. (scope : Scope) (unfolded : Constant → Settled) → MeaningAgrees (arena_types types.old) constants.now values.now unfolded (meaning_in (slice_get asked.entry.meanings.now n)) (meaning_of scope n (codes "rep")) → Agrees (told (arena_types types.new) constants.now v) (settled_type (representation_at scope unfolded n))) }
     ensures within { IfOk result (λ v. (n : ℕ) → AreWithin (length types.old) n values.now → IsWithin (length types.new) n v) }
     ensures kept { Grows types.old types.new }
+    ensures typed { IfOk result (λ v. is_typed v ≡ true) }
+    ensures lost { IfOk result (λ v. v ≡ value.Lost → All (TypeWithin (length types.old)) values.now → IsNameLost values.now constants.now [] (meaning_in (slice_get asked.entry.meanings.now n))) }
 {
     let name = Bytes::from_slice(asked.alloc, b"rep")?;
     named_type(asked, types, constants, values, n, &name, &[])
@@ -99,6 +107,8 @@ fn simple_value(
     ensures known { IfOk result (λ v. (scope : Scope) (unfolded : Constant → Settled) → (word ≡ SimpleType.Rep → MeaningAgrees (arena_types types.old) constants.now values.now unfolded (meaning_in (slice_get asked.entry.meanings.now n)) (meaning_of scope n (codes "rep"))) → Agrees (told (arena_types types.new) constants.now v) (settled_type (simple_type scope unfolded n word))) }
     ensures within { IfOk result (λ v. (n : ℕ) → AreWithin (length types.old) n values.now → IsWithin (length types.new) n v) }
     ensures kept { Grows types.old types.new }
+    ensures typed { IfOk result (λ v. is_typed v ≡ true) }
+    ensures lost { IfOk result (λ v. v ≡ value.Lost → All (TypeWithin (length types.old)) values.now → (is_cvt word ≡ true) ⊎ IsNameLost values.now constants.now [] (meaning_in (slice_get asked.entry.meanings.now n))) }
 {
     match word {
         SimpleType::Null => type_value(types, Term::Null),
@@ -125,6 +135,8 @@ fn value_of_type(
     ensures known { IfOk result (λ v. (scope : Scope) (unfolded : Constant → Settled) → AreKnown asked.entry.syntax.now scope asked.entry.meanings.now (arena_types types.old) constants.now values.now unfolded → is_type (kind_at asked.entry.syntax.now n) ≡ true → Agrees (told (arena_types types.new) constants.now v) (settled_type (type_of scope unfolded (item_at asked.entry.syntax.now n).type))) }
     ensures within { IfOk result (λ v. (n : ℕ) → AreWithin (length types.old) n values.now → IsWithin (length types.new) n v) }
     ensures kept { Grows types.old types.new }
+    ensures typed { IfOk result (λ v. is_typed v ≡ true) }
+    ensures lost { IfOk result (λ v. v ≡ value.Lost → All (TypeWithin (length types.old)) values.now → AreTyped asked.entry.syntax.now values.now → is_type (kind_at asked.entry.syntax.now n) ≡ true → IsExplained asked.entry.syntax.now asked.entry.meanings.now values.now n) }
 {
     let tree = asked.syntax.tree();
     match asked.syntax.type_expression(n) {
@@ -168,6 +180,7 @@ fn index_value(
     ensures known { IfOk result (λ v. (scope : Scope) (unfolded : Constant → Settled) (gs : Actuals) → AreKnown asked.entry.syntax.now scope asked.entry.meanings.now (arena_types types.old) constants.now values.now unfolded → is_expression (kind_at asked.entry.syntax.now of) ≡ true → ActualsAgree (arena_types types.old) constants.now values.now given.now gs → Agrees (told (arena_types types.new) constants.now v) (indexed scope unfolded (item_at asked.entry.syntax.now of).expression gs)) }
     ensures within { IfOk result (λ v. (n : ℕ) → AreWithin (length types.old) n values.now → IsWithin (length types.new) n v) }
     ensures kept { Grows types.old types.new }
+    ensures lost { IfOk result (λ v. v ≡ value.Lost → All (TypeWithin (length types.old)) values.now → IsNameLost values.now constants.now given.now (meaning_in (slice_get asked.entry.meanings.now of))) }
 {
     match asked.syntax.expression(of) {
         Expression::Name(name) => {
@@ -191,6 +204,7 @@ fn index_value_at(
     ensures known { IfOk result (λ v. (scope : Scope) (unfolded : Constant → Settled) (gs : Actuals) → AreKnown asked.entry.syntax.now scope asked.entry.meanings.now (arena_types types.old) constants.now values.now unfolded → is_expression (kind_at asked.entry.syntax.now of) ≡ true → ActualsAgree (arena_types types.old) constants.now values.now given.now gs → Agrees (told (arena_types types.new) constants.now v) (indexed scope unfolded (item_at asked.entry.syntax.now of).expression gs)) }
     ensures within { IfOk result (λ v. (n : ℕ) → AreWithin (length types.old) n values.now → IsWithin (length types.new) n v) }
     ensures kept { Grows types.old types.new }
+    ensures lost { IfOk result (λ v. v ≡ value.Lost → All (TypeWithin (length types.old)) values.now → of < length asked.entry.syntax.now → IsNameLost values.now constants.now given.now (meaning_in (slice_get asked.entry.meanings.now of))) }
 {
     if of < asked.syntax.tree().len() {
         index_value(asked, types, constants, values, of, given)
@@ -212,6 +226,7 @@ fn value_of_expression(
     ensures within { IfOk result (λ v. AreWithin (length types.old) (length constants.old.items) values.now → IsWithin (length types.new) (length constants.new.items) v) }
     ensures types_kept { Grows types.old types.new }
     ensures constants_kept { Kept constants.old.items constants.new.items }
+    ensures lost { IfOk result (λ v. v ≡ value.Lost → All (TypeWithin (length types.old)) values.now → IsExplained asked.entry.syntax.now asked.entry.meanings.now values.now n) }
 {
     match asked.syntax.expression(n) {
         Expression::Infix {
@@ -259,6 +274,8 @@ pub fn node_value(
     ensures within { IfOk result (λ v. AreWithin (length types.old) (length constants.old.items) values.now → IsWithin (length types.new) (length constants.new.items) v) }
     ensures types_kept { Grows types.old types.new }
     ensures constants_kept { Kept constants.old.items constants.new.items }
+    ensures typed { IfOk result (λ v. is_type (kind_at asked.entry.syntax.now n) ≡ true → is_typed v ≡ true) }
+    ensures lost { IfOk result (λ v. v ≡ value.Lost → All (TypeWithin (length types.old)) values.now → AreTyped asked.entry.syntax.now values.now → IsExplained asked.entry.syntax.now asked.entry.meanings.now values.now n) }
 {
     let kind = asked.syntax.tree().node(n).kind;
     if is_type(kind) {

@@ -1,13 +1,15 @@
 //! The values of types, by those of their parts.
 
-ghost use Rattle.std.specs.Prelude.{◌≡◌, ℕ, List, IfOk, Some, length};
+ghost use Rattle.std.specs.Prelude.{◌≡◌, ◌<◌, ◌⊎◌, ℕ, true, [], List, All, IfOk, Some, None, length};
 ghost use Rattle.clu_base.specs.declared.constants.Const.{Const};
 ghost use Rattle.clu_types.specs.CluType.{CluType, CluTypes, Fields, Signals};
-ghost use Rattle.clu_types.specs.Arena.{PartsBelow, Grows, type_of, type_at, types_at, fields_at, signals_at};
+ghost use Rattle.clu_types.specs.Arena.{PartsBelow, AreBelow, FieldsBelow, SignalsBelow, Grows, type_of, type_at, types_at, fields_at, signals_at};
 ghost use Rattle.clu_types.specs.Arena.{types_of as arena_types};
 ghost use Rattle.clu_meaning.specs.Settling.{settled_type, list_type, fields_type, routine_type};
+ghost use Rattle.clu_settle.specs.declared.value.Value.TheVariants as value;
 ghost use Rattle.clu_settle.specs.Values.{told, Agrees, TypeWithin, ConstantWithin};
-ghost use Rattle.clu_settle.specs.Lists.{value_of};
+ghost use Rattle.clu_settle.specs.Lists.{type_id, value_of, ids_behind, selectors_behind, signals_behind};
+ghost use Rattle.clu_settle.specs.Lost.{is_a_type, is_typed};
 ghost use Rattle.clu_settle.specs.Agreeing.{TypesAgree, SelectorsAgree, SignalsAgree};
 
 use crate::lists::{fields_of, signals_of, types_of};
@@ -25,6 +27,7 @@ pub fn type_value(types: &mut TypeArena, term: Term) -> Result<Value, Memory>
     ensures constant_in { IfOk result (λ v. (n : ℕ) → ConstantWithin n v) }
     ensures type_in { IfOk result (λ v. TypeWithin (length types.new) v) }
     ensures kept { Grows types.old types.new }
+    ensures is_type { IfOk result (λ v. is_a_type v ≡ true) }
 {
     Ok(Value::Type(types.intern(term)?))
 }
@@ -35,6 +38,8 @@ fn made(types: &mut TypeArena, term: Term) -> Result<Value, Memory>
     ensures constant_in { IfOk result (λ v. (n : ℕ) → ConstantWithin n v) }
     ensures type_in { IfOk result (λ v. TypeWithin (length types.new) v) }
     ensures kept { Grows types.old types.new }
+    ensures typed { IfOk result (λ v. is_typed v ≡ true) }
+    ensures lost { IfOk result (λ v. v ≡ value.Lost → PartsBelow (length types.old) term → ⊥) }
 {
     if types.holds(&term) {
         type_value(types, term)
@@ -44,7 +49,8 @@ fn made(types: &mut TypeArena, term: Term) -> Result<Value, Memory>
 }
 
 fn list_term(word: ListType, of: TypeId) -> Term
-    ensures { (types : List CluType) → type_of types result ≡ list_type word (type_at types of) }
+    ensures of_type { (types : List CluType) → type_of types result ≡ list_type word (type_at types of) }
+    ensures parts { (n : ℕ) → of.0 < n → PartsBelow n result }
 {
     match word {
         ListType::Array => Term::Array(of),
@@ -63,6 +69,8 @@ pub fn list_value(
     ensures constant_in { IfOk result (λ v. (n : ℕ) → ConstantWithin n v) }
     ensures type_in { IfOk result (λ v. TypeWithin (length types.new) v) }
     ensures kept { Grows types.old types.new }
+    ensures typed { IfOk result (λ v. is_typed v ≡ true) }
+    ensures lost { IfOk result (λ v. v ≡ value.Lost → All (TypeWithin (length types.old)) values.now → type_id (value_of values.now of) ≡ None) }
 {
     match value_at(values, of) {
         Value::Type(of) => made(types, list_term(word, of)),
@@ -71,7 +79,8 @@ pub fn list_value(
 }
 
 fn fields_term(word: FieldsType, fields: Sequence<Field>) -> Term
-    ensures { (types : List CluType) → type_of types result ≡ fields_type word (fields_at types fields) }
+    ensures of_type { (types : List CluType) → type_of types result ≡ fields_type word (fields_at types fields) }
+    ensures parts { (n : ℕ) → FieldsBelow n fields → PartsBelow n result }
 {
     match word {
         FieldsType::Record => Term::Record(fields),
@@ -94,6 +103,8 @@ pub fn fields_value(
     ensures constant_in { IfOk result (λ v. (n : ℕ) → ConstantWithin n v) }
     ensures type_in { IfOk result (λ v. TypeWithin (length types.new) v) }
     ensures kept { Grows types.old types.new }
+    ensures typed { IfOk result (λ v. is_typed v ≡ true) }
+    ensures lost { IfOk result (λ v. v ≡ value.Lost → All (TypeWithin (length types.old)) values.now → selectors_behind values.now tree.now [] selectors.now ≡ None) }
 {
     match fields_of(alloc, tree, values, selectors)? {
         Some(fields) => made(types, fields_term(word, fields)),
@@ -107,7 +118,8 @@ fn routine_term(
     results: Sequence<TypeId>,
     signals: Sequence<Exception>,
 ) -> Term
-    ensures { (types : List CluType) → type_of types result ≡ routine_type kind (types_at types args) (types_at types results) (signals_at types signals) }
+    ensures of_type { (types : List CluType) → type_of types result ≡ routine_type kind (types_at types args) (types_at types results) (signals_at types signals) }
+    ensures parts { (n : ℕ) → AreBelow n args → AreBelow n results → SignalsBelow n signals → PartsBelow n result }
 {
     let heading = Heading {
         args,
@@ -135,6 +147,8 @@ pub fn routine_value(
     ensures constant_in { IfOk result (λ v. (n : ℕ) → ConstantWithin n v) }
     ensures type_in { IfOk result (λ v. TypeWithin (length types.new) v) }
     ensures kept { Grows types.old types.new }
+    ensures typed { IfOk result (λ v. is_typed v ≡ true) }
+    ensures lost { IfOk result (λ v. v ≡ value.Lost → All (TypeWithin (length types.old)) values.now → (ids_behind values.now [] arguments.now ≡ None) ⊎ (ids_behind values.now [] results.now ≡ None) ⊎ (signals_behind values.now tree.now [] exceptions.now ≡ None)) }
 {
     let Some(args) = types_of(alloc, values, arguments)? else {
         return Ok(Value::Lost);

@@ -8,4 +8,4 @@ use Rattle.clu_settle.proofs.type_values.list_value.Goals as goal
 pub returns-in-Type-clause-known : goal.returns-in-Type-clause-known
 returns-in-Type-clause-known c = ok_more _ _ c.made.result c.made.ensures.known (λ v p constants t a.
     list_agrees (types_of c.args.types.now) constants c.args.values.now (told (types_of c.made.new.types) constants v) _ c.args.word c.in-Type.of t (value_of c.args.values.now c.args.of)
-    (c.list_term.ensures (types_of c.args.types.now)) (sym c.value_at.ensures ∙ c.in-Type.is) a (p constants))
+    (c.list_term.ensures.of_type (types_of c.args.types.now)) (sym c.value_at.ensures ∙ c.in-Type.is) a (p constants))
