@@ -5,6 +5,8 @@ use Rattle.std.specs.List.{list_any}
 use Rattle.std.proofs.lemmas.Bool.{cases_eq, cases_lt, true≢false, lt-ltb}
 use Rattle.std.proofs.lemmas.Option.{none-some, same_Some, slice_get_within, slice_get-get_or, slice_get_past}
 use Rattle.clu_tree.specs.declared.node.Node.{Node}
+use Rattle.clu_tree.specs.Nodes.{IsTree}
+use Rattle.clu_parser.specs.Shape.{HaveForms}
 use Rattle.clu_circles.specs.declared.states.Span.{Span}
 use Rattle.clu_circles.specs.Circles.{Leads, AreCircles}
 use Rattle.clu_syntax.specs.Kinds.{is_type, kind_at}
@@ -160,6 +162,7 @@ module _ (nodes : List Node) (meanings : List Meaning) where
     -- ---- lost, however many steps are taken
 
     pub order_is : (order : List ℕ) (circular : List Bool) → AreCircles targets spans order circular → IsOrder nodes meanings order
+    unfolding is_lost_in
     order_is order circular circles = record {
       after = λ p k t at from l. circles.after p k t at (leads k t (straight_inside p k at) l from);
       once = circles.once;
@@ -173,7 +176,6 @@ module _ (nodes : List Node) (meanings : List Meaning) where
         straight_inside p k at = let l : k < length circular = slice_get_within circular k false (circles.straight p k at) in let s : length circular ≡ length nodes = size in omega (arith, l, s)
 
         goes_on : (steps k : ℕ) → slice_get circular k ≡ Some true → is_lost_in nodes meanings steps k ≡ true
-        unfolding is_lost_in
         goes_on zero k e = refl
         goes_on (suc steps) k e =
             let next = circles.circles k e in
@@ -197,22 +199,22 @@ module _ (nodes : List Node) (meanings : List Meaning) where
   -- ---- what is made from something lost
 
   source_lost : (n : ℕ) → is_source (slice_get nodes n) ≡ true → IsLost nodes meanings n
-  source_lost n e steps = by steps
+  unfolding is_lost_in
+  source_lost n e = λ steps. by steps
     where
       by : (steps : ℕ) → is_lost_in nodes meanings steps n ≡ true
-      unfolding is_lost_in
       by zero = refl
       by (suc steps) = ap (λ (b : Bool). b || list_any (is_lost_in nodes meanings steps) (made_from nodes meanings n)) e
 
   made_lost : (n d : ℕ) → IsMadeFrom nodes meanings n d → IsLost nodes meanings d → IsLost nodes meanings n
-  made_lost n d made lost steps = by steps
+  unfolding is_lost_in
+  made_lost n d made lost = λ steps. by steps
     where
       or_so : (steps : ℕ) (b : Bool) → list_any (is_lost_in nodes meanings steps) (made_from nodes meanings n) ≡ true → (b || list_any (is_lost_in nodes meanings steps) (made_from nodes meanings n)) ≡ true
       or_so steps true h = refl
       or_so steps false h = h
 
       by : (steps : ℕ) → is_lost_in nodes meanings steps n ≡ true
-      unfolding is_lost_in
       by zero = refl
       by (suc steps) = or_so steps (is_source (slice_get nodes n)) (any_in (is_lost_in nodes meanings steps) (made_from nodes meanings n) d made (lost steps))
 
@@ -256,7 +258,7 @@ module _ (nodes : List Node) (meanings : List Meaning) where
     typed_more : (m : ℕ) → is_type (kind_at nodes m) ≡ true → is_typed (value_of values' m) ≡ true
     typed_more m e = elim (cases_eq m n) [
       | inl same ↦ ap (λ (x : ℕ). is_typed (value_of values' x)) same ∙ ap is_typed new_here ∙ typed (sym (ap (λ (x : ℕ). is_type (kind_at nodes x)) same) ∙ e)
-      | inr apart ↦ ap is_typed (new_other m apart) ∙ passed.typed m e
+      | inr apart ↦ ap is_typed (new_other m apart) ∙ passed.typed.types m e
     ]
 
     lost_more : (q k : ℕ) → q < suc p → slice_get order q ≡ Some k → value_of values' k ≡ value.Lost → IsLost nodes meanings k
@@ -271,7 +273,7 @@ module _ (nodes : List Node) (meanings : List Meaning) where
     ]
 
     pub one_lost : AreLost nodes meanings order (suc p) values'
-    one_lost = record { typed = typed_more; lost = lost_more }
+    one_lost = record { typed = record { tree = passed.typed.tree; shaped = passed.typed.shaped; types = typed_more }; lost = lost_more }
 
   pub none_more_lost : (order : List ℕ) (p n : ℕ) → slice_get order p ≡ Some n → length nodes ≤ n → (values : List Value) → AreLost nodes meanings order p values → AreLost nodes meanings order (suc p) values
   none_more_lost order p n at outside values passed = record {
@@ -282,9 +284,9 @@ module _ (nodes : List Node) (meanings : List Meaning) where
     ];
   }
 
-  pub none_lost : (order : List ℕ) (values : List Value) → values ≡ replicate (length nodes) value.Lost → AreLost nodes meanings order 0 values
-  none_lost order values e = record {
-    typed = λ n is. ap is_typed (ap (λ (vs : List Value). value_of vs n) e ∙ lost_at (length nodes) n);
+  pub none_lost : IsTree nodes → HaveForms nodes → (order : List ℕ) (values : List Value) → values ≡ replicate (length nodes) value.Lost → AreLost nodes meanings order 0 values
+  none_lost tree shaped order values e = record {
+    typed = record { tree = tree; shaped = shaped; types = λ n is. ap is_typed (ap (λ (vs : List Value). value_of vs n) e ∙ lost_at (length nodes) n) };
     lost = λ q k l at lost. absurd (omega (arith, l));
   }
 

@@ -17,6 +17,7 @@ pub mod Parts
 pub mod Labels
 pub mod Nodes
 pub mod Handed
+pub mod Found
 pub mod Members
 pub mod Losing
 pub mod Lasting

@@ -1,8 +1,8 @@
 -- Why the value of a node is lost, for each form of a type or an expression.
-use Rattle.std.proofs.Common.{◌≡◌, ◌∙◌, ℕ, ◌<◌, Bool, true, false, if◌then◌else◌, List, [], ◌∷◌, ◌++◌, map, take, drop, get_or, Option, Some, None, refl, ap, sym, subst, inl, inr, ◌⊎◌}
+use Rattle.std.proofs.Common.{◌≡◌, ◌∙◌, ℕ, ◌<◌, Bool, true, false, if◌then◌else◌, List, [], ◌∷◌, ◌++◌, map, take, drop, get_or, Option, Some, None, refl, ap, sym, subst, inl, inr, ◌⊎◌, length, arith}
 use Rattle.std.specs.Prelude.{slice_get}
 use Rattle.std.proofs.lemmas.Bool.{true≢false}
-use Rattle.std.proofs.lemmas.Option.{none-some}
+use Rattle.std.proofs.lemmas.Option.{none-some, slice_get_within}
 use Rattle.clu_base.specs.declared.constants.Const.{Const}
 use Rattle.clu_tree.specs.declared.node.Node.{Node}
 use Rattle.clu_tree.specs.declared.node.NodeKind.{NodeKind}
@@ -29,7 +29,7 @@ use Rattle.clu_settle.specs.declared.meanings.Meaning.{Meaning}
 use Rattle.clu_settle.specs.declared.meanings.Meaning.TheVariants as meaning
 use Rattle.clu_settle.specs.Lists.{type_id, value_of, ids_behind, first_value, selectors_at as selectors_known, selectors_behind, exceptions_at as exceptions_known, signals_behind}
 use Rattle.clu_settle.specs.Names.{meaning_in}
-use Rattle.clu_settle.specs.Lost.{is_too_large, is_cvt, is_lost_word, is_source, right_side, made_from, IsMadeFrom, Reaches, at_once, by_way_of, IsExplained, IsNameLost, AreTyped}
+use Rattle.clu_settle.specs.Lost.{is_too_large, is_cvt, is_lost_word, is_source, right_side, made_from, IsMadeFrom, Reaches, at_once, by_way_of, IsExplained, IsNameLost, AreTypes}
 use Rattle.clu_settle.proofs.Shapes.{one_missing, IsPart, AreParts, AreBefore, first_part, second_part, all_parts, run_parts, types_leading, parts_of_first, children_before, all_before, before_dropped, before_after_one, same_kind}
 use Rattle.clu_settle.proofs.Labels.{label, not_elements, is_elements, of_word, of_list, of_fields, of_routine, of_named, of_infix, of_prefix, of_paren, of_index, arguments_in, behind_arguments, results_in, exceptions_in}
 use Rattle.clu_settle.proofs.Members.{IsIn, in_front, in_behind, in_more, in_take, in_drop, part_at, typed_lost, NoType, ids_none, selectors_none, selector_none, signals_none, exception_none, actuals_none}
@@ -157,14 +157,17 @@ module _ (nodes : List Node) (meanings : List Meaning) (values : List Value) whe
         let named = of_literal nodes n node node.kind l (labelled_expression (λ items. a_literal n l) is) in
         inl (lost_word kind.Literal named.0 ∙ ap is_too_large (sym named.1) ∙ large)
 
-    pub index_explained : (constants : List Const) (a : ℕ) (cs : List ℕ) → IsExpression (λ items. an_index n (items a).expression (constants_at items cs)) → IsNameLost values constants cs (meaning_in (slice_get meanings a)) → IsExplained nodes meanings values n
+    pub index_explained : (constants : List Const) (a : ℕ) (cs : List ℕ) → IsExpression (λ items. an_index n (items a).expression (constants_at items cs)) → (a < length nodes → IsNameLost values constants cs (meaning_in (slice_get meanings a))) → IsExplained nodes meanings values n
     index_explained constants a cs is h =
         let named = of_index nodes n node node.kind a cs (labelled_expression (λ items. an_index n (items a).expression (constants_at items cs)) is) in
         let f = first_part nodes tree shaped is_expression (any is_constant_kind ∷ []) n node at (ap slots named.0) in
         let first : IsMadeFrom nodes meanings n a = child_made n a node at (subst (λ (x : ℕ). IsIn x node.children) (sym named.1) (first_in node f.is)) in
+        let below : a < n = (subst (IsPart nodes is_expression n) (sym named.1) f.first).0 in
+        let there : n < length nodes = slice_get_within nodes n node at in
+        let inside : a < length nodes = omega (arith, below, there) in
         name_by constants n a cs (meaning_in (slice_get meanings a)) refl
         (λ r made. by_way_of n a r first (at_once a r made))
-        (λ d given. child_made n d node at (in_drop d 1 node.children (subst (IsIn d) named.2 given))) h
+        (λ d given. child_made n d node at (in_drop d 1 node.children (subst (IsIn d) named.2 given))) (h inside)
 
     -- ---- types
 
@@ -183,7 +186,7 @@ module _ (nodes : List Node) (meanings : List Meaning) (values : List Value) whe
         name_by constants n n cs (meaning_in (slice_get meanings n)) refl (λ r made. at_once n r made)
         (λ d given. child_made n d node at (subst (IsIn d) named.2 given)) h
 
-    module _ (typed : AreTyped nodes values) where
+    module _ (typed : AreTypes nodes values) where
       pub list_explained : (w : ListType) (of : ℕ) → IsType (λ items. a_list_type n w (items of).type) → type_id (value_of values of) ≡ None → IsExplained nodes meanings values n
       list_explained w of is none =
           let named = of_list nodes n node node.kind w of (labelled_type (λ items. a_list_type n w (items of).type) is) in
@@ -261,7 +264,7 @@ module _ (nodes : List Node) (meanings : List Meaning) (values : List Value) whe
           (part_at (IsPart nodes (is_of kind.Exc) n) (exceptions_in nodes n node) s.node (run_parts nodes kind.Exc n signals_node signals_are) s.is_in).1 s.none
 
       pub routine_explained : (w : RoutineKind) (ps rs es : List ℕ) → IsType (λ items. a_routine_type n w (types_at items ps) (types_at items rs) (exceptions_at items es)) →
-          (ids_behind values [] ps ≡ None) ⊎ (ids_behind values [] rs ≡ None) ⊎ (signals_behind values nodes [] es ≡ None) → IsExplained nodes meanings values n
+          (ids_behind values [] ps ≡ None) ⊎ ((ids_behind values [] rs ≡ None) ⊎ (signals_behind values nodes [] es ≡ None)) → IsExplained nodes meanings values n
       routine_explained w ps rs es is h =
           let named = of_routine nodes n node node.kind w ps rs es (labelled_type (λ items. a_routine_type n w (types_at items ps) (types_at items rs) (exceptions_at items es)) is) in
           elim h [

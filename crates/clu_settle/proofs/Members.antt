@@ -84,9 +84,6 @@ mapped_none : {A B : Type 0} (f : A → B) (o : Option A) → option_map f o ≡
 mapped_none f None e = refl
 mapped_none f (Some a) e = absurd (none-some (f a) (sym e))
 
-pub none_mapped : {A B : Type 0} (f : A → B) (found : Option B) (o : Option A) → found ≡ option_map f o → None ≡ found → o ≡ None
-none_mapped f found o e is = mapped_none f o (sym (is ∙ e))
-
 module _ (values : List Value) where
   -- ---- types
 

@@ -6,6 +6,8 @@ use Rattle.clu_base.specs.declared.constants.Const.{Const}
 use Rattle.clu_tree.specs.declared.node.Node.{Node}
 use Rattle.clu_tree.specs.declared.node.NodeKind.{NodeKind}
 use Rattle.clu_tree.specs.declared.node.NodeKind.TheVariants as kind
+use Rattle.clu_tree.specs.Nodes.{IsTree}
+use Rattle.clu_parser.specs.Shape.{HaveForms}
 use Rattle.clu_syntax.specs.declared.words.SimpleType.{SimpleType}
 use Rattle.clu_syntax.specs.declared.words.SimpleType.TheVariants as simple
 use Rattle.clu_syntax.specs.Words.{symbol_in, simple_type, literal_of}
@@ -79,17 +81,19 @@ IsNameLost values constants given _ = true ≡ false
 
 -- ---- what is found of a type is a type
 
-abbrev pub is_a_type : Value → Bool
-is_a_type (value.Type id) = true
-is_a_type _ = false
-
 abbrev pub is_typed : Value → Bool
 is_typed (value.Type id) = true
 is_typed value.Lost = true
 is_typed _ = false
 
-abbrev pub AreTyped : List Node → List Value → Type 0
-AreTyped nodes values = (n : ℕ) → is_type (kind_at nodes n) ≡ true → is_typed (value_of values n) ≡ true
+abbrev pub AreTypes : List Node → List Value → Type 0
+AreTypes nodes values = (n : ℕ) → is_type (kind_at nodes n) ≡ true → is_typed (value_of values n) ≡ true
+
+-- in a tree of the grammar
+pub record AreTyped (nodes : List Node) (values : List Value) : Type 0 where
+  pub tree : IsTree nodes
+  pub shaped : HaveForms nodes
+  pub types : AreTypes nodes values
 
 -- ---- the first p nodes in order: what is lost of them is lost however many steps are taken
 

@@ -7,7 +7,7 @@ ghost use Rattle.clu_syntax.specs.Syntax.{integer, character, string};
 ghost use Rattle.clu_syntax.specs.Words.{literal_told};
 ghost use Rattle.clu_meaning.specs.Constants.{denoted, number_after};
 ghost use Rattle.clu_meaning.specs.Settling.{constant_value};
-ghost use Rattle.clu_settle.specs.declared.value.Value.TheVariants as value;
+ghost use Rattle.clu_settle.specs.declared.value.Value.{Value};
 ghost use Rattle.clu_settle.specs.Lost.{is_too_large};
 ghost use Rattle.clu_settle.specs.Values.{told, Agrees, Kept, TypeWithin, ConstantWithin};
 
@@ -67,7 +67,7 @@ fn integer_value(constants: &mut Vec<Const>, digits: &[u8]) -> Result<Value, Mem
     ensures constant_in { IfOk result (λ v. ConstantWithin (length constants.new.items) v) }
     ensures type_in { IfOk result (λ v. (n : ℕ) → TypeWithin n v) }
     ensures kept { Kept constants.old.items constants.new.items }
-    ensures lost { IfOk result (λ v. v ≡ value.Lost → is_too_large (integer digits.now) ≡ true) }
+    ensures lost { IfOk result (λ v. v ≡ Value.Lost → is_too_large (integer digits.now) ≡ true) }
 {
     match int_of(digits) {
         Some(int) => keep(constants, Some(Const::Int(int))),
@@ -80,7 +80,7 @@ fn character_value(constants: &mut Vec<Const>, text: &[u8]) -> Result<Value, Mem
     ensures constant_in { IfOk result (λ v. ConstantWithin (length constants.new.items) v) }
     ensures type_in { IfOk result (λ v. (n : ℕ) → TypeWithin n v) }
     ensures kept { Kept constants.old.items constants.new.items }
-    ensures lost { IfOk result (λ v. v ≡ value.Lost → ⊥) }
+    ensures lost { IfOk result (λ v. v ≡ Value.Lost → ⊥) }
 {
     match char_byte(text) {
         Some(byte) => keep(constants, Some(Const::Char(byte))),
@@ -93,7 +93,7 @@ fn string_value(alloc: Global, constants: &mut Vec<Const>, text: &[u8]) -> Resul
     ensures constant_in { IfOk result (λ v. ConstantWithin (length constants.new.items) v) }
     ensures type_in { IfOk result (λ v. (n : ℕ) → TypeWithin n v) }
     ensures kept { Kept constants.old.items constants.new.items }
-    ensures lost { IfOk result (λ v. v ≡ value.Lost → ⊥) }
+    ensures lost { IfOk result (λ v. v ≡ Value.Lost → ⊥) }
 {
     match string_bytes(alloc, text)? {
         Some(bytes) => keep(constants, Some(Const::Str(bytes))),
@@ -111,7 +111,7 @@ pub fn literal_value(
     ensures constant_in { IfOk result (λ v. ConstantWithin (length constants.new.items) v) }
     ensures type_in { IfOk result (λ v. (n : ℕ) → TypeWithin n v) }
     ensures kept { Kept constants.old.items constants.new.items }
-    ensures lost { IfOk result (λ v. v ≡ value.Lost → is_too_large (literal_told literal.entry) ≡ true) }
+    ensures lost { IfOk result (λ v. v ≡ Value.Lost → is_too_large (literal_told literal.entry) ≡ true) }
 {
     match literal {
         Literal::Nil => keep(constants, Some(Const::Null)),

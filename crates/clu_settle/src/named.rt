@@ -10,7 +10,7 @@ ghost use Rattle.clu_meaning.specs.Scoping.{Scope};
 ghost use Rattle.clu_meaning.specs.Scoping.{Meaning as Meant};
 ghost use Rattle.clu_meaning.specs.Settling.{Value as Settled, settled_type, module_type, value_of_meaning};
 ghost use Rattle.clu_meaning.specs.Settling.{with_brackets as settled_with_brackets};
-ghost use Rattle.clu_settle.specs.declared.value.Value.TheVariants as value;
+ghost use Rattle.clu_settle.specs.declared.value.Value.{Value};
 ghost use Rattle.clu_settle.specs.Values.{told, Agrees, TypeWithin, IsWithin, AreWithin};
 ghost use Rattle.clu_settle.specs.Lists.{actuals_behind};
 ghost use Rattle.clu_settle.specs.Lost.{IsNameLost};
@@ -85,7 +85,7 @@ fn module_value(
     ensures known { IfOk result (λ v. (gs : Actuals) → ActualsAgree (arena_types types.old) constants.now values.now given.now gs → Agrees (told (arena_types types.new) constants.now v) (settled_type (module_type name.now gs))) }
     ensures within { IfOk result (λ v. (n : ℕ) → IsWithin (length types.new) n v) }
     ensures kept { Grows types.old types.new }
-    ensures lost { IfOk result (λ v. v ≡ value.Lost → All (TypeWithin (length types.old)) values.now → actuals_behind values.now constants.now [] given.now ≡ None) }
+    ensures lost { IfOk result (λ v. v ≡ Value.Lost → All (TypeWithin (length types.old)) values.now → actuals_behind values.now constants.now [] given.now ≡ None) }
 {
     match actuals_of(alloc, constants, values, given)? {
         Some(given) => {
@@ -112,7 +112,7 @@ pub fn value_of_name(
     ensures known { IfOk result (λ v. (scope : Scope) (unfolded : Constant → Settled) (m : Meant) (gs : Actuals) → MeaningAgrees (arena_types types.old) constants.now values.now unfolded meaning m → ActualsAgree (arena_types types.old) constants.now values.now given.now gs → Agrees (told (arena_types types.new) constants.now v) (value_of_meaning scope unfolded name.now gs m)) }
     ensures within { IfOk result (λ v. (n : ℕ) → AreWithin (length types.old) n values.now → IsWithin (length types.new) n v) }
     ensures kept { Grows types.old types.new }
-    ensures lost { IfOk result (λ v. v ≡ value.Lost → All (TypeWithin (length types.old)) values.now → IsNameLost values.now constants.now given.now meaning) }
+    ensures lost { IfOk result (λ v. v ≡ Value.Lost → All (TypeWithin (length types.old)) values.now → IsNameLost values.now constants.now given.now meaning) }
 {
     match meaning {
         Meaning::Equate(right) => Ok(value_at(values, right)),
@@ -127,7 +127,7 @@ pub fn value_of_name(
 pub fn with_brackets(value: Value) -> Value
     ensures known { (types : List CluType) (constants : List Const) (a : Settled) → Agrees (told types constants value) a → Agrees (told types constants result) (settled_with_brackets a) }
     ensures within { (types constants : ℕ) → IsWithin types constants value → IsWithin types constants result }
-    ensures lost { result ≡ value.Lost → value ≡ value.Lost }
+    ensures lost { result ≡ Value.Lost → value ≡ Value.Lost }
 {
     match value {
         Value::Type(id) => Value::Type(id),

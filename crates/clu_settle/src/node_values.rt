@@ -12,7 +12,7 @@ ghost use Rattle.clu_syntax.specs.Syntax.{Constant};
 ghost use Rattle.clu_meaning.specs.Scoping.{Scope, meaning_of};
 ghost use Rattle.clu_meaning.specs.Scoping.{Meaning as Meant};
 ghost use Rattle.clu_meaning.specs.Settling.{Value as Settled, settled_type, type_in, simple_type, representation_at, value_of_meaning, value_of_constant, value_of_expression, type_of};
-ghost use Rattle.clu_settle.specs.declared.value.Value.TheVariants as value;
+ghost use Rattle.clu_settle.specs.declared.value.Value.{Value};
 ghost use Rattle.clu_settle.specs.Values.{told, Agrees, Kept, TypeWithin, IsWithin, AreWithin};
 ghost use Rattle.clu_settle.specs.Lost.{is_cvt, is_typed, AreTyped, IsNameLost, IsExplained};
 ghost use Rattle.clu_settle.specs.Names.{is_constant, meaning_in};
@@ -46,7 +46,7 @@ fn as_type(types: &mut TypeArena, value: Value) -> Result<Value, Memory>
     ensures within { IfOk result (λ v. (n : ℕ) → IsWithin (length types.old) n value → IsWithin (length types.new) n v) }
     ensures kept { Grows types.old types.new }
     ensures typed { IfOk result (λ v. is_typed v ≡ true) }
-    ensures lost { IfOk result (λ v. v ≡ value.Lost → value ≡ value.Lost) }
+    ensures lost { IfOk result (λ v. v ≡ Value.Lost → value ≡ Value.Lost) }
 {
     match value {
         Value::Type(id) => Ok(Value::Type(id)),
@@ -69,7 +69,7 @@ fn named_type(
     ensures within { IfOk result (λ v. (n : ℕ) → AreWithin (length types.old) n values.now → IsWithin (length types.new) n v) }
     ensures kept { Grows types.old types.new }
     ensures typed { IfOk result (λ v. is_typed v ≡ true) }
-    ensures lost { IfOk result (λ v. v ≡ value.Lost → All (TypeWithin (length types.old)) values.now → IsNameLost values.now constants.now given.now (meaning_in (slice_get asked.entry.meanings.now n))) }
+    ensures lost { IfOk result (λ v. v ≡ Value.Lost → All (TypeWithin (length types.old)) values.now → IsNameLost values.now constants.now given.now (meaning_in (slice_get asked.entry.meanings.now n))) }
 {
     let meaning = meaning_at(asked.meanings, n);
     let value = value_of_name(asked.alloc, types, constants, values, meaning, name, given)?;
@@ -88,7 +88,7 @@ fn representation(
     ensures within { IfOk result (λ v. (n : ℕ) → AreWithin (length types.old) n values.now → IsWithin (length types.new) n v) }
     ensures kept { Grows types.old types.new }
     ensures typed { IfOk result (λ v. is_typed v ≡ true) }
-    ensures lost { IfOk result (λ v. v ≡ value.Lost → All (TypeWithin (length types.old)) values.now → IsNameLost values.now constants.now [] (meaning_in (slice_get asked.entry.meanings.now n))) }
+    ensures lost { IfOk result (λ v. v ≡ Value.Lost → All (TypeWithin (length types.old)) values.now → IsNameLost values.now constants.now [] (meaning_in (slice_get asked.entry.meanings.now n))) }
 {
     let name = Bytes::from_slice(asked.alloc, b"rep")?;
     named_type(asked, types, constants, values, n, &name, &[])
@@ -108,7 +108,7 @@ fn simple_value(
     ensures within { IfOk result (λ v. (n : ℕ) → AreWithin (length types.old) n values.now → IsWithin (length types.new) n v) }
     ensures kept { Grows types.old types.new }
     ensures typed { IfOk result (λ v. is_typed v ≡ true) }
-    ensures lost { IfOk result (λ v. v ≡ value.Lost → All (TypeWithin (length types.old)) values.now → (is_cvt word ≡ true) ⊎ IsNameLost values.now constants.now [] (meaning_in (slice_get asked.entry.meanings.now n))) }
+    ensures lost { IfOk result (λ v. v ≡ Value.Lost → All (TypeWithin (length types.old)) values.now → (is_cvt word ≡ true) ⊎ IsNameLost values.now constants.now [] (meaning_in (slice_get asked.entry.meanings.now n))) }
 {
     match word {
         SimpleType::Null => type_value(types, Term::Null),
@@ -136,7 +136,7 @@ fn value_of_type(
     ensures within { IfOk result (λ v. (n : ℕ) → AreWithin (length types.old) n values.now → IsWithin (length types.new) n v) }
     ensures kept { Grows types.old types.new }
     ensures typed { IfOk result (λ v. is_typed v ≡ true) }
-    ensures lost { IfOk result (λ v. v ≡ value.Lost → All (TypeWithin (length types.old)) values.now → AreTyped asked.entry.syntax.now values.now → is_type (kind_at asked.entry.syntax.now n) ≡ true → IsExplained asked.entry.syntax.now asked.entry.meanings.now values.now n) }
+    ensures lost { IfOk result (λ v. v ≡ Value.Lost → All (TypeWithin (length types.old)) values.now → AreTyped asked.entry.syntax.now values.now → is_type (kind_at asked.entry.syntax.now n) ≡ true → IsExplained asked.entry.syntax.now asked.entry.meanings.now values.now n) }
 {
     let tree = asked.syntax.tree();
     match asked.syntax.type_expression(n) {
@@ -180,7 +180,7 @@ fn index_value(
     ensures known { IfOk result (λ v. (scope : Scope) (unfolded : Constant → Settled) (gs : Actuals) → AreKnown asked.entry.syntax.now scope asked.entry.meanings.now (arena_types types.old) constants.now values.now unfolded → is_expression (kind_at asked.entry.syntax.now of) ≡ true → ActualsAgree (arena_types types.old) constants.now values.now given.now gs → Agrees (told (arena_types types.new) constants.now v) (indexed scope unfolded (item_at asked.entry.syntax.now of).expression gs)) }
     ensures within { IfOk result (λ v. (n : ℕ) → AreWithin (length types.old) n values.now → IsWithin (length types.new) n v) }
     ensures kept { Grows types.old types.new }
-    ensures lost { IfOk result (λ v. v ≡ value.Lost → All (TypeWithin (length types.old)) values.now → IsNameLost values.now constants.now given.now (meaning_in (slice_get asked.entry.meanings.now of))) }
+    ensures lost { IfOk result (λ v. v ≡ Value.Lost → All (TypeWithin (length types.old)) values.now → IsNameLost values.now constants.now given.now (meaning_in (slice_get asked.entry.meanings.now of))) }
 {
     match asked.syntax.expression(of) {
         Expression::Name(name) => {
@@ -204,7 +204,7 @@ fn index_value_at(
     ensures known { IfOk result (λ v. (scope : Scope) (unfolded : Constant → Settled) (gs : Actuals) → AreKnown asked.entry.syntax.now scope asked.entry.meanings.now (arena_types types.old) constants.now values.now unfolded → is_expression (kind_at asked.entry.syntax.now of) ≡ true → ActualsAgree (arena_types types.old) constants.now values.now given.now gs → Agrees (told (arena_types types.new) constants.now v) (indexed scope unfolded (item_at asked.entry.syntax.now of).expression gs)) }
     ensures within { IfOk result (λ v. (n : ℕ) → AreWithin (length types.old) n values.now → IsWithin (length types.new) n v) }
     ensures kept { Grows types.old types.new }
-    ensures lost { IfOk result (λ v. v ≡ value.Lost → All (TypeWithin (length types.old)) values.now → of < length asked.entry.syntax.now → IsNameLost values.now constants.now given.now (meaning_in (slice_get asked.entry.meanings.now of))) }
+    ensures lost { IfOk result (λ v. v ≡ Value.Lost → All (TypeWithin (length types.old)) values.now → of < length asked.entry.syntax.now → IsNameLost values.now constants.now given.now (meaning_in (slice_get asked.entry.meanings.now of))) }
 {
     if of < asked.syntax.tree().len() {
         index_value(asked, types, constants, values, of, given)
@@ -226,7 +226,7 @@ fn value_of_expression(
     ensures within { IfOk result (λ v. AreWithin (length types.old) (length constants.old.items) values.now → IsWithin (length types.new) (length constants.new.items) v) }
     ensures types_kept { Grows types.old types.new }
     ensures constants_kept { Kept constants.old.items constants.new.items }
-    ensures lost { IfOk result (λ v. v ≡ value.Lost → All (TypeWithin (length types.old)) values.now → IsExplained asked.entry.syntax.now asked.entry.meanings.now values.now n) }
+    ensures lost { IfOk result (λ v. v ≡ Value.Lost → All (TypeWithin (length types.old)) values.now → AreTyped asked.entry.syntax.now values.now → IsExplained asked.entry.syntax.now asked.entry.meanings.now values.now n) }
 {
     match asked.syntax.expression(n) {
         Expression::Infix {
@@ -275,7 +275,7 @@ pub fn node_value(
     ensures types_kept { Grows types.old types.new }
     ensures constants_kept { Kept constants.old.items constants.new.items }
     ensures typed { IfOk result (λ v. is_type (kind_at asked.entry.syntax.now n) ≡ true → is_typed v ≡ true) }
-    ensures lost { IfOk result (λ v. v ≡ value.Lost → All (TypeWithin (length types.old)) values.now → AreTyped asked.entry.syntax.now values.now → IsExplained asked.entry.syntax.now asked.entry.meanings.now values.now n) }
+    ensures lost { IfOk result (λ v. v ≡ Value.Lost → All (TypeWithin (length types.old)) values.now → AreTyped asked.entry.syntax.now values.now → IsExplained asked.entry.syntax.now asked.entry.meanings.now values.now n) }
 {
     let kind = asked.syntax.tree().node(n).kind;
     if is_type(kind) {

@@ -7,7 +7,7 @@ ghost use Rattle.clu_types.specs.CluType.{CluType};
 ghost use Rattle.clu_meaning.specs.Constants.{prefixed};
 ghost use Rattle.clu_meaning.specs.Settling.{Value as Settled, constant_in as constant_of, constant_value, infix_value};
 ghost use Rattle.clu_settle.specs.Operators.{folded_by, prefix_by, nothing_beside, IsInRange};
-ghost use Rattle.clu_settle.specs.declared.value.Value.TheVariants as value;
+ghost use Rattle.clu_settle.specs.declared.value.Value.{Value};
 ghost use Rattle.clu_settle.specs.Values.{told, Agrees, Kept, TypeWithin, ConstantWithin, constant_at};
 
 use crate::constants::{constant_at, keep};
@@ -115,7 +115,7 @@ pub fn infix_value(
     ensures constant_in { IfOk result (λ v. ConstantWithin (length constants.new.items) v) }
     ensures type_in { IfOk result (λ v. (n : ℕ) → TypeWithin n v) }
     ensures kept { Kept constants.old.items constants.new.items }
-    ensures lost { IfOk result (λ v. v ≡ value.Lost → (left ≡ value.Lost) ⊎ (right ≡ value.Lost)) }
+    ensures lost { IfOk result (λ v. v ≡ Value.Lost → (left ≡ Value.Lost) ⊎ (right ≡ Value.Lost)) }
 {
     match left {
         Value::Lost => Ok(Value::Lost),
@@ -138,7 +138,7 @@ pub fn prefix_value(
     ensures constant_in { IfOk result (λ v. ConstantWithin (length constants.new.items) v) }
     ensures type_in { IfOk result (λ v. (n : ℕ) → TypeWithin n v) }
     ensures kept { Kept constants.old.items constants.new.items }
-    ensures lost { IfOk result (λ v. v ≡ value.Lost → operand ≡ value.Lost) }
+    ensures lost { IfOk result (λ v. v ≡ Value.Lost → operand ≡ Value.Lost) }
 {
     match operand {
         Value::Constant(a) => {

@@ -1,6 +1,6 @@
 //! The values of all nodes of a tree, each found once, after those from which it is made.
 
-ghost use Rattle.std.specs.Prelude.{◌≡◌, ◌<◌, ◌+◌, ℕ, List, Some, IfOk, OnOk, length, replicate, slice_get, eqb};
+ghost use Rattle.std.specs.Prelude.{◌≡◌, ◌<◌, ◌+◌, ℕ, true, List, Some, IfOk, OnOk, length, replicate, slice_get, eqb};
 ghost use Rattle.std.specs.List.{IsDistinct};
 ghost use Rattle.clu_names.specs.Denotes.{bound_to, starts_to};
 ghost use Rattle.clu_meaning.specs.Scoping.{Scope};
@@ -8,6 +8,8 @@ ghost use Rattle.clu_settle.specs.declared.value.Value.{Value};
 ghost use Rattle.clu_settle.specs.Names.{AreMeanings};
 ghost use Rattle.clu_settle.specs.Steps.{ArePassed};
 ghost use Rattle.clu_settle.specs.Settled.{AreSettled};
+ghost use Rattle.clu_settle.specs.Lists.{value_of};
+ghost use Rattle.clu_settle.specs.Lost.{is_lost, AreLost, IsOrder};
 
 use crate::graph::graph_of;
 use crate::meanings::{Meaning, meanings};
@@ -50,7 +52,8 @@ fn settle_one(
 ) -> Result<(), Memory>
     requires inside { n < length asked.syntax.now }
     requires size { length values.old ≡ length asked.syntax.now }
-    ensures { OnOk result ((order : List ℕ) (p : ℕ) → slice_get order p ≡ Some n → ArePassed asked.entry.syntax.now asked.entry.meanings.now order p types.old constants.old.items values.old → ArePassed asked.entry.syntax.now asked.entry.meanings.now order (p + 1) types.new constants.new.items values.new) }
+    ensures known { OnOk result ((order : List ℕ) (p : ℕ) → slice_get order p ≡ Some n → ArePassed asked.entry.syntax.now asked.entry.meanings.now order p types.old constants.old.items values.old → ArePassed asked.entry.syntax.now asked.entry.meanings.now order (p + 1) types.new constants.new.items values.new) }
+    ensures lost { OnOk result ((order : List ℕ) (p : ℕ) → IsOrder asked.entry.syntax.now asked.entry.meanings.now order → slice_get order p ≡ Some n → ArePassed asked.entry.syntax.now asked.entry.meanings.now order p types.old constants.old.items values.old → AreLost asked.entry.syntax.now asked.entry.meanings.now order p values.old → AreLost asked.entry.syntax.now asked.entry.meanings.now order (p + 1) values.new) }
 {
     let value = node_value(asked, types, constants, values, n)?;
     values[n as usize] = value;
@@ -66,7 +69,8 @@ fn settle_at(
     place: usize,
 ) -> Result<(), Memory>
     requires { length values.old ≡ length asked.syntax.now }
-    ensures { OnOk result ((order : List ℕ) (p : ℕ) → slice_get order p ≡ Some place → ArePassed asked.entry.syntax.now asked.entry.meanings.now order p types.old constants.old.items values.old → ArePassed asked.entry.syntax.now asked.entry.meanings.now order (p + 1) types.new constants.new.items values.new) }
+    ensures known { OnOk result ((order : List ℕ) (p : ℕ) → slice_get order p ≡ Some place → ArePassed asked.entry.syntax.now asked.entry.meanings.now order p types.old constants.old.items values.old → ArePassed asked.entry.syntax.now asked.entry.meanings.now order (p + 1) types.new constants.new.items values.new) }
+    ensures lost { OnOk result ((order : List ℕ) (p : ℕ) → IsOrder asked.entry.syntax.now asked.entry.meanings.now order → slice_get order p ≡ Some place → ArePassed asked.entry.syntax.now asked.entry.meanings.now order p types.old constants.old.items values.old → AreLost asked.entry.syntax.now asked.entry.meanings.now order p values.old → AreLost asked.entry.syntax.now asked.entry.meanings.now order (p + 1) values.new) }
 {
     if place < asked.syntax.tree().len() as usize {
         settle_one(asked, types, constants, values, place as u32)
@@ -82,8 +86,11 @@ fn settle_all(
     values: &mut [Value],
     order: &[usize],
 ) -> Result<(), Memory>
-    requires { ArePassed asked.syntax.now asked.meanings.now order.now 0 types.old constants.old.items values.old }
-    ensures { OnOk result (ArePassed asked.entry.syntax.now asked.entry.meanings.now order.now (length order.now) types.new constants.new.items values.new) }
+    requires order { IsOrder asked.syntax.now asked.meanings.now order.now }
+    requires known { ArePassed asked.syntax.now asked.meanings.now order.now 0 types.old constants.old.items values.old }
+    requires lost { AreLost asked.syntax.now asked.meanings.now order.now 0 values.old }
+    ensures known { OnOk result (ArePassed asked.entry.syntax.now asked.entry.meanings.now order.now (length order.now) types.new constants.new.items values.new) }
+    ensures lost { OnOk result (AreLost asked.entry.syntax.now asked.entry.meanings.now order.now (length order.now) values.new) }
 {
     for place in order {
         settle_at(asked, types, constants, values, *place)?;
@@ -99,8 +106,10 @@ fn all_lost(alloc: Global, count: u32) -> Result<Vec<Value>, Memory>
 }
 
 fn settle_in(alloc: Global, asked: Asked<'_>, order: &[usize]) -> Result<Tables, Memory>
-    requires { IsDistinct eqb order.now }
-    ensures { IfOk result (λ all. (scope : Scope) → AreMeanings asked.entry.syntax.now scope asked.entry.meanings.now → AreSettled asked.entry.syntax.now scope all.types all.constants.items all.values.items) }
+    requires distinct { IsDistinct eqb order.now }
+    requires order { IsOrder asked.syntax.now asked.meanings.now order.now }
+    ensures known { IfOk result (λ all. (scope : Scope) → AreMeanings asked.entry.syntax.now scope asked.entry.meanings.now → AreSettled asked.entry.syntax.now scope all.types all.constants.items all.values.items) }
+    ensures lost { IfOk result (λ all. (n : ℕ) → n < length asked.entry.syntax.now → value_of all.values.items n ≡ Value.Lost → is_lost asked.entry.syntax.now asked.entry.meanings.now n ≡ true) }
 {
     let len = asked.syntax.tree().len();
     let mut values = all_lost(alloc, len)?;
@@ -115,7 +124,8 @@ fn settle_in(alloc: Global, asked: Asked<'_>, order: &[usize]) -> Result<Tables,
 }
 
 fn order_of(alloc: Global, syntax: &Syntax, meanings: &[Meaning]) -> Result<Circles, Memory>
-    ensures { IfOk result (λ found. IsDistinct eqb found.order.items) }
+    ensures distinct { IfOk result (λ found. IsDistinct eqb found.order.items) }
+    ensures order { IfOk result (λ found. IsOrder syntax.now meanings.now found.order.items) }
 {
     let graph = graph_of(alloc, syntax.tree(), meanings)?;
     find_circles(alloc, graph.targets.as_slice(), graph.spans.as_slice())
@@ -123,7 +133,8 @@ fn order_of(alloc: Global, syntax: &Syntax, meanings: &[Meaning]) -> Result<Circ
 
 /// The values of the nodes of a tree, by what the name of each node stands for.
 fn settle_by(alloc: Global, syntax: &Syntax, meanings: &[Meaning]) -> Result<Tables, Memory>
-    ensures { IfOk result (λ all. (scope : Scope) → AreMeanings syntax.now scope meanings.now → AreSettled syntax.now scope all.types all.constants.items all.values.items) }
+    ensures known { IfOk result (λ all. (scope : Scope) → AreMeanings syntax.now scope meanings.now → AreSettled syntax.now scope all.types all.constants.items all.values.items) }
+    ensures lost { IfOk result (λ all. (n : ℕ) → n < length syntax.now → value_of all.values.items n ≡ Value.Lost → is_lost syntax.now meanings.now n ≡ true) }
 {
     let found = order_of(alloc, syntax, meanings)?;
     let asked = Asked {
@@ -139,6 +150,7 @@ pub fn settle(alloc: Global, syntax: &Syntax, names: &Names) -> Result<Values, M
     requires bound { names.now.bound.items ≡ bound_to syntax.now names.now.declared.items (length syntax.now) }
     requires starts { names.now.starts.items ≡ starts_to syntax.now names.now.declared.items (length syntax.now) }
     ensures known { IfOk result (λ all. (scope : Scope) → AreMeanings syntax.now scope all.meanings.items → AreSettled syntax.now scope all.types all.constants.items all.values.items) }
+    ensures lost { IfOk result (λ all. (n : ℕ) → n < length syntax.now → value_of all.values.items n ≡ Value.Lost → is_lost syntax.now all.meanings.items n ≡ true) }
 {
     let meanings = meanings(alloc, syntax, names)?;
     let Tables {

@@ -6,10 +6,10 @@ ghost use Rattle.clu_types.specs.CluType.{CluType, CluTypes, Fields, Signals};
 ghost use Rattle.clu_types.specs.Arena.{PartsBelow, AreBelow, FieldsBelow, SignalsBelow, Grows, type_of, type_at, types_at, fields_at, signals_at};
 ghost use Rattle.clu_types.specs.Arena.{types_of as arena_types};
 ghost use Rattle.clu_meaning.specs.Settling.{settled_type, list_type, fields_type, routine_type};
-ghost use Rattle.clu_settle.specs.declared.value.Value.TheVariants as value;
+ghost use Rattle.clu_settle.specs.declared.value.Value.{Value};
 ghost use Rattle.clu_settle.specs.Values.{told, Agrees, TypeWithin, ConstantWithin};
 ghost use Rattle.clu_settle.specs.Lists.{type_id, value_of, ids_behind, selectors_behind, signals_behind};
-ghost use Rattle.clu_settle.specs.Lost.{is_a_type, is_typed};
+ghost use Rattle.clu_settle.specs.Lost.{is_typed};
 ghost use Rattle.clu_settle.specs.Agreeing.{TypesAgree, SelectorsAgree, SignalsAgree};
 
 use crate::lists::{fields_of, signals_of, types_of};
@@ -27,7 +27,8 @@ pub fn type_value(types: &mut TypeArena, term: Term) -> Result<Value, Memory>
     ensures constant_in { IfOk result (λ v. (n : ℕ) → ConstantWithin n v) }
     ensures type_in { IfOk result (λ v. TypeWithin (length types.new) v) }
     ensures kept { Grows types.old types.new }
-    ensures is_type { IfOk result (λ v. is_a_type v ≡ true) }
+    ensures typed { IfOk result (λ v. is_typed v ≡ true) }
+    ensures there { IfOk result (λ v. v ≡ Value.Lost → ⊥) }
 {
     Ok(Value::Type(types.intern(term)?))
 }
@@ -39,7 +40,7 @@ fn made(types: &mut TypeArena, term: Term) -> Result<Value, Memory>
     ensures type_in { IfOk result (λ v. TypeWithin (length types.new) v) }
     ensures kept { Grows types.old types.new }
     ensures typed { IfOk result (λ v. is_typed v ≡ true) }
-    ensures lost { IfOk result (λ v. v ≡ value.Lost → PartsBelow (length types.old) term → ⊥) }
+    ensures lost { IfOk result (λ v. v ≡ Value.Lost → PartsBelow (length types.old) term → ⊥) }
 {
     if types.holds(&term) {
         type_value(types, term)
@@ -70,7 +71,7 @@ pub fn list_value(
     ensures type_in { IfOk result (λ v. TypeWithin (length types.new) v) }
     ensures kept { Grows types.old types.new }
     ensures typed { IfOk result (λ v. is_typed v ≡ true) }
-    ensures lost { IfOk result (λ v. v ≡ value.Lost → All (TypeWithin (length types.old)) values.now → type_id (value_of values.now of) ≡ None) }
+    ensures lost { IfOk result (λ v. v ≡ Value.Lost → All (TypeWithin (length types.old)) values.now → type_id (value_of values.now of) ≡ None) }
 {
     match value_at(values, of) {
         Value::Type(of) => made(types, list_term(word, of)),
@@ -104,7 +105,7 @@ pub fn fields_value(
     ensures type_in { IfOk result (λ v. TypeWithin (length types.new) v) }
     ensures kept { Grows types.old types.new }
     ensures typed { IfOk result (λ v. is_typed v ≡ true) }
-    ensures lost { IfOk result (λ v. v ≡ value.Lost → All (TypeWithin (length types.old)) values.now → selectors_behind values.now tree.now [] selectors.now ≡ None) }
+    ensures lost { IfOk result (λ v. v ≡ Value.Lost → All (TypeWithin (length types.old)) values.now → selectors_behind values.now tree.now [] selectors.now ≡ None) }
 {
     match fields_of(alloc, tree, values, selectors)? {
         Some(fields) => made(types, fields_term(word, fields)),
@@ -148,7 +149,7 @@ pub fn routine_value(
     ensures type_in { IfOk result (λ v. TypeWithin (length types.new) v) }
     ensures kept { Grows types.old types.new }
     ensures typed { IfOk result (λ v. is_typed v ≡ true) }
-    ensures lost { IfOk result (λ v. v ≡ value.Lost → All (TypeWithin (length types.old)) values.now → (ids_behind values.now [] arguments.now ≡ None) ⊎ (ids_behind values.now [] results.now ≡ None) ⊎ (signals_behind values.now tree.now [] exceptions.now ≡ None)) }
+    ensures lost { IfOk result (λ v. v ≡ Value.Lost → All (TypeWithin (length types.old)) values.now → (ids_behind values.now [] arguments.now ≡ None) ⊎ ((ids_behind values.now [] results.now ≡ None) ⊎ (signals_behind values.now tree.now [] exceptions.now ≡ None))) }
 {
     let Some(args) = types_of(alloc, values, arguments)? else {
         return Ok(Value::Lost);

@@ -1,7 +1,9 @@
-use Rattle.std.proofs.Common.{◌∙◌, sym, ap}
+use Rattle.std.proofs.Common.{◌∙◌, sym, ap, subst}
 use Rattle.clu_types.specs.Arena.{types_of}
 use Rattle.clu_syntax.specs.Views.{expression_told}
+use Rattle.clu_settle.specs.declared.meanings.Meaning.{Meaning}
 use Rattle.clu_settle.specs.Values.{told}
+use Rattle.clu_settle.specs.Lost.{IsNameLost}
 use Rattle.clu_settle.proofs.Made.{meant_as}
 use Rattle.clu_settle.proofs.Parts.{node_at}
 use Rattle.clu_settle.proofs.Nodes.{indexed_name}
@@ -23,3 +25,8 @@ returns-in_ok-value-in-Name-clause-within c = λ n all. c.with_brackets.ensures.
 pub returns-in_default-clause-known : goal.returns-in_default-clause-known
 returns-in_default-clause-known c = λ scope unfolded gs known is given.
     other_indexed scope unfolded c.args.asked.syntax.now c.args.of c.expression.result c.expression.ensures c.in_default.not-Name gs
+
+pub returns-in_ok-value-in-Name-clause-lost : goal.returns-in_ok-value-in-Name-clause-lost
+returns-in_ok-value-in-Name-clause-lost c = λ lost within.
+    subst (λ (m : Meaning). IsNameLost c.args.values.now c.args.constants.now c.args.given.now m) c.meaning_at-meaning.ensures
+    (c.in_ok-value-in-Name.ensures.lost (c.with_brackets.ensures.lost lost) within)

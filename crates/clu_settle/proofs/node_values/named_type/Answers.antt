@@ -1,4 +1,6 @@
-use Rattle.std.proofs.Common.{sym}
+use Rattle.std.proofs.Common.{sym, subst}
+use Rattle.clu_settle.specs.declared.meanings.Meaning.{Meaning}
+use Rattle.clu_settle.specs.Lost.{IsNameLost}
 use Rattle.clu_meaning.specs.Settling.{value_of_meaning}
 use Rattle.clu_settle.proofs.Made.{ok_more, meant_as}
 use Rattle.clu_settle.proofs.node_values.named_type.Goals as goal
@@ -10,3 +12,7 @@ returns-clause-known c = ok_more _ _ c.as_type.result c.as_type.ensures.known (�
 
 pub returns-clause-within : goal.returns-clause-within
 returns-clause-within c = ok_more _ _ c.as_type.result c.as_type.ensures.within (λ v p n all. p n (c.in_ok-value.ensures.within n all))
+
+pub returns-clause-lost : goal.returns-clause-lost
+returns-clause-lost c = ok_more _ _ c.as_type.result c.as_type.ensures.lost (λ v p lost within.
+    subst (λ (m : Meaning). IsNameLost c.args.values.now c.args.constants.now c.args.given.now m) c.meaning_at-meaning.ensures (c.in_ok-value.ensures.lost (p lost) within))

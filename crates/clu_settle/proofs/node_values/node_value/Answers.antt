@@ -6,6 +6,7 @@ use Rattle.clu_syntax.specs.Nodes.{item_at}
 use Rattle.clu_meaning.specs.Settling.{settled_type, type_of}
 use Rattle.clu_settle.specs.Known.{AreKnown}
 use Rattle.clu_settle.specs.Values.{told, Agrees}
+use Rattle.std.proofs.lemmas.Bool.{true≢false}
 use Rattle.clu_settle.proofs.Made.{ok_more}
 use Rattle.clu_settle.proofs.Nodes.{type_known, expression_known}
 use Rattle.clu_settle.proofs.Handed.{kind_told, no_constant}
@@ -32,3 +33,23 @@ pub returns-else-is_expression-clause-known : goal.returns-else-is_expression-cl
 returns-else-is_expression-clause-known c = λ scope unfolded known is.
     let kind = kind_told c.args.asked.syntax.now c.tree.result.now c.args.n c.node.result.now c.tree.ensures.same c.node.ensures.node in
     absurd (no_constant c.args.asked.syntax.now c.args.n c.node.result.now.kind c.is_type.result c.is_expression.result kind c.is_type.ensures c.if-is_type.false c.is_expression.ensures c.if-is_expression.false is)
+
+-- ---- what is lost
+
+pub returns-then-is_type-clause-typed : goal.returns-then-is_type-clause-typed
+returns-then-is_type-clause-typed c = ok_more _ _ c.value_of_type.result c.value_of_type.ensures.typed (λ v p is. p)
+
+pub returns-then-is_type-clause-lost : goal.returns-then-is_type-clause-lost
+returns-then-is_type-clause-lost c =
+    let kind = kind_told c.args.asked.syntax.now c.tree.result.now c.args.n c.node.result.now c.tree.ensures.same c.node.ensures.node in
+    ok_more _ _ c.value_of_type.result c.value_of_type.ensures.lost (λ v p lost within typed. p lost within typed (ap is_type kind ∙ sym c.is_type.ensures ∙ c.if-is_type.true))
+
+pub returns-then-is_expression-clause-typed : goal.returns-then-is_expression-clause-typed
+returns-then-is_expression-clause-typed c =
+    let kind = kind_told c.args.asked.syntax.now c.tree.result.now c.args.n c.node.result.now c.tree.ensures.same c.node.ensures.node in
+    ok_more _ _ c.value_of_expression.result c.value_of_expression.ensures.lost (λ v p is. absurd (true≢false (sym is ∙ ap is_type kind ∙ sym c.is_type.ensures ∙ c.if-is_type.false)))
+
+pub returns-else-is_expression-clause-typed : goal.returns-else-is_expression-clause-typed
+returns-else-is_expression-clause-typed c = λ is.
+    let kind = kind_told c.args.asked.syntax.now c.tree.result.now c.args.n c.node.result.now c.tree.ensures.same c.node.ensures.node in
+    absurd (true≢false (sym is ∙ ap is_type kind ∙ sym c.is_type.ensures ∙ c.if-is_type.false))

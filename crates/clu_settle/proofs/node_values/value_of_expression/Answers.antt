@@ -1,4 +1,4 @@
-use Rattle.std.proofs.Common.{◌≡◌, ◌∙◌, [], true, length, sym, ap, subst, List}
+use Rattle.std.proofs.Common.{◌≡◌, ◌∙◌, [], true, length, inl, inr, sym, ap, subst, List}
 use Rattle.clu_base.specs.declared.constants.Const.{Const}
 use Rattle.clu_types.specs.CluType.{Actuals}
 use Rattle.clu_types.specs.Arena.{types_of}
@@ -12,9 +12,12 @@ use Rattle.clu_settle.specs.Agreeing.{ActualsAgree, MeaningAgrees}
 use Rattle.clu_settle.specs.Indexed.{indexed}
 use Rattle.clu_settle.specs.Known.{AreKnown}
 use Rattle.clu_settle.specs.Values.{told, Agrees}
+use Rattle.clu_settle.specs.declared.meanings.Meaning.{Meaning}
+use Rattle.clu_settle.specs.Lost.{IsNameLost}
 use Rattle.clu_settle.proofs.Made.{ok_more, meant_as}
 use Rattle.clu_settle.proofs.Parts.{node_at}
 use Rattle.clu_settle.proofs.Nodes.{infix_known, prefix_known, paren_known, literal_known, name_known, index_known}
+use Rattle.clu_settle.proofs.Losing.{infix_explained, prefix_explained, paren_explained, literal_explained, name_explained, index_explained}
 use Rattle.clu_settle.proofs.Handed.{ok_within, other_expression}
 use Rattle.clu_settle.proofs.node_values.value_of_expression.Goals as goal
 
@@ -85,3 +88,44 @@ returns-in-Index-clause-within c = ok_more _ _ c.index_value_at.result c.index_v
 pub returns-in_default-clause-known : goal.returns-in_default-clause-known
 returns-in_default-clause-known c = λ scope unfolded known is.
     other_expression scope unfolded c.args.asked.syntax.now c.args.n c.expression.result c.expression.ensures c.in_default.not-Infix c.in_default.not-Prefix c.in_default.not-Paren c.in_default.not-Literal c.in_default.not-Name c.in_default.not-Index
+
+-- ---- what is lost
+
+pub returns-in-Infix-clause-lost : goal.returns-in-Infix-clause-lost
+returns-in-Infix-clause-lost c = ok_more _ _ c.infix_value.result c.infix_value.ensures.lost (λ v p lost within typed.
+    let here = node_at c.args.asked.syntax.now c.args.n c.requires in
+    infix_explained _ _ _ typed.tree typed.shaped c.args.n here.node here.at c.in-Infix.operator c.in-Infix.left c.in-Infix.right
+    (λ items. ap (expression_told items c.args.n) (sym c.in-Infix.is) ∙ c.expression.ensures items)
+    (elim (p lost) [ inl l ↦ inl (sym c.value_at-left.ensures ∙ l) | inr r ↦ inr (sym c.value_at.ensures ∙ r) ]))
+
+pub returns-in-Prefix-clause-lost : goal.returns-in-Prefix-clause-lost
+returns-in-Prefix-clause-lost c = ok_more _ _ c.prefix_value.result c.prefix_value.ensures.lost (λ v p lost within typed.
+    let here = node_at c.args.asked.syntax.now c.args.n c.requires in
+    prefix_explained _ _ _ typed.tree typed.shaped c.args.n here.node here.at c.in-Prefix.sign c.in-Prefix.operand
+    (λ items. ap (expression_told items c.args.n) (sym c.in-Prefix.is) ∙ c.expression.ensures items)
+    (sym c.value_at-in-Prefix.ensures ∙ p lost))
+
+pub returns-in-Paren-clause-lost : goal.returns-in-Paren-clause-lost
+returns-in-Paren-clause-lost c = λ lost within typed.
+    let here = node_at c.args.asked.syntax.now c.args.n c.requires in
+    paren_explained _ _ _ typed.tree typed.shaped c.args.n here.node here.at c.in-Paren.inside
+    (λ items. ap (expression_told items c.args.n) (sym c.in-Paren.is) ∙ c.expression.ensures items)
+    (sym c.value_at-in-Paren.ensures ∙ lost)
+
+pub returns-in-Literal-clause-lost : goal.returns-in-Literal-clause-lost
+returns-in-Literal-clause-lost c = ok_more _ _ c.literal_value.result c.literal_value.ensures.lost (λ v p lost within typed.
+    let here = node_at c.args.asked.syntax.now c.args.n c.requires in
+    literal_explained _ _ _ typed.tree typed.shaped c.args.n here.node here.at _
+    (λ items. ap (expression_told items c.args.n) (sym c.in-Literal.is) ∙ c.expression.ensures items) (p lost))
+
+pub returns-in-Name-clause-lost : goal.returns-in-Name-clause-lost
+returns-in-Name-clause-lost c = ok_more _ _ c.value_of_name.result c.value_of_name.ensures.lost (λ v p lost within typed.
+    name_explained c.args.asked.syntax.now c.args.asked.meanings.now c.args.values.now c.as_slice-constants.result.now c.args.n
+    (subst (λ (m : Meaning). IsNameLost c.args.values.now c.as_slice-constants.result.now [] m) c.meaning_at-meaning.ensures (p lost within)))
+
+pub returns-in-Index-clause-lost : goal.returns-in-Index-clause-lost
+returns-in-Index-clause-lost c = ok_more _ _ c.index_value_at.result c.index_value_at.ensures.lost (λ v p lost within typed.
+    let here = node_at c.args.asked.syntax.now c.args.n c.requires in
+    index_explained _ _ _ typed.tree typed.shaped c.args.n here.node here.at c.as_slice.result.now c.in-Index.of c.in-Index.given.now
+    (λ items. ap (expression_told items c.args.n) (sym c.in-Index.is) ∙ c.expression.ensures items)
+    (λ inside. p lost within inside))

@@ -1,11 +1,13 @@
-use Rattle.std.proofs.Common.{◌∙◌, sym, ap, subst, List}
+use Rattle.std.proofs.Common.{◌≡◌, ◌⊎◌, ◌∙◌, [], None, sym, ap, subst, List}
 use Rattle.clu_tree.specs.declared.node.Node.{Node}
 use Rattle.clu_types.specs.Arena.{types_of}
 use Rattle.clu_settle.specs.Agreeing.{SelectorsAgree, SignalsAgree}
 use Rattle.clu_syntax.specs.Views.{type_told}
 use Rattle.clu_settle.proofs.Made.{ok_more}
 use Rattle.clu_settle.proofs.Parts.{node_at}
+use Rattle.clu_settle.specs.Lists.{ids_behind, selectors_behind, signals_behind}
 use Rattle.clu_settle.proofs.Nodes.{word_known, list_known, fields_known, routine_known, named_known}
+use Rattle.clu_settle.proofs.Losing.{word_explained, list_explained, fields_explained, routine_explained, named_explained}
 use Rattle.clu_settle.proofs.node_values.value_of_type.Goals as goal
 
 pub returns-in-Simple-clause-known : goal.returns-in-Simple-clause-known
@@ -40,3 +42,35 @@ returns-in-Named-clause-known c = ok_more _ _ c.named_type.result c.named_type.e
     named_known _ _ _ _ _ _ _ known known.tree known.shaped c.args.n here.node here.at c.in-Named.name.now c.in-Named.given.now _
     (λ items. ap (type_told items c.args.n) (sym c.in-Named.is) ∙ c.type_expression.ensures items)
     (p scope unfolded))
+
+pub returns-in-Simple-clause-lost : goal.returns-in-Simple-clause-lost
+returns-in-Simple-clause-lost c = ok_more _ _ c.simple_value.result c.simple_value.ensures.lost (λ v p lost within typed is.
+    let here = node_at c.args.asked.syntax.now c.args.n c.requires in
+    word_explained _ _ _ typed.tree typed.shaped c.args.n here.node here.at c.args.constants.now c.in-Simple.word is
+    (λ items. ap (type_told items c.args.n) (sym c.in-Simple.is) ∙ c.type_expression.ensures items) (p lost within))
+
+pub returns-in-List-clause-lost : goal.returns-in-List-clause-lost
+returns-in-List-clause-lost c = ok_more _ _ c.list_value.result c.list_value.ensures.lost (λ v p lost within typed is.
+    let here = node_at c.args.asked.syntax.now c.args.n c.requires in
+    list_explained _ _ _ typed.tree typed.shaped c.args.n here.node here.at typed.types c.in-List.word c.in-List.of
+    (λ items. ap (type_told items c.args.n) (sym c.in-List.is) ∙ c.type_expression.ensures items) (p lost within))
+
+pub returns-in-Fields-clause-lost : goal.returns-in-Fields-clause-lost
+returns-in-Fields-clause-lost c = ok_more _ _ c.fields_value.result c.fields_value.ensures.lost (λ v p lost within typed is.
+    let here = node_at c.args.asked.syntax.now c.args.n c.requires in
+    fields_explained _ _ _ typed.tree typed.shaped c.args.n here.node here.at typed.types c.in-Fields.word c.in-Fields.selectors.now
+    (λ items. ap (type_told items c.args.n) (sym c.in-Fields.is) ∙ c.type_expression.ensures items)
+    (subst (λ (nodes : List Node). selectors_behind c.args.values.now nodes [] c.in-Fields.selectors.now ≡ None) c.tree-tree.ensures.same (p lost within)))
+
+pub returns-in-Routine-clause-lost : goal.returns-in-Routine-clause-lost
+returns-in-Routine-clause-lost c = ok_more _ _ c.routine_value.result c.routine_value.ensures.lost (λ v p lost within typed is.
+    let here = node_at c.args.asked.syntax.now c.args.n c.requires in
+    routine_explained _ _ _ typed.tree typed.shaped c.args.n here.node here.at typed.types c.in-Routine.kind c.in-Routine.arguments.now c.in-Routine.results.now c.in-Routine.exceptions.now
+    (λ items. ap (type_told items c.args.n) (sym c.in-Routine.is) ∙ c.type_expression.ensures items)
+    (subst (λ (nodes : List Node). (ids_behind c.args.values.now [] c.in-Routine.arguments.now ≡ None) ⊎ ((ids_behind c.args.values.now [] c.in-Routine.results.now ≡ None) ⊎ (signals_behind c.args.values.now nodes [] c.in-Routine.exceptions.now ≡ None))) c.tree-tree.ensures.same (p lost within)))
+
+pub returns-in-Named-clause-lost : goal.returns-in-Named-clause-lost
+returns-in-Named-clause-lost c = ok_more _ _ c.named_type.result c.named_type.ensures.lost (λ v p lost within typed is.
+    let here = node_at c.args.asked.syntax.now c.args.n c.requires in
+    named_explained _ _ _ typed.tree typed.shaped c.args.n here.node here.at c.args.constants.now c.in-Named.name.now c.in-Named.given.now
+    (λ items. ap (type_told items c.args.n) (sym c.in-Named.is) ∙ c.type_expression.ensures items) (p lost within))
