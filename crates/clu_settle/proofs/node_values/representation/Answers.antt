@@ -13,3 +13,6 @@ pub returns-clause-known : goal.returns-clause-known
 returns-clause-known c = ok_more _ _ c.named_type.result c.named_type.ensures.known (λ v p scope unfolded a.
     subst (λ (name : List ℕ). Agrees (told (types_of c.named_type.new.types) c.args.constants.now v) (settled_type (type_in (value_of_meaning scope unfolded name no_actuals (meaning_of scope c.args.n (codes "rep"))))))
     c.in_ok-name.ensures (p scope unfolded (meaning_of scope c.args.n (codes "rep")) no_actuals a no_more_actuals))
+
+pub returns-clause-lost : goal.returns-clause-lost
+returns-clause-lost c = ok_more _ _ c.named_type.result c.named_type.ensures.lost (λ v p lost within. p lost within)
