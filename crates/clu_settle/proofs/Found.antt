@@ -1,5 +1,5 @@
 -- When a value is not lost: what is told of it, and what tests say.
-use Rattle.std.proofs.Common.{◌≡◌, ◌∙◌, ℕ, ◌<◌, Bool, true, false, List, Option, Some, None, refl, ap, sym, subst}
+use Rattle.std.proofs.Common.{◌≡◌, ◌∙◌, ℕ, ◌<◌, Bool, false, List, Option, Some, None, refl, ap, sym, subst}
 use Rattle.std.specs.Prelude.{◌↔◌, IsTrue}
 use Rattle.std.specs.List.{All}
 use Rattle.std.specs.Option.{option_map}
@@ -20,7 +20,7 @@ pub told_there : (types : List CluType) (constants : List Const) (v : Value) (s 
 told_there types constants v s e is = none-some s (sym (ap (told types constants) is) ∙ e)
 
 pub not_held : (r : Bool) (P : Type 0) → IsTrue r ↔ P → r ≡ false → P → ⊥
-not_held r P h e p = subst IsTrue e (h.1 p)
+not_held r P h e p = true≢false (sym (h.1 p) ∙ e)
 
 pub no_type_id : (v : Value) → ((id : TypeId) → v ≡ value.Type id → ⊥) → type_id v ≡ None
 no_type_id (value.Type id) f = absurd (f id refl)

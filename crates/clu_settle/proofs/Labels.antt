@@ -11,10 +11,10 @@ use Rattle.clu_syntax.specs.declared.words.SimpleType.{SimpleType}
 use Rattle.clu_syntax.specs.declared.words.ListType.{ListType}
 use Rattle.clu_syntax.specs.declared.words.FieldsType.{FieldsType}
 use Rattle.clu_syntax.specs.declared.words.RoutineKind.{RoutineKind}
-use Rattle.clu_syntax.specs.Words.{symbol_in, simple_type}
+use Rattle.clu_syntax.specs.Words.{symbol_in, simple_type, literal_of}
 use Rattle.clu_syntax.specs.Kinds.{is_expression, is_type}
 use Rattle.clu_syntax.specs.Splits.{child, first_name, leading_types, run, parts, after_one}
-use Rattle.clu_syntax.specs.Syntax.{Identifier, Expression, a_name, an_infix, a_prefix, a_paren, an_index, elements, elements_from, an_expression, no_constants, TypeExpression, a_simple_type, a_list_type, a_fields_type, a_routine_type, a_named_type, no_types}
+use Rattle.clu_syntax.specs.Syntax.{Identifier, Expression, a_name, an_infix, a_prefix, a_paren, an_index, elements, elements_from, an_expression, no_constants, TypeExpression, a_simple_type, a_list_type, a_fields_type, a_routine_type, a_named_type, no_types, Literal, a_literal}
 use Rattle.clu_syntax.specs.Items.{Item, no_item, no_type, types_at, selectors_at, exceptions_at, constants_at}
 use Rattle.clu_syntax.specs.Nodes.{elements_of, expression_of, type_expression_of}
 
@@ -69,7 +69,7 @@ constants_named (x ∷ xs) (y ∷ ys) e =
 
 -- ---- elements of a constructor are neither of the constructs below
 
-pub is_elements : Expression → Bool
+is_elements : Expression → Bool
 is_elements (elements n t es) = true
 is_elements (elements_from n t low es) = true
 is_elements _ = false
@@ -81,7 +81,7 @@ elements_are nodes n t (Some token) [] = refl
 elements_are nodes n t (Some token) (c ∷ cs) = refl
 
 module _ (nodes : List Node) (n : ℕ) (node : Node) where
-  pub not_elements : (e : Expression) → is_elements e ≡ false → e ≡ expression_of label nodes n node kind.Elems → ⊥
+  not_elements : (e : Expression) → is_elements e ≡ false → e ≡ expression_of label nodes n node kind.Elems → ⊥
   not_elements e differs is = true≢false (sym (elements_are nodes n (label (child 0 node)).type node.value_token (drop 1 node.children)) ∙ sym (ap is_elements is) ∙ differs)
 
   -- ---- types
@@ -154,6 +154,12 @@ module _ (nodes : List Node) (n : ℕ) (node : Node) where
   of_paren kind.Paren a e = (refl, (cc))
   of_paren kind.Elems a e = absurd (not_elements (a_paren n (a_name a [])) refl e)
   of_paren _ a e = absurd (cc)
+
+  pub of_literal : (k : NodeKind) (l : Literal) → a_literal n l ≡ expression_of label nodes n node k → (k ≡ kind.Literal) × (l ≡ literal_of node.value)
+  unfolding is_elements
+  of_literal kind.Literal l e = (refl, (cc))
+  of_literal kind.Elems l e = absurd (not_elements (a_literal n l) refl e)
+  of_literal _ l e = absurd (cc)
 
   pub of_index : (k : NodeKind) (a : ℕ) (cs : List ℕ) → an_index n (a_name a []) (constants_at label cs) ≡ expression_of label nodes n node k → (k ≡ kind.Index) × (a ≡ child 0 node) × (cs ≡ drop 1 node.children)
   unfolding is_elements

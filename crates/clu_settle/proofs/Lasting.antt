@@ -2,7 +2,7 @@
 use Rattle.std.proofs.Common.{◌≡◌, ◌∙◌, ℕ, zero, suc, ◌+◌, ◌-◌, ◌<◌, ◌≤◌, Bool, true, false, ◌||◌, if◌then◌else◌, List, [], ◌∷◌, ◌++◌, length, map, set, replicate, Option, Some, None, refl, ap, sym, subst, inl, inr, ◌⊎◌, arith, length-append}
 use Rattle.std.specs.Prelude.{slice_get, nat_lt}
 use Rattle.std.specs.List.{list_any}
-use Rattle.std.proofs.lemmas.Bool.{cases_eq, cases_lt, true≢false, lt-ltb}
+use Rattle.std.proofs.lemmas.Bool.{cases_eq, cases_lt, lt-ltb}
 use Rattle.std.proofs.lemmas.Option.{none-some, same_Some, slice_get_within, slice_get-get_or, slice_get_past}
 use Rattle.clu_tree.specs.declared.node.Node.{Node}
 use Rattle.clu_tree.specs.Nodes.{IsTree}
@@ -18,7 +18,7 @@ use Rattle.clu_settle.specs.declared.meanings.Meaning.TheVariants as meaning
 use Rattle.clu_settle.specs.Graph.{named_target, targets_at, targets_to, spans_to}
 use Rattle.clu_settle.specs.Names.{meaning_in}
 use Rattle.clu_settle.specs.Lists.{value_of}
-use Rattle.clu_settle.specs.Lost.{is_source, right_side, made_from, is_lost_in, is_lost, IsLost, IsMadeFrom, Reaches, at_once, by_way_of, IsExplained, is_typed, AreTyped, AreLost, IsOrder}
+use Rattle.clu_settle.specs.Lost.{is_source, right_side, made_from, is_lost_in, is_lost, IsLost, IsMadeFrom, Reaches, at_once, by_way_of, IsExplained, is_typed, AreLost, IsOrder}
 use Rattle.clu_settle.proofs.Inside.{spans_size}
 use Rattle.clu_settle.proofs.Members.{IsIn, in_more}
 use Rattle.clu_settle.proofs.Passing.{set_here, set_other, lost_at}

@@ -1,5 +1,5 @@
 -- Why the value of a node is lost, for each form of a type or an expression.
-use Rattle.std.proofs.Common.{◌≡◌, ◌∙◌, ℕ, ◌<◌, Bool, true, false, if◌then◌else◌, List, [], ◌∷◌, ◌++◌, map, take, drop, get_or, Option, Some, None, refl, ap, sym, subst, inl, inr, ◌⊎◌, length, arith}
+use Rattle.std.proofs.Common.{◌≡◌, ◌∙◌, ℕ, ◌<◌, Bool, true, false, if◌then◌else◌, List, [], ◌∷◌, map, drop, get_or, Option, Some, None, refl, ap, sym, subst, inl, inr, ◌⊎◌, length, arith}
 use Rattle.std.specs.Prelude.{slice_get}
 use Rattle.std.proofs.lemmas.Bool.{true≢false}
 use Rattle.std.proofs.lemmas.Option.{none-some, slice_get_within}
@@ -19,26 +19,19 @@ use Rattle.clu_syntax.specs.Kinds.{is_expression, is_type, kind_of, kind_at}
 use Rattle.clu_syntax.specs.Slots.{slots, one, any, fit}
 use Rattle.clu_syntax.specs.Slots.{is_constant as is_constant_kind}
 use Rattle.clu_syntax.specs.Splits.{child, children_of, leading, leading_types, run, parts, after_one, is_of}
-use Rattle.clu_syntax.specs.Syntax.{Identifier, Literal, Expression, a_name, an_infix, a_prefix, a_paren, a_literal, an_index, TypeExpression, a_simple_type, a_list_type, a_fields_type, a_routine_type, a_named_type}
+use Rattle.clu_syntax.specs.Syntax.{Identifier, Literal, Expression, an_infix, a_prefix, a_paren, a_literal, an_index, TypeExpression, a_simple_type, a_list_type, a_fields_type, a_routine_type, a_named_type}
 use Rattle.clu_syntax.specs.Items.{Item, types_at, selectors_at, exceptions_at, constants_at}
 use Rattle.clu_syntax.specs.Nodes.{item_with, expression_of, type_expression_of}
-use Rattle.clu_syntax.specs.Words.{literal_of}
 use Rattle.clu_settle.specs.declared.value.Value.{Value}
 use Rattle.clu_settle.specs.declared.value.Value.TheVariants as value
 use Rattle.clu_settle.specs.declared.meanings.Meaning.{Meaning}
 use Rattle.clu_settle.specs.declared.meanings.Meaning.TheVariants as meaning
 use Rattle.clu_settle.specs.Lists.{type_id, value_of, ids_behind, first_value, selectors_at as selectors_known, selectors_behind, exceptions_at as exceptions_known, signals_behind}
 use Rattle.clu_settle.specs.Names.{meaning_in}
-use Rattle.clu_settle.specs.Lost.{is_too_large, is_cvt, is_lost_word, is_source, right_side, made_from, IsMadeFrom, Reaches, at_once, by_way_of, IsExplained, IsNameLost, AreTypes}
-use Rattle.clu_settle.proofs.Shapes.{one_missing, IsPart, AreParts, AreBefore, first_part, second_part, all_parts, run_parts, types_leading, parts_of_first, children_before, all_before, before_dropped, before_after_one, same_kind}
-use Rattle.clu_settle.proofs.Labels.{label, not_elements, is_elements, of_word, of_list, of_fields, of_routine, of_named, of_infix, of_prefix, of_paren, of_index, arguments_in, behind_arguments, results_in, exceptions_in}
+use Rattle.clu_settle.specs.Lost.{is_too_large, is_cvt, is_lost_word, is_source, right_side, IsMadeFrom, Reaches, at_once, by_way_of, IsExplained, IsNameLost, AreTypes}
+use Rattle.clu_settle.proofs.Shapes.{one_missing, IsPart, AreParts, AreBefore, first_part, all_parts, run_parts, types_leading, parts_of_first, children_before, all_before, before_dropped, before_after_one, same_kind}
+use Rattle.clu_settle.proofs.Labels.{label, of_word, of_list, of_fields, of_routine, of_named, of_infix, of_prefix, of_paren, of_literal, of_index, arguments_in, behind_arguments, results_in, exceptions_in}
 use Rattle.clu_settle.proofs.Members.{IsIn, in_front, in_behind, in_more, in_take, in_drop, part_at, typed_lost, NoType, ids_none, selectors_none, selector_none, signals_none, exception_none, actuals_none}
-
-of_literal : (nodes : List Node) (n : ℕ) (node : Node) (k : NodeKind) (l : Literal) → a_literal n l ≡ expression_of label nodes n node k → (k ≡ kind.Literal) × (l ≡ literal_of node.value)
-unfolding is_elements
-of_literal nodes n node kind.Literal l e = (refl, (cc))
-of_literal nodes n node kind.Elems l e = absurd (not_elements nodes n node (a_literal n l) refl e)
-of_literal nodes n node _ l e = absurd (cc)
 
 -- ---- members of parts
 
@@ -210,7 +203,7 @@ module _ (nodes : List Node) (meanings : List Meaning) (values : List Value) whe
       fields_explained w cs is none =
           let named = of_fields nodes n node node.kind w cs (labelled_type (λ items. a_fields_type n w (selectors_at items cs)) is) in
           let s = selectors_none values nodes [] cs none in
-          let in_run : IsIn s.node (run nodes kind.FieldT node.children) = subst (IsIn s.node) named.2 s.is_in in
+          let in_run : IsIn s.node (run nodes kind.FieldT node.children) = subst (IsIn s.node) named.1 s.is_in in
           selector_lost s.node (child_made n s.node node at (in_take s.node (leading nodes kind.FieldT node.children) node.children in_run))
           (part_at (IsPart nodes (is_of kind.FieldT) n) (run nodes kind.FieldT node.children) s.node (run_parts nodes kind.FieldT n node.children here) in_run).1 s.none
 
