@@ -16,7 +16,7 @@ use crate::texts::{
     SUBSTITUTIONS_COUNT, TARGETS, TARGETS_COUNT, TYPES, TYPES_COUNT, USES, USES_COUNT,
 };
 use crate::words_tests::{COMMANDS, COMMANDS_COUNT};
-use crate::{fold_rows, guards, lexer_tests, names_rows};
+use crate::{fold_rows, guards, head_rows, lexer_tests, names_rows};
 use clu_types::{Actual, Term, TypeArena, TypeId};
 use std::alloc::Global;
 use std::test::Fail;
@@ -50,6 +50,7 @@ fn names_and_constants_are_found(rt: HostRuntime) -> Result<(), Fail> {
     let alloc = rt.alloc();
     keep(alloc, Table::Names, names_rows::ROWS, names_rows::COUNT)?;
     keep(alloc, Table::Rounds, guards::ROWS, guards::COUNT)?;
+    keep(alloc, Table::Heads, head_rows::ROWS, head_rows::COUNT)?;
     keep(alloc, Table::Folds, fold_rows::ROWS, fold_rows::COUNT)?;
     keep(alloc, Table::Commands, COMMANDS, COMMANDS_COUNT)
 }

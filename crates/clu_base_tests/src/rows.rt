@@ -13,6 +13,7 @@ use crate::literal_tests::put_denoted;
 use crate::operations::{put_heading, put_needs};
 use crate::parser_tests::{put_count, put_nested, put_read};
 use crate::reading::{put_named, put_number, put_spec, put_type, put_use};
+use crate::told_heads::put_heads;
 use crate::typing::{put_carried, put_inclusion, put_substituted};
 use crate::words_tests::put_command;
 use clu_types::TypeArena;
@@ -38,6 +39,8 @@ pub enum Table {
     Names,
     /// What surrounds the nodes of a source.
     Rounds,
+    /// The specifications of the modules of a source.
+    Heads,
     /// Whether words are a command.
     Commands,
     /// The word of a line of assembly, whose line it is.
@@ -99,6 +102,7 @@ fn put(
         Table::Folds => put_fold(alloc, text, given),
         Table::Names => put_names(alloc, text, given),
         Table::Rounds => put_rounds(alloc, text, given),
+        Table::Heads => put_heads(alloc, text, given),
         Table::Commands => put_command(alloc, text, given),
         Table::Lines => put_line(alloc, text, given),
         Table::Refusals => put_refusal(alloc, text, given.as_bytes()),

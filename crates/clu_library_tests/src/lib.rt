@@ -60,6 +60,8 @@ mod rules_statements;
 #[cfg(test)]
 mod rules_tests;
 #[cfg(test)]
+mod same_heads;
+#[cfg(test)]
 mod script_rows;
 #[cfg(test)]
 mod script_tests;

@@ -3,6 +3,7 @@
 
 ghost use Rattle.std.specs.Prelude.{◌≤◌, length};
 
+use crate::same_heads::has_same_heads;
 use crate::{
     rules_actuals, rules_arms, rules_clusters, rules_constants, rules_definitions, rules_equates,
     rules_examples, rules_expressions, rules_instances, rules_leaving, rules_limits, rules_names,
@@ -64,12 +65,16 @@ fn refusal_in(alloc: Global, bytes: &[u8], specs: &Specs) -> Result<String, Fail
     }
 }
 
-/// The first refusal of a source, as a row writes it, or `ok`.
+/// The first refusal of a source, as a row writes it, or `ok`, if its headings give the specifications of the checker too.
 fn refusal_of(alloc: Global, source: &[u8], specs: &Specs) -> Result<String, Fail> {
     if source.len() > SOURCE_LIMIT {
         return word(alloc, "too large");
     }
-    refusal_in(alloc, source, specs)
+    let found = refusal_in(alloc, source, specs)?;
+    if found.as_str() == "ok" && !has_same_heads(alloc, source, specs)? {
+        return word(alloc, "other headings");
+    }
+    Ok(found)
 }
 
 /// So many units after the source.

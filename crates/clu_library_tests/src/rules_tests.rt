@@ -59,7 +59,7 @@ const SPECIFICATIONS: &str = "\
 const SPECIFICATION_COUNT: usize = 3;
 
 /// The text of a specification.
-fn text_of(alloc: Global, spec: &Spec) -> Result<Bytes, Fail> {
+pub fn text_of(alloc: Global, spec: &Spec) -> Result<Bytes, Fail> {
     if !is_whole(spec) {
         return Err("a specification with types of others")?;
     }

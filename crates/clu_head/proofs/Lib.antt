@@ -1,0 +1,4 @@
+pub mod Listing
+pub mod Ranked
+pub mod Constants
+pub mod Inside

@@ -1,0 +1,6 @@
+-- What heads are made from, and what they tell.
+pub mod Sets
+pub mod Unchanged
+pub mod Listed
+pub mod Ranks
+pub mod Named

@@ -1,0 +1,107 @@
+//! What heads are made from.
+
+ghost use Rattle.std.specs.Prelude.{◌≡◌, ◌<◌, IsTrue, length};
+ghost use Rattle.clu_syntax.specs.Kinds.{kind_at};
+
+use crate::restricted::Restricted;
+use clu_base::Memory;
+use clu_settle::Value;
+use clu_syntax::{Round, SimpleType, Syntax, TypeExpression};
+use clu_tree::{NodeKind, Tree};
+use clu_types::{Term, TypeArena, TypeId};
+use std::alloc::Global;
+
+/// What heads are made from: for each node of the tree what is known of it.
+#[derive(Clone, Copy)]
+pub struct Known<'a> {
+    pub alloc: Global,
+    pub syntax: &'a Syntax,
+    pub rounds: &'a [Round],
+    pub values: &'a [Value],
+    /// How many of the nodes before it are refused.
+    pub refused: &'a [u32],
+    /// Of a Restrict what it restricts.
+    pub restricted: &'a [Restricted],
+    /// Of a Module how many parameters it has.
+    pub counts: &'a [u32],
+}
+
+fn is_of(kind: NodeKind, other: NodeKind) -> bool
+    ensures { IsTrue result → kind ≡ other }
+{
+    if kind == other { true } else { false }
+}
+
+/// Whether the node n is there and of this kind.
+pub fn is_at(tree: &Tree, n: u32, kind: NodeKind) -> bool
+    ensures inside { IsTrue result → n < length tree.now }
+    ensures kind { IsTrue result → kind_at tree.now n ≡ kind }
+{
+    if n < tree.len() {
+        is_of(tree.node(n).kind, kind)
+    } else {
+        false
+    }
+}
+
+fn is_cvt_word(word: SimpleType) -> bool {
+    match word {
+        SimpleType::Cvt => true,
+        _ => false,
+    }
+}
+
+/// Whether the word `cvt` stands at the node n.
+fn is_cvt(syntax: &Syntax, n: u32) -> bool {
+    if n < syntax.tree().len() {
+        match syntax.type_expression(n) {
+            TypeExpression::Simple(word) => is_cvt_word(word),
+            _ => false,
+        }
+    } else {
+        false
+    }
+}
+
+/// The type that a value is, if it is one that is known.
+pub fn type_in(value: Value) -> Option<TypeId> {
+    match value {
+        Value::Type(id) => Some(id),
+        _ => None,
+    }
+}
+
+/// The value of the node n.
+pub fn value_of(values: &[Value], n: u32) -> Value {
+    match values.get(n as usize) {
+        Some(value) => *value,
+        None => Value::Lost,
+    }
+}
+
+/// The number of a type, if its parts are of the arena.
+pub fn interned(types: &mut TypeArena, term: Term) -> Result<Option<TypeId>, Memory> {
+    if types.holds(&term) {
+        Ok(Some(types.intern(term)?))
+    } else {
+        Ok(None)
+    }
+}
+
+/// The number of the parameter at a place among those of its module.
+pub fn number_at(place: usize) -> u32 {
+    if place < 0xffff_ffff {
+        place as u32 + 1
+    } else {
+        0xffff_ffff
+    }
+}
+
+/// The type at the node n as callers see it, where `cvt` stands for the cluster round it, if there is one. None if it is lost.
+pub fn type_outside(known: Known<'_>, own: Option<TypeId>, n: u32) -> Option<TypeId> {
+    if is_cvt(known.syntax, n) {
+        own
+    } else {
+        type_in(value_of(known.values, n))
+    }
+}
