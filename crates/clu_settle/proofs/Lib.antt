@@ -21,3 +21,4 @@ pub mod Found
 pub mod Members
 pub mod Losing
 pub mod Lasting
+pub mod Unfolding

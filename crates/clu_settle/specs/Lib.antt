@@ -11,3 +11,4 @@ pub mod Graph
 pub mod Operators
 pub mod Settled
 pub mod Lost
+pub mod Circular

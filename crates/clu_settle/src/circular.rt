@@ -1,8 +1,9 @@
 //! The equates whose unfolding meets itself, whatever they are equated to: constants, types and type sets.
 
-ghost use Rattle.std.specs.Prelude.{◌≡◌, ◌<◌, ◌++◌, [], OnOk, IfOk, length, map};
+ghost use Rattle.std.specs.Prelude.{◌≡◌, ◌<◌, ◌++◌, ◌↔◌, ℕ, true, [], OnOk, IfOk, Some, length, map, slice_get, vec_len};
 ghost use Rattle.clu_names.specs.Denotes.{bound_to, starts_to};
 ghost use Rattle.clu_settle.specs.Graph.{is_equate_at, equate_of, unfolded_at, unfolded_to};
+ghost use Rattle.clu_settle.specs.Circular.{is_circular, unfolded_starts, start_in, span_in};
 
 use clu_base::Memory;
 use clu_circles::{Span, find_circles};
@@ -85,12 +86,14 @@ fn push_node(
     }
 }
 
-#[tactic(auto, unfolding(crate::specs::Graph::unfolded_to))]
+#[tactic(auto, unfolding(crate::specs::Graph::unfolded_to, crate::specs::Circular::unfolded_starts))]
 fn push_all(unfolded: &mut Unfolded, tree: &Tree, names: &Names) -> Result<(), Memory>
     requires bound { names.now.bound.items ≡ bound_to tree.now names.now.declared.items (length tree.now) }
     requires starts { names.now.starts.items ≡ starts_to tree.now names.now.declared.items (length tree.now) }
     requires none { unfolded.old.targets.items ≡ [] }
-    ensures { OnOk result (unfolded.new.targets.items ≡ unfolded_to tree.now names.now.declared.items (length tree.now)) }
+    requires no_starts { unfolded.old.starts.items ≡ [] }
+    ensures targets { OnOk result (unfolded.new.targets.items ≡ unfolded_to tree.now names.now.declared.items (length tree.now)) }
+    ensures starts { OnOk result (unfolded.new.starts.items ≡ unfolded_starts tree.now names.now.declared.items (length tree.now)) }
 {
     for n in 0..tree.len() {
         unfolded.starts.push(unfolded.targets.len())?;
@@ -100,7 +103,9 @@ fn push_all(unfolded: &mut Unfolded, tree: &Tree, names: &Names) -> Result<(), M
 }
 
 /// Where the names of the node n begin.
-fn start_of(unfolded: &Unfolded, n: u32) -> usize {
+fn start_of(unfolded: &Unfolded, n: u32) -> usize
+    ensures { result ≡ start_in (vec_len unfolded.now.targets) (slice_get unfolded.now.starts.items n) }
+{
     match unfolded.starts.as_slice().get(n as usize) {
         Some(start) => *start,
         None => unfolded.targets.len(),
@@ -108,7 +113,9 @@ fn start_of(unfolded: &Unfolded, n: u32) -> usize {
 }
 
 /// The names in an equate: those at the nodes from its first one on, up to itself, which has none. Nothing else has any.
-fn span_of(unfolded: &Unfolded, tree: &Tree, rounds: &[Round], one: &Declared) -> Span {
+fn span_of(unfolded: &Unfolded, tree: &Tree, rounds: &[Round], one: &Declared) -> Span
+    ensures { result ≡ span_in tree.now rounds.now (vec_len unfolded.now.targets) unfolded.now.starts.items one.now }
+{
     if is_equate(tree, one.node) {
         match rounds.get(one.node as usize) {
             Some(round) => Span {
@@ -129,7 +136,8 @@ fn spans_of(
     rounds: &[Round],
     declared: &[Declared],
 ) -> Result<Vec<Span>, Memory>
-    ensures { IfOk result (λ spans. length spans.items ≡ length declared.now) }
+    ensures size { IfOk result (λ spans. length spans.items ≡ length declared.now) }
+    ensures spans { IfOk result (λ spans. spans.items ≡ map (span_in tree.now rounds.now (vec_len unfolded.now.targets) unfolded.now.starts.items) declared.now) }
 {
     let mut spans = Vec::new(alloc);
     for one in declared {
@@ -141,7 +149,8 @@ fn spans_of(
 fn unfolded_names(alloc: Global, tree: &Tree, names: &Names) -> Result<Unfolded, Memory>
     requires bound { names.now.bound.items ≡ bound_to tree.now names.now.declared.items (length tree.now) }
     requires starts { names.now.starts.items ≡ starts_to tree.now names.now.declared.items (length tree.now) }
-    ensures { IfOk result (λ unfolded. unfolded.targets.items ≡ unfolded_to tree.now names.now.declared.items (length tree.now)) }
+    ensures targets { IfOk result (λ unfolded. unfolded.targets.items ≡ unfolded_to tree.now names.now.declared.items (length tree.now)) }
+    ensures starts { IfOk result (λ unfolded. unfolded.starts.items ≡ unfolded_starts tree.now names.now.declared.items (length tree.now)) }
 {
     let mut unfolded = Unfolded {
         targets: Vec::new(alloc),
@@ -160,6 +169,7 @@ pub fn circular_equates(
 ) -> Result<Vec<bool>, Memory>
     requires bound { names.now.bound.items ≡ bound_to tree.now names.now.declared.items (length tree.now) }
     requires starts { names.now.starts.items ≡ starts_to tree.now names.now.declared.items (length tree.now) }
+    ensures { IfOk result (λ circular. length rounds.now ≡ length tree.now → (k : ℕ) → k < length names.now.declared.items → (slice_get circular.items k ≡ Some true) ↔ (is_circular tree.now rounds.now names.now.declared.items k ≡ true)) }
 {
     let unfolded = unfolded_names(alloc, tree, names)?;
     let declared = names.declared.as_slice();
