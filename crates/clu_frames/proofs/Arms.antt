@@ -5,7 +5,7 @@ use Rattle.std.proofs.lemmas.List.{length-map}
 use Rattle.std.proofs.lemmas.Option.{slice_get-map, slice_get_read}
 use Rattle.clu_wir.specs.declared.statement.WStmt.{WStmt, WStmt-F, fold-roll-WStmt, fold_out-WStmt, map-WStmt, out-WStmt, roll-WStmt}
 use Rattle.clu_wir.specs.declared.statement.WArm.{WArm, fold_out-WArm}
-use Rattle.clu_frames.specs.Flattening.{ArmPart, Guarding, Made, Part, Round, arm_of, arm_step, arms_onto, guard_at, guard_onto, guarded_onto, labelled, part_of, part_step}
+use Rattle.clu_frames.specs.Flattening.{ArmPart, Guarding, Made, Part, Round, arm_of, arm_step, arms_onto, guard_at, guard_onto, guarded_onto, labelled, opened, part_of, part_step}
 
 slots_of : (arm : WArm) → (arm_of arm).slots ≡ arm.slots.items
 slots_of arm = ap (λ (a : ArmPart). a.slots) (fold_out-WArm Part ArmPart part_step arm_step arm)
@@ -24,15 +24,16 @@ part_roll = fold-roll-WStmt Part ArmPart part_step arm_step
 pub part_out : (s : WStmt) → part_of s ≡ part_step (map-WStmt WStmt WArm Part ArmPart part_of arm_of (out-WStmt s))
 part_out = fold_out-WStmt Part ArmPart part_step arm_step
 
-pub guard_made : (body : List Part) (arms : List WArm) (round : Round) (m m1 m2 m3 : Made) (g : Guarding) (end : ℕ)
-    → g ≡ guard_at (map arm_of arms) m.labels round.mark → end ≡ m.labels + length arms → m1 ≡ labelled 1 (labelled (length arms) m)
-    → m2 ≡ guarded_onto body g end round m1 → m3 ≡ arms_onto g.label end (map arm_of arms) round m2 → m3 ≡ guard_onto body (map arm_of arms) round m
-guard_made body arms round m m1 m2 m3 g end at last begun inside after =
+pub guard_made : (body : List Part) (arms : List WArm) (round : Round) (m m1 m2 m3 : Made) (g : Guarding) (end region : ℕ)
+    → g ≡ guard_at (map arm_of arms) m.labels round.mark → end ≡ m.labels + length arms → region ≡ length m.regions → m1 ≡ opened round.region (labelled 1 (labelled (length arms) m))
+    → m2 ≡ guarded_onto body g region end round m1 → m3 ≡ arms_onto g.label end region (map arm_of arms) round m2 → m3 ≡ guard_onto body (map arm_of arms) round m
+guard_made body arms round m m1 m2 m3 g end region at last number begun inside after =
     let parts : List ArmPart = map arm_of arms in
     let count : length arms ≡ length parts = sym (length-map arms arm_of) in
-    let whole : Guarding → ℕ → ℕ → Made = λ h e n. arms_onto h.label e parts round (guarded_onto body h e round (labelled 1 (labelled n m))) in
+    let whole : Guarding → ℕ → ℕ → ℕ → Made = λ h e k n. arms_onto h.label e k parts round (guarded_onto body h k e round (opened round.region (labelled 1 (labelled n m)))) in
     after
-    ∙ ap (arms_onto g.label end parts round) (inside ∙ ap (guarded_onto body g end round) begun)
-    ∙ ap (λ (h : Guarding). whole h end (length arms)) at
-    ∙ ap (λ (e : ℕ). whole (guard_at parts m.labels round.mark) e (length arms)) (last ∙ ap (λ (n : ℕ). m.labels + n) count)
-    ∙ ap (λ (n : ℕ). whole (guard_at parts m.labels round.mark) (m.labels + length parts) n) count
+    ∙ ap (arms_onto g.label end region parts round) (inside ∙ ap (guarded_onto body g region end round) begun)
+    ∙ ap (λ (h : Guarding). whole h end region (length arms)) at
+    ∙ ap (λ (e : ℕ). whole (guard_at parts m.labels round.mark) e region (length arms)) (last ∙ ap (λ (n : ℕ). m.labels + n) count)
+    ∙ ap (λ (k : ℕ). whole (guard_at parts m.labels round.mark) (m.labels + length parts) k (length arms)) number
+    ∙ ap (λ (n : ℕ). whole (guard_at parts m.labels round.mark) (m.labels + length parts) (length m.regions) n) count

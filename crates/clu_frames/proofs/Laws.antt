@@ -9,11 +9,11 @@ use Rattle.clu_wir.specs.declared.statement.WArm.{WArm, WArm-F, fold-roll-WArm}
 use Rattle.clu_frames.specs.declared.flat.Flat.{Flat}
 use Rattle.clu_frames.specs.declared.flat.Flat.TheVariants as flat
 use Rattle.clu_frames.specs.declared.surroundings.Turns.{Turns}
-use Rattle.clu_frames.specs.Flattening.{ArmPart, Guarding, Made, Onto, Part, Round, all_onto, arm_begun, arm_of, arm_step, arms_onto, choice_onto, end_of, end_of_turns, end_uncut, exit_of, guard_at, guard_onto, if_onto, in_guard, in_loop, in_turns, is_none, is_only_break, iterate_onto, labelled, none, other_onto, part_of, part_step, pushed, resignal_onto, results_onto, row_at, row_onto, turns_at, turns_onto, unless_from}
+use Rattle.clu_frames.specs.Flattening.{ArmPart, Guarding, Made, Onto, Part, Round, all_onto, arm_begun, arm_of, arm_step, arms_onto, choice_onto, closed, end_of, end_of_turns, end_uncut, exit_of, guard_at, guard_onto, if_onto, in_guard, in_loop, in_region, in_turns, is_none, is_only_break, iterate_onto, labelled, named_onto, none, opened, other_onto, part_of, part_step, pushed, resignal_onto, results_onto, row_at, row_onto, turns_at, turns_onto, unless_from}
 use Rattle.clu_frames.specs.Labels.{has_loop}
 use Rattle.clu_frames.proofs.Loops.{has_left, has_right, or_first}
-use Rattle.clu_frames.proofs.Placing.{Adds, Grown, Still, adds_label, adds_more, adds_on, adds_resume, adds_step, below, below_next, grown_more, grown_on, grown_still, hit, no_label, still_none, still_step}
-use Rattle.clu_frames.proofs.Pieces.{InTurns, Known, known_in_guard, known_in_loop, known_wider, none_is_not, same_item, still_begun, still_break, still_call, still_continue, still_exit, still_leave, still_primitive, still_raise, still_results, still_row, still_signal, still_yield}
+use Rattle.clu_frames.proofs.Placing.{Adds, Coded, Grown, Still, adds_label, adds_more, adds_on, adds_resume, adds_step, below, below_next, grown_more, grown_on, grown_still, hit, no_label, still_none, still_step}
+use Rattle.clu_frames.proofs.Pieces.{InTurns, Known, known_in_guard, known_in_loop, known_wider, none_is_not, same_item, coded_begun, coded_named, still_break, still_call, still_continue, still_exit, still_leave, still_primitive, still_raise, still_results, still_row, still_signal, still_yield}
 
 abbrev pub LawAt : Onto → Round → Made → Type 0
 LawAt onto round m = Grown (Known round m.labels (onto round m).labels) m (onto round m)
@@ -241,9 +241,9 @@ record Armed (P : ℕ → Type 0) (label last end : ℕ) (m m' : Made) : Type 0 
   labels : m.labels ≤ m'.labels
   placed : (n : ℕ) → count n + below m.labels n + below label n ≡ below m'.labels n + below last n + hit end n
 
-arms_law : (P : ℕ → Type 0) (arms : List ArmPart) → AllArms arms → (label last end : ℕ) → last ≡ label + length arms → (round : Round) (m : Made) → P end
-    → ((t : ℕ) → Known round m.labels (arms_onto label end arms round m).labels t → P t) → Armed P label last end m (arms_onto label end arms round m)
-arms_law P [] ok label last end e round m known more =
+arms_law : (P : ℕ → Type 0) (arms : List ArmPart) → AllArms arms → (label last end region : ℕ) → last ≡ label + length arms → (round : Round) (m : Made) → P end
+    → ((t : ℕ) → Known round m.labels (arms_onto label end region arms round m).labels t → P t) → Armed P label last end m (arms_onto label end region arms round m)
+arms_law P [] ok label last end region e round m known more =
     let is : last ≡ label = omega (arith, e) in
     record {
       count = λ n. hit end n;
@@ -251,17 +251,17 @@ arms_law P [] ok label last end e round m known more =
       labels = omega arith;
       placed = λ n. let same : below last n ≡ below label n = ap (λ (k : ℕ). below k n) is in omega (arith, same);
     }
-arms_law P (a ∷ arms) ok label last end e round m known more =
-    let m1 : Made = arm_begun a.others a.slots m in
+arms_law P (a ∷ arms) ok label last end region e round m known more =
+    let m1 : Made = arm_begun a region round.mark m in
     let m2 : Made = pushed (flat.Label label) m1 in
     let m3 : Made = all_onto a.body round m2 in
     let m4 : Made = pushed (flat.Jump end) m3 in
-    let m5 : Made = arms_onto (label + 1) end arms round m4 in
-    let s : Still P m m1 = still_begun P a.others a.slots m in
+    let m5 : Made = arms_onto (label + 1) end region arms round m4 in
+    let s : Coded P m m1 = coded_begun P a region round.mark m in
     let g : LawAt (all_onto a.body) round m2 = all_lawful a.body ok.0 round m2 in
     let begin : m1.labels ≡ m.labels = s.labels in
     let longer : m1.labels ≤ m3.labels = g.labels in
-    let rest : Armed P (label + 1) last end m4 m5 = arms_law P arms ok.1 (label + 1) last end (omega (arith, e)) round m4 known
+    let rest : Armed P (label + 1) last end m4 m5 = arms_law P arms ok.1 (label + 1) last end region (omega (arith, e)) round m4 known
     (λ t k. more t (known_wider round m3.labels m5.labels m.labels m5.labels (omega (arith, begin, longer)) (omega arith) t k)) in
     let after : m3.labels ≤ m5.labels = rest.labels in
     record {
@@ -285,19 +285,19 @@ Any t = Unit {0}
 guard_law : (body : List Part) (arms : List ArmPart) → AllLawful body → AllArms arms → (round : Round) (m : Made) → LawAt (guard_onto body arms) round m
 guard_law body arms okb oka round m =
     let guard : Guarding = guard_at arms m.labels round.mark in
-    let inside : Round = in_guard guard round in
-    let m1 : Made = labelled 1 (labelled (length arms) m) in
+    let inside : Round = in_guard guard (length m.regions) round in
+    let m1 : Made = opened round.region (labelled 1 (labelled (length arms) m)) in
     let m2 : Made = all_onto body inside m1 in
-    let m3 : Made = pushed (flat.Jump (m.labels + length arms)) m2 in
-    let m4 : Made = arms_onto m.labels (m.labels + length arms) arms round m3 in
+    let m3 : Made = closed (length m.regions) (m.labels + length arms) m2 in
+    let m4 : Made = arms_onto m.labels (m.labels + length arms) (length m.regions) arms round m3 in
     let g : LawAt (all_onto body) inside m1 = all_lawful body okb inside m1 in
-    let grows : Armed Any m.labels (m.labels + length arms) (m.labels + length arms) m3 m4 = arms_law Any arms oka m.labels (m.labels + length arms) (m.labels + length arms) refl round m3 tt (λ t k. tt) in
+    let grows : Armed Any m.labels (m.labels + length arms) (m.labels + length arms) m3 m4 = arms_law Any arms oka m.labels (m.labels + length arms) (m.labels + length arms) (length m.regions) refl round m3 tt (λ t k. tt) in
     let longer : (m.labels + length arms) + 1 ≤ m2.labels = g.labels in
     let after : m2.labels ≤ m4.labels = grows.labels in
     let Q = Known round m.labels m4.labels in
     let known : Q (m.labels + length arms) = inl (omega arith, omega (arith, longer, after)) in
     let many : length guard.slots ≡ length arms = length-map arms (λ (a : ArmPart). a.slots) in
-    let ar : Armed Q m.labels (m.labels + length arms) (m.labels + length arms) m3 m4 = arms_law Q arms oka m.labels (m.labels + length arms) (m.labels + length arms) refl round m3 known
+    let ar : Armed Q m.labels (m.labels + length arms) (m.labels + length arms) m3 m4 = arms_law Q arms oka m.labels (m.labels + length arms) (m.labels + length arms) (length m.regions) refl round m3 known
     (λ t k. known_wider round m2.labels m4.labels m.labels m4.labels (omega (arith, longer)) (omega arith) t k) in
     record {
       count = λ n. g.count n + (no_label n + ar.count n);
@@ -312,25 +312,32 @@ guard_law body arms okb oka round m =
           omega (arith, one, two, next);
     }
 
-resignal_law : (body : List Part) → AllLawful body → (round : Round) (m : Made) → LawAt (resignal_onto body) round m
-resignal_law body ok round m =
-    let m1 : Made = labelled 1 m in
-    let m2 : Made = all_onto body round m1 in
-    let g : LawAt (all_onto body) round m1 = all_lawful body ok round m1 in
+resignal_law : (body : List Part) (names : List (List ℕ)) → AllLawful body → (round : Round) (m : Made) → LawAt (resignal_onto body names) round m
+resignal_law body names ok round m =
+    let inside : Round = in_region (length m.regions) round in
+    let m1 : Made = opened round.region (labelled 1 m) in
+    let m2 : Made = all_onto body inside m1 in
+    let m3 : Made = closed (length m.regions) m.labels m2 in
+    let m4 : Made = named_onto (length m.regions) round.mark names m3 in
+    let g : LawAt (all_onto body) inside m1 = all_lawful body ok inside m1 in
+    let Q = Known round m.labels m4.labels in
+    let s : Coded Q m3 m4 = coded_named Q (length m.regions) round.mark names m3 in
+    let same : m4.labels ≡ m2.labels = s.labels in
     let longer : m.labels + 1 ≤ m2.labels = g.labels in
-    let Q = Known round m.labels m2.labels in
-    let end : Q m.labels = inl (omega arith, omega (arith, longer)) in
+    let end : Q m.labels = inl (omega arith, omega (arith, longer, same)) in
     record {
-      count = λ n. g.count n + (no_label n + (no_label n + hit m.labels n));
-      adds = adds_on (adds_more (Known round (m.labels + 1) m2.labels) Q (known_wider round (m.labels + 1) m2.labels m.labels m2.labels (omega arith) (omega arith)) g.adds)
+      count = λ n. g.count n + (no_label n + (no_label n + (no_label n + hit m.labels n)));
+      adds = adds_on (adds_more (Known inside (m.labels + 1) m2.labels) Q (known_wider round (m.labels + 1) m2.labels m.labels m4.labels (omega arith) (omega (arith, same))) g.adds)
           (adds_on (adds_step Q (flat.Jump m.labels) m2.code refl end refl)
-          (adds_on (adds_step Q flat.Pass (m2.code ++ flat.Jump m.labels ∷ []) refl tt refl)
-          (adds_label Q m.labels ((m2.code ++ flat.Jump m.labels ∷ []) ++ flat.Pass ∷ []))));
-      labels = omega (arith, longer);
+          (adds_on s.adds
+          (adds_on (adds_step Q flat.Pass m4.code refl tt refl)
+          (adds_label Q m.labels (m4.code ++ flat.Pass ∷ [])))));
+      labels = omega (arith, longer, same);
       placed = λ n.
           let one : g.count n + below (m.labels + 1) n ≡ below m2.labels n = g.placed n in
+          let at : below m4.labels n ≡ below m2.labels n = ap (λ (k : ℕ). below k n) same in
           let next = below_next m.labels (m.labels + 1) n refl in
-          omega (arith, one, next);
+          omega (arith, one, at, next);
     }
 
 -- Statements.
@@ -380,7 +387,7 @@ layer (WStmt-F.Raise name objects) = record { grown = λ round m. grown_still (s
 layer (WStmt-F.Signal name objects) = record { grown = λ round m. grown_still (still_signal _ objects.items round.work m) }
 layer (WStmt-F.Exit inside arm words) = record { grown = λ round m. grown_still (still_exit _ inside arm words.items round m (λ t h. inr (inr h))) }
 layer (WStmt-F.Guard body arms) = record { grown = λ round m. guard_law (stmts body.items) (arm_parts arms.items) (parts_lawful body.items) (arms_lawful arms.items) round m }
-layer (WStmt-F.Resignal body names) = record { grown = λ round m. resignal_law (stmts body.items) (parts_lawful body.items) round m }
+layer (WStmt-F.Resignal body names) = record { grown = λ round m. resignal_law (stmts body.items) names.items (parts_lawful body.items) round m }
 layer (WStmt-F.Return results) = record { grown = λ round m. grown_still (still_leave _ results.items round.work m) }
 
 pub lawful : (s : WStmt) → LawfulStmt s

@@ -1,6 +1,9 @@
 pub mod Arms
+pub mod Changing
 pub mod Laws
 pub mod Loops
+pub mod Nested
+pub mod Nesting
 pub mod Pieces
 pub mod Placing
 pub mod Pushing

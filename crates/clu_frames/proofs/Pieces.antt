@@ -5,8 +5,8 @@ use Rattle.std.proofs.lemmas.Bool.{false≢true}
 use Rattle.clu_wir.specs.declared.expression.WExpr.{WExpr}
 use Rattle.clu_frames.specs.declared.flat.Flat.TheVariants as flat
 use Rattle.clu_frames.specs.declared.surroundings.Turns.{Turns}
-use Rattle.clu_frames.specs.Flattening.{Guarding, Made, Round, arm_begun, arm_onto, break_onto, call_onto, continue_onto, cut_onto, exception_onto, exit_onto, first_of_row, guard_exit_onto, leave_onto, moves_onto, none, primitive_onto, pushed, raise_onto, recut_onto, results_onto, row_at, row_onto, row_sets, sets_onto, signal_onto, taken_onto, yield_onto}
-use Rattle.clu_frames.proofs.Placing.{Still, still_none, still_on, still_step}
+use Rattle.clu_frames.specs.Flattening.{ArmPart, Guarding, Made, Round, arm_begun, arm_onto, armed, begun_by, break_onto, call_onto, continue_onto, cut_onto, exception_onto, exit_onto, first_of_row, guard_exit_onto, leave_onto, moves_onto, named_onto, none, primitive_onto, pushed, raise_onto, recut_onto, results_onto, row_at, row_onto, row_sets, sets_onto, signal_onto, taken_onto, yield_onto}
+use Rattle.clu_frames.proofs.Placing.{Coded, Still, coded_on, still_none, still_on, still_step}
 
 -- Labels that are known in a statement: those that get their numbers in it, and those that what stands round it gives.
 
@@ -154,9 +154,24 @@ pub still_leave : (P : ℕ → Type 0) (results : List WExpr) (work : ℕ) (m : 
 still_leave P results work m =
     still_on (still_row P work results m) (still_step P (flat.Leave (row_at work results) (length results)) (row_onto work results m) refl tt refl)
 
-pub still_begun : (P : ℕ → Type 0) (others : Bool) (slots : List ℕ) (m : Made) → Still P m (arm_begun others slots m)
-still_begun P true slots m = still_taken P slots m
-still_begun P false slots m = still_results P 0 slots m
+-- a region that gets an arm adds no step
+coded_armed : {P : ℕ → Type 0} {m m' : Made} (region mark : ℕ) (name : List ℕ) → Coded P (armed region mark name m) m' → Coded P m m'
+coded_armed region mark name s = record { adds = s.adds; labels = s.labels }
+
+pub coded_still : {P : ℕ → Type 0} {m m' : Made} → Still P m m' → Coded P m m'
+coded_still s = record { adds = s.adds; labels = s.labels }
+
+pub coded_named : (P : ℕ → Type 0) (region mark : ℕ) (names : List (List ℕ)) (m : Made) → Coded P m (named_onto region mark names m)
+coded_named P region mark [] m = coded_still (still_none P m)
+coded_named P region mark (name ∷ names) m = coded_armed region mark name (coded_named P region mark names (armed region mark name m))
+
+coded_begun_by : (P : ℕ → Type 0) (others : Bool) (slots : List ℕ) (region mark : ℕ) (m : Made) → Coded P m (begun_by others slots region mark m)
+coded_begun_by P true slots region mark m = coded_armed region mark [] (coded_still (still_taken P slots (armed region mark [] m)))
+coded_begun_by P false slots region mark m = coded_still (still_results P 0 slots m)
+
+pub coded_begun : (P : ℕ → Type 0) (a : ArmPart) (region mark : ℕ) (m : Made) → Coded P m (arm_begun a region mark m)
+coded_begun P a region mark m =
+    coded_on (coded_named P region mark a.names m) (coded_begun_by P a.others a.slots region mark (named_onto region mark a.names m))
 
 -- Statements that go on elsewhere.
 

@@ -179,18 +179,27 @@ adds_resume {P} {c} {x} {y} slot end a has =
 
 -- What a piece of code adds that needs no labels.
 
-pub record Still (P : ℕ → Type 0) (m m' : Made) : Type 0 where
+pub record Coded (P : ℕ → Type 0) (m m' : Made) : Type 0 where
   pub adds : Adds P no_label m.code m'.code
   pub labels : m'.labels ≡ m.labels
 
+abbrev pub coded_on : {P : ℕ → Type 0} {x y z : Made} → Coded P x y → Coded P y z → Coded P x z
+coded_on a b = record { adds = adds_on a.adds b.adds; labels = b.labels ∙ a.labels }
+
+-- the same with no region
+pub record Still (P : ℕ → Type 0) (m m' : Made) : Type 0 where
+  pub adds : Adds P no_label m.code m'.code
+  pub labels : m'.labels ≡ m.labels
+  pub regions : m'.regions ≡ m.regions
+
 abbrev pub still_on : {P : ℕ → Type 0} {x y z : Made} → Still P x y → Still P y z → Still P x z
-still_on a b = record { adds = adds_on a.adds b.adds; labels = b.labels ∙ a.labels }
+still_on a b = record { adds = adds_on a.adds b.adds; labels = b.labels ∙ a.labels; regions = b.regions ∙ a.regions }
 
 abbrev pub still_none : (P : ℕ → Type 0) (m : Made) → Still P m m
-still_none P m = record { adds = adds_none P m.code; labels = refl }
+still_none P m = record { adds = adds_none P m.code; labels = refl; regions = refl }
 
 abbrev pub still_step : (P : ℕ → Type 0) (step : Flat) (m : Made) → label_of (bare step) ≡ None → Names P (target_of (bare step)) → resumed_slot (bare step) ≡ None → Still P m (pushed step m)
-still_step P step m label named resumed = record { adds = adds_step P (bare step) m.code label named resumed; labels = refl }
+still_step P step m label named resumed = record { adds = adds_step P (bare step) m.code label named resumed; labels = refl; regions = refl }
 
 -- What a statement adds: of the labels that get numbers in it each is placed once, and no other is.
 

@@ -1,4 +1,6 @@
--- Steps that are added at the end.
-use Rattle.std.proofs.lemmas.List.{map-append}
+-- Steps and regions that are added at the end, and their numbers.
+use Rattle.std.proofs.lemmas.List.{length-map, map-append}
 
-pub ruleset pushing = (map-append)
+pub ruleset pushing = (length-map, map-append)
+
+pub ruleset counting = (length-map)

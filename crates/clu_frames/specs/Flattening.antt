@@ -6,6 +6,7 @@ use Rattle.clu_wir.specs.declared.expression.WExpr.{WExpr, Slot, Word}
 use Rattle.clu_wir.specs.declared.statement.WStmt.{WStmt, WStmt-F, fold-WStmt}
 use Rattle.clu_wir.specs.declared.statement.WArm.{WArm, WArm-F, fold-WArm}
 use Rattle.clu_wir.specs.declared.routine.WRoutine.{WRoutine}
+use Rattle.clu_wir.specs.declared.region.Arm.{Arm}
 use Rattle.clu_frames.specs.declared.flat.TheConstants.{FOOT, OUTER_MARK}
 use Rattle.clu_frames.specs.declared.flat.Flat.{Flat}
 use Rattle.clu_frames.specs.declared.flat.Flat.TheVariants as flat
@@ -14,6 +15,7 @@ use Rattle.clu_frames.specs.declared.surroundings.Guard.{Guard}
 use Rattle.clu_frames.specs.declared.surroundings.Guards.{Guards, Guards-F, fold-Guards}
 use Rattle.clu_frames.specs.declared.surroundings.Surroundings.{Surroundings}
 use Rattle.clu_frames.specs.declared.surroundings.Turns.{Turns}
+use Rattle.clu_frames.specs.Regions.{Added, added_of, begun_at, changed, ended_at, with_arm}
 
 -- Steps without their expressions.
 
@@ -31,23 +33,45 @@ bare step = step
 abbrev pub bare_code : List Flat → List Flat
 bare_code code = map bare code
 
--- What is made so far: the steps, and how many labels have numbers.
+-- What is made so far: the steps, how many labels have numbers, and the regions.
 
 pub record Made : Type 0 where
   pub code : List Flat
   pub labels : ℕ
+  pub regions : List Added
 
 abbrev pub made : Steps → Made
-made s = record { code = bare_code s.code.items; labels = s.labels }
+made s = record { code = bare_code s.code.items; labels = s.labels; regions = map added_of s.regions.items }
 
 abbrev pub pushed : Flat → Made → Made
-pushed step m = record { code = m.code ++ bare step ∷ []; labels = m.labels }
+pushed step m = record { code = m.code ++ bare step ∷ []; labels = m.labels; regions = m.regions }
 
 abbrev pub labelled : ℕ → Made → Made
-labelled count m = record { code = m.code; labels = m.labels + count }
+labelled count m = record { code = m.code; labels = m.labels + count; regions = m.regions }
+
+-- Regions: one is added, ends with a jump, and gets an arm that begins at the next place.
+
+abbrev pub with_regions : List Added → Made → Made
+with_regions regions m = record { code = m.code; labels = m.labels; regions = regions }
+
+abbrev pub opened : Option ℕ → Made → Made
+opened parent m = with_regions (m.regions ++ begun_at (length m.code) parent ∷ []) m
+
+abbrev pub closed : ℕ → ℕ → Made → Made
+closed region end m = pushed (flat.Jump end) (with_regions (changed (ended_at (length m.code)) region m.regions) m)
+
+abbrev pub arm_at : List ℕ → ℕ → ℕ → Arm
+arm_at name target mark = record { name = name; target = target; mark = mark }
+
+abbrev pub armed : ℕ → ℕ → List ℕ → Made → Made
+armed region mark name m = with_regions (changed (with_arm (arm_at name (length m.code) mark)) region m.regions) m
+
+abbrev pub named_onto : ℕ → ℕ → List (List ℕ) → Made → Made
+named_onto region mark [] m = m
+named_onto region mark (name ∷ names) m = named_onto region mark names (armed region mark name m)
 
 -- What stands round a statement: the first slot that is free, the labels of the innermost loop, the guards from the innermost
--- one outward, and the mark.
+-- one outward, the mark, and the number of the innermost region.
 
 pub record Guarding : Type 0 where
   -- the slots of each arm
@@ -60,6 +84,7 @@ pub record Round : Type 0 where
   pub turns : Option Turns
   pub guards : List Guarding
   pub mark : ℕ
+  pub region : Option ℕ
 
 -- A statement: whether it is a Break, and what it adds.
 
@@ -71,6 +96,7 @@ pub record Part : Type 0 where
   pub onto : Onto
 
 pub record ArmPart : Type 0 where
+  pub names : List (List ℕ)
   pub others : Bool
   pub slots : List ℕ
   pub body : List Part
@@ -272,31 +298,43 @@ iterate_onto arguments items body round m = turns_ended body (turns_at m.labels 
 
 -- Guards.
 
-abbrev pub in_guard : Guarding → Round → Round
-in_guard g round = record round { guards = g ∷ round.guards }
+abbrev pub in_guard : Guarding → ℕ → Round → Round
+in_guard g region round = record round { guards = g ∷ round.guards; region = Some region }
 
-abbrev pub guarded_onto : List Part → Guarding → ℕ → Onto
-guarded_onto body g end round m = pushed (flat.Jump end) (all_onto body (in_guard g round) m)
+abbrev pub in_region : ℕ → Round → Round
+in_region region round = record round { region = Some region }
 
-abbrev pub arm_begun : Bool → List ℕ → Made → Made
-arm_begun true slots m = taken_onto slots m
-arm_begun false slots m = results_onto 0 slots m
+abbrev pub guarded_onto : List Part → Guarding → ℕ → ℕ → Onto
+guarded_onto body g region end round m = closed region end (all_onto body (in_guard g region round) m)
 
-abbrev pub arms_onto : ℕ → ℕ → List ArmPart → Onto
-arms_onto label end [] round m = pushed (flat.Label end) m
-arms_onto label end (a ∷ arms) round m =
-    arms_onto (label + 1) end arms round (pushed (flat.Jump end) (all_onto a.body round (pushed (flat.Label label) (arm_begun a.others a.slots m))))
+abbrev pub begun_by : Bool → List ℕ → ℕ → ℕ → Made → Made
+begun_by true slots region mark m = taken_onto slots (armed region mark [] m)
+begun_by false slots region mark m = results_onto 0 slots m
+
+abbrev pub arm_begun : ArmPart → ℕ → ℕ → Made → Made
+arm_begun a region mark m = begun_by a.others a.slots region mark (named_onto region mark a.names m)
+
+abbrev pub arms_onto : ℕ → ℕ → ℕ → List ArmPart → Onto
+arms_onto label end region [] round m = pushed (flat.Label end) m
+arms_onto label end region (a ∷ arms) round m =
+    arms_onto (label + 1) end region arms round (pushed (flat.Jump end) (all_onto a.body round (pushed (flat.Label label) (arm_begun a region round.mark m))))
 
 abbrev pub guard_at : List ArmPart → ℕ → ℕ → Guarding
 guard_at arms label mark = record { slots = map (λ (a : ArmPart). a.slots) arms; label = label; mark = mark }
 
 abbrev pub guard_onto : List Part → List ArmPart → Onto
 guard_onto body arms round m =
-    arms_onto m.labels (m.labels + length arms) arms round (guarded_onto body (guard_at arms m.labels round.mark) (m.labels + length arms) round (labelled 1 (labelled (length arms) m)))
+    arms_onto m.labels (m.labels + length arms) (length m.regions) arms round
+    (guarded_onto body (guard_at arms m.labels round.mark) (length m.regions) (m.labels + length arms) round
+    (opened round.region (labelled 1 (labelled (length arms) m))))
 
-abbrev pub resignal_onto : List Part → Onto
-resignal_onto body round m =
-    pushed (flat.Label m.labels) (pushed flat.Pass (pushed (flat.Jump m.labels) (all_onto body round (labelled 1 m))))
+abbrev pub pass_onto : List (List ℕ) → ℕ → ℕ → Made → Made
+pass_onto names region mark m = pushed flat.Pass (named_onto region mark names m)
+
+abbrev pub resignal_onto : List Part → List (List ℕ) → Onto
+resignal_onto body names round m =
+    pushed (flat.Label m.labels) (pass_onto names (length m.regions) round.mark
+    (closed (length m.regions) m.labels (all_onto body (in_region (length m.regions) round) (opened round.region (labelled 1 m)))))
 
 -- Statements.
 
@@ -319,11 +357,11 @@ part_step (WStmt-F.Raise name objects) = plain (λ round m. raise_onto objects.i
 part_step (WStmt-F.Signal name objects) = plain (λ round m. signal_onto objects.items round.work m)
 part_step (WStmt-F.Exit inside arm words) = plain (λ round m. exit_onto inside arm words.items round m)
 part_step (WStmt-F.Guard body arms) = plain (guard_onto body.items arms.items)
-part_step (WStmt-F.Resignal body names) = plain (resignal_onto body.items)
+part_step (WStmt-F.Resignal body names) = plain (resignal_onto body.items names.items)
 part_step (WStmt-F.Return results) = plain (λ round m. leave_onto results.items round.work m)
 
 abbrev pub arm_step : WArm-F Part ArmPart → ArmPart
-arm_step arm = record { others = arm.others; slots = arm.slots.items; body = arm.body.items }
+arm_step arm = record { names = arm.names.items; others = arm.others; slots = arm.slots.items; body = arm.body.items }
 
 abbrev pub part_of : WStmt → Part
 part_of = fold-WStmt Part ArmPart part_step arm_step
@@ -350,15 +388,15 @@ abbrev pub guards_of : Surroundings → List Guarding
 guards_of s = or_none (option_map all_guards (option_copied s.guards))
 
 abbrev pub round_of : Surroundings → Round
-round_of s = record { work = s.work; turns = s.turns; guards = guards_of s; mark = s.mark }
+round_of s = record { work = s.work; turns = s.turns; guards = guards_of s; mark = s.mark; region = s.region }
 
 -- A routine.
 
 abbrev pub outermost : ℕ → Round
-outermost slots = record { work = slots; turns = None; guards = []; mark = OUTER_MARK }
+outermost slots = record { work = slots; turns = None; guards = []; mark = OUTER_MARK; region = None }
 
 abbrev pub begun : ℕ → Made
-begun args = record { code = flat.Enter args ∷ []; labels = 0 }
+begun args = record { code = flat.Enter args ∷ []; labels = 0; regions = [] }
 
 abbrev pub routine_onto : List Part → ℕ → ℕ → Made
 routine_onto body args slots = pushed (flat.Leave slots 0) (all_onto body (outermost slots) (begun args))
@@ -366,3 +404,7 @@ routine_onto body args slots = pushed (flat.Leave slots 0) (all_onto body (outer
 -- the steps of a routine, without their expressions
 abbrev pub steps_of : WRoutine → List Flat
 steps_of r = (routine_onto (map part_of r.body.items) r.args r.slots).code
+
+-- its regions
+abbrev pub regions_of : WRoutine → List Added
+regions_of r = (routine_onto (map part_of r.body.items) r.args r.slots).regions

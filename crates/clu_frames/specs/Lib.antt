@@ -2,5 +2,6 @@
 pub mod Flattened
 pub mod Flattening
 pub mod Labels
+pub mod Regions
 pub mod Steps
 pub mod Within

@@ -1,8 +1,7 @@
 //! How guards and their arms begin.
 
 ghost use Rattle.std.specs.Prelude.{◌≡◌, ◌+◌, IfOk, OnOk, length, map};
-ghost use Rattle.clu_frames.specs.Flattening.{arm_begun, arm_of, guard_at, guarding_of, labelled, made, pushed};
-ghost use Rattle.clu_frames.specs.declared.flat.Flat.TheVariants as flat;
+ghost use Rattle.clu_frames.specs.Flattening.{arm_begun, arm_of, guard_at, guarding_of, labelled, made, named_onto, opened, pass_onto};
 
 use crate::errors::FrameError;
 use crate::flat::Flat;
@@ -20,7 +19,8 @@ impl Steps<'_> {
     ) -> Result<Guard<'a>, FrameError>
         ensures guard { IfOk result (λ guard. guarding_of guard ≡ guard_at (map arm_of arms.now) (made self.old).labels round.entry.mark) }
         ensures end { IfOk result (λ guard. guard.end ≡ (made self.old).labels + length arms.now) }
-        ensures made { OnOk result (made self.new ≡ labelled 1 (labelled (length arms.now) (made self.old))) }
+        ensures region { IfOk result (λ guard. guard.region ≡ length (made self.old).regions) }
+        ensures made { OnOk result (made self.new ≡ opened round.entry.region (labelled 1 (labelled (length arms.now) (made self.old)))) }
     {
         let label = self.labels(number(arms.len())?)?;
         let end = self.label()?;
@@ -36,7 +36,7 @@ impl Steps<'_> {
 
     /// Where exceptions of these names come that are signalled on.
     pub fn pass_on(&mut self, names: &[Bytes], region: u32, mark: u32) -> Result<(), FrameError>
-        ensures made { OnOk result (made self.new ≡ pushed flat.Pass (made self.old)) }
+        ensures made { OnOk result (made self.new ≡ pass_onto names.now region mark (made self.old)) }
     {
         self.name_arm(names, region, mark)?;
         self.push(Flat::Pass)
@@ -45,11 +45,11 @@ impl Steps<'_> {
     /// Where an exception comes to an arm: the objects, or for an arm that takes all names the name, go into the
     /// arm's slots.
     pub fn begin_arm(&mut self, arm: &WArm, region: u32, mark: u32) -> Result<(), FrameError>
-        ensures made { OnOk result (made self.new ≡ arm_begun arm.now.others arm.now.slots.items (made self.old)) }
+        ensures made { OnOk result (made self.new ≡ arm_begun (arm_of arm.now) region mark (made self.old)) }
     {
         self.name_arm(arm.names.as_slice(), region, mark)?;
         if arm.others {
-            self.add_arm(region, None, mark)?;
+            self.add_others(region, mark)?;
             return self.take(arm.slots.as_slice());
         }
         self.push_results(arm.slots.as_slice())
@@ -57,10 +57,10 @@ impl Steps<'_> {
 
     /// Gives a region an arm for each of these names that begins at the next step.
     fn name_arm(&mut self, names: &[Bytes], region: u32, mark: u32) -> Result<(), FrameError>
-        ensures made { OnOk result (made self.new ≡ made self.old) }
+        ensures made { OnOk result (made self.new ≡ named_onto region mark names.now (made self.old)) }
     {
         for name in names {
-            self.add_arm(region, Some(name), mark)?;
+            self.add_arm(region, name, mark)?;
         }
         Ok(())
     }

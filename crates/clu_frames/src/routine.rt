@@ -1,9 +1,10 @@
 //! A routine in word code to flat code.
 
-ghost use Rattle.std.specs.Prelude.{◌≡◌, ◌<◌, ◌^◌, IfOk, length};
+ghost use Rattle.std.specs.Prelude.{◌≡◌, ◌<◌, ◌^◌, IfOk, length, map};
 ghost use Rattle.clu_frames.specs.Flattened.{HandsOn, HasRoom};
-ghost use Rattle.clu_frames.specs.Flattening.{bare_code, steps_of};
+ghost use Rattle.clu_frames.specs.Flattening.{bare_code, made, part_of, routine_onto, steps_of};
 ghost use Rattle.clu_frames.specs.Labels.{IsFlat};
+ghost use Rattle.clu_frames.specs.Regions.{AreRegions};
 
 use crate::errors::FrameError;
 use crate::flat::{Flat, FlatRoutine};
@@ -66,12 +67,30 @@ fn code_of<B: RegionBuilder>(
     ensures few { IfOk result (λ code. length code.items < 2 ^ 32) }
     ensures steps { IfOk result (λ code. bare_code code.items ≡ steps_of r.now) }
 {
+    let steps = made_of(alloc, r)?;
+    let code = steps.finish(regions)?;
+    Ok(code)
+}
+
+/// The steps of a routine, and its regions.
+fn walked<'a>(alloc: Global, r: &'a WRoutine) -> Result<Steps<'a>, FrameError>
+    ensures made { IfOk result (λ steps. made steps ≡ routine_onto (map part_of r.entry.now.body.items) r.entry.now.args r.entry.now.slots) }
+{
     let mut steps = Steps::new(alloc, r.constants.as_slice());
     steps.push(Flat::Enter(r.args))?;
     steps.list(r.body.as_slice(), Surroundings::outermost(r.slots))?;
     steps.push(Flat::Leave(r.slots, 0))?;
-    let code = steps.finish(regions)?;
-    Ok(code)
+    Ok(steps)
+}
+
+/// The same, with what holds of the regions of each routine.
+#[tactic(auto, using(crate::proofs::Nested::regions_nest))]
+fn made_of<'a>(alloc: Global, r: &'a WRoutine) -> Result<Steps<'a>, FrameError>
+    ensures made { IfOk result (λ steps. made steps ≡ routine_onto (map part_of r.entry.now.body.items) r.entry.now.args r.entry.now.slots) }
+    ensures regions { IfOk result (λ steps. AreRegions (made steps).code (made steps).regions) }
+{
+    let steps = walked(alloc, r)?;
+    Ok(steps)
 }
 
 /// The same, with what holds of the code of each routine.

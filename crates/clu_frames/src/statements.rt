@@ -147,7 +147,7 @@ impl Steps<'_> {
         guard: Guard<'_>,
         round: Surroundings<'_>,
     ) -> Result<(), FrameError>
-        ensures made { OnOk result (made self.new ≡ guarded_onto (map part_of body.now) (guarding_of guard.entry) guard.entry.end (round_of round.entry) (made self.old)) }
+        ensures made { OnOk result (made self.new ≡ guarded_onto (map part_of body.now) (guarding_of guard.entry) guard.entry.region guard.entry.end (round_of round.entry) (made self.old)) }
     {
         let guards = Guards {
             guard,
@@ -172,7 +172,7 @@ impl Steps<'_> {
         names: &[Bytes],
         round: Surroundings<'_>,
     ) -> Result<(), FrameError>
-        ensures made { OnOk result (made self.new ≡ resignal_onto (map part_of body.now) (round_of round.entry) (made self.old)) }
+        ensures made { OnOk result (made self.new ≡ resignal_onto (map part_of body.now) names.now (round_of round.entry) (made self.old)) }
     {
         let end = self.label()?;
         let region = self.open_region(round.region)?;
@@ -195,7 +195,7 @@ impl Steps<'_> {
         guard: Guard<'_>,
         round: Surroundings<'_>,
     ) -> Result<(), FrameError>
-        ensures made { OnOk result (made self.new ≡ arms_onto guard.entry.label guard.entry.end (map arm_of arms.now) (round_of round.entry) (made self.old)) }
+        ensures made { OnOk result (made self.new ≡ arms_onto guard.entry.label guard.entry.end guard.entry.region (map arm_of arms.now) (round_of round.entry) (made self.old)) }
     {
         let mut label = guard.label;
         for arm in arms {

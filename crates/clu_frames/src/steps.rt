@@ -1,7 +1,8 @@
 //! Flat code in the making: its steps, its labels and its regions.
 
-ghost use Rattle.std.specs.Prelude.{◌≡◌, ◌+◌, ◌<◌, ◌^◌, [], IfOk, OnOk, length};
-ghost use Rattle.clu_frames.specs.Flattening.{labelled, made, moves_onto, none, pushed, results_onto};
+ghost use Rattle.std.specs.Prelude.{◌≡◌, ◌+◌, ◌<◌, ◌^◌, [], IfOk, OnOk, length, map};
+ghost use Rattle.clu_frames.specs.Flattening.{armed, closed, labelled, made, moves_onto, none, opened, pushed, results_onto, with_regions};
+ghost use Rattle.clu_frames.specs.Regions.{added_of, changed, ended_at};
 ghost use Rattle.clu_frames.specs.declared.flat.Flat.TheVariants as flat;
 
 use crate::errors::FrameError;
@@ -36,6 +37,7 @@ impl<'a> Steps<'a> {
     pub fn new(alloc: Global, constants: &'a [ObjConst]) -> Steps<'a>
         ensures code { result.code.items ≡ [] }
         ensures labels { result.labels ≡ 0 }
+        ensures regions { result.regions.items ≡ [] }
     {
         Steps {
             alloc,
@@ -55,7 +57,10 @@ impl<'a> Steps<'a> {
     }
 
     /// The place of the step that comes next.
-    pub fn place(&self) -> Result<u32, FrameError> {
+    #[tactic(auto, using(crate::proofs::Pushing::counting))]
+    pub fn place(&self) -> Result<u32, FrameError>
+        ensures { IfOk result (λ place. place ≡ length (made self.now).code) }
+    {
         number(self.code.len())
     }
 
@@ -115,8 +120,10 @@ impl<'a> Steps<'a> {
     }
 
     /// Begins a region, and gives its number.
+    #[tactic(auto, using(crate::proofs::Pushing::pushing))]
     pub fn open_region(&mut self, parent: Option<u32>) -> Result<u32, FrameError>
-        ensures made { OnOk result (made self.new ≡ made self.old) }
+        ensures number { IfOk result (λ number. number ≡ length (made self.old).regions) }
+        ensures made { OnOk result (made self.new ≡ opened parent (made self.old)) }
     {
         let region = number(self.regions.len())?;
         let first = self.place()?;
@@ -132,38 +139,52 @@ impl<'a> Steps<'a> {
 
     /// Pushes the last step of a region: a jump to its end.
     pub fn close_region(&mut self, region: u32, end: u32) -> Result<(), FrameError>
-        ensures made { OnOk result (made self.new ≡ pushed (flat.Jump end) (made self.old)) }
+        ensures made { OnOk result (made self.new ≡ closed region end (made self.old)) }
     {
         let last = self.place()?;
-        self.push(Flat::Jump(end))?;
-        let planned = self
-            .regions
-            .get_mut(region as usize)
-            .ok_or(FrameError::NotYet)?;
-        planned.last = last;
-        Ok(())
+        self.end_region(region, last)?;
+        self.push(Flat::Jump(end))
     }
 
-    /// Gives a region an arm that begins at the next step. No name stands for all others.
-    pub fn add_arm(
-        &mut self,
-        region: u32,
-        name: Option<&Bytes>,
-        mark: u32,
-    ) -> Result<(), FrameError>
-        ensures made { OnOk result (made self.new ≡ made self.old) }
+    fn end_region(&mut self, region: u32, last: u32) -> Result<(), FrameError>
+        ensures made { OnOk result (made self.new ≡ with_regions (changed (ended_at last) region (made self.old).regions) (made self.old)) }
+    {
+        match self.regions.get_mut(region as usize) {
+            Some(planned) => {
+                planned.last = last;
+                Ok(())
+            }
+            None => Err(FrameError::NotYet),
+        }
+    }
+
+    /// Gives a region an arm of a name that begins at the next step.
+    pub fn add_arm(&mut self, region: u32, name: &Bytes, mark: u32) -> Result<(), FrameError>
+        ensures made { OnOk result (made self.new ≡ armed region mark name.now (made self.old)) }
+    {
+        let name = name.copy(self.alloc)?;
+        self.put_arm(region, name, mark)
+    }
+
+    /// Gives a region an arm of all other names that begins at the next step.
+    pub fn add_others(&mut self, region: u32, mark: u32) -> Result<(), FrameError>
+        ensures made { OnOk result (made self.new ≡ armed region mark [] (made self.old)) }
+    {
+        let name = Bytes::from_vec(Vec::new(self.alloc));
+        self.put_arm(region, name, mark)
+    }
+
+    fn put_arm(&mut self, region: u32, name: Bytes, mark: u32) -> Result<(), FrameError>
+        ensures made { OnOk result (made self.new ≡ armed region mark name (made self.old)) }
     {
         let target = self.place()?;
-        let name = match name {
-            Some(name) => name.copy(self.alloc)?,
-            None => Bytes::from_vec(Vec::new(self.alloc)),
-        };
-        let planned = self
-            .regions
-            .get_mut(region as usize)
-            .ok_or(FrameError::NotYet)?;
-        planned.arms.push(Arm { name, target, mark })?;
-        Ok(())
+        match self.regions.get_mut(region as usize) {
+            Some(planned) => {
+                planned.arms.push(Arm { name, target, mark })?;
+                Ok(())
+            }
+            None => Err(FrameError::NotYet),
+        }
     }
 
     /// Gives the regions to their builder, and the steps to the caller. Places have numbers of 32 bits.

@@ -9,5 +9,5 @@ invariant-list-loop-statement l =
 
 abbrev pub invariant-arms-loop-arm : goal.invariant-arms-loop-arm
 invariant-arms-loop-arm l =
-    arms_onto l.label l.guard.end (map arm_of (drop l.arm-index l.arms)) (round_of l.round) (made l.self)
-    ≡ arms_onto l.guard.label l.guard.end (map arm_of l.fn.arms) (round_of l.round) (made l.fn.self)
+    arms_onto l.label l.guard.end l.guard.region (map arm_of (drop l.arm-index l.arms)) (round_of l.round) (made l.self)
+    ≡ arms_onto l.guard.label l.guard.end l.guard.region (map arm_of l.fn.arms) (round_of l.round) (made l.fn.self)
