@@ -84,7 +84,6 @@ fn walked<'a>(alloc: Global, r: &'a WRoutine) -> Result<Steps<'a>, FrameError>
 }
 
 /// The same, with what holds of the regions of each routine.
-#[tactic(auto, using(crate::proofs::Nested::regions_nest))]
 fn made_of<'a>(alloc: Global, r: &'a WRoutine) -> Result<Steps<'a>, FrameError>
     ensures made { IfOk result (λ steps. made steps ≡ routine_onto (map part_of r.entry.now.body.items) r.entry.now.args r.entry.now.slots) }
     ensures regions { IfOk result (λ steps. AreRegions (made steps).code (made steps).regions) }
