@@ -72,23 +72,15 @@ fn code_of<B: RegionBuilder>(
     Ok(code)
 }
 
-/// The steps of a routine, and its regions.
-fn walked<'a>(alloc: Global, r: &'a WRoutine) -> Result<Steps<'a>, FrameError>
+/// The steps of a routine and its regions, with what holds of the regions of each routine.
+fn made_of<'a>(alloc: Global, r: &'a WRoutine) -> Result<Steps<'a>, FrameError>
     ensures made { IfOk result (λ steps. made steps ≡ routine_onto (map part_of r.entry.now.body.items) r.entry.now.args r.entry.now.slots) }
+    ensures regions { IfOk result (λ steps. AreRegions (made steps).code (made steps).regions) }
 {
     let mut steps = Steps::new(alloc, r.constants.as_slice());
     steps.push(Flat::Enter(r.args))?;
     steps.list(r.body.as_slice(), Surroundings::outermost(r.slots))?;
     steps.push(Flat::Leave(r.slots, 0))?;
-    Ok(steps)
-}
-
-/// The same, with what holds of the regions of each routine.
-fn made_of<'a>(alloc: Global, r: &'a WRoutine) -> Result<Steps<'a>, FrameError>
-    ensures made { IfOk result (λ steps. made steps ≡ routine_onto (map part_of r.entry.now.body.items) r.entry.now.args r.entry.now.slots) }
-    ensures regions { IfOk result (λ steps. AreRegions (made steps).code (made steps).regions) }
-{
-    let steps = walked(alloc, r)?;
     Ok(steps)
 }
 
