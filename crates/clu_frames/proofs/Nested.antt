@@ -1,6 +1,6 @@
 -- Which regions each statement adds: they nest, inside of the region round the statement, between the places where the
 -- statement begins and ends.
-use Rattle.std.proofs.Common.{◌≡◌, ◌⊎◌, inl, inr, pos, ℕ, zero, suc, ◌+◌, ◌<◌, ◌≤◌, List, [], ◌∷◌, ◌++◌, length, map, Bool, true, false, Option, Some, None, refl, sym, ◌∙◌, ap, subst, arith, append_assoc, append-nil, length-append}
+use Rattle.std.proofs.Common.{◌≡◌, pos, ℕ, suc, ◌+◌, ◌≤◌, List, [], ◌∷◌, ◌++◌, length, map, Bool, true, false, Option, Some, None, refl, sym, ◌∙◌, ap, subst, arith, append_assoc, append-nil, length-append}
 use Rattle.clu_wir.specs.declared.expression.WExpr.{WExpr}
 use Rattle.clu_wir.specs.declared.region.Arm.{Arm}
 use Rattle.clu_wir.specs.declared.routine.WRoutine.{WRoutine}
@@ -9,12 +9,12 @@ use Rattle.clu_wir.specs.declared.statement.WArm.{WArm, WArm-F, fold-roll-WArm}
 use Rattle.clu_frames.specs.declared.flat.Flat.{Flat}
 use Rattle.clu_frames.specs.declared.flat.Flat.TheVariants as flat
 use Rattle.clu_frames.specs.declared.surroundings.Turns.{Turns}
-use Rattle.clu_frames.specs.Flattening.{ArmPart, Guarding, Made, Onto, Part, Round, all_onto, arm_at, arm_begun, arm_of, arm_step, armed, arms_onto, bare, begun, begun_by, choice_onto, closed, either_onto, end_of, exit_of, guard_at, guard_onto, if_onto, in_guard, in_loop, in_region, in_turns, invoke_onto, is_none, iterate_onto, labelled, named_onto, none, opened, other_onto, outermost, part_of, part_step, pass_onto, pushed, regions_of, resignal_onto, results_onto, routine_onto, row_at, row_onto, steps_of, taken_onto, turns_at, turns_begun, turns_onto, unless_from, unless_onto}
+use Rattle.clu_frames.specs.Flattening.{ArmPart, Made, Part, Round, all_onto, arm_at, arm_begun, arm_of, arm_step, armed, arms_onto, bare, begun, begun_by, choice_onto, closed, either_onto, end_of, exit_of, guard_at, guard_onto, if_onto, in_guard, in_loop, in_region, in_turns, is_none, iterate_onto, labelled, named_onto, none, opened, other_onto, outermost, part_of, part_step, pushed, resignal_onto, results_onto, routine_onto, row_at, row_onto, turns_at, turns_onto, unless_from}
 use Rattle.clu_frames.specs.Regions.{Added, AreRegions, are_nested, begun_at, changed, ended_at, is_placed, with_arm}
 use Rattle.std.specs.List.{list_all}
-use Rattle.clu_frames.proofs.Placing.{Adds, Still}
+use Rattle.clu_frames.proofs.Placing.{Still}
 use Rattle.clu_frames.proofs.Pieces.{still_break, still_call, still_continue, still_exit, still_leave, still_primitive, still_raise, still_results, still_row, still_signal, still_taken, still_yield}
-use Rattle.clu_frames.proofs.Nesting.{AllPlaced, AllTargets, Fits, Nest, Placed, all_placed_tested, changed_at, nest_at, nest_more, nest_none, nest_on, nest_tree, placed_more, placed_on, targets_more, targets_on}
+use Rattle.clu_frames.proofs.Nesting.{AllPlaced, AllTargets, Fits, Nest, all_placed_tested, changed_at, nest_at, nest_more, nest_none, nest_on, nest_tree, placed_more, placed_on, targets_more, targets_on}
 
 abbrev Any : ℕ → Type 0
 Any t = Unit {0}

@@ -1,5 +1,5 @@
 -- Lists of regions that nest, one after the other and one inside the other.
-use Rattle.std.proofs.Common.{◌≡◌, ℕ, zero, suc, ◌+◌, ◌<◌, ◌≤◌, List, [], ◌∷◌, ◌++◌, length, drop, Bool, true, false, ◌&&◌, ◌||◌, Option, Some, None, nat_lt, nat_le, slice_get, refl, sym, ◌∙◌, ap, subst, arith, lt-ltb, le-leb, append_assoc, append-nil, length-append}
+use Rattle.std.proofs.Common.{◌≡◌, ℕ, zero, suc, ◌+◌, ◌<◌, ◌≤◌, List, [], ◌∷◌, ◌++◌, length, drop, true, ◌&&◌, Option, Some, None, nat_lt, nat_le, slice_get, refl, sym, ◌∙◌, ap, subst, arith, lt-ltb, le-leb, append_assoc, append-nil, length-append}
 use Rattle.std.specs.List.{list_all}
 use Rattle.std.proofs.lemmas.Bool.{and_from, and_parts}
 use Rattle.clu_wir.specs.declared.region.Arm.{Arm}

@@ -404,7 +404,3 @@ routine_onto body args slots = pushed (flat.Leave slots 0) (all_onto body (outer
 -- the steps of a routine, without their expressions
 abbrev pub steps_of : WRoutine → List Flat
 steps_of r = (routine_onto (map part_of r.body.items) r.args r.slots).code
-
--- its regions
-abbrev pub regions_of : WRoutine → List Added
-regions_of r = (routine_onto (map part_of r.body.items) r.args r.slots).regions

@@ -1,5 +1,4 @@
 use Rattle.std.proofs.Common.{◌≡◌, ◌∙◌, ℕ, List, [], ◌∷◌, ◌++◌, length, ap}
-use Rattle.clu_wir.specs.declared.region.Arm.{Arm}
 use Rattle.clu_frames.specs.Flattening.{arm_at, made, with_regions}
 use Rattle.clu_frames.specs.Regions.{Added, with_arm}
 use Rattle.clu_frames.proofs.Changing.{set_changed, with_arms}
