@@ -20,7 +20,8 @@ fn kind_of_term(term: &Term) -> Option<ParamKind> {
     }
 }
 
-fn kind_of_type(types: &TypeArena, of: Option<TypeId>) -> Option<ParamKind> {
+/// The same of a type that is known.
+pub fn kind_of_type(types: &TypeArena, of: Option<TypeId>) -> Option<ParamKind> {
     match of {
         Some(id) => {
             if types.contains(id) {

@@ -6,7 +6,7 @@ ghost use Rattle.clu_settle.specs.Graph.{is_equate_at, equate_of, unfolded_at, u
 ghost use Rattle.clu_settle.specs.Circular.{is_circular, unfolded_starts, start_in, span_in};
 
 use clu_base::Memory;
-use clu_circles::{Span, find_circles};
+use clu_circles::{Circles, Span, find_circles};
 use clu_names::{Declared, Names};
 use clu_syntax::Round;
 use clu_tree::{NodeKind, Tree};
@@ -160,6 +160,25 @@ fn unfolded_names(alloc: Global, tree: &Tree, names: &Names) -> Result<Unfolded,
     Ok(unfolded)
 }
 
+/// Which declarations are equates whose unfolding meets itself, and in which order the others come after the equates that they
+/// name. The only error is that memory runs out.
+pub fn equate_circles(
+    alloc: Global,
+    tree: &Tree,
+    rounds: &[Round],
+    names: &Names,
+) -> Result<Circles, Memory>
+    requires bound { names.now.bound.items ≡ bound_to tree.now names.now.declared.items (length tree.now) }
+    requires starts { names.now.starts.items ≡ starts_to tree.now names.now.declared.items (length tree.now) }
+    ensures { IfOk result (λ circles. length rounds.now ≡ length tree.now → (k : ℕ) → k < length names.now.declared.items → (slice_get circles.circular.items k ≡ Some true) ↔ (is_circular tree.now rounds.now names.now.declared.items k ≡ true)) }
+{
+    let unfolded = unfolded_names(alloc, tree, names)?;
+    let declared = names.declared.as_slice();
+    let spans = spans_of(alloc, &unfolded, tree, rounds, declared)?;
+    let found = find_circles(alloc, unfolded.targets.as_slice(), spans.as_slice())?;
+    Ok(found)
+}
+
 /// For each declaration whether it is an equate whose unfolding meets itself. The only error is that memory runs out.
 pub fn circular_equates(
     alloc: Global,
@@ -171,9 +190,6 @@ pub fn circular_equates(
     requires starts { names.now.starts.items ≡ starts_to tree.now names.now.declared.items (length tree.now) }
     ensures { IfOk result (λ circular. length rounds.now ≡ length tree.now → (k : ℕ) → k < length names.now.declared.items → (slice_get circular.items k ≡ Some true) ↔ (is_circular tree.now rounds.now names.now.declared.items k ≡ true)) }
 {
-    let unfolded = unfolded_names(alloc, tree, names)?;
-    let declared = names.declared.as_slice();
-    let spans = spans_of(alloc, &unfolded, tree, rounds, declared)?;
-    let found = find_circles(alloc, unfolded.targets.as_slice(), spans.as_slice())?;
+    let found = equate_circles(alloc, tree, rounds, names)?;
     Ok(found.circular)
 }

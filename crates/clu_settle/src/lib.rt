@@ -16,7 +16,7 @@ mod settling;
 mod type_values;
 mod value;
 
-pub use crate::circular::circular_equates;
+pub use crate::circular::{circular_equates, equate_circles};
 pub use crate::meanings::Meaning;
 pub use crate::parameters::{Parameters, number_parameters};
 pub use crate::settling::{Values, settle};

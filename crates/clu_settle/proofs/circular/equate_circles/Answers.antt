@@ -3,7 +3,7 @@ use Rattle.clu_names.specs.declared.scopes.Declared.{Declared}
 use Rattle.clu_settle.specs.Circular.{span_in}
 use Rattle.clu_settle.proofs.Inside.{equates_inside}
 use Rattle.clu_settle.proofs.Unfolding.{circular_is}
-use Rattle.clu_settle.proofs.circular.circular_equates.Goals as goal
+use Rattle.clu_settle.proofs.circular.equate_circles.Goals as goal
 
 pub find_circles-requires : goal.find_circles-requires
 find_circles-requires c = equates_inside c.args.tree.now c.args.names.now.declared.items _ _ (length c.args.tree.now)

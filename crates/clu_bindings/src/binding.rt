@@ -1,0 +1,140 @@
+//! The tables of what names denote and what is wanted, made in their order.
+
+ghost use Rattle.std.specs.Prelude.{◌≡◌, length};
+ghost use Rattle.clu_names.specs.Denotes.{bound_to, starts_to};
+
+use crate::bindings::{Bindings, Modules, ParameterTypes};
+use crate::declaring::{declared_of, meanings_of};
+use crate::meaning::Meaning;
+use crate::modules::modules_of;
+use crate::nodes::is_at;
+use crate::parameters::parameters_of;
+use crate::reps::reps_of;
+use crate::wanting::{takers_of, wanted_of};
+use clu_base::Memory;
+use clu_head::{kinds, own_type, sets_of};
+use clu_names::Names;
+use clu_settle::Value;
+use clu_syntax::{Round, Syntax};
+use clu_tree::{NodeKind, Tree};
+use clu_types::{Specs, TypeArena, TypeId};
+use std::alloc::Global;
+
+fn place_all(places: &mut [usize], children: &[u32]) {
+    for at in 0..children.len() {
+        let child = children[at] as usize;
+        if child < places.len() {
+            places[child] = at;
+        }
+    }
+}
+
+/// For each node its place among its parent's children.
+fn places_of(alloc: Global, tree: &Tree) -> Result<Vec<usize>, Memory> {
+    let mut places = vec![in alloc; 0usize; tree.len() as usize]?;
+    for n in 0..tree.len() {
+        place_all(&mut places, tree.node(n).children.as_slice());
+    }
+    Ok(places)
+}
+
+fn own_at(
+    alloc: Global,
+    syntax: &Syntax,
+    types: &mut TypeArena,
+    values: &[Value],
+    n: u32,
+) -> Result<Option<TypeId>, Memory> {
+    if is_at(syntax.tree(), n, NodeKind::Cluster) {
+        let cluster = syntax.cluster(n);
+        let kinds = kinds(alloc, syntax, types, values, cluster.parameters)?;
+        own_type(alloc, types, cluster.name, kinds.as_slice())
+    } else {
+        Ok(None)
+    }
+}
+
+/// For each Cluster its type with its own parameters.
+fn own_of(
+    alloc: Global,
+    syntax: &Syntax,
+    types: &mut TypeArena,
+    values: &[Value],
+) -> Result<Vec<Option<TypeId>>, Memory> {
+    let mut own = Vec::new(alloc);
+    for n in 0..syntax.tree().len() {
+        own.push(own_at(alloc, syntax, types, values, n)?)?;
+    }
+    Ok(own)
+}
+
+/// The tables, where this is known of modules, parameters, declarations and names.
+fn tables_of(
+    alloc: Global,
+    syntax: &Syntax,
+    rounds: &[Round],
+    names: &Names,
+    types: &mut TypeArena,
+    values: &[Value],
+    modules: Modules,
+    parameters: ParameterTypes,
+    declared: Vec<Meaning>,
+) -> Result<Box<Bindings>, Memory>
+    requires bound { names.now.bound.items ≡ bound_to syntax.now names.now.declared.items (length syntax.now) }
+    requires starts { names.now.starts.items ≡ starts_to syntax.now names.now.declared.items (length syntax.now) }
+{
+    let tree = syntax.tree();
+    let meanings = meanings_of(alloc, tree, names, &modules, declared.as_slice())?;
+    let sets = sets_of(alloc, syntax, names)?;
+    let takes_actuals = takers_of(
+        alloc,
+        tree,
+        names,
+        values,
+        meanings.as_slice(),
+        sets.as_slice(),
+    )?;
+    let wanted = wanted_of(alloc, tree, rounds, takes_actuals.as_slice())?;
+    let bindings = Bindings {
+        modules,
+        parameters,
+        declared,
+        meanings,
+        sets,
+        places: places_of(alloc, tree)?,
+        reps: reps_of(alloc, names.declared.as_slice(), tree.len())?,
+        own: own_of(alloc, syntax, types, values)?,
+        takes_actuals,
+        wanted,
+    };
+    Ok(Box::new(alloc, bindings)?)
+}
+
+/// What the names of a file denote and what is wanted at its nodes, which come to these values. The only error is that memory
+/// runs out.
+pub fn bindings_of(
+    alloc: Global,
+    syntax: &Syntax,
+    rounds: &[Round],
+    names: &Names,
+    types: &mut TypeArena,
+    values: &[Value],
+    library: &Specs,
+) -> Result<Box<Bindings>, Memory>
+    requires bound { names.now.bound.items ≡ bound_to syntax.now names.now.declared.items (length syntax.now) }
+    requires starts { names.now.starts.items ≡ starts_to syntax.now names.now.declared.items (length syntax.now) }
+{
+    let modules = modules_of(alloc, syntax, types, values, library)?;
+    let parameters = parameters_of(alloc, syntax, names)?;
+    let declared = declared_of(
+        alloc,
+        syntax,
+        rounds,
+        names.declared.as_slice(),
+        &parameters,
+        &modules,
+    )?;
+    tables_of(
+        alloc, syntax, rounds, names, types, values, modules, parameters, declared,
+    )
+}

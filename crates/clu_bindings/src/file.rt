@@ -1,0 +1,242 @@
+//! A file as it is checked: what stands at a node, and round it. Of a node that isn't there all is nothing.
+
+use crate::bindings::{Bindings, ModuleKnown};
+use crate::meaning::{Meaning, ModuleId};
+use crate::nodes::{kind_of, parent_of};
+use crate::tables::{is_set, items_of, number_at, optional_at};
+use crate::wanted::Wanted;
+use clu_base::{Bytes, Const};
+use clu_head::{Heads, is_refused};
+use clu_names::Names;
+use clu_settle::Value;
+use clu_syntax::{Expression, OUTSIDE, Round, Syntax, TypeExpression};
+use clu_tree::NodeKind;
+use clu_types::{ParamKind, Specs};
+use std::alloc::Global;
+
+/// A file before its headings are known: for each node of the tree what surrounds it, what its names denote and what it comes
+/// to. The first rules, by which types are refused where they stand, ask no more.
+#[derive(Clone, Copy)]
+pub struct File<'a> {
+    pub alloc: Global,
+    pub syntax: &'a Syntax,
+    pub rounds: &'a [Round],
+    pub names: &'a Names,
+    pub values: &'a [Value],
+    pub constants: &'a [Const],
+    pub library: &'a Specs,
+    pub bindings: &'a Bindings,
+}
+
+/// The same with its headings, and how many of the nodes before each one are refused.
+#[derive(Clone, Copy)]
+pub struct Headed<'a> {
+    pub file: File<'a>,
+    pub heads: &'a Heads,
+    pub refused: &'a [u32],
+}
+
+impl<'a> File<'a> {
+    /// How many nodes there are.
+    pub fn len(self) -> u32 {
+        self.syntax.tree().len()
+    }
+
+    /// The kind of the node n; File of one that is not there.
+    pub fn kind(self, n: u32) -> NodeKind {
+        kind_of(self.syntax.tree(), n)
+    }
+
+    pub fn round(self, n: u32) -> Round {
+        self.rounds.get(n as usize).copied().unwrap_or(OUTSIDE)
+    }
+
+    pub fn parent(self, n: u32) -> Option<u32> {
+        parent_of(self.rounds, n)
+    }
+
+    pub fn children(self, n: u32) -> &'a [u32] {
+        if n < self.syntax.tree().len() {
+            self.syntax.tree().node(n).children.as_slice()
+        } else {
+            &[]
+        }
+    }
+
+    /// The place of the node n among its parent's children.
+    pub fn place(self, n: u32) -> usize {
+        let place = self.bindings.places.as_slice().get(n as usize);
+        place.copied().unwrap_or(0)
+    }
+
+    pub fn names(self, n: u32) -> &'a [Bytes] {
+        if n < self.syntax.tree().len() {
+            self.syntax.tree().node(n).names.as_slice()
+        } else {
+            &[]
+        }
+    }
+
+    pub fn expression(self, n: u32) -> Option<Expression<'a>> {
+        if n < self.syntax.tree().len() {
+            Some(self.syntax.expression(n))
+        } else {
+            None
+        }
+    }
+
+    pub fn type_expression(self, n: u32) -> Option<TypeExpression<'a>> {
+        if n < self.syntax.tree().len() {
+            Some(self.syntax.type_expression(n))
+        } else {
+            None
+        }
+    }
+
+    /// What the constant or type at the node n comes to.
+    pub fn value(self, n: u32) -> Value {
+        self.values.get(n as usize).copied().unwrap_or(Value::Lost)
+    }
+
+    /// The declarations to which the names of the node n are bound, by their places.
+    pub fn bound(self, n: u32) -> &'a [Option<usize>] {
+        items_of(self.names.bound.as_slice(), self.names.starts.as_slice(), n)
+    }
+
+    /// What the names of the node n denote: those of a Name, a NameT, a Restrict, a TypeSet, an Assign, a For and the word
+    /// `rep`, and of all nodes that declare names.
+    pub fn meanings(self, n: u32) -> &'a [Meaning] {
+        items_of(
+            self.bindings.meanings.as_slice(),
+            self.names.starts.as_slice(),
+            n,
+        )
+    }
+
+    /// What the first name of the node n denotes.
+    pub fn meaning(self, n: u32) -> Meaning {
+        let first = self.meanings(n).first();
+        first.copied().unwrap_or(Meaning::Module(None))
+    }
+
+    /// The declaration to which the first name of the node n is bound.
+    pub fn declaration(self, n: u32) -> Option<usize> {
+        self.bound(n).first().copied().flatten()
+    }
+
+    /// The node of the declaration at a place.
+    pub fn declaring_node(self, place: Option<usize>) -> Option<u32> {
+        match self.names.declared.as_slice().get(place?) {
+            Some(one) => Some(one.node),
+            None => None,
+        }
+    }
+
+    /// The node that declares the first name of the node n.
+    pub fn declared_by(self, n: u32) -> Option<u32> {
+        self.declaring_node(self.declaration(n))
+    }
+
+    /// The module of the file or the library that the first name of the node n names.
+    pub fn module_at(self, n: u32) -> Option<ModuleId> {
+        match self.meaning(n) {
+            Meaning::Module(module) => module,
+            _ => None,
+        }
+    }
+
+    /// Whether the first name of the node n is that of a module of the file or the library.
+    pub fn is_of_module(self, n: u32) -> bool {
+        self.module_at(n).is_some()
+    }
+
+    /// The TypeSet for which the declaration at a place stands.
+    pub fn set_at(self, place: Option<usize>) -> Option<u32> {
+        optional_at(self.bindings.sets.as_slice(), place?)
+    }
+
+    /// The TypeSet for which the first name of the node n stands.
+    pub fn set_named(self, n: u32) -> Option<u32> {
+        self.set_at(self.declaration(n))
+    }
+
+    /// What is wanted where the node n stands.
+    pub fn wanted(self, n: u32) -> Wanted {
+        let wanted = self.bindings.wanted.as_slice().get(n as usize);
+        wanted.copied().unwrap_or(Wanted::Nothing)
+    }
+
+    /// Whether the node n is a Name and brackets after it hold actual parameters.
+    pub fn takes_actuals(self, n: u32) -> bool {
+        is_set(self.bindings.takes_actuals.as_slice(), n as usize)
+    }
+
+    /// The module of this name; None of `stream` and of a name of no module.
+    pub fn module_named(self, name: &Bytes) -> Option<ModuleId> {
+        self.bindings.modules.named(name)
+    }
+
+    /// The module of the file in which the node n stands.
+    pub fn unit_module(self, n: u32) -> Option<ModuleId> {
+        let unit = self.round(n).unit?;
+        optional_at(self.bindings.modules.units.as_slice(), unit as usize)
+    }
+
+    fn module(self, module: Option<ModuleId>) -> Option<&'a ModuleKnown> {
+        self.bindings
+            .modules
+            .known
+            .as_slice()
+            .get(module?.0 as usize)
+    }
+
+    /// The kinds of a module's parameters; none of what is no module.
+    pub fn kinds(self, module: Option<ModuleId>) -> &'a [Option<ParamKind>] {
+        match self.module(module) {
+            Some(known) => known.kinds.as_slice(),
+            None => &[],
+        }
+    }
+
+    pub fn is_routine(self, module: Option<ModuleId>) -> bool {
+        match self.module(module) {
+            Some(known) => known.is_routine,
+            None => false,
+        }
+    }
+
+    /// How many parameters the module of the Module node `unit` has.
+    pub fn parameter_count(self, unit: u32) -> u32 {
+        number_at(self.bindings.parameters.counts.as_slice(), unit as usize)
+    }
+
+    /// The node of the type with which the parameter of this number of the module round the node n is declared; None of a
+    /// type parameter.
+    pub fn declared_parameter(self, n: u32, number: u32) -> Option<u32> {
+        let parameters = &self.bindings.parameters;
+        let unit = self.round(n).unit?;
+        let declared = items_of(
+            parameters.declared.as_slice(),
+            parameters.starts.as_slice(),
+            unit,
+        );
+        optional_at(declared, (number as usize).checked_sub(1)?)
+    }
+
+    /// The place of the declaration of `rep` that counts at the node n.
+    pub fn rep(self, n: u32) -> Option<usize> {
+        optional_at(self.bindings.reps.as_slice(), n as usize)
+    }
+
+    /// What the declaration at a place declares.
+    pub fn declares(self, place: usize) -> Option<Meaning> {
+        self.bindings.declared.as_slice().get(place).copied()
+    }
+}
+
+impl<'a> Headed<'a> {
+    /// Whether a node at or below the node n is refused.
+    pub fn is_refused(self, n: u32) -> bool {
+        is_refused(self.refused, self.file.rounds, n)
+    }
+}

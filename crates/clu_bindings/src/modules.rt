@@ -1,0 +1,117 @@
+//! The modules that a file may name, by name: its own before those of the library.
+
+use crate::bindings::{ModuleKnown, Modules};
+use crate::headline::headline_at;
+use crate::meaning::ModuleId;
+use clu_base::{Bytes, Memory, Sequence};
+use clu_head::kinds;
+use clu_settle::Value;
+use clu_syntax::Syntax;
+use clu_types::{Form, ParamKind, Spec, Specs, TypeArena};
+use indexmap::IndexMap;
+use std::alloc::Global;
+
+/// Appends a module, and enters its name, unless a module of this name is known. `stream` is the name of a built-in type, by
+/// which no module is known.
+fn push(
+    alloc: Global,
+    modules: &mut Modules,
+    name: &Bytes,
+    known: ModuleKnown,
+) -> Result<ModuleId, Memory> {
+    let module = ModuleId(modules.count());
+    modules.known.push(known)?;
+    if name.as_slice() != b"stream".as_slice() && !modules.by_name.contains_key(name) {
+        modules.by_name.insert(name.copy(alloc)?, module)?;
+    }
+    Ok(module)
+}
+
+fn push_module(
+    alloc: Global,
+    syntax: &Syntax,
+    types: &TypeArena,
+    values: &[Value],
+    modules: &mut Modules,
+    n: u32,
+) -> Result<(), Memory> {
+    let Some(headline) = headline_at(syntax, n) else {
+        return Ok(());
+    };
+    let known = ModuleKnown {
+        kinds: kinds(alloc, syntax, types, values, headline.parameters)?,
+        is_routine: headline.is_routine,
+    };
+    let module = push(alloc, modules, headline.name, known)?;
+    if (n as usize) < modules.units.len() {
+        modules.units[n as usize] = Some(module);
+    }
+    Ok(())
+}
+
+fn push_modules(
+    alloc: Global,
+    syntax: &Syntax,
+    types: &TypeArena,
+    values: &[Value],
+    modules: &mut Modules,
+) -> Result<(), Memory> {
+    for n in syntax.tree().modules() {
+        push_module(alloc, syntax, types, values, modules, *n)?;
+    }
+    modules.of_file = modules.count();
+    Ok(())
+}
+
+fn known_kinds(alloc: Global, kinds: &[ParamKind]) -> Result<Sequence<Option<ParamKind>>, Memory> {
+    let mut known = Vec::new(alloc);
+    for kind in kinds {
+        known.push(Some(*kind))?;
+    }
+    Ok(Sequence::from_vec(known))
+}
+
+fn is_routine(form: &Form) -> bool {
+    match form {
+        Form::Routine(_) => true,
+        Form::Cluster(_, _) => false,
+    }
+}
+
+fn push_kept(alloc: Global, modules: &mut Modules, spec: &Spec) -> Result<(), Memory> {
+    let known = ModuleKnown {
+        kinds: known_kinds(alloc, spec.kinds.as_slice())?,
+        is_routine: is_routine(&spec.form),
+    };
+    push(alloc, modules, &spec.name, known)?;
+    Ok(())
+}
+
+fn push_library(alloc: Global, modules: &mut Modules, library: &Specs) -> Result<(), Memory> {
+    for n in 0..u32::MAX {
+        match library.at(n) {
+            Some(spec) => push_kept(alloc, modules, spec)?,
+            None => return Ok(()),
+        }
+    }
+    Ok(())
+}
+
+/// The modules of a file, and those of its library. The only error is that memory runs out.
+pub fn modules_of(
+    alloc: Global,
+    syntax: &Syntax,
+    types: &TypeArena,
+    values: &[Value],
+    library: &Specs,
+) -> Result<Modules, Memory> {
+    let mut modules = Modules {
+        by_name: IndexMap::new(alloc),
+        known: Vec::new(alloc),
+        of_file: 0,
+        units: vec![in alloc; None; syntax.tree().len() as usize]?,
+    };
+    push_modules(alloc, syntax, types, values, &mut modules)?;
+    push_library(alloc, &mut modules, library)?;
+    Ok(modules)
+}

@@ -1,0 +1,86 @@
+//! The rules on modules: V33 ExportMissing, V34 EndName, V35 RoutineTooLarge.
+
+ghost use Rattle.std.specs.Prelude.{◌≡◌, ◌&&◌, ◌-◌, IsTrue, Some, length, not, slice_get};
+ghost use Rattle.clu_tree.specs.declared.node.Node.{Node};
+ghost use Rattle.clu_name_rules.specs.Closed.{ends_as_named, is_definition, same_names};
+
+use crate::repeated::exports_of;
+use crate::tables::Tables;
+use crate::views::is_kind;
+use clu_base::Bytes;
+use clu_bindings::File;
+use clu_tree::{Node, NodeKind};
+
+/// The most nodes of a routine, and of a cluster's own declarations.
+const MOST_NODES: u64 = 4000;
+
+/// Whether one of the exported names, by their numbers, is that of no routine of the cluster.
+fn lacks_export(t: &Tables<'_>, cluster: u32, exports: &[usize]) -> bool {
+    for word in exports {
+        if t.items.routine(cluster, *word).is_none() {
+            return true;
+        }
+    }
+    false
+}
+
+/// V33: an exported name is that of no routine of the cluster (CLU Reference Manual, section 13.3). In `c = cluster is f, g`,
+/// where no `g` is defined, at the cluster.
+pub fn v33(t: &Tables<'_>, n: u32) -> bool {
+    is_kind(t.file, NodeKind::Cluster, n) && lacks_export(t, n, exports_of(t.words.of(n)))
+}
+
+fn is_definition(kind: NodeKind) -> bool
+    ensures { result ≡ is_definition kind }
+{
+    matches!(kind, NodeKind::Routine | NodeKind::Cluster)
+}
+
+fn ends_otherwise(names: &[Bytes]) -> bool
+    ensures { result ≡ not (same_names (slice_get names.now 0) (slice_get names.now (length names.now - 1))) }
+{
+    names.first() != names.last()
+}
+
+fn is_ended_otherwise(node: &Node) -> bool
+    ensures { result ≡ (is_definition node.now.kind && not (ends_as_named node.now)) }
+{
+    is_definition(node.kind) && ends_otherwise(node.names.as_slice())
+}
+
+/// V34: the name after `end` is another (section 8). In `start_up = proc () end go` at the routine.
+pub fn v34(t: &Tables<'_>, n: u32) -> bool
+    ensures { (node : Node) → slice_get t.now.file.syntax.now n ≡ Some node → IsTrue (is_definition node.kind) → result ≡ not (ends_as_named node) }
+{
+    let tree = t.file.syntax.tree();
+    n < tree.len() && is_ended_otherwise(tree.node(n))
+}
+
+fn count_at(f: File<'_>, n: u32) -> u64 {
+    if n < f.syntax.tree().len() {
+        u64::from(f.syntax.tree().nodes(n))
+    } else {
+        0
+    }
+}
+
+/// How many nodes the own variables among these have together.
+fn count_owns(f: File<'_>, children: &[u32]) -> u64 {
+    let mut count = 0u64;
+    for c in children {
+        if is_kind(f, NodeKind::Own, *c) {
+            count = count.saturating_add(count_at(f, *c));
+        }
+    }
+    count
+}
+
+/// V35: a routine of more than 4,000 nodes, or a cluster whose own variables have more together; a limit of this compiler. At the
+/// routine or cluster.
+pub fn v35(t: &Tables<'_>, n: u32) -> bool {
+    match t.file.kind(n) {
+        NodeKind::Routine => count_at(t.file, n) > MOST_NODES,
+        NodeKind::Cluster => count_owns(t.file, t.file.children(n)) > MOST_NODES,
+        _ => false,
+    }
+}

@@ -1,0 +1,168 @@
+//! The operations of built-in types. Those of a selector are found on the type with this component alone, so that each costs
+//! no more than its own.
+
+ghost use Rattle.std.specs.Prelude.{◌<◌, length, IfOk};
+
+use crate::finding::Finding;
+use crate::found::{Asked, FoundId};
+use crate::shapes::interned;
+use crate::words::NameId;
+use clu_base::{Bytes, Memory, Sequence};
+use clu_builtin::{Builtin, Need, heading};
+use clu_types::{Field, Heading, Term, TypeArena, TypeId};
+use std::alloc::Global;
+
+/// What stands in the name of an operation behind its first `_`, which ends what stands there before a selector.
+fn selector_in(name: &[u8]) -> Option<&[u8]> {
+    for at in 0..name.len() {
+        if name[at] == b'_' {
+            return Some(&name[at + 1..]);
+        }
+    }
+    None
+}
+
+/// The component of this name alone, or none. Components ascend by name.
+fn only(alloc: Global, fields: &Sequence<Field>, name: &[u8]) -> Result<Sequence<Field>, Memory> {
+    let fields = fields.as_slice();
+    let mut some = Vec::new(alloc);
+    let place = fields.partition_point(|field: &Field| -> bool { field.name.as_slice() < name });
+    match fields.get(place) {
+        Some(field) => {
+            if field.name.as_slice() == name {
+                some.push(Field {
+                    name: field.name.copy(alloc)?,
+                    of: field.of,
+                })?;
+            }
+        }
+        None => {}
+    }
+    Ok(Sequence::from_vec(some))
+}
+
+/// A type of the same constructor with the component of this name alone, if it is one with components.
+fn term_with(alloc: Global, term: &Term, name: &[u8]) -> Result<Option<Term>, Memory> {
+    match term {
+        Term::Record(fields) => Ok(Some(Term::Record(only(alloc, fields, name)?))),
+        Term::Struct(fields) => Ok(Some(Term::Struct(only(alloc, fields, name)?))),
+        Term::Oneof(fields) => Ok(Some(Term::Oneof(only(alloc, fields, name)?))),
+        Term::Variant(fields) => Ok(Some(Term::Variant(only(alloc, fields, name)?))),
+        _ => Ok(None),
+    }
+}
+
+/// The type with the component alone of which the operation of this name is, or the whole type.
+fn narrowed(
+    alloc: Global,
+    types: &mut TypeArena,
+    of: TypeId,
+    operation: &Bytes,
+) -> Result<TypeId, Memory>
+    requires { of.0 < length types.old }
+{
+    let Some(selector) = selector_in(operation.as_slice()) else {
+        return Ok(of);
+    };
+    let Some(term) = term_with(alloc, types.view(of), selector)? else {
+        return Ok(of);
+    };
+    Ok(interned(types, term)?.unwrap_or(of))
+}
+
+fn builtin_at(
+    alloc: Global,
+    types: &mut TypeArena,
+    of: TypeId,
+    operation: &Bytes,
+) -> Result<Option<Builtin>, Memory> {
+    if types.contains(of) {
+        heading(alloc, types, of, operation)
+    } else {
+        Ok(None)
+    }
+}
+
+/// These types with another one in the place of `part`.
+fn in_place(ids: Sequence<TypeId>, part: TypeId, of: TypeId) -> Sequence<TypeId> {
+    let mut ids = ids.into_vec();
+    for at in 0..ids.len() {
+        if ids[at] == part {
+            ids[at] = of;
+        }
+    }
+    Sequence::from_vec(ids)
+}
+
+/// The term of a routine with the type `of` in the place of `part`.
+fn routine_term(iter: bool, heading: Heading, part: TypeId, of: TypeId) -> Term {
+    let Heading {
+        args,
+        results,
+        signals,
+    } = heading;
+    let heading = Heading {
+        args: in_place(args, part, of),
+        results: in_place(results, part, of),
+        signals,
+    };
+    if iter {
+        Term::Iter(heading)
+    } else {
+        Term::Proc(heading)
+    }
+}
+
+fn push_needs(alloc: Global, finding: &mut Finding, needs: &[Need]) -> Result<(), Memory> {
+    for need in needs {
+        let operation = finding.words.number(alloc, &need.op)?;
+        finding.asked.push(Asked {
+            of: need.of,
+            operation,
+            wanted: need.wanted,
+            in_set: false,
+        })?;
+    }
+    Ok(())
+}
+
+/// Keeps an operation that was found on the type `part` as one of the type `of`.
+fn keep(
+    alloc: Global,
+    types: &mut TypeArena,
+    finding: &mut Finding,
+    builtin: Builtin,
+    part: TypeId,
+    of: TypeId,
+) -> Result<FoundId, Memory> {
+    let Builtin {
+        iter,
+        heading,
+        needs,
+    } = builtin;
+    let of_type = interned(types, routine_term(iter, heading, part, of))?;
+    let from = finding.asked.len();
+    push_needs(alloc, finding, needs.as_slice())?;
+    finding.keep(of_type, from)
+}
+
+/// The operation of this name of a built-in type.
+pub fn builtin_found(
+    alloc: Global,
+    types: &mut TypeArena,
+    finding: &mut Finding,
+    of: TypeId,
+    operation: NameId,
+) -> Result<Option<FoundId>, Memory> {
+    let Some(name) = finding.words.name(operation) else {
+        return Ok(None);
+    };
+    if !types.contains(of) {
+        return Ok(None);
+    }
+    let part = narrowed(alloc, types, of, name)?;
+    match builtin_at(alloc, types, part, name)? {
+        Some(builtin) => Ok(Some(keep(alloc, types, finding, builtin, part, of)?)),
+        None => Ok(None),
+    }
+}

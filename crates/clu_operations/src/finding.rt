@@ -1,0 +1,72 @@
+//! What was found so far: operations of types and modules with actual parameters, each once.
+
+use crate::bundles::Shown;
+use crate::found::{Asked, Found, FoundId, Given, Wished};
+use crate::words::{NameId, Words};
+use clu_base::{Bytes, Memory};
+use clu_bindings::ModuleId;
+use clu_types::TypeId;
+use indexmap::IndexMap;
+use std::alloc::Global;
+
+/// What was found so far.
+#[derive(Drop)]
+pub struct Finding {
+    pub words: Words,
+    pub founds: Vec<Found>,
+    pub asked: Vec<Asked>,
+    /// What was looked for, with what was found.
+    pub wished: IndexMap<Wished, Option<FoundId>>,
+    /// What where clauses and type sets give.
+    pub given: IndexMap<Given, FoundId>,
+    /// What the modules of the file show, of those of which it was needed.
+    pub shown: IndexMap<ModuleId, Box<Shown>>,
+}
+
+impl Finding {
+    /// Where nothing was found.
+    pub fn new(alloc: Global) -> Finding {
+        Finding {
+            words: Words::new(alloc),
+            founds: Vec::new(alloc),
+            asked: Vec::new(alloc),
+            wished: IndexMap::new(alloc),
+            given: IndexMap::new(alloc),
+            shown: IndexMap::new(alloc),
+        }
+    }
+
+    /// What was found at a place.
+    pub fn found(&self, id: FoundId) -> Found {
+        match self.founds.as_slice().get(id.0) {
+            Some(found) => *found,
+            None => Found {
+                of: None,
+                from: 0,
+                to: 0,
+            },
+        }
+    }
+
+    /// What it asks.
+    pub fn asked_by(&self, id: FoundId) -> &[Asked] {
+        let found = self.found(id);
+        match self.asked.as_slice().get(found.from..found.to) {
+            Some(asked) => asked,
+            None => &[],
+        }
+    }
+
+    /// The number of a name, if it is kept.
+    pub fn named(&self, name: &Bytes) -> Option<NameId> {
+        self.words.named(name)
+    }
+
+    /// Keeps what was found, of this type, that asks what stands behind this place.
+    pub fn keep(&mut self, of: Option<TypeId>, from: usize) -> Result<FoundId, Memory> {
+        let id = FoundId(self.founds.len());
+        let to = self.asked.len();
+        self.founds.push(Found { of, from, to })?;
+        Ok(id)
+    }
+}

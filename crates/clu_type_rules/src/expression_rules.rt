@@ -1,0 +1,135 @@
+//! The rules on expressions: V18 WhereNotMet, V20 NotInTypeSet, V32 UpDown, and of V14 ResultCount and V16 NotBool what is asked of
+//! expressions.
+
+use crate::invocation_rules::{Fault, some_has_fault};
+use crate::known::{Known, some_other_than_bool};
+use crate::unmet::unmet_at;
+use clu_bindings::{
+    File, Meaning, Wanted, is_object_wanted, own_type, representation, type_of_value,
+};
+use clu_syntax::{Expression, Operator, is_type};
+use clu_tree::NodeKind;
+use clu_types::TypeId;
+
+// ---- V14, of expressions
+
+/// A call statement, the call of a loop and `r.s := e` may have any number of results.
+fn is_one_wanted(f: File<'_>, n: u32) -> bool {
+    f.wanted(n) == Wanted::Object && !matches!(f.kind(n), NodeKind::SetField | NodeKind::SetIndex)
+}
+
+/// Whether the first name of the node n is that of a type, a type set or a cluster. Modules that are no routines are clusters,
+/// and `stream` is a type.
+fn is_no_object_name(f: File<'_>, n: u32) -> bool {
+    match f.meaning(n) {
+        Meaning::Equate(c) => type_of_value(f.value(c)).is_some() || f.set_named(n).is_some(),
+        Meaning::TypeSet | Meaning::TypeParameter(_) => true,
+        Meaning::Module(module) => !f.is_routine(module),
+        _ => false,
+    }
+}
+
+/// A type's name, also before an index.
+fn is_no_object_at(f: File<'_>, n: u32) -> bool {
+    match f.wanted(n) {
+        Wanted::NameWithActuals => match f.parent(n) {
+            Some(index) => is_object_wanted(f.wanted(index)) && !f.is_of_module(n),
+            None => false,
+        },
+        wanted => is_object_wanted(wanted) && is_no_object_name(f, n),
+    }
+}
+
+fn is_no_object_index(f: File<'_>, n: u32) -> bool {
+    match f.children(n) {
+        [m, ..] => f.takes_actuals(*m) && is_no_object_name(f, *m),
+        [] => false,
+    }
+}
+
+fn is_no_object(f: File<'_>, n: u32) -> bool {
+    match f.kind(n) {
+        NodeKind::Name => is_no_object_at(f, n),
+        NodeKind::Index => is_object_wanted(f.wanted(n)) && is_no_object_index(f, n),
+        kind => is_type(kind) && is_object_wanted(f.wanted(n)),
+    }
+}
+
+/// Whether an expression has not exactly one result, or is a type, a type set or a cluster where an object is wanted.
+pub fn is_not_one_object(k: &Known<'_>, n: u32) -> bool {
+    let f = k.tables.file;
+    (is_one_wanted(f, n) && some_has_fault(k, n, Fault::ResultCount)) || is_no_object(f, n)
+}
+
+// ---- V16, of cand and cor
+
+fn is_logical(f: File<'_>, n: u32) -> bool {
+    matches!(
+        f.expression(n),
+        Some(Expression::Infix {
+            operator: Operator::Cand | Operator::Cor,
+            ..
+        })
+    )
+}
+
+/// Whether an operand of `cand` or `cor` isn't bool.
+pub fn has_no_bool(k: &Known<'_>, n: u32) -> bool {
+    let f = k.tables.file;
+    is_object_wanted(f.wanted(n)) && is_logical(f, n) && some_other_than_bool(k, n)
+}
+
+// ---- V18 and V20
+
+/// V18: what a `has` clause or a built-in operation asks of an actual parameter is not met (section 12.4). In `p[any]()`, where
+/// `t has equal`, at `[`.
+pub fn v18(k: &Known<'_>, n: u32) -> bool {
+    unmet_at(k.unmet, n).by_has
+}
+
+/// V20: what an `in` clause alone asks is not met (section 12.4). In `show[bool]`, where `t in printable`, at `[`.
+pub fn v20(k: &Known<'_>, n: u32) -> bool {
+    unmet_at(k.unmet, n).by_in
+}
+
+// ---- V32
+
+/// What `rep` stands for at the node n.
+fn rep_meaning(f: File<'_>, n: u32) -> Option<Meaning> {
+    f.declares(f.rep(n)?)
+}
+
+fn has_rep(f: File<'_>, n: u32) -> bool {
+    matches!(
+        rep_meaning(f, n),
+        Some(Meaning::Equate(_) | Meaning::TypeSet)
+    )
+}
+
+/// Whether both types are known, and differ.
+fn is_not_of(wanted: Option<TypeId>, given: Option<TypeId>) -> bool {
+    match (wanted, given) {
+        (Some(wanted), Some(given)) => wanted != given,
+        _ => false,
+    }
+}
+
+/// Whether no cluster with a representation is round the `up` or `down` at the node n, or its operand is not of the wanted type.
+fn is_misplaced(k: &Known<'_>, n: u32, wanted: Option<TypeId>, inside: u32) -> bool {
+    let f = k.tables.file;
+    is_object_wanted(f.wanted(n))
+        && (own_type(f, n).is_none()
+            || !has_rep(f, n)
+            || is_not_of(wanted, k.facts.type_of(inside)))
+}
+
+/// V32: `up` or `down` outside a cluster, or on another type: `up` takes an object of exactly `rep`, `down` one of the cluster's
+/// type with its own parameters (section 13.3). In `start_up = proc () a: array[int] := down(box$make())` at `down`.
+pub fn v32(k: &Known<'_>, n: u32) -> bool {
+    let f = k.tables.file;
+    match f.expression(n) {
+        Some(Expression::Up { inside }) => is_misplaced(k, n, representation(k.headed, n), inside),
+        Some(Expression::Down { inside }) => is_misplaced(k, n, own_type(f, n), inside),
+        _ => false,
+    }
+}
