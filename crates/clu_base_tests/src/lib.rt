@@ -1,6 +1,6 @@
 //! Tests of what stands below the checker and below the machine: formats and streams, tokens, literals, trees, names,
 //! constants, words of commands, instructions, and images with their texts; types, built-in operations, texts of
-//! specifications, what is demanded of types, what equates come to, what headings show and contexts of a check. Most are rows of texts: what a row
+//! specifications, what is demanded of types, what equates come to, what headings show and checked files. Most are rows of texts: what a row
 //! says must come of its text. It has tests alone, so that no crate below is proved twice.
 #![tactic(auto)]
 

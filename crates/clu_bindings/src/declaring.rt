@@ -2,9 +2,10 @@
 
 use crate::bindings::{Modules, ParameterTypes};
 use crate::meaning::{Meaning, ModuleId};
-use crate::nodes::{is_at, kind_of, parent_of};
+use crate::nodes::{kind_of, parent_of};
 use crate::tables::{items_of, number_at};
 use clu_base::{Bytes, Memory};
+use clu_head::is_at;
 use clu_names::{Declared, Names};
 use clu_syntax::{Equated, Own, Round, Statement, Syntax, Variable};
 use clu_tree::{NodeKind, Tree};

@@ -9,7 +9,7 @@ use clu_base::{Bytes, Const};
 use clu_head::{Heads, is_refused};
 use clu_names::Names;
 use clu_settle::Value;
-use clu_syntax::{Expression, OUTSIDE, Round, Syntax, TypeExpression};
+use clu_syntax::{Expression, OUTSIDE, Round, Statement, Syntax, TypeExpression};
 use clu_tree::NodeKind;
 use clu_types::{ParamKind, Specs};
 use std::alloc::Global;
@@ -80,6 +80,14 @@ impl<'a> File<'a> {
     pub fn expression(self, n: u32) -> Option<Expression<'a>> {
         if n < self.syntax.tree().len() {
             Some(self.syntax.expression(n))
+        } else {
+            None
+        }
+    }
+
+    pub fn statement(self, n: u32) -> Option<Statement<'a>> {
+        if n < self.syntax.tree().len() {
+            Some(self.syntax.statement(n))
         } else {
             None
         }

@@ -1,7 +1,7 @@
 //! What is read of a module before its heading: its name and its parameters.
 
-use crate::nodes::is_at;
 use clu_base::Bytes;
+use clu_head::is_at;
 use clu_syntax::{Definition, Syntax};
 use clu_tree::NodeKind;
 

@@ -1,5 +1,5 @@
-//! What the names of a file denote, what is wanted at its nodes, and the types with which they are declared, before headings are
-//! known (CLU Reference Manual, sections 4, 7 and 10).
+//! A file as the rules read it (`File`), before its headings are known: what its names denote, what is wanted at its nodes, and
+//! the types with which names are declared (CLU Reference Manual, sections 4, 7 and 10).
 #![tactic(auto)]
 
 mod binding;
@@ -25,6 +25,6 @@ pub use crate::inside::{
 };
 pub use crate::meaning::{Meaning, ModuleId};
 pub use crate::named::{Named, has_fitting_kinds, named_at, parameter_type, wants_type};
-pub use crate::nodes::{is_at, kind_of};
+pub use crate::nodes::kind_of;
 pub use crate::tables::{is_set, items_of, number_at, optional_at, set};
 pub use crate::wanted::{Wanted, is_object_wanted};

@@ -2,8 +2,8 @@
 
 use crate::bindings::ParameterTypes;
 use crate::headline::headline_at;
-use crate::nodes::is_at;
 use clu_base::{Bytes, Memory};
+use clu_head::is_at;
 use clu_names::Names;
 use clu_settle::{Parameters, number_parameters};
 use clu_syntax::Syntax;

@@ -1,10 +1,10 @@
 //! What is wanted at each node, and after which names brackets hold actual parameters.
 
 use crate::meaning::Meaning;
-use crate::nodes::is_at;
 use crate::tables::{is_set, items_of, optional_at};
 use crate::wanted::{Wanted, wanted_by_role};
 use clu_base::Memory;
+use clu_head::is_at;
 use clu_names::Names;
 use clu_settle::Value;
 use clu_syntax::Round;

@@ -58,7 +58,7 @@ names_of specs = map (λ s. s.name) specs
 
 -- the specifications of a checked file's own modules
 abbrev pub own_of : Checked → List Spec
-own_of c = take (length (modules c.tree)) c.specs.items
+own_of c = take (length (modules c.syntax)) c.specs.items
 
 -- the bytes from one token to the end of another
 abbrev pub between : List ℕ → Token → Token → List ℕ

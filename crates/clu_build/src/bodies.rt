@@ -49,13 +49,13 @@ pub fn body_of(
 
 /// The bytes of the source from a module's first token to its last.
 pub fn source_of<'a>(text: Text<'a>, c: &Checked, module: u32) -> Result<&'a [u8], BuildError>
-    ensures source { IfOk result (λ source. node_text text.entry.bytes.now text.entry.tokens.now c.now.tree «module» ≡ Some source.now) }
+    ensures source { IfOk result (λ source. node_text text.entry.bytes.now text.entry.tokens.now c.now.syntax «module» ≡ Some source.now) }
     ensures refused { IfErr result IsInner }
 {
-    if module >= c.tree.len() {
+    if module >= c.syntax.tree().len() {
         return Err(BuildError::NotYet);
     }
-    let node = c.tree.node(module);
+    let node = c.syntax.tree().node(module);
     let first = text.tokens.get(node.first as usize);
     let last = text.tokens.get(node.last as usize);
     match (first, last) {

@@ -1,2 +1,4 @@
--- Lemmas on the modules of a file.
 pub mod Closed
+pub mod Modules
+pub mod OwnSpecs
+pub mod Places

@@ -1,281 +1,300 @@
-//! The check of a file: the specifications of its modules, then the two walks, each of which takes module after
-//! module.
+//! The check of a file: all tables are made, and then the rules are asked.
 
-ghost use Rattle.std.specs.Prelude.{◌≡◌, All, Some, IfOk, IfErr, OnOk};
+ghost use Rattle.std.specs.Prelude.{◌≡◌, All, IfErr, IfOk, OnOk, length};
 ghost use Rattle.clu_tree.specs.Nodes.{modules};
-ghost use Rattle.clu_rules.specs.Modules.{name_of, AreOf, BeginWithOwn};
-ghost use Rattle.clu_rules.specs.Refusals.{IsOfTree};
-ghost use Rattle.clu_rules.specs.Rules.{IsClosed, IsClosedAt};
+ghost use Rattle.clu_names.specs.Denotes.{bound_to, starts_to};
+ghost use Rattle.clu_check_mod.specs.Modules.{AreOf, BeginWithOwn, IsClosedAt};
+ghost use Rattle.clu_check_mod.specs.Refusals.{IsOfTree};
+ghost use Rattle.clu_check_mod.specs.Walks.{AreClosed, IsFound};
 
-use crate::bodies::body;
-use crate::entering::enter_modules;
-use crate::headings::heading;
-use crate::specification::{exported, specification};
-use clu_base::Bytes;
-use clu_core::{Checked, Context};
-use clu_equates::{CheckError, Scope};
-use clu_rules::{Module, all_specs, module_at, names_before, of_tree, own_specs};
-use clu_tree::Tree;
-use clu_types::{Spec, Specs};
-use indexmap::{IndexMap, IndexSet};
+use crate::bad::{By, bad_of, refused_nodes};
+use crate::errors::CheckError;
+use crate::notes::{Constants, constants_of, denoted, operations};
+use crate::specifications::{add_others, own_specs};
+use crate::walk::{Extent, ask_rules};
+use clu_base::Memory;
+use clu_bindings::{File, Headed, bindings_of};
+use clu_circles::Circles;
+use clu_core::{Checked, OpRef};
+use clu_head::{counts_of, heads_of};
+use clu_name_rules::{Items, Tables, Words, long_constants, long_types, own_places};
+use clu_names::{Names, names_of};
+use clu_settle::{Values, equate_circles, settle};
+use clu_syntax::{Round, Syntax, rounds};
+use clu_type_rules::{Known, Routines, disagreeing, unmet_of};
+use clu_types::{Spec, Specs, TypeArena, TypeId};
+use clu_typing::{Facts, facts_of};
 use std::alloc::Global;
 
-/// What the walks over a file need.
+/// What is found of a file by its names alone.
 #[derive(Drop)]
-struct Work {
-    c: Context,
-    /// All modules.
-    scope: Scope,
-    /// For each module of the file its specification with all routines of a cluster.
+struct Lists {
+    circles: Circles,
+    own: Vec<usize>,
+    words: Box<Words>,
+    items: Box<Items>,
+    routines: Box<Routines>,
+}
+
+fn lists_of(
+    alloc: Global,
+    syntax: &Syntax,
+    rounds: &[Round],
+    names: &Names,
+) -> Result<Box<Lists>, Memory>
+    requires bound { names.now.bound.items ≡ bound_to syntax.now names.now.declared.items (length syntax.now) }
+    requires starts { names.now.starts.items ≡ starts_to syntax.now names.now.declared.items (length syntax.now) }
+{
+    let declared = names.declared.as_slice();
+    let words = Words::of_tree(alloc, syntax.tree())?;
+    let items = Items::of_tree(alloc, syntax, &words, declared)?;
+    let lists = Lists {
+        circles: equate_circles(alloc, syntax.tree(), rounds, names)?,
+        own: own_places(alloc, declared, syntax.tree().len() as usize)?,
+        routines: Routines::of_tree(alloc, syntax)?,
+        words,
+        items,
+    };
+    Ok(Box::new(alloc, lists)?)
+}
+
+/// Which texts are too long for an equated value.
+#[derive(Drop)]
+struct Long {
+    types: Vec<bool>,
+    constants: Vec<bool>,
+}
+
+fn tables<'a>(file: File<'a>, types: &'a TypeArena, lists: &'a Lists, long: &'a Long) -> Tables<'a>
+    ensures { result.file ≡ file.entry }
+{
+    Tables {
+        file,
+        types,
+        long_types: long.types.as_slice(),
+        long_constants: long.constants.as_slice(),
+        circular: lists.circles.circular.as_slice(),
+        own: lists.own.as_slice(),
+        words: &lists.words,
+        items: &lists.items,
+    }
+}
+
+/// What is found of the nodes and modules of a file behind its headings.
+#[derive(Drop)]
+struct Found {
+    type_of: Vec<Option<TypeId>>,
+    op_of: Vec<Option<OpRef>>,
+    /// The specifications of the file's modules, in the order of the text.
     own: Vec<Spec>,
-    /// In the end the specifications of all modules, those of the file first.
-    all: Vec<Spec>,
 }
 
-/// Checks a file under specifications; those of its own modules take the place of kept ones. Refused at the first
-/// node, in the order of the two walks, at which a rule is violated.
-pub fn check(alloc: Global, tree: Tree, specs: &Specs) -> Result<Checked, CheckError>
-    ensures tree { IfOk result (λ checked. checked.tree ≡ tree) }
-    ensures specs { IfOk result (λ checked. BeginWithOwn tree checked.specs.items) }
-    ensures closed { OnOk result (All (IsClosedAt tree) (modules tree)) }
-    ensures refused { IfErr result (IsOfTree tree) }
-{
-    match found(alloc, &tree, specs) {
-        Ok(work) => Ok(checked(tree, Box::into_inner(work))),
-        Err(error) => Err(of_tree(&tree, error)),
-    }
-}
-
-/// What both walks found out, with the specifications of all modules.
-fn found(alloc: Global, tree: &Tree, specs: &Specs) -> Result<Box<Work>, CheckError>
-    ensures specs { IfOk result (λ work. BeginWithOwn tree.now work.value.all.items) }
-    ensures closed { OnOk result (All (IsClosedAt tree.now) (modules tree.now)) }
-{
-    let mut work = walked(alloc, tree, specs)?;
-    work.all = all_specs(alloc, tree, &work.c.specs)?;
-    Ok(work)
-}
-
-/// The tree with what the walks found out of it.
-fn checked(tree: Tree, work: Work) -> Checked
-    ensures tree { result.tree ≡ tree }
-    ensures specs { result.specs ≡ work.all }
-{
-    let Work { c, all, .. } = work;
-    Checked {
-        tree,
-        types: c.types,
-        type_of: c.type_of,
-        op_of: c.op_of,
-        denoted: c.denoted,
-        constant_of: c.constant_of,
-        constants: c.constants,
-        specs: all,
-    }
-}
-
-/// The specification of a module of the tree, which its heading alone gives. Refused at the first node of the heading
-/// at which a rule is violated.
-pub fn spec_of(alloc: Global, tree: &Tree, module: u32, specs: &Specs) -> Result<Spec, CheckError>
-    ensures { IfOk result (λ spec. name_of tree.now «module» ≡ Some spec.name) }
-{
-    let Some(place) = place_of(tree.modules(), module) else {
-        return Err(CheckError::NotYet);
-    };
-    let mut work = begin(alloc, tree, specs)?;
-    walk_heading_alone(&mut work, tree, module, place)?;
-    exported_at(alloc, tree, module, work.own.as_slice(), place)
-}
-
-/// The place of a module among those of the file.
-fn place_of(modules: &[u32], module: u32) -> Option<usize> {
-    modules.iter().position(|n| *n == module)
-}
-
-/// The specifications of all modules of the tree, in the order of the text. Refused at the first node of the headings
-/// at which a rule is violated.
-pub fn specs_of(alloc: Global, tree: &Tree, specs: &Specs) -> Result<Vec<Spec>, CheckError>
-    ensures { IfOk result (λ own. AreOf tree.now (modules tree.now) own.items) }
-{
-    let mut work = begin(alloc, tree, specs)?;
-    walk_headings(&mut work, tree)?;
-    own_specs(alloc, tree, &work.c.specs)
-}
-
-/// What both walks found out.
-fn walked(alloc: Global, tree: &Tree, specs: &Specs) -> Result<Box<Work>, CheckError>
-    ensures { OnOk result (All (IsClosedAt tree.now) (modules tree.now)) }
-{
-    let mut work = begin(alloc, tree, specs)?;
-    walk_headings(&mut work, tree)?;
-    walk_bodies(&mut work, tree)?;
-    Ok(work)
-}
-
-/// The first walk: the headings of all modules.
-fn walk_headings(work: &mut Work, tree: &Tree) -> Result<(), CheckError> {
-    let mut seen = IndexSet::new(work.c.alloc);
-    walk_each_heading(work, tree, &mut seen)
-}
-
-fn walk_each_heading(
-    work: &mut Work,
-    tree: &Tree,
-    seen: &mut IndexSet<Bytes>,
-) -> Result<(), CheckError> {
-    for (place, n) in tree.modules().iter().enumerate() {
-        walk_heading(work, tree, *n, place, seen)?;
-    }
-    Ok(())
-}
-
-/// The heading of a module, at this place among those of the file.
-fn walk_heading(
-    work: &mut Work,
-    tree: &Tree,
-    n: u32,
-    place: usize,
-    seen: &mut IndexSet<Bytes>,
-) -> Result<(), CheckError> {
-    let module = module_at(tree, n)?;
-    match work.own.as_slice().get(place) {
-        Some(spec) => heading(&mut work.c, tree, &mut work.scope, &module, spec, seen),
-        None => Err(CheckError::NotYet),
-    }
-}
-
-/// The heading of one module, where no other heading was walked.
-fn walk_heading_alone(
-    work: &mut Work,
-    tree: &Tree,
-    module: u32,
-    place: usize,
-) -> Result<(), CheckError> {
-    let mut seen = names_before(work.c.alloc, tree, place)?;
-    walk_heading(work, tree, module, place, &mut seen)
-}
-
-/// The second walk: all that stands in no heading.
-fn walk_bodies(work: &mut Work, tree: &Tree) -> Result<(), CheckError>
-    ensures { OnOk result (All (IsClosedAt tree.now) (modules tree.now)) }
-{
-    let numbers = tree.modules();
-    for (place, n) in numbers.iter().enumerate() {
-        let module = module_at(tree, *n)?;
-        walk_body(work, tree, &module, place)?;
-    }
-    Ok(())
-}
-
-/// All of a module, at this place among those of the file, that stands in no heading.
-fn walk_body(
-    work: &mut Work,
-    tree: &Tree,
-    module: &Module<'_>,
-    place: usize,
+/// Asks the rules.
+fn ask(
+    headed: Headed<'_>,
+    types: &mut TypeArena,
+    facts: &mut Facts,
+    lists: &Lists,
+    long: &Long,
+    extent: Extent,
 ) -> Result<(), CheckError>
-    ensures { OnOk result (IsClosed «module».now.node.now) }
+    ensures closed { extent ≡ Extent.Whole → OnOk result (AreClosed headed.entry.file.syntax.now) }
+    ensures refused { IfErr result (IsOfTree headed.entry.file.syntax.now) }
 {
-    match work.own.as_slice().get(place) {
-        Some(spec) => body(&mut work.c, tree, &mut work.scope, module, spec),
-        None => Err(CheckError::NotYet),
-    }
-}
-
-/// Brings all modules into scope and their specifications into a context.
-fn begin(alloc: Global, tree: &Tree, specs: &Specs) -> Result<Box<Work>, CheckError> {
-    let mut work = nothing_known(alloc, tree, specs)?;
-    enter_and_specify(&mut work, tree, specs)?;
-    Ok(work)
-}
-
-/// In a box, so that a proof about who owns it need not follow each part.
-fn nothing_known(alloc: Global, tree: &Tree, specs: &Specs) -> Result<Box<Work>, CheckError> {
-    let work = Work {
-        c: context(alloc, tree, specs)?,
-        scope: Scope::new(alloc),
-        own: Vec::new(alloc),
-        all: Vec::new(alloc),
+    let alloc = headed.file.alloc;
+    let unmet = unmet_of(headed, types, facts)?;
+    let disagrees = disagreeing(alloc, &headed.heads.asked, headed.file.len())?;
+    let known = Known {
+        tables: tables(headed.file, types, lists, long),
+        headed,
+        facts,
+        routines: &lists.routines,
+        disagrees: disagrees.as_slice(),
+        unmet: unmet.as_slice(),
     };
-    Ok(Box::new(alloc, work)?)
+    let bad = bad_of(alloc, By::All(&known), lists.circles.order.as_slice())?;
+    ask_rules(&known, bad.as_slice(), extent)
 }
 
-fn context(alloc: Global, tree: &Tree, specs: &Specs) -> Result<Context, CheckError> {
-    let name = Bytes::from_slice(alloc, b"")?;
-    let specs = specs.copy(alloc)?;
-    Ok(Context::new(alloc, tree.len() as usize, specs, name)?)
-}
-
-fn enter_and_specify(work: &mut Work, tree: &Tree, specs: &Specs) -> Result<(), CheckError> {
-    enter_modules(work.c.alloc, tree, &mut work.scope, specs)?;
-    // In boxes, so that a proof about who owns them need not follow each part.
-    let mut seen = Box::new(work.c.alloc, IndexMap::new(work.c.alloc))?;
-    specify(work, tree, &mut seen)?;
-    add_all(&mut work.c.specs, &mut seen)
-}
-
-// The specifications of the tree's modules. Notes what other modules see of them, by their names.
-fn specify(
-    work: &mut Work,
-    tree: &Tree,
-    seen: &mut IndexMap<Bytes, Box<Spec>>,
-) -> Result<(), CheckError> {
-    for n in tree.modules() {
-        specify_one(work, tree, *n, seen)?;
-    }
-    Ok(())
-}
-
-fn specify_one(
-    work: &mut Work,
-    tree: &Tree,
-    n: u32,
-    seen: &mut IndexMap<Bytes, Box<Spec>>,
-) -> Result<(), CheckError> {
-    let module = module_at(tree, n)?;
-    let spec = specification(&mut work.c, tree, &mut work.scope, &module)?;
-    note_exported(work.c.alloc, seen, &module, &spec)?;
-    work.own.push(Box::into_inner(spec))?;
-    Ok(())
-}
-
-// Notes what other modules see of a module, if it is the first of its name.
-fn note_exported(
-    alloc: Global,
-    seen: &mut IndexMap<Bytes, Box<Spec>>,
-    module: &Module<'_>,
-    spec: &Spec,
-) -> Result<(), CheckError> {
-    if seen.contains_key(module.name) {
-        return Ok(());
-    }
-    let name = module.name.copy(alloc)?;
-    seen.insert(name, exported(alloc, spec, module)?)?;
-    Ok(())
-}
-
-// What other modules see of the module, whose specification stands at this place.
-fn exported_at(
-    alloc: Global,
-    tree: &Tree,
-    module: u32,
-    own: &[Spec],
-    place: usize,
-) -> Result<Spec, CheckError>
-    ensures { IfOk result (λ spec. name_of tree.now «module» ≡ Some spec.name) }
+fn found_of(facts: Box<Facts>, op_of: Vec<Option<OpRef>>, own: Vec<Spec>) -> Found
+    ensures { result.own.items ≡ own.items }
 {
-    let parts = module_at(tree, module)?;
-    match own.get(place) {
-        Some(spec) => Ok(Box::into_inner(exported(alloc, spec, &parts)?)),
-        None => Err(CheckError::NotYet),
+    let Facts { types: type_of, .. } = Box::into_inner(facts);
+    Found {
+        type_of,
+        op_of,
+        own,
     }
 }
 
-// In ascending order each one comes after those before it, so that none is moved.
-fn add_all(specs: &mut Specs, seen: &mut IndexMap<Bytes, Box<Spec>>) -> Result<(), CheckError> {
-    seen.sort_keys()?;
-    for (_, spec) in seen.drain(..) {
-        specs.with(Box::into_inner(spec))?;
+/// What is found where no rule is violated.
+fn check_headed(
+    headed: Headed<'_>,
+    types: &mut TypeArena,
+    lists: &Lists,
+    long: &Long,
+    extent: Extent,
+) -> Result<Box<Found>, CheckError>
+    ensures found { IfOk result (λ found. IsFound headed.entry.file.syntax.now extent found.value.own.items) }
+    ensures refused { IfErr result (IsOfTree headed.entry.file.syntax.now) }
+{
+    let alloc = headed.file.alloc;
+    let mut facts = facts_of(headed, types)?;
+    ask(headed, types, &mut facts, lists, long, extent)?;
+    let op_of = operations(alloc, types, &facts)?;
+    let heads = headed.heads.modules.as_slice();
+    let own = own_specs(alloc, headed.file.syntax.tree(), types, heads)?;
+    Ok(Box::new(alloc, found_of(facts, op_of, own))?)
+}
+
+/// The same, where names and values are known.
+fn check_file(
+    file: File<'_>,
+    types: &mut TypeArena,
+    lists: &Lists,
+    extent: Extent,
+) -> Result<Box<Found>, CheckError>
+    requires bound { file.names.now.bound.items ≡ bound_to file.syntax.now file.names.now.declared.items (length file.syntax.now) }
+    requires starts { file.names.now.starts.items ≡ starts_to file.syntax.now file.names.now.declared.items (length file.syntax.now) }
+    ensures found { IfOk result (λ found. IsFound file.entry.syntax.now extent found.value.own.items) }
+    ensures refused { IfErr result (IsOfTree file.entry.syntax.now) }
+{
+    let alloc = file.alloc;
+    let long = Long {
+        types: long_types(alloc, types)?,
+        constants: long_constants(alloc, file.constants)?,
+    };
+    let order = lists.circles.order.as_slice();
+    let refused = refused_nodes(alloc, &tables(file, types, lists, &long), order)?;
+    let heads = heads_of(
+        alloc,
+        file.syntax,
+        file.rounds,
+        file.names,
+        types,
+        file.values,
+        refused.as_slice(),
+    )?;
+    let counts = counts_of(alloc, refused.as_slice())?;
+    let headed = Headed {
+        file,
+        heads: &heads,
+        refused: counts.as_slice(),
+    };
+    check_headed(headed, types, lists, &long, extent)
+}
+
+/// The same, where what constants and types come to is known.
+fn check_settled(
+    alloc: Global,
+    syntax: &Syntax,
+    rounds: &[Round],
+    names: &Names,
+    settled: &mut Values,
+    library: &Specs,
+    extent: Extent,
+) -> Result<Box<Found>, CheckError>
+    requires bound { names.now.bound.items ≡ bound_to syntax.now names.now.declared.items (length syntax.now) }
+    requires starts { names.now.starts.items ≡ starts_to syntax.now names.now.declared.items (length syntax.now) }
+    ensures found { IfOk result (λ found. IsFound syntax.now extent found.value.own.items) }
+    ensures refused { IfErr result (IsOfTree syntax.now) }
+{
+    let lists = lists_of(alloc, syntax, rounds, names)?;
+    let types = &mut settled.types;
+    let values = settled.values.as_slice();
+    let bindings = bindings_of(alloc, syntax, rounds, names, types, values, library)?;
+    let file = File {
+        alloc,
+        syntax,
+        rounds,
+        names,
+        values,
+        constants: settled.constants.as_slice(),
+        library,
+        bindings: &bindings,
+    };
+    check_file(file, types, &lists, extent)
+}
+
+/// What is found of a file where no rule is violated, with what constants and types come to.
+fn check_syntax(
+    alloc: Global,
+    syntax: &Syntax,
+    library: &Specs,
+    extent: Extent,
+) -> Result<(Box<Values>, Box<Found>), CheckError>
+    ensures found { IfOk result (λ both. IsFound syntax.now extent both.1.value.own.items) }
+    ensures refused { IfErr result (IsOfTree syntax.now) }
+{
+    let rounds = rounds(alloc, syntax.tree())?;
+    let names = names_of(alloc, syntax.tree(), rounds.as_slice())?;
+    let mut settled = Box::new(alloc, settle(alloc, syntax, &names)?)?;
+    let found = check_settled(
+        alloc,
+        syntax,
+        rounds.as_slice(),
+        &names,
+        &mut settled,
+        library,
+        extent,
+    )?;
+    Ok((settled, found))
+}
+
+/// The file with all that was found of it.
+fn checked(
+    syntax: Syntax,
+    settled: Box<Values>,
+    found: Box<Found>,
+    constants: Box<Constants>,
+    denoted: Vec<Option<TypeId>>,
+) -> Checked
+    ensures syntax { result.syntax ≡ syntax }
+    ensures specs { result.specs.items ≡ found.value.own.items }
+{
+    let Values { types, .. } = Box::into_inner(settled);
+    let Found {
+        type_of,
+        op_of,
+        own,
+    } = Box::into_inner(found);
+    let Constants { all, of } = Box::into_inner(constants);
+    Checked {
+        syntax,
+        types,
+        type_of,
+        op_of,
+        denoted,
+        constant_of: of,
+        constants: all,
+        specs: own,
     }
-    Ok(())
+}
+
+/// Checks a file under the specifications of a library, in which those of its own modules take the place of kept ones. Refused at
+/// the first node, in the order of the two walks, at which a rule is violated, by the first such rule.
+#[tactic(auto, using(crate::proofs::Closed::closed_modules))]
+pub fn check(alloc: Global, syntax: Syntax, library: &Specs) -> Result<Box<Checked>, CheckError>
+    ensures syntax { IfOk result (λ checked. checked.value.syntax ≡ syntax) }
+    ensures specs { IfOk result (λ checked. BeginWithOwn syntax checked.value.specs.items) }
+    ensures closed { OnOk result (All (IsClosedAt syntax) (modules syntax)) }
+    ensures refused { IfErr result (IsOfTree syntax) }
+{
+    let (mut settled, mut found) = check_syntax(alloc, &syntax, library, Extent::Whole)?;
+    add_others(alloc, &mut found.own, library)?;
+    let constants = constants_of(alloc, syntax.tree(), &mut settled)?;
+    let denoted = denoted(alloc, settled.values.as_slice())?;
+    let checked = checked(syntax, settled, found, constants, denoted);
+    Ok(Box::new(alloc, checked)?)
+}
+
+/// The specifications of all modules of a file, in the order of the text. Refused at the first node of the headings at which a
+/// rule is violated.
+pub fn specs_of(alloc: Global, syntax: &Syntax, library: &Specs) -> Result<Vec<Spec>, CheckError>
+    ensures own { IfOk result (λ own. AreOf syntax.now (modules syntax.now) own.items) }
+    ensures refused { IfErr result (IsOfTree syntax.now) }
+{
+    let (_, found) = check_syntax(alloc, syntax, library, Extent::Headings)?;
+    let Found { own, .. } = Box::into_inner(found);
+    Ok(own)
 }

@@ -1,21 +1,17 @@
-//! The rules on modules, and the specification of each (CLU Reference Manual, sections 4 and 12): two walks in
-//! post-order over the modules of a file, the headings first, at whose nodes rules V4 to V37 are asked.
+//! The check of a file: all tables are made, the rules V4 to V37 are asked, and the first that is violated is told
+//! (docs/language.md, "The rules as definitions"). Where none is, what was found is handed on to lowering.
 #![tactic(auto)]
 
-mod bodies;
-mod carried;
+mod asking;
+mod bad;
 mod checking;
-mod demands;
-mod entering;
-mod heading;
-mod headings;
+mod errors;
 mod naming;
-mod nodes;
-mod settling;
-mod specification;
-mod units;
-mod wheres;
+mod notes;
+mod rules;
+mod specifications;
+mod walk;
 
-pub use crate::checking::{check, spec_of, specs_of};
+pub use crate::checking::{check, specs_of};
+pub use crate::errors::CheckError;
 pub use crate::naming::named;
-pub use clu_equates::CheckError;

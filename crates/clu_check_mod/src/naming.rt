@@ -6,7 +6,6 @@ ghost use Rattle.clu_names.specs.Denotes.{bound_to, starts_to};
 
 use clu_base::{Bytes, Memory, Sequence};
 use clu_names::{Declared, Names, names_of};
-use clu_rules::is_stream;
 use clu_syntax::{Round, rounds};
 use clu_tree::{NodeKind, Tree};
 use indexmap::IndexSet;
@@ -29,9 +28,9 @@ fn is_other_module(declared: &[Declared], denotes: Option<usize>, first: u32, mo
     }
 }
 
-/// Notes a module that is named.
+/// Notes a module that is named; `stream` is the built-in type.
 fn meet(alloc: Global, found: &mut IndexSet<Bytes>, name: &Bytes) -> Result<(), Memory> {
-    if !is_stream(name) {
+    if name.as_slice() != b"stream".as_slice() {
         found.insert(name.copy(alloc)?)?;
     }
     Ok(())

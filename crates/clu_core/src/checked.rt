@@ -1,18 +1,18 @@
 //! A file that was checked.
 
-ghost use Rattle.std.specs.Prelude.{◌≡◌, [], None, IfOk, IfErr, length, replicate};
+ghost use Rattle.std.specs.Prelude.{◌≡◌, [], None, IfOk, length, replicate};
 
 use crate::op_ref::OpRef;
-use crate::tables::Tables;
-use clu_base::ObjConst;
-use clu_tree::Tree;
+use crate::tables::unknown;
+use clu_base::{Memory, ObjConst};
+use clu_syntax::Syntax;
 use clu_types::{Spec, TypeArena, TypeId};
 use std::alloc::Global;
 
 /// A file with what its check found.
 #[derive(Drop)]
 pub struct Checked {
-    pub tree: Tree,
+    pub syntax: Syntax,
     pub types: TypeArena,
     /// For each node the type of the expression that it is.
     pub type_of: Vec<Option<TypeId>>,
@@ -29,41 +29,30 @@ pub struct Checked {
     pub specs: Vec<Spec>,
 }
 
-/// Why there is no checked file; the tree is handed back.
-#[derive(Drop)]
-pub enum CoreError {
-    Memory(Tree),
-}
-
 impl Checked {
-    ghost use Rattle.clu_core.specs.declared.checked.CoreError.TheVariants as error;
-
     /// A file of which nothing is known yet: no types, no specifications, and nothing at any node. The only
     /// error is that memory runs out.
-    pub fn new(alloc: Global, tree: Tree) -> Result<Checked, CoreError>
-        ensures tree { IfOk result (λ checked. checked.tree ≡ tree) }
+    pub fn new(alloc: Global, syntax: Syntax) -> Result<Checked, Memory>
+        ensures syntax { IfOk result (λ checked. checked.syntax ≡ syntax) }
         ensures types { IfOk result (λ checked. checked.types ≡ []) }
-        ensures type_of { IfOk result (λ checked. checked.type_of.items ≡ replicate (length tree) None) }
-        ensures op_of { IfOk result (λ checked. checked.op_of.items ≡ replicate (length tree) None) }
-        ensures denoted { IfOk result (λ checked. checked.denoted.items ≡ replicate (length tree) None) }
-        ensures constant_of { IfOk result (λ checked. checked.constant_of.items ≡ replicate (length tree) None) }
+        ensures type_of { IfOk result (λ checked. checked.type_of.items ≡ replicate (length syntax) None) }
+        ensures op_of { IfOk result (λ checked. checked.op_of.items ≡ replicate (length syntax) None) }
+        ensures denoted { IfOk result (λ checked. checked.denoted.items ≡ replicate (length syntax) None) }
+        ensures constant_of { IfOk result (λ checked. checked.constant_of.items ≡ replicate (length syntax) None) }
         ensures constants { IfOk result (λ checked. checked.constants.items ≡ []) }
         ensures specs { IfOk result (λ checked. checked.specs.items ≡ []) }
-        ensures refused { IfErr result (λ e. e ≡ error.Memory tree) }
     {
-        match Tables::new(alloc, tree.len() as usize) {
-            Err(_) => Err(CoreError::Memory(tree)),
-            Ok(tables) => Ok(Checked {
-                tree,
-                types: TypeArena::new(alloc),
-                type_of: tables.type_of,
-                op_of: tables.op_of,
-                denoted: tables.denoted,
-                constant_of: tables.constant_of,
-                constants: Vec::new(alloc),
-                specs: Vec::new(alloc),
-            }),
-        }
+        let nodes = syntax.tree().len() as usize;
+        Ok(Checked {
+            types: TypeArena::new(alloc),
+            type_of: unknown(alloc, nodes)?,
+            op_of: unknown(alloc, nodes)?,
+            denoted: unknown(alloc, nodes)?,
+            constant_of: unknown(alloc, nodes)?,
+            constants: Vec::new(alloc),
+            specs: Vec::new(alloc),
+            syntax,
+        })
     }
 
     /// The constant that this node stands for, if it is a name of one.

@@ -1,13 +1,11 @@
-//! Checked modules, and the context in which the nodes of a module are checked.
+//! Checked files, references to operations, and what lowering and link look up in trees and arenas.
 #![tactic(auto)]
 
 mod checked;
-mod context;
+mod lookups;
 mod op_ref;
 mod tables;
-mod unit;
 
-pub use crate::checked::{Checked, CoreError};
-pub use crate::context::{Context, SetDemand};
+pub use crate::checked::Checked;
+pub use crate::lookups::{LookupError, carry, first_name, intern, node_at, only_child, term};
 pub use crate::op_ref::OpRef;
-pub use crate::unit::{ClusterUnit, RoutineUnit, Unit};

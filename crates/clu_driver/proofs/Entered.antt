@@ -6,8 +6,7 @@ use Rattle.clu_base.specs.declared.tokens.Token.{Token}
 use Rattle.clu_build.specs.Entering.{own_of, text_at}
 use Rattle.clu_core.specs.declared.checked.Checked.{Checked}
 use Rattle.clu_library.specs.Contents.{Contents}
-use Rattle.clu_rules.specs.Modules.{BeginWithOwn}
-use Rattle.clu_rules.specs.Rules.{IsClosedAt}
+use Rattle.clu_check_mod.specs.Modules.{BeginWithOwn, IsClosedAt}
 use Rattle.clu_tree.specs.Nodes.{modules}
 use Rattle.clu_tree.specs.declared.node.Node.{Node}
 use Rattle.clu_driver.specs.Found.{IsFound, IsUnder, NotHad}
@@ -56,7 +55,7 @@ compile_shows how library file bytes tokens nodes known files read files' faults
 
 -- the specifications and texts of a tree are those of what was checked
 pub compiled_shows : (how : Outcome) (name file : List ℕ) (known : Contents) (bytes : List ℕ) (tokens : List Token) (nodes : List Node) (c : Checked) (files files' : Option Files) (faults faults' : ℕ)
-    → c.tree ≡ nodes → BeginWithOwn nodes c.specs.items → All (IsClosedAt nodes) (modules nodes) → EnteredShows how name known (own_of c) (text_at bytes tokens c.tree) files faults files' faults'
+    → c.syntax ≡ nodes → BeginWithOwn nodes c.specs.items → All (IsClosedAt nodes) (modules nodes) → EnteredShows how name known (own_of c) (text_at bytes tokens c.syntax) files faults files' faults'
     → CompiledShows how name file known bytes tokens nodes files faults files' faults'
 compiled_shows how name file known bytes tokens nodes c files files' faults faults' tree own closed shown =
     let P : List Node → Type 0 = λ ns. EnteredShows how name known (take (length (modules ns)) c.specs.items) (text_at bytes tokens ns) files faults files' faults' in

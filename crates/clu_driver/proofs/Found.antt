@@ -2,7 +2,7 @@
 use Rattle.std.proofs.Common.{◌≡◌, ◌≢◌, ◌≤◌, ◌<◌, ◌+◌, ◌∙◌, ap, sym, inr, subst, arith, length, take, List, All, ℕ, IfErr, IfOk, Option, Some, None, Result, Ok, Err}
 use Rattle.std.proofs.lemmas.List.{length-take, take_all}
 use Rattle.clu_base.specs.Outside.{Files}
-use Rattle.clu_rules.specs.Rules.{IsClosedAt}
+use Rattle.clu_check_mod.specs.Modules.{IsClosedAt}
 use Rattle.clu_image.specs.Faults.{IsRefusal, fault_of}
 use Rattle.clu_base.specs.declared.errors.FormatError.TheVariants.{Bad}
 use Rattle.clu_base.specs.declared.errors.FormatError.{FormatError}

@@ -6,11 +6,10 @@ use Rattle.clu_base.specs.declared.rules.Refused.{Refused}
 use Rattle.clu_base.specs.declared.rules.Rule.TheVariants as rule
 use Rattle.clu_base.specs.declared.tokens.Token.{Token}
 use Rattle.clu_link.specs.Starts.{IsBadStart}
-use Rattle.clu_rules.specs.Modules.{AreOf}
-use Rattle.clu_rules.specs.Refusals.{IsOfTree}
-use Rattle.clu_rules.specs.Rules.{IsClosedAt}
-use Rattle.clu_rules.specs.declared.errors.CheckError.{CheckError}
-use Rattle.clu_rules.specs.declared.errors.CheckError.TheVariants as check
+use Rattle.clu_check_mod.specs.Modules.{AreOf, IsClosedAt}
+use Rattle.clu_check_mod.specs.Refusals.{IsOfTree}
+use Rattle.clu_check_mod.specs.declared.errors.CheckError.{CheckError}
+use Rattle.clu_check_mod.specs.declared.errors.CheckError.TheVariants as check
 use Rattle.clu_lexer.specs.Tokens.{Tokens}
 use Rattle.clu_lexer.specs.Tokens as lexer
 use Rattle.clu_lexer.specs.declared.tokens.LexError.TheVariants as lex
@@ -70,21 +69,13 @@ IsRefusalOf (check.Refused r) _ name = ⊥
 IsRefusalOf check.Memory how name = how ≡ outcome.Memory
 IsRefusalOf check.NotYet how name = how ≡ outcome.NotYet
 
--- why a tree is not accepted: a rule on modules is refused at the place of one of its nodes, or memory was. No definition says
--- yet which rule it is, nor when NotYet comes
+-- why a tree, or its headings, are not accepted: a rule on modules is refused at the place of one of its nodes, or memory was. No
+-- definition says yet which rule it is, nor when NotYet comes
 abbrev pub NotAccepted : Outcome → List ℕ → List Node → Type 0
 NotAccepted (outcome.Refused n r) name nodes = (n.now ≡ name) × IsOfTree nodes (check.Refused r)
 NotAccepted outcome.Memory name nodes = Unit {0}
 NotAccepted outcome.NotYet name nodes = Unit {0}
 NotAccepted _ name nodes = ⊥
-
--- why the headings of a source are refused: a rule on modules is, or memory was. No definition says yet which rule it is, nor
--- when NotYet comes
-abbrev pub NotHeaded : Outcome → List ℕ → Type 0
-NotHeaded (outcome.Refused n r) name = n.now ≡ name
-NotHeaded outcome.Memory name = Unit {0}
-NotHeaded outcome.NotYet name = Unit {0}
-NotHeaded _ name = ⊥
 
 -- of these specifications, the first of the module with which a program starts
 abbrev pub start_in : List Spec → Option Spec

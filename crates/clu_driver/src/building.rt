@@ -45,7 +45,7 @@ pub fn image_of_modules<'a>(
     flags: Flags,
 ) -> Result<Built, Outcome<'a>>
     ensures traced { IfOk result (λ built. is_some built.map ≡ flags.trace) }
-    ensures refused { IfErr result (λ how. NotBuilt how (take (length (modules c.now.tree)) c.now.specs.items)) }
+    ensures refused { IfErr result (λ how. NotBuilt how (take (length (modules c.now.syntax)) c.now.specs.items)) }
 {
     match library_of(alloc, text, c, flags.peep) {
         Ok(library) => image_from(alloc, &library, own_specs(c), flags.trace),

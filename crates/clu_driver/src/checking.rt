@@ -1,37 +1,32 @@
-//! The check of a source's tree over specifications, and what a refusal by it comes to.
+//! The check of a source's syntax over specifications, and what a refusal by it comes to.
 
 ghost use Rattle.std.specs.Prelude.{◌≡◌, All, IfErr, IfOk, OnOk};
-ghost use Rattle.clu_rules.specs.Modules.{AreOf, BeginWithOwn};
-ghost use Rattle.clu_rules.specs.Refusals.{IsOfTree};
-ghost use Rattle.clu_rules.specs.Rules.{IsClosedAt};
+ghost use Rattle.clu_check_mod.specs.Modules.{AreOf, BeginWithOwn, IsClosedAt};
 ghost use Rattle.clu_tree.specs.Nodes.{modules};
-ghost use Rattle.clu_driver.specs.Sources.{IsRefusalOf, NotAccepted, NotHeaded};
+ghost use Rattle.clu_driver.specs.Sources.{IsRefusalOf, NotAccepted};
 
 use clu_check_mod::{CheckError, check, specs_of};
 use clu_core::Checked;
 use clu_outcome::Outcome;
-use clu_tree::Tree;
+use clu_syntax::Syntax;
 use clu_types::{Spec, Specs};
 use std::alloc::Global;
 
-/// The tree of the source `name`, checked over specifications, with its own in the place of those of their modules. The
+/// The syntax of the source `name`, checked over specifications, with its own in the place of those of their modules. The
 /// outcomes are `Refused` by one of the rules V4 to V37, `Memory` and `NotYet`.
 pub fn checked<'a>(
     alloc: Global,
     name: &'a str,
-    tree: Tree,
+    syntax: Syntax,
     specs: &Specs,
 ) -> Result<Box<Checked>, Outcome<'a>>
-    ensures tree { IfOk result (λ checked. checked.value.tree ≡ tree) }
-    ensures specs { IfOk result (λ checked. BeginWithOwn tree checked.value.specs.items) }
-    ensures closed { OnOk result (All (IsClosedAt tree) (modules tree)) }
-    ensures refused { IfErr result (λ how. NotAccepted how name.now tree) }
+    ensures syntax { IfOk result (λ checked. checked.value.syntax ≡ syntax) }
+    ensures specs { IfOk result (λ checked. BeginWithOwn syntax checked.value.specs.items) }
+    ensures closed { OnOk result (All (IsClosedAt syntax) (modules syntax)) }
+    ensures refused { IfErr result (λ how. NotAccepted how name.now syntax) }
 {
-    match check(alloc, tree, specs) {
-        Ok(checked) => match Box::new(alloc, checked) {
-            Ok(checked) => Ok(checked),
-            Err(_) => Err(Outcome::Memory),
-        },
+    match check(alloc, syntax, specs) {
+        Ok(checked) => Ok(checked),
         Err(error) => Err(refusal(name, error)),
     }
 }
@@ -41,13 +36,13 @@ pub fn checked<'a>(
 pub fn headings<'a>(
     alloc: Global,
     name: &'a str,
-    tree: &Tree,
+    syntax: &Syntax,
     specs: &Specs,
 ) -> Result<Vec<Spec>, Outcome<'a>>
-    ensures own { IfOk result (λ own. AreOf tree.now (modules tree.now) own.items) }
-    ensures refused { IfErr result (λ how. NotHeaded how name.now) }
+    ensures own { IfOk result (λ own. AreOf syntax.now (modules syntax.now) own.items) }
+    ensures refused { IfErr result (λ how. NotAccepted how name.now syntax.now) }
 {
-    match specs_of(alloc, tree, specs) {
+    match specs_of(alloc, syntax, specs) {
         Ok(own) => Ok(own),
         Err(error) => Err(refusal(name, error)),
     }

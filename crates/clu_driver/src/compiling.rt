@@ -2,7 +2,7 @@
 
 ghost use Rattle.std.specs.Prelude.{◌≡◌, ◌≤◌, All, IfErr, IfOk, OnOk, length, take};
 ghost use Rattle.std.specs.Option.{is_some};
-ghost use Rattle.clu_rules.specs.Rules.{IsClosedAt};
+ghost use Rattle.clu_check_mod.specs.Modules.{IsClosedAt};
 ghost use Rattle.clu_image.specs.ImageFile.{image_bytes};
 ghost use Rattle.clu_tree.specs.Nodes.{modules};
 ghost use Rattle.clu_words.specs.Command.{seen_limits};
@@ -111,15 +111,15 @@ fn image_of<'a>(
     flags: Flags,
 ) -> Result<Built, Outcome<'a>>
     ensures traced { IfOk result (λ built. is_some built.map ≡ flags.trace) }
-    ensures accepted { OnOk result (All (IsClosedAt source.tree) (modules source.tree)) }
-    ensures refused { IfErr result (λ how. NotMade how name.now source.tree) }
+    ensures accepted { OnOk result (All (IsClosedAt source.syntax) (modules source.syntax)) }
+    ensures refused { IfErr result (λ how. NotMade how name.now source.syntax) }
 {
     let Parsed {
         bytes,
         tokens,
-        tree,
+        syntax,
     } = source;
-    match checked(alloc, name, tree, &Specs::new(alloc)) {
+    match checked(alloc, name, syntax, &Specs::new(alloc)) {
         Ok(checked) => built(alloc, &bytes, &tokens, &checked, flags),
         Err(how) => Err(how),
     }
@@ -134,7 +134,7 @@ fn built<'a>(
     flags: Flags,
 ) -> Result<Built, Outcome<'a>>
     ensures traced { IfOk result (λ built. is_some built.map ≡ flags.trace) }
-    ensures refused { IfErr result (λ how. NotBuilt how (take (length (modules c.now.tree)) c.now.specs.items)) }
+    ensures refused { IfErr result (λ how. NotBuilt how (take (length (modules c.now.syntax)) c.now.specs.items)) }
 {
     image_of_modules(alloc, Text { bytes, tokens }, c, flags)
 }

@@ -33,7 +33,7 @@ pub fn gather<'a, F: Store>(
     ensures kept { F.files files.new ≡ F.files files.old }
     ensures library { IfOk result (λ g. HasLibrary (F.files files.old) library.now g.library.value) }
     ensures found { IfOk result (λ g. IsFound (F.files files.old) file.now (λ bytes. bytes ≡ g.source.value.bytes.items)) }
-    ensures parsed { IfOk result (λ g. IsSource g.source.value.bytes.items g.source.value.tokens.items g.source.value.tree) }
+    ensures parsed { IfOk result (λ g. IsSource g.source.value.bytes.items g.source.value.tokens.items g.source.value.syntax) }
     ensures refused { IfErr result (λ how. NotGathered how library.now file.now (F.files files.old) (F.faults files.old) (F.faults files.new)) }
 {
     match content_if_any(alloc, library, files) {
@@ -55,7 +55,7 @@ fn read_both<'a>(
     requires { length bytes.items ≤ 1_048_576 }
     ensures library { IfOk result (λ g. IsLibraryOf (option_map (λ v. v.items) content) g.library.value) }
     ensures same { IfOk result (λ g. g.source.value.bytes.items ≡ bytes.items) }
-    ensures parsed { IfOk result (λ g. IsSource g.source.value.bytes.items g.source.value.tokens.items g.source.value.tree) }
+    ensures parsed { IfOk result (λ g. IsSource g.source.value.bytes.items g.source.value.tokens.items g.source.value.syntax) }
     ensures refused { IfErr result (λ how. IsUnreadable how (option_map (λ v. v.items) content) ⊎ (IsLibraryFile (option_map (λ v. v.items) content) × NotSource how name.now bytes.items)) }
 {
     let library = library_of(alloc, content)?;
@@ -67,7 +67,7 @@ fn read_both<'a>(
 fn boxed<'a>(alloc: Global, name: &'a str, bytes: Vec<u8>) -> Result<Box<Parsed>, Outcome<'a>>
     requires { length bytes.items ≤ 1_048_576 }
     ensures same { IfOk result (λ source. source.value.bytes.items ≡ bytes.items) }
-    ensures parsed { IfOk result (λ source. IsSource source.value.bytes.items source.value.tokens.items source.value.tree) }
+    ensures parsed { IfOk result (λ source. IsSource source.value.bytes.items source.value.tokens.items source.value.syntax) }
     ensures refused { IfErr result (λ how. NotSource how name.now bytes.items) }
 {
     let source = source(alloc, name, bytes)?;

@@ -43,7 +43,7 @@ fn printed_text<'a, F: Store>(
     ensures refused { IfErr result (λ how. NotParsed how file.now (F.files files.old) (F.faults files.old) (F.faults files.new)) }
 {
     let source = parse_file(alloc, file, files)?;
-    match printed(alloc, &source.bytes, &source.tokens, &source.tree) {
+    match printed(alloc, &source.bytes, &source.tokens, source.syntax.tree()) {
         Ok(text) => Ok(text),
         Err(_) => Err(Outcome::Memory),
     }

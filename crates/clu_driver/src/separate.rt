@@ -45,7 +45,7 @@ fn compile_source<E: Sink, F: Store>(
     errors: &mut E,
     files: &mut F,
 ) -> u8
-    ensures told { Reported (λ how. CompiledShows how name.now file.now gathered.library.value gathered.source.value.bytes.items gathered.source.value.tokens.items gathered.source.value.tree (F.files files.old) (F.faults files.old) (F.files files.new) (F.faults files.new))
+    ensures told { Reported (λ how. CompiledShows how name.now file.now gathered.library.value gathered.source.value.bytes.items gathered.source.value.tokens.items gathered.source.value.syntax (F.files files.old) (F.faults files.old) (F.files files.new) (F.faults files.new))
         result (E.written errors.old) (E.written errors.new) (E.faults errors.old) (E.faults errors.new) }
 {
     let Gathered {
@@ -55,13 +55,13 @@ fn compile_source<E: Sink, F: Store>(
     let Parsed {
         bytes,
         tokens,
-        tree,
+        syntax,
     } = Box::into_inner(source);
     let text = Text {
         bytes: &bytes,
         tokens: &tokens,
     };
-    match checked(alloc, file, tree, library.specs()) {
+    match checked(alloc, file, syntax, library.specs()) {
         Ok(checked) => enter_and_put(
             alloc,
             name,
@@ -87,7 +87,7 @@ fn enter_and_put<E: Sink, F: Store>(
     errors: &mut E,
     files: &mut F,
 ) -> u8
-    ensures told { Reported (λ how. EnteredShows how name.now library.old (own_of checked.now) (text_at text.entry.bytes.now text.entry.tokens.now checked.now.tree) (F.files files.old) (F.faults files.old) (F.files files.new) (F.faults files.new))
+    ensures told { Reported (λ how. EnteredShows how name.now library.old (own_of checked.now) (text_at text.entry.bytes.now text.entry.tokens.now checked.now.syntax) (F.files files.old) (F.faults files.old) (F.files files.new) (F.faults files.new))
         result (E.written errors.old) (E.written errors.new) (E.faults errors.old) (E.faults errors.new) }
 {
     match enter_file(alloc, library, text, checked, peep) {

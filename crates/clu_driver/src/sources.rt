@@ -1,4 +1,4 @@
-//! Reading a source file into its tokens and its tree.
+//! Reading a source file into its tokens and its syntax.
 
 ghost use Rattle.std.specs.Prelude.{◌≡◌, ◌≤◌, IfErr, IfOk, length};
 ghost use Rattle.clu_driver.specs.Found.{IsFound};
@@ -9,7 +9,7 @@ use clu_base::{Place, Refused, Rule, Store, Token};
 use clu_lexer::{LexError, lex};
 use clu_outcome::Outcome;
 use clu_parser::{ParseError, parse};
-use clu_tree::Tree;
+use clu_syntax::Syntax;
 use std::alloc::Global;
 
 /// The most bytes of a source file.
@@ -20,7 +20,7 @@ const SOURCE_LIMIT: usize = 1_048_576;
 pub struct Parsed {
     pub bytes: Vec<u8>,
     pub tokens: Vec<Token>,
-    pub tree: Tree,
+    pub syntax: Syntax,
 }
 
 /// The source file of this name, parsed. The outcomes are those of `source_content` and of `source`.
@@ -32,7 +32,7 @@ pub fn parse_file<'a, F: Store>(
     ensures counts { F.faults files.old ≤ F.faults files.new }
     ensures kept { F.files files.new ≡ F.files files.old }
     ensures found { IfOk result (λ source. IsFound (F.files files.old) name.now (λ bytes. bytes ≡ source.bytes.items)) }
-    ensures parsed { IfOk result (λ source. IsSource source.bytes.items source.tokens.items source.tree) }
+    ensures parsed { IfOk result (λ source. IsSource source.bytes.items source.tokens.items source.syntax) }
     ensures refused { IfErr result (λ how. NotParsed how name.now (F.files files.old) (F.faults files.old) (F.faults files.new)) }
 {
     let bytes = source_content(alloc, name, files)?;
@@ -63,7 +63,7 @@ pub fn source_content<'a, F: Store>(
 pub fn source<'a>(alloc: Global, name: &'a str, bytes: Vec<u8>) -> Result<Parsed, Outcome<'a>>
     requires { length bytes.items ≤ 1_048_576 }
     ensures same { IfOk result (λ source. source.bytes.items ≡ bytes.items) }
-    ensures parsed { IfOk result (λ source. IsSource source.bytes.items source.tokens.items source.tree) }
+    ensures parsed { IfOk result (λ source. IsSource source.bytes.items source.tokens.items source.syntax) }
     ensures refused { IfErr result (λ how. NotSource how name.now bytes.items) }
 {
     match lex(alloc, &bytes) {
@@ -71,7 +71,7 @@ pub fn source<'a>(alloc: Global, name: &'a str, bytes: Vec<u8>) -> Result<Parsed
             Ok(tree) => Ok(Parsed {
                 bytes,
                 tokens,
-                tree,
+                syntax: Syntax::new(tree),
             }),
             Err(ParseError::Syntax(place)) => Err(refused(name, Rule::Syntax, place)),
             Err(ParseError::TooDeep(place)) => Err(refused(name, Rule::TooDeep, place)),

@@ -53,14 +53,14 @@ fn specify_source<E: Sink, F: Store>(
     errors: &mut E,
     files: &mut F,
 ) -> u8
-    ensures told { Reported (λ how. SpecifiedShows kept how library.now file.now gathered.source.value.tree gathered.library.value (F.files files.old) (F.faults files.old) (F.files files.new) (F.faults files.new))
+    ensures told { Reported (λ how. SpecifiedShows kept how library.now file.now gathered.source.value.syntax gathered.library.value (F.files files.old) (F.faults files.old) (F.files files.new) (F.faults files.new))
         result (E.written errors.old) (E.written errors.new) (E.faults errors.old) (E.faults errors.new) }
 {
     let Gathered {
         library: mut known,
         source,
     } = gathered;
-    match headings(alloc, file, &source.tree, known.specs()) {
+    match headings(alloc, file, &source.syntax, known.specs()) {
         Ok(specs) => enter_and_put(alloc, kept, library, &mut known, &specs, errors, files),
         Err(how) => report(errors, &how),
     }

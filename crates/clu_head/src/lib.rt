@@ -23,6 +23,7 @@ mod variables;
 pub use crate::asked::Asked;
 pub use crate::head::{Demanded, Head, HeadForm, RoutineHead};
 pub use crate::heads::{Heads, heads_of};
+pub use crate::known::{interned, is_at};
 pub use crate::parameter_kinds::{kind_of_type, kinds, own_type};
 pub use crate::refusals::{counts_of, is_refused};
 pub use crate::sets::sets_of;

@@ -38,6 +38,8 @@ mod rules_examples;
 #[cfg(test)]
 mod rules_expressions;
 #[cfg(test)]
+mod rules_first;
+#[cfg(test)]
 mod rules_instances;
 #[cfg(test)]
 mod rules_leaving;
@@ -59,8 +61,6 @@ mod rules_signals;
 mod rules_statements;
 #[cfg(test)]
 mod rules_tests;
-#[cfg(test)]
-mod same_heads;
 #[cfg(test)]
 mod script_rows;
 #[cfg(test)]

@@ -5,6 +5,7 @@ use clu_core::Checked;
 use clu_lexer::lex;
 use clu_lower_ctl::{declarations_of, lower};
 use clu_parser::parse;
+use clu_syntax::Syntax;
 use clu_types::{Form, Heading, OpSpec, Spec, Term, TypeArena, TypeId};
 use clu_wir::WRoutine;
 use std::alloc::Global;
@@ -24,10 +25,7 @@ fn file(alloc: Global) -> Result<Box<Checked>, Fail> {
     }
     let tokens = lex(alloc, source)?;
     let tree = parse(alloc, source, tokens.as_slice())?;
-    match Checked::new(alloc, tree) {
-        Ok(checked) => Ok(Box::new(alloc, checked)?),
-        Err(_) => Err("no memory")?,
-    }
+    Ok(Box::new(alloc, Checked::new(alloc, Syntax::new(tree))?)?)
 }
 
 /// Notes the only specification and the types of the nodes.
@@ -86,8 +84,8 @@ fn spec(alloc: Global) -> Result<Box<Spec>, Fail> {
 
 /// The routines of the file.
 fn routines(alloc: Global, checked: &Checked) -> Result<Vec<WRoutine>, Fail> {
-    let declarations = declarations_of(alloc, &checked.tree)?;
-    match checked.tree.modules().first() {
+    let declarations = declarations_of(alloc, checked.syntax.tree())?;
+    match checked.syntax.tree().modules().first() {
         Some(module) => Ok(lower(alloc, checked, &declarations, *module)?),
         None => Err("no module")?,
     }

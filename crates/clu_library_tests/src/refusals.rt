@@ -3,18 +3,17 @@
 
 ghost use Rattle.std.specs.Prelude.{◌≤◌, length};
 
-use crate::same_heads::has_same_heads;
 use crate::{
     rules_actuals, rules_arms, rules_clusters, rules_constants, rules_definitions, rules_equates,
-    rules_examples, rules_expressions, rules_instances, rules_leaving, rules_limits, rules_names,
-    rules_operations, rules_order, rules_results, rules_selectors, rules_signals, rules_statements,
+    rules_examples, rules_expressions, rules_first, rules_instances, rules_leaving, rules_limits,
+    rules_names, rules_operations, rules_order, rules_results, rules_selectors, rules_signals,
+    rules_statements,
 };
 use clu_base::{Place, Rule};
-use clu_check_mod::check;
-use clu_equates::CheckError;
+use clu_check_mod::{CheckError, check};
 use clu_lexer::{LexError, lex};
 use clu_parser::{ParseError, parse};
-use clu_tree::Tree;
+use clu_syntax::Syntax;
 use clu_types::Specs;
 use std::alloc::Global;
 use std::fmt::Write;
@@ -34,17 +33,12 @@ fn word(alloc: Global, word: &str) -> Result<String, Fail> {
     Ok(String::from_str(alloc, word)?)
 }
 
-fn refusal_of_error(alloc: Global, error: CheckError) -> Result<String, Fail> {
+/// What a check came to, as a row writes it.
+pub fn told(alloc: Global, error: Option<CheckError>) -> Result<String, Fail> {
     match error {
-        CheckError::Refused(how) => refusal(alloc, how.rule, how.place),
-        CheckError::Memory => word(alloc, "memory"),
-        CheckError::NotYet => word(alloc, "not yet"),
-    }
-}
-
-fn refusal_of_tree(alloc: Global, tree: Tree, specs: &Specs) -> Result<String, Fail> {
-    match check(alloc, tree, specs).err() {
-        Some(error) => refusal_of_error(alloc, error),
+        Some(CheckError::Refused(how)) => refusal(alloc, how.rule, how.place),
+        Some(CheckError::Memory) => word(alloc, "memory"),
+        Some(CheckError::NotYet) => word(alloc, "not yet"),
         None => word(alloc, "ok"),
     }
 }
@@ -58,23 +52,19 @@ fn refusal_in(alloc: Global, bytes: &[u8], specs: &Specs) -> Result<String, Fail
         Err(LexError::Memory) => return word(alloc, "memory"),
     };
     match parse(alloc, bytes, tokens.as_slice()) {
-        Ok(tree) => refusal_of_tree(alloc, tree, specs),
+        Ok(tree) => told(alloc, check(alloc, Syntax::new(tree), specs).err()),
         Err(ParseError::Syntax(place)) => refusal(alloc, Rule::Syntax, place),
         Err(ParseError::TooDeep(place)) => refusal(alloc, Rule::TooDeep, place),
         Err(_) => word(alloc, "not parsed"),
     }
 }
 
-/// The first refusal of a source, as a row writes it, or `ok`, if its headings give the specifications of the checker too.
+/// The first refusal of a source, as a row writes it, or `ok`.
 fn refusal_of(alloc: Global, source: &[u8], specs: &Specs) -> Result<String, Fail> {
     if source.len() > SOURCE_LIMIT {
         return word(alloc, "too large");
     }
-    let found = refusal_in(alloc, source, specs)?;
-    if found.as_str() == "ok" && !has_same_heads(alloc, source, specs)? {
-        return word(alloc, "other headings");
-    }
-    Ok(found)
+    refusal_in(alloc, source, specs)
 }
 
 /// So many units after the source.
@@ -191,7 +181,8 @@ fn refuses_statements_and_expressions(rt: HostRuntime) -> Result<(), Fail> {
         &none,
     )?;
     keep_under(alloc, rules_leaving::ROWS, rules_leaving::COUNT, &none)?;
-    keep_under(alloc, rules_examples::ROWS, rules_examples::COUNT, &none)
+    keep_under(alloc, rules_examples::ROWS, rules_examples::COUNT, &none)?;
+    keep_under(alloc, rules_first::ROWS, rules_first::COUNT, &none)
 }
 
 static LONG_NAMES: [(&str, usize, &str); 2] = [

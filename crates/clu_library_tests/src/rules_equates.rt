@@ -154,7 +154,7 @@ pub static GROUPS: [(&str, usize, &str); 9] = [
          1:47:V15 p = proc [t: type] (x: a) a = c[int] b = c[t] y: b := x #\0\
          % A set is none of the names that it defines for its own inside, and its equates stand inside \
          alone.\0\
-         1:17:V6 p = proc () a = {u | u has f: proctype (u)} u = a #\0\
+         1:41:V7 p = proc () a = {u | u has f: proctype (u)} u = a #\0\
          ok p = proc [t: type] (x: t) where t in s a = {u | u has f: proctype (u)} s = a t$f(x) #\0\
          ok p = proc [t: type] (x: t) where t in s s = {u | u has g, f: proctype (v), h: proctype (u) v = \
          array[u]} t$f(array[t]$[]) t$g(array[t]$[]) t$h(x) #\0\

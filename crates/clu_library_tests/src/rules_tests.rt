@@ -2,44 +2,39 @@
 
 ghost use Rattle.std.specs.Prelude.{◌≤◌, length};
 
-use crate::refusals::{counted, keep_under};
+use crate::refusals::{counted, keep_under, told};
 use clu_base::Bytes;
-use clu_check_mod::{check, named, spec_of, specs_of};
+use clu_check_mod::{check, named, specs_of};
 use clu_core::Checked;
 use clu_lexer::lex;
 use clu_library::is_whole;
 use clu_parser::parse;
 use clu_specs::spec_text;
-use clu_tree::Tree;
+use clu_syntax::Syntax;
 use clu_types::{Spec, Specs};
 use std::alloc::Global;
 use std::test::Fail;
 
-fn parsed(alloc: Global, source: &str) -> Result<Box<Tree>, Fail> {
+fn parsed(alloc: Global, source: &str) -> Result<Box<Syntax>, Fail> {
     let source = source.as_bytes();
     if source.len() > 1_048_576 {
         return Err("the source is too long")?;
     }
     match lex(alloc, source) {
-        Ok(tokens) => Ok(Box::new(alloc, parse(alloc, source, tokens.as_slice())?)?),
+        Ok(tokens) => {
+            let tree = parse(alloc, source, tokens.as_slice())?;
+            Ok(Box::new(alloc, Syntax::new(tree))?)
+        }
         Err(_) => Err("no tokens")?,
     }
 }
 
 /// What is found of a source that no rule refuses.
 fn checked(alloc: Global, source: &str, specs: &Specs) -> Result<Box<Checked>, Fail> {
-    let tree = parsed(alloc, source)?;
-    match check(alloc, Box::into_inner(tree), specs) {
-        Ok(checked) => Ok(Box::new(alloc, checked)?),
+    let syntax = parsed(alloc, source)?;
+    match check(alloc, Box::into_inner(syntax), specs) {
+        Ok(checked) => Ok(checked),
         Err(_) => Err("the source is not accepted")?,
-    }
-}
-
-/// The number of the first module.
-fn first_module(tree: &Tree) -> Result<u32, Fail> {
-    match tree.modules().first() {
-        Some(module) => Ok(*module),
-        None => Err("no module")?,
     }
 }
 
@@ -59,41 +54,38 @@ const SPECIFICATIONS: &str = "\
 const SPECIFICATION_COUNT: usize = 3;
 
 /// The text of a specification.
-pub fn text_of(alloc: Global, spec: &Spec) -> Result<Bytes, Fail> {
+fn text_of(alloc: Global, spec: &Spec) -> Result<Bytes, Fail> {
     if !is_whole(spec) {
         return Err("a specification with types of others")?;
     }
     Ok(spec_text(alloc, spec)?)
 }
 
-/// The text of the specification of the first module.
-fn first_text(alloc: Global, tree: &Tree, none: &Specs) -> Result<Bytes, Fail> {
-    let module = first_module(tree)?;
-    match spec_of(alloc, tree, module, none) {
-        Ok(spec) => text_of(alloc, &spec),
-        Err(_) => Err("no specification")?,
+/// The text of the only specification.
+fn only_text(alloc: Global, specs: &[Spec]) -> Result<Bytes, Fail> {
+    match specs {
+        [spec] => text_of(alloc, spec),
+        _ => Err("not one specification")?,
     }
 }
 
-/// Whether one specification is found for a source, both of its headings alone and of the whole.
-fn has_one(alloc: Global, tree: &Tree, source: &str, none: &Specs) -> Result<bool, Fail> {
+/// The text of the specification of a source with one module, which is that of its headings alone too.
+fn text_in(alloc: Global, source: &str, none: &Specs) -> Result<Bytes, Fail> {
+    let headings = specs_of(alloc, &*parsed(alloc, source)?, none);
     let whole = checked(alloc, source, none)?;
-    match specs_of(alloc, tree, none) {
-        Ok(specs) => Ok(specs.len() == 1 && whole.specs.len() == 1),
-        Err(_) => Ok(false),
+    let found = only_text(alloc, whole.specs.as_slice())?;
+    match headings {
+        Ok(headings) if only_text(alloc, headings.as_slice())? == found => Ok(found),
+        _ => Err("other headings")?,
     }
 }
 
-/// The first module of a row has its text.
+/// The module of a row has its text.
 fn keep_text(alloc: Global, row: &str, none: &Specs) -> Result<(), Fail> {
     let (due, source) = row.split_once('\t').unwrap_or(("", row));
-    let tree = parsed(alloc, source)?;
-    let found = first_text(alloc, &tree, none)?;
+    let found = text_in(alloc, source, none)?;
     if found.as_slice() != due.as_bytes() {
         return Err(format!(in alloc; "{}", std::str::from_utf8(found.as_slice()).unwrap_or("?"))?)?;
-    }
-    if !has_one(alloc, &tree, source, none)? {
-        return Err("not one specification")?;
     }
     Ok(())
 }
@@ -110,6 +102,41 @@ fn keep_texts(alloc: Global, none: &Specs) -> Result<(), Fail> {
 #[test]
 fn specifications(rt: HostRuntime) -> Result<(), Fail> {
     keep_texts(rt.alloc(), &Specs::new(rt.alloc()))
+}
+
+/// How many rows `HEADINGS` has.
+pub const HEADING_COUNT: usize = 4;
+
+/// Rows as in the other tables, each with the first refusal of its headings alone.
+pub const HEADINGS: &str = "\
+    1:19:V6 p = proc (x: int, x: int) break end p\0\
+    ok p = proc () break end p\0\
+    1:1:V33 c = cluster is f rep = 1 g = proc () end g end c\0\
+    ok c = cluster is f rep = 1 f = proc () end f end c\0\
+";
+
+fn keep_heading(alloc: Global, row: &str, none: &Specs) -> Result<(), Fail> {
+    let (due, source) = row.split_once(' ').unwrap_or(("", row));
+    let syntax = parsed(alloc, source)?;
+    let found = told(alloc, specs_of(alloc, &syntax, none).err())?;
+    if found.as_str() != due {
+        return Err(format!(in alloc; "{found} comes of the headings of {row}")?)?;
+    }
+    Ok(())
+}
+
+fn keep_headings(alloc: Global, none: &Specs) -> Result<(), Fail> {
+    let mut rows = 0usize;
+    for row in HEADINGS.split_terminator('\0') {
+        keep_heading(alloc, row, none)?;
+        rows = rows.saturating_add(1);
+    }
+    counted(alloc, rows, HEADING_COUNT)
+}
+
+#[test]
+fn headings_alone(rt: HostRuntime) -> Result<(), Fail> {
+    keep_headings(rt.alloc(), &Specs::new(rt.alloc()))
 }
 
 /// The source of the kept specifications.
@@ -136,8 +163,8 @@ fn add_specs(specs: &mut Specs, found: Vec<Spec>) -> Result<(), Fail> {
 
 /// Keeps the specifications of a source.
 fn keep_specs(alloc: Global, specs: &mut Specs, source: &str) -> Result<(), Fail> {
-    let tree = parsed(alloc, source)?;
-    let found = specs_of(alloc, &tree, &Specs::new(alloc))?;
+    let syntax = parsed(alloc, source)?;
+    let found = specs_of(alloc, &syntax, &Specs::new(alloc))?;
     add_specs(specs, found)
 }
 
@@ -195,7 +222,7 @@ const NAMING_COUNT: usize = 9;
 /// The modules that the text of the first module names.
 fn named_by(alloc: Global, checked: &Checked) -> Result<String, Fail> {
     let mut text = String::new(alloc);
-    if let Some(names) = named(alloc, &checked.tree)?.first() {
+    if let Some(names) = named(alloc, checked.syntax.tree())?.first() {
         for name in names.as_slice() {
             put_name(&mut text, name)?;
         }

@@ -1,7 +1,7 @@
 //! Why a program is not linked.
 
 use clu_base::{Bytes, Memory};
-use clu_equates::CheckError;
+use clu_core::LookupError;
 use clu_frames::FrameError;
 use rv_select::SelectError;
 use std::alloc::{AllocError, AllocFailed};
@@ -68,10 +68,10 @@ impl<T: Drop> From<AllocFailed<T>> for LinkError {
     }
 }
 
-impl From<CheckError> for LinkError {
-    fn from(error: CheckError) -> LinkError {
+impl From<LookupError> for LinkError {
+    fn from(error: LookupError) -> LinkError {
         match error {
-            CheckError::Memory => LinkError::Memory,
+            LookupError::Memory => LinkError::Memory,
             _ => LinkError::NotYet,
         }
     }

@@ -4,7 +4,7 @@
 use crate::errors::LinkError;
 use clu_base::{Bytes, Sequence};
 use clu_builtin::{Builtin, heading};
-use clu_equates::intern;
+use clu_core::intern;
 use clu_frames::flatten;
 use clu_handlers::Regions;
 use clu_object::ObjRoutine;

@@ -4,7 +4,7 @@ use crate::errors::LinkError;
 use crate::member::Member;
 use crate::parameters::copied;
 use clu_base::Bytes;
-use clu_equates::term;
+use clu_core::term;
 use clu_types::{Actual, Field, Term, TypeArena, TypeId};
 use std::alloc::Global;
 

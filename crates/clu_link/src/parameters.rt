@@ -7,7 +7,7 @@ ghost use Rattle.clu_link.specs.Parameters.{constant_in, constant_of, nth};
 use crate::errors::LinkError;
 use crate::member::Member;
 use clu_base::{Bytes, Const, FormatError, ObjConst, Sequence};
-use clu_equates::{carry, term};
+use clu_core::{carry, term};
 use clu_specs::{Target, read_type, read_use};
 use clu_types::{Actual, Term, TypeArena, TypeId};
 use std::alloc::Global;

@@ -11,7 +11,7 @@ use crate::parameters::copied;
 use crate::places::Places;
 use crate::program::Program;
 use clu_base::{Bytes, Sequence};
-use clu_equates::term;
+use clu_core::term;
 use clu_specs::{Target, use_text};
 use clu_trace::{Instance, TraceMap};
 use clu_types::{Term, TypeArena, TypeId};

@@ -1,6 +1,6 @@
 //! Assignments to variables (CLU Reference Manual, section 9).
 
-use clu_equates::node_at;
+use clu_core::node_at;
 use clu_lower_expr::{
     Fixed, Lowering, Result, Variable, assign_named, lower_call, lower_expr, results_of, type_of,
 };
@@ -29,7 +29,7 @@ pub fn denoted_by(fixed: &Fixed, n: u32, node: &Node) -> Result<Vec<usize>> {
 
 /// Lets the variable of this declaration, own or not, name the object of an expression.
 pub fn assign_one(out: &mut Lowering, fixed: &Fixed, place: usize, value: u32) -> Result<()> {
-    if node_at(&fixed.c.tree, value)?.kind == NodeKind::Call {
+    if node_at(fixed.c.syntax.tree(), value)?.kind == NodeKind::Call {
         if let Some(variable) = taker(out, fixed, place) {
             return assign_call(out, fixed, variable, value);
         }
@@ -61,7 +61,7 @@ pub fn assign_call(out: &mut Lowering, fixed: &Fixed, variable: Variable, call: 
 fn assign_results(out: &mut Lowering, fixed: &Fixed, places: &[usize], call: u32) -> Result<()> {
     let free = out.taken();
     let slots = call_results(out, fixed, call)?;
-    let types = results_of(fixed.c, node_at(&fixed.c.tree, call)?)?;
+    let types = results_of(fixed.c, node_at(fixed.c.syntax.tree(), call)?)?;
     assign_slots(out, fixed, places, slots.as_slice(), types, free)
 }
 
@@ -113,7 +113,7 @@ fn kept_values(out: &mut Lowering, fixed: &Fixed, values: &[u32]) -> Result<Vec<
 /// Calls a routine; the answer is the slots of its results, which were free.
 pub fn call_results(out: &mut Lowering, fixed: &Fixed, call: u32) -> Result<Vec<u32>> {
     let mut slots = Vec::new(out.alloc);
-    for _ in results_of(fixed.c, node_at(&fixed.c.tree, call)?)? {
+    for _ in results_of(fixed.c, node_at(fixed.c.syntax.tree(), call)?)? {
         slots.push(out.take()?)?;
     }
     lower_call(out, fixed, call, slots.as_slice().to_vec(out.alloc)?)?;

@@ -3,8 +3,7 @@
 
 use crate::nodes::{is_behind_else, is_item};
 use crate::walk::{body, condition};
-use clu_core::Checked;
-use clu_equates::node_at;
+use clu_core::{Checked, node_at};
 use clu_lower_expr::{Fixed, Lowering, Result};
 use clu_tree::Node;
 use clu_wir::{WExpr, WStmt};
@@ -76,7 +75,7 @@ fn choice_of(alloc: Global, c: &Checked, node: &Node) -> Result<Choice> {
         otherwise: Vec::new(alloc),
     };
     for n in node.children.as_slice() {
-        let child = node_at(&c.tree, *n)?;
+        let child = node_at(c.syntax.tree(), *n)?;
         if is_behind_else(node, child) {
             choice.otherwise.push(*n)?;
         } else if is_item(child.kind) {

@@ -12,8 +12,7 @@ use crate::own_type::note_types;
 use crate::own_variables::{declare_owns, set_up};
 use crate::routines::{begun, body, count, is_procedure, nothing_fixed, own_name, specification};
 use clu_base::{Bytes, Sequence};
-use clu_core::Checked;
-use clu_equates::{first_name, intern, node_at};
+use clu_core::{Checked, first_name, intern, node_at};
 use clu_lower_expr::{
     Declarations, Fixed, LowerError, Lowering, Result, Sealed, Seen, lower_own_set_up,
     written_heading,
@@ -63,7 +62,7 @@ pub fn cluster_routines(
 /// The type that the equate of `rep` denotes, which is the one without a name.
 fn representation(c: &Checked, node: &Node) -> Result<Option<TypeId>> {
     for child in node.children.as_slice() {
-        let equate = node_at(&c.tree, *child)?;
+        let equate = node_at(c.syntax.tree(), *child)?;
         if equate.kind == NodeKind::Equate && equate.names.as_slice().is_empty() {
             return match equate.children.as_slice() {
                 [value] => Ok(c.denoted.get(*value as usize).copied().flatten()),
@@ -88,7 +87,7 @@ impl Cluster<'_> {
     {
         let mut routines = self.set_ups(alloc, c)?;
         for n in nodes {
-            let node = node_at(&c.tree, *n)?;
+            let node = node_at(c.syntax.tree(), *n)?;
             routines.push(self.routine(alloc, c, *n, node)?)?;
         }
         Ok(routines)

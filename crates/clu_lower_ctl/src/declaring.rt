@@ -1,7 +1,7 @@
 //! Declarations of variables: Declare and Init (CLU Reference Manual, section 8).
 
 use crate::assigning::{assign_call, call_results};
-use clu_equates::{node_at, only_child};
+use clu_core::{node_at, only_child};
 use clu_lower_expr::{
     Fixed, LowerError, Lowering, Result, Variable, bind, denotes_any, lower_expr, results_of,
     type_of,
@@ -27,7 +27,7 @@ pub fn declared_by(fixed: &Fixed, n: u32, of: u32) -> Result<Declared> {
 pub fn decls_in(fixed: &Fixed, nodes: &[u32]) -> Result<Vec<Declared>> {
     let mut listed = Vec::new(fixed.alloc);
     for n in nodes {
-        let decl = node_at(&fixed.c.tree, *n)?;
+        let decl = node_at(fixed.c.syntax.tree(), *n)?;
         if decl.kind == NodeKind::Decl {
             let first = declared_by(fixed, *n, only_child(decl)?)?;
             add_names(decl, first, &mut listed)?;
@@ -120,7 +120,7 @@ fn initialize_one(
 ) -> Result<()> {
     let variable = new_variable(out, declared.is_any, bare)?;
     let taken = out.taken();
-    if !variable.is_any && node_at(&fixed.c.tree, value)?.kind == NodeKind::Call {
+    if !variable.is_any && node_at(fixed.c.syntax.tree(), value)?.kind == NodeKind::Call {
         assign_call(out, fixed, variable, value)?;
     } else {
         let given = type_of(fixed.c, value)?;
@@ -169,7 +169,7 @@ fn give_results(
 ) -> Result<()> {
     let free = out.taken();
     let slots = call_results(out, fixed, call)?;
-    let types = results_of(fixed.c, node_at(&fixed.c.tree, call)?)?;
+    let types = results_of(fixed.c, node_at(fixed.c.syntax.tree(), call)?)?;
     for ((variable, slot), of) in variables.iter().zip(slots.as_slice()).zip(types) {
         let object = WExpr::Slot(*slot);
         let object = bind(out, &fixed.c.types, object, *of, variable.is_any, free)?;

@@ -2,8 +2,7 @@
 
 use crate::nodes::child_of;
 use clu_base::Bytes;
-use clu_core::Checked;
-use clu_equates::{first_name, intern, node_at, only_child};
+use clu_core::{Checked, first_name, intern, node_at, only_child};
 use clu_lower_expr::{Fixed, LowerError, Result, denoted_type};
 use clu_tree::{Node, NodeKind};
 use clu_types::{Actual, Demand, Form, OpSpec, ParamKind, Spec, Term, TypeArena};
@@ -34,12 +33,12 @@ pub fn give_member(fixed: &mut Fixed, member: Member<'_>) -> Result<()> {
         return fixed.give(&member.spec.types, op.demands.as_slice(), &[]);
     }
     match child_of(c, member.routine, NodeKind::Where)? {
-        Some(n) => give_written(fixed, member, node_at(&c.tree, n)?),
+        Some(n) => give_written(fixed, member, node_at(c.syntax.tree(), n)?),
         None => Ok(()),
     }
 }
 
-/// The operation of this name that a cluster exports.
+/// The operation of this name that a cluster exports, whose names ascend.
 fn exported<'a>(spec: &'a Spec, name: &Bytes) -> Option<&'a OpSpec> {
     match &spec.form {
         Form::Cluster(_, ops) => operation_named(ops.as_slice(), name),
@@ -48,18 +47,15 @@ fn exported<'a>(spec: &'a Spec, name: &Bytes) -> Option<&'a OpSpec> {
 }
 
 fn operation_named<'a>(ops: &'a [OpSpec], name: &Bytes) -> Option<&'a OpSpec> {
-    for op in ops {
-        if op.name == *name {
-            return Some(op);
-        }
-    }
-    None
+    let place = ops.partition_point(|one: &OpSpec| -> bool { one.name < *name });
+    let op = ops.get(place)?;
+    if op.name == *name { Some(op) } else { None }
 }
 
 fn give_written(fixed: &mut Fixed, member: Member<'_>, clause: &Node) -> Result<()> {
     let c = fixed.c;
     for child in clause.children.as_slice() {
-        give_restrict(fixed, member, *child, node_at(&c.tree, *child)?)?;
+        give_restrict(fixed, member, *child, node_at(c.syntax.tree(), *child)?)?;
     }
     Ok(())
 }
@@ -106,7 +102,7 @@ pub fn own_actuals(
 fn give_opers(fixed: &mut Fixed, node: &Node, param: u32, actuals: &[Actual]) -> Result<()> {
     let c = fixed.c;
     for child in node.children.as_slice() {
-        let oper = node_at(&c.tree, *child)?;
+        let oper = node_at(c.syntax.tree(), *child)?;
         if oper.kind == NodeKind::Oper {
             give_oper(fixed, oper, param, actuals)?;
         }
@@ -134,7 +130,7 @@ fn set_of<'a>(fixed: &Fixed<'a>, n: u32, restrict: &Node) -> Result<Option<&'a N
     let Some(child) = restrict.children.as_slice().first() else {
         return Ok(Some(set_named(fixed, n, 1)?));
     };
-    let child = node_at(&c.tree, *child)?;
+    let child = node_at(c.syntax.tree(), *child)?;
     Ok(if child.kind == NodeKind::TypeSet {
         Some(child)
     } else {
@@ -146,10 +142,10 @@ fn set_of<'a>(fixed: &Fixed<'a>, n: u32, restrict: &Node) -> Result<Option<&'a N
 fn set_named<'a>(fixed: &Fixed<'a>, n: u32, k: usize) -> Result<&'a Node> {
     let c = fixed.c;
     let mut place = fixed.declarations.denoted(n, k)?;
-    for _ in 0..c.tree.len() {
-        let equate = node_at(&c.tree, fixed.declarations.node(place)?)?;
+    for _ in 0..c.syntax.tree().len() {
+        let equate = node_at(c.syntax.tree(), fixed.declarations.node(place)?)?;
         let right = only_child(equate)?;
-        let node = node_at(&c.tree, right)?;
+        let node = node_at(c.syntax.tree(), right)?;
         match node.kind {
             NodeKind::TypeSet => return Ok(node),
             NodeKind::Name => place = fixed.declarations.denoted(right, 0)?,
@@ -163,7 +159,7 @@ fn set_named<'a>(fixed: &Fixed<'a>, n: u32, k: usize) -> Result<&'a Node> {
 fn parameter_named(c: &Checked, cluster: &Node, name: &Bytes) -> Result<u32> {
     let mut before = 0u32;
     for child in cluster.children.as_slice() {
-        let parm = node_at(&c.tree, *child)?;
+        let parm = node_at(c.syntax.tree(), *child)?;
         if parm.kind == NodeKind::Parm {
             let names = parm.names.as_slice();
             if let Some(place) = names.iter().position(|known| known == name) {

@@ -4,7 +4,7 @@
 use crate::declaring::{Declared, declare_formal, declare_formals, declared_by, decls_in};
 use crate::walk::{body, statement};
 use clu_base::Bytes;
-use clu_equates::{intern, node_at, only_child};
+use clu_core::{intern, node_at, only_child};
 use clu_lower_expr::{Fixed, LowerError, Lowering, OpenArm, Result, bind, copied_names};
 use clu_tree::{Node, NodeKind};
 use clu_types::{Term, TypeArena};
@@ -70,7 +70,7 @@ fn close_arms(
 fn open_arms(out: &mut Lowering, fixed: &Fixed, nodes: &[u32]) -> Result<Option<u32>> {
     let mut arms = Vec::new(out.alloc);
     for n in nodes {
-        arms.push(open_arm(fixed, node_at(&fixed.c.tree, *n)?)?)?;
+        arms.push(open_arm(fixed, node_at(fixed.c.syntax.tree(), *n)?)?)?;
     }
     let failure_arm = binding_failures(arms.as_slice());
     out.guards.push(arms)?;
@@ -164,7 +164,7 @@ fn failure_arm(out: &Lowering, slot: u32, body: Vec<WStmt>) -> Result<WArm> {
 fn handlers(out: &mut Lowering, fixed: &Fixed, nodes: &[u32], depth: u32) -> Result<Vec<WArm>> {
     let mut arms = Vec::new(out.alloc);
     for n in nodes {
-        let node = node_at(&fixed.c.tree, *n)?;
+        let node = node_at(fixed.c.syntax.tree(), *n)?;
         let taken = out.taken();
         let outer = out.open();
         arms.push(begun_arm(out, fixed, *n, node)?)?;

@@ -1,6 +1,6 @@
 //! The heading of a routine as its body sees it: which results and objects of exceptions are of type any.
 
-use clu_equates::{first_name, node_at};
+use clu_core::{first_name, node_at};
 use clu_lower_expr::{Fixed, Result, denotes_any};
 use clu_tree::{Node, NodeKind};
 
@@ -8,7 +8,7 @@ use clu_tree::{Node, NodeKind};
 pub fn note_heading(fixed: &mut Fixed, routine: &Node) -> Result<()> {
     let c = fixed.c;
     for child in routine.children.as_slice() {
-        let child = node_at(&c.tree, *child)?;
+        let child = node_at(c.syntax.tree(), *child)?;
         match child.kind {
             NodeKind::Results => fixed.results = which_denote_any(fixed, child)?,
             NodeKind::Signals => note_signals(fixed, child)?,
@@ -21,7 +21,7 @@ pub fn note_heading(fixed: &mut Fixed, routine: &Node) -> Result<()> {
 fn note_signals(fixed: &mut Fixed, signals: &Node) -> Result<()> {
     let c = fixed.c;
     for child in signals.children.as_slice() {
-        let exception = node_at(&c.tree, *child)?;
+        let exception = node_at(c.syntax.tree(), *child)?;
         let name = first_name(exception)?.copy(fixed.alloc)?;
         let objects = which_denote_any(fixed, exception)?;
         fixed.signals.insert(name, objects)?;

@@ -2,7 +2,7 @@
 //! Reference Manual, sections 11.3, 11.4 and 12.3).
 
 use clu_base::Bytes;
-use clu_equates::first_name;
+use clu_core::first_name;
 use clu_lower_expr::{Fixed, LowerError, Lowering, Result, bind_all, lower_all, text_of, type_of};
 use clu_tree::Node;
 use clu_wir::{HoleKind, WExpr, WStmt};

@@ -5,7 +5,7 @@ use crate::assigning::{assign_slots, denoted_by};
 use crate::declaring::{Declared, declare_formal, decls_in};
 use crate::nodes::child_of;
 use crate::walk::{body, condition};
-use clu_equates::node_at;
+use clu_core::node_at;
 use clu_lower_expr::{
     Fixed, LowerError, Lowering, Result, begin_iteration, bind, end_iteration, results_of,
 };
@@ -43,7 +43,7 @@ pub fn for_loop(out: &mut Lowering, fixed: &Fixed, n: u32, node: &Node, depth: u
     let begun = begin_iteration(out, fixed, call)?;
     out.release(taken);
     let outer = out.open();
-    let given = results_of(fixed.c, node_at(&fixed.c.tree, call)?)?;
+    let given = results_of(fixed.c, node_at(fixed.c.syntax.tree(), call)?)?;
     let items = items(out, fixed, n, node, given)?;
     body(out, fixed, node.children.as_slice(), depth)?;
     let turn = out.close(outer);

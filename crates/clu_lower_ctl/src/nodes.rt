@@ -1,7 +1,6 @@
 //! What nodes are to the node round them.
 
-use clu_core::Checked;
-use clu_equates::node_at;
+use clu_core::{Checked, node_at};
 use clu_lower_expr::Result;
 use clu_tree::{Node, NodeKind};
 use std::alloc::Global;
@@ -49,7 +48,7 @@ pub fn is_behind_else(node: &Node, child: &Node) -> bool {
 pub fn children_of(alloc: Global, c: &Checked, node: &Node, kind: NodeKind) -> Result<Vec<u32>> {
     let mut children = Vec::new(alloc);
     for child in node.children.as_slice() {
-        if node_at(&c.tree, *child)?.kind == kind {
+        if node_at(c.syntax.tree(), *child)?.kind == kind {
             children.push(*child)?;
         }
     }
@@ -59,7 +58,7 @@ pub fn children_of(alloc: Global, c: &Checked, node: &Node, kind: NodeKind) -> R
 /// The first of them.
 pub fn child_of(c: &Checked, node: &Node, kind: NodeKind) -> Result<Option<u32>> {
     for child in node.children.as_slice() {
-        if node_at(&c.tree, *child)?.kind == kind {
+        if node_at(c.syntax.tree(), *child)?.kind == kind {
             return Ok(Some(*child));
         }
     }

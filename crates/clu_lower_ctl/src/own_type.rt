@@ -1,6 +1,6 @@
 //! The types of a routine's heading as callers see it: its own type, and those of its exceptions' objects.
 
-use clu_equates::{intern, term};
+use clu_core::{intern, term};
 use clu_lower_expr::{Fixed, LowerError, Lowering, Result, Seen, carried, text_of, texts_of};
 use clu_types::{Exception, Heading, OpSpec, Term, TypeArena, TypeId};
 use std::boxed::Box;

@@ -3,7 +3,7 @@
 
 use crate::assigning::{assign_one, call_results};
 use crate::declaring::{Declared, declared_by, decls_in};
-use clu_equates::node_at;
+use clu_core::node_at;
 use clu_lower_expr::{FLAG, Fixed, Lowering, OwnVariable, Result, assign_named, results_of};
 use clu_tree::{Node, NodeKind};
 use clu_wir::{HoleKind, WExpr, WStmt};
@@ -13,7 +13,7 @@ pub fn declare_owns(fixed: &mut Fixed, owns: &[u32], kind: HoleKind) -> Result<(
     let c = fixed.c;
     let mut number = FLAG;
     for own in owns {
-        number = declare_own(fixed, *own, node_at(&c.tree, *own)?, kind, number)?;
+        number = declare_own(fixed, *own, node_at(c.syntax.tree(), *own)?, kind, number)?;
     }
     Ok(())
 }
@@ -56,7 +56,7 @@ pub fn set_up(out: &mut Lowering, fixed: &Fixed, owns: &[u32], kind: HoleKind) -
     out.push(WStmt::Put(WExpr::Hole(kind, FLAG), 0, WExpr::Word(1)))?;
     for own in owns {
         let taken = out.taken();
-        initialize_own(out, fixed, *own, node_at(&fixed.c.tree, *own)?)?;
+        initialize_own(out, fixed, *own, node_at(fixed.c.syntax.tree(), *own)?)?;
         out.release(taken);
     }
     Ok(())
@@ -75,7 +75,7 @@ fn initialize_own(out: &mut Lowering, fixed: &Fixed, n: u32, own: &Node) -> Resu
 
 /// If the last of these nodes is a call, its results go to the variables of the Decls among them.
 fn initialize_several(out: &mut Lowering, fixed: &Fixed, nodes: &[u32], last: u32) -> Result<()> {
-    let call = node_at(&fixed.c.tree, last)?;
+    let call = node_at(fixed.c.syntax.tree(), last)?;
     if call.kind != NodeKind::Call {
         return Ok(());
     }

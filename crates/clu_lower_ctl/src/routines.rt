@@ -11,8 +11,7 @@ use crate::own_type::note_operation;
 use crate::own_variables::{declare_owns, set_up_once};
 use crate::walk::statements;
 use clu_base::Bytes;
-use clu_core::Checked;
-use clu_equates::{first_name, node_at};
+use clu_core::{Checked, first_name, node_at};
 use clu_lower_expr::{Declarations, Fixed, LowerError, Lowering, Result};
 use clu_tree::{Node, NodeKind};
 use clu_types::{Form, Spec};
@@ -31,11 +30,11 @@ pub fn lower(
 ) -> Result<Vec<WRoutine>>
     ensures { IfOk result (λ routines. All IsBounded routines.items) }
 {
-    let module = node_at(&c.tree, module)?;
+    let module = node_at(c.syntax.tree(), module)?;
     let Some(definition) = module.children.as_slice().last() else {
         return Err(LowerError::NotYet);
     };
-    let node = node_at(&c.tree, *definition)?;
+    let node = node_at(c.syntax.tree(), *definition)?;
     match node.kind {
         NodeKind::Cluster => cluster_routines(alloc, c, declarations, node),
         NodeKind::Routine => Ok(vec![in alloc;
@@ -112,7 +111,11 @@ pub fn specification<'a>(c: &'a Checked, name: &Bytes) -> Result<&'a Spec> {
 
 /// The count of a node.
 pub fn count(c: &Checked, n: u32) -> u32 {
-    if n < c.tree.len() { c.tree.nodes(n) } else { 0 }
+    if n < c.syntax.tree().len() {
+        c.syntax.tree().nodes(n)
+    } else {
+        0
+    }
 }
 
 /// The setting up of own variables, the statements, and the end: a procedure with results that reaches it fails.

@@ -6,8 +6,7 @@ use crate::declaring::{Declared, declare_formal, declared_by};
 use crate::nodes::is_item;
 use crate::walk::body;
 use clu_base::Bytes;
-use clu_core::Checked;
-use clu_equates::{node_at, term};
+use clu_core::{Checked, node_at, term};
 use clu_lower_expr::{
     Fixed, LowerError, Lowering, Result, again, binary, bind, lower_expr, place_of, type_of,
 };
@@ -36,7 +35,7 @@ pub fn tagcase(out: &mut Lowering, fixed: &Fixed, node: &Node, depth: u32) -> Re
     let selected = select(out, fixed, *of)?;
     let mut branches = Vec::new(out.alloc);
     for n in parts {
-        let arm = node_at(&fixed.c.tree, *n)?;
+        let arm = node_at(fixed.c.syntax.tree(), *n)?;
         if arm.kind == NodeKind::TagArm {
             let taken = out.taken();
             open_arm(out, fixed, *n, arm, selected, &mut branches)?;
@@ -99,7 +98,7 @@ fn declared_type(c: &Checked, arm: &Node) -> Result<Option<u32>> {
     let Some(n) = arm.children.as_slice().first() else {
         return Ok(None);
     };
-    Ok(if is_item(node_at(&c.tree, *n)?.kind) {
+    Ok(if is_item(node_at(c.syntax.tree(), *n)?.kind) {
         None
     } else {
         Some(*n)

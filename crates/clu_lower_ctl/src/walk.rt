@@ -9,7 +9,7 @@ use crate::leaving::{exit, return_values, signal, yield_values};
 use crate::looping::{for_loop, while_loop};
 use crate::nodes::is_statement;
 use crate::tagging::tagcase;
-use clu_equates::{node_at, only_child};
+use clu_core::{node_at, only_child};
 use clu_lower_expr::{
     Fixed, LowerError, Lowering, Result, lower_call, lower_expr, sugar_statement,
 };
@@ -30,7 +30,7 @@ pub fn statements(out: &mut Lowering, fixed: &Fixed, routine: &Node) -> Result<(
 pub fn body(out: &mut Lowering, fixed: &Fixed, nodes: &[u32], depth: u32) -> Result<()> {
     let taken = out.taken();
     for n in nodes {
-        if is_statement(node_at(&fixed.c.tree, *n)?.kind) {
+        if is_statement(node_at(fixed.c.syntax.tree(), *n)?.kind) {
             statement(out, fixed, *n, false, depth)?;
         }
     }
@@ -45,7 +45,7 @@ pub fn statement(out: &mut Lowering, fixed: &Fixed, n: u32, bare: bool, depth: u
     let Some(depth) = depth.checked_sub(1) else {
         return Err(LowerError::NotYet);
     };
-    let node = node_at(&fixed.c.tree, n)?;
+    let node = node_at(fixed.c.syntax.tree(), n)?;
     match node.kind {
         NodeKind::Declare => return declare(out, fixed, node),
         NodeKind::Init => return initialize(out, fixed, n, node, bare),

@@ -5,8 +5,7 @@ use crate::errors::{LowerError, Result};
 use crate::fixed::Fixed;
 use crate::lowering::Lowering;
 use clu_base::Bytes;
-use clu_core::Checked;
-use clu_equates::{node_at, term};
+use clu_core::{Checked, node_at, term};
 use clu_specs::type_text;
 use clu_tree::{Node, NodeKind};
 use clu_types::{Term, TypeArena, TypeId};
@@ -31,7 +30,7 @@ pub fn denoted_type(fixed: &Fixed, n: u32) -> Result<TypeId> {
     match fixed.c.denoted.get(n as usize) {
         Some(Some(of)) => Ok(*of),
         _ => match fixed.rep {
-            Some(rep) if is_cvt(node_at(&fixed.c.tree, n)?) => Ok(rep),
+            Some(rep) if is_cvt(node_at(fixed.c.syntax.tree(), n)?) => Ok(rep),
             _ => Err(LowerError::NotYet),
         },
     }

@@ -5,8 +5,7 @@ use crate::binding::{bind, is_any, type_of};
 use crate::errors::{LowerError, Result};
 use crate::lowering::Lowering;
 use clu_base::Bytes;
-use clu_core::Checked;
-use clu_equates::{node_at, only_child, term};
+use clu_core::{Checked, node_at, only_child, term};
 use clu_tree::Node;
 use clu_types::{Field, Term, TypeId};
 use clu_wir::{Primitive, WExpr, WOp, WStmt};
@@ -36,7 +35,14 @@ pub fn fields(
     allocate(out, slot, (components.len() as u64).saturating_add(1))?;
     let parts = node.children.as_slice().iter().skip(1);
     for (part, value) in parts.zip(values.as_slice()) {
-        field(out, c, node_at(&c.tree, *part)?, value, components, slot)?;
+        field(
+            out,
+            c,
+            node_at(c.syntax.tree(), *part)?,
+            value,
+            components,
+            slot,
+        )?;
     }
     out.release(slot.saturating_add(1));
     Ok(WExpr::Slot(slot))

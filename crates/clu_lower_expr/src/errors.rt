@@ -1,7 +1,7 @@
 //! Why a routine was not lowered.
 
 use clu_base::Memory;
-use clu_equates::CheckError;
+use clu_core::LookupError;
 use std::alloc::{AllocError, AllocFailed};
 
 /// Why a routine was not lowered.
@@ -34,10 +34,10 @@ impl<T: Drop> From<AllocFailed<T>> for LowerError {
     }
 }
 
-impl From<CheckError> for LowerError {
-    fn from(error: CheckError) -> LowerError {
+impl From<LookupError> for LowerError {
+    fn from(error: LookupError) -> LowerError {
         match error {
-            CheckError::Memory => LowerError::Memory,
+            LookupError::Memory => LowerError::Memory,
             _ => LowerError::NotYet,
         }
     }

@@ -4,8 +4,7 @@
 use crate::declarations::Declarations;
 use crate::errors::Result;
 use clu_base::{Bytes, Memory};
-use clu_core::Checked;
-use clu_equates::carry;
+use clu_core::{Checked, carry};
 use clu_types::{Actual, Demand, TypeArena, TypeId};
 use clu_wir::HoleKind;
 use indexmap::IndexMap;

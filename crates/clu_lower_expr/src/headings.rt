@@ -5,8 +5,7 @@ use crate::errors::{LowerError, Result};
 use crate::seen::Seen;
 use crate::uses::operation_of;
 use clu_base::{Bytes, Sequence};
-use clu_core::{Checked, OpRef};
-use clu_equates::{first_name, node_at, term};
+use clu_core::{Checked, OpRef, first_name, node_at, term};
 use clu_tree::{Node, NodeKind};
 use clu_types::{Field, Form, Heading, OpSpec, Spec, Term, TypeArena, TypeId};
 use std::alloc::Global;
@@ -106,9 +105,13 @@ fn heading_named<'a>(ops: &'a [OpSpec], name: &Bytes) -> Option<&'a Heading> {
 
 /// The Routine node of this name in the text of a cluster.
 pub fn routine_of<'a>(c: &'a Checked, cluster: &Bytes, name: &Bytes) -> Result<&'a Node> {
-    for module in c.tree.modules() {
-        if let Some(definition) = node_at(&c.tree, *module)?.children.as_slice().last() {
-            let definition = node_at(&c.tree, *definition)?;
+    for module in c.syntax.tree().modules() {
+        if let Some(definition) = node_at(c.syntax.tree(), *module)?
+            .children
+            .as_slice()
+            .last()
+        {
+            let definition = node_at(c.syntax.tree(), *definition)?;
             if definition.kind == NodeKind::Cluster && first_name(definition)? == cluster {
                 return routine_named(c, definition, name);
             }
@@ -119,7 +122,7 @@ pub fn routine_of<'a>(c: &'a Checked, cluster: &Bytes, name: &Bytes) -> Result<&
 
 fn routine_named<'a>(c: &'a Checked, cluster: &Node, name: &Bytes) -> Result<&'a Node> {
     for child in cluster.children.as_slice() {
-        let child = node_at(&c.tree, *child)?;
+        let child = node_at(c.syntax.tree(), *child)?;
         if child.kind == NodeKind::Routine && first_name(child)? == name {
             return Ok(child);
         }

@@ -8,8 +8,7 @@ use crate::in_place::{apply, apply_to, perform};
 use crate::lowering::Lowering;
 use crate::seen::Seen;
 use crate::uses::operation_of;
-use clu_core::{Checked, OpRef};
-use clu_equates::node_at;
+use clu_core::{Checked, OpRef, node_at};
 use clu_tree::{Node, NodeKind};
 use clu_types::TypeId;
 use clu_wir::{WExpr, WStmt};
@@ -38,7 +37,9 @@ pub fn invoke(
 /// The operation of a type that a call invokes by its name.
 fn invoked<'a>(c: &'a Checked, call: &Node) -> Result<Option<&'a OpRef>> {
     match call.children.as_slice().first() {
-        Some(n) if node_at(&c.tree, *n)?.kind == NodeKind::OperOf => Ok(operation_of(c, *n)),
+        Some(n) if node_at(c.syntax.tree(), *n)?.kind == NodeKind::OperOf => Ok(operation_of(
+            c, *n,
+        )),
         _ => Ok(None),
     }
 }

@@ -8,12 +8,20 @@ use crate::bounds::is_bounded;
 use crate::errors::{LowerError, Result};
 use crate::variables::Variable;
 use clu_base::{Bytes, Const, ObjConst};
+use clu_types::TypeId;
 use clu_wir::{HoleKind, WExpr, WRoutine, WStmt};
 use indexmap::{IndexMap, IndexSet};
 use std::alloc::Global;
 use std::boxed::Box;
 use std::hash::Hash;
 use std::mem;
+
+/// An operation of a type of the file's arena.
+#[derive(PartialEq, Eq, Hash, Drop)]
+pub struct TypeOperation {
+    pub of: TypeId,
+    pub name: Bytes,
+}
 
 /// A routine in the making. Slots are taken and given back like a stack: a statement's own slots stand after those of
 /// the variables in scope.
@@ -25,6 +33,8 @@ pub struct Lowering {
     /// Texts of uses, and constants, each once, in the order in which they are met.
     uses: IndexSet<Bytes>,
     constants: IndexSet<ObjConst>,
+    /// By the operations of the file's types that are used, their numbers among the uses.
+    operation_numbers: IndexMap<TypeOperation, u32>,
     /// By the places of the file's constants that are named, their numbers among these.
     constant_numbers: IndexMap<u32, u32>,
     /// Texts of types, and the place of each that is asked for alone.
@@ -52,6 +62,7 @@ impl Lowering {
             statements: Vec::new(alloc),
             uses: IndexSet::new(alloc),
             constants: IndexSet::new(alloc),
+            operation_numbers: IndexMap::new(alloc),
             constant_numbers: IndexMap::new(alloc),
             types: Vec::new(alloc),
             type_places: IndexMap::new(alloc),
@@ -170,10 +181,21 @@ impl Lowering {
         self.taken = self.taken.min(taken);
     }
 
-    /// The descriptor of what a use names, by its text.
-    pub fn descriptor(&mut self, text: Bytes) -> Result<WExpr> {
+    /// The number of what a use names, by its text.
+    pub fn use_number(&mut self, text: Bytes) -> Result<u32> {
         let (number, _) = self.uses.insert_full(text)?;
-        Ok(WExpr::Hole(HoleKind::Descriptor, place(number)?))
+        place(number)
+    }
+
+    /// The number of the use of an operation, if it was noted.
+    pub fn named_operation(&self, operation: &TypeOperation) -> Option<u32> {
+        self.operation_numbers.get(operation).copied()
+    }
+
+    /// Notes the number of the use of an operation.
+    pub fn note_operation(&mut self, operation: TypeOperation, number: u32) -> Result<()> {
+        self.operation_numbers.insert(operation, number)?;
+        Ok(())
     }
 
     /// The word of a constant that only the linker knows.

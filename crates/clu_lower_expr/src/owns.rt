@@ -4,6 +4,7 @@ use crate::binding::bind;
 use crate::errors::Result;
 use crate::fixed::{Fixed, OwnVariable};
 use crate::lowering::Lowering;
+use crate::uses::descriptor;
 use clu_base::Bytes;
 use clu_types::TypeId;
 use clu_wir::{HoleKind, WExpr, WStmt};
@@ -81,7 +82,7 @@ pub fn assign_named(
 /// Adds the call that sets up the own variables of the cluster round the routine, by the text of its use, where they were
 /// not set up.
 pub fn lower_own_set_up(out: &mut Lowering, text: Bytes) -> Result<()> {
-    let routine = out.descriptor(text)?;
+    let routine = descriptor(out.use_number(text)?);
     let call = WStmt::Call(routine, Vec::new(out.alloc), Vec::new(out.alloc));
     let setting = vec![in out.alloc; call]?;
     let flag = out.own_word(HoleKind::ClusterOwn, FLAG, 0)?;

@@ -12,7 +12,7 @@ use crate::seen::{Seen, seen_at, seen_of};
 use crate::uses::{node_operation, operation_of, type_operation};
 use crate::walk::lower_all;
 use clu_base::Bytes;
-use clu_equates::node_at;
+use clu_core::node_at;
 use clu_tree::{Node, NodeKind};
 use clu_types::TypeId;
 use clu_wir::{WExpr, WOp};
@@ -190,7 +190,7 @@ fn not_operation(out: &mut Lowering, fixed: &Fixed, n: u32, seen: Option<&Seen>)
 pub fn sugar_statement(out: &mut Lowering, fixed: &Fixed, n: u32) -> Result<()> {
     let operation = node_operation(out, fixed.c, n)?;
     let free = out.taken();
-    let node = node_at(&fixed.c.tree, n)?;
+    let node = node_at(fixed.c.syntax.tree(), n)?;
     let operands = bound_children(out, fixed, n, node, free)?;
     perform(
         out,

@@ -10,8 +10,7 @@ use crate::lowering::{Lowering, only_word};
 use crate::names::name;
 use crate::sugar::{is_condition, note_operator, sugar};
 use crate::uses::{force_of, node_operation, operation_of};
-use clu_core::{Checked, OpRef};
-use clu_equates::{node_at, only_child};
+use clu_core::{Checked, OpRef, node_at, only_child};
 use clu_tree::{Node, NodeKind};
 use clu_wir::{WExpr, WStmt};
 use std::boxed::Box;
@@ -28,7 +27,7 @@ pub fn lower_expr(out: &mut Lowering, fixed: &Fixed, n: u32) -> Result<WExpr> {
 
 /// Adds the code of a call whose results, if it has any, go into these slots.
 pub fn lower_call(out: &mut Lowering, fixed: &Fixed, call: u32, results: Vec<u32>) -> Result<()> {
-    let node = node_at(&fixed.c.tree, call)?;
+    let node = node_at(fixed.c.syntax.tree(), call)?;
     if node.kind != NodeKind::Call {
         return Err(LowerError::NotYet);
     }
@@ -53,7 +52,7 @@ fn walk(out: &mut Lowering, fixed: &Fixed, n: u32, depth: u32) -> Result<WExpr> 
         return Err(LowerError::NotYet);
     };
     let c = fixed.c;
-    let node = node_at(&c.tree, n)?;
+    let node = node_at(c.syntax.tree(), n)?;
     match node.kind {
         NodeKind::Literal => literal(out, node.value.as_slice()),
         NodeKind::Name => name(out, fixed, n),

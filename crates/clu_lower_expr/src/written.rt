@@ -5,8 +5,7 @@ use crate::binding::is_cvt;
 use crate::errors::{LowerError, Result};
 use crate::seen::{Sealed, Seen};
 use clu_base::{Bytes, Sequence};
-use clu_core::Checked;
-use clu_equates::{carry, first_name, node_at};
+use clu_core::{Checked, carry, first_name, node_at};
 use clu_tree::{Node, NodeKind};
 use clu_types::{Exception, Heading, TypeId};
 use indexmap::IndexMap;
@@ -57,7 +56,7 @@ impl Reading<'_> {
         signals: &mut IndexMap<Bytes, Vec<TypeId>>,
     ) -> Result<()> {
         for child in node.children.as_slice() {
-            let child = node_at(&self.c.tree, *child)?;
+            let child = node_at(self.c.syntax.tree(), *child)?;
             match child.kind {
                 NodeKind::Decl => self.add_args(child, args)?,
                 NodeKind::Results => self.add_types(child, results)?,
@@ -92,7 +91,7 @@ impl Reading<'_> {
         signals: &mut IndexMap<Bytes, Vec<TypeId>>,
     ) -> Result<()> {
         for child in node.children.as_slice() {
-            let exception = node_at(&self.c.tree, *child)?;
+            let exception = node_at(self.c.syntax.tree(), *child)?;
             self.add_signal(exception, signals)?;
         }
         Ok(())
@@ -124,7 +123,7 @@ impl Reading<'_> {
                 *of,
                 self.sealed.actuals.as_slice(),
             )?),
-            _ if is_cvt(node_at(&self.c.tree, n)?) => Ok(self.sealed.of),
+            _ if is_cvt(node_at(self.c.syntax.tree(), n)?) => Ok(self.sealed.of),
             _ => Err(LowerError::NotYet),
         }
     }

@@ -23,7 +23,5 @@ pub use crate::name_rules::{v4, v5, v6, v7, v37};
 pub use crate::own::own_places;
 pub use crate::repeated::Items;
 pub use crate::tables::{Tables, is_repeated, stands_in};
-pub use crate::views::{
-    exception_at, is_kind, others_at, own_at, statement_at, tag_arm_at, when_at,
-};
+pub use crate::views::{exception_at, is_kind, others_at, own_at, tag_arm_at, when_at};
 pub use crate::words::Words;

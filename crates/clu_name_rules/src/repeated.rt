@@ -5,7 +5,8 @@ ghost use Rattle.std.specs.Prelude.{◌<◌, length};
 
 use crate::words::Words;
 use clu_base::Memory;
-use clu_bindings::{is_at, kind_of, set};
+use clu_bindings::{kind_of, set};
+use clu_head::is_at;
 use clu_names::Declared;
 use clu_syntax::Syntax;
 use clu_tree::NodeKind;

@@ -3,8 +3,9 @@
 ghost use Rattle.std.specs.Prelude.{◌≡◌, ◌<◌, IsTrue, length};
 ghost use Rattle.clu_syntax.specs.Kinds.{kind_at};
 
-use clu_bindings::{File, is_at};
-use clu_syntax::{Cluster, Exception, Others, Own, Restriction, Statement, TagArm, When};
+use clu_bindings::File;
+use clu_head::is_at;
+use clu_syntax::{Cluster, Exception, Others, Own, Restriction, TagArm, When};
 use clu_tree::NodeKind;
 
 /// Whether the node n is there and of this kind.
@@ -13,14 +14,6 @@ pub fn is_kind(f: File<'_>, kind: NodeKind, n: u32) -> bool
     ensures kind { IsTrue result → kind_at f.entry.syntax.now n ≡ kind }
 {
     is_at(f.syntax.tree(), n, kind)
-}
-
-pub fn statement_at<'a>(f: File<'a>, n: u32) -> Option<Statement<'a>> {
-    if n < f.syntax.tree().len() {
-        Some(f.syntax.statement(n))
-    } else {
-        None
-    }
 }
 
 pub fn own_at<'a>(f: File<'a>, n: u32) -> Option<Own<'a>> {

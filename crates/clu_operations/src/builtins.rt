@@ -5,10 +5,10 @@ ghost use Rattle.std.specs.Prelude.{◌<◌, length, IfOk};
 
 use crate::finding::Finding;
 use crate::found::{Asked, FoundId};
-use crate::shapes::interned;
 use crate::words::NameId;
 use clu_base::{Bytes, Memory, Sequence};
 use clu_builtin::{Builtin, Need, heading};
+use clu_head::interned;
 use clu_types::{Field, Heading, Term, TypeArena, TypeId};
 use std::alloc::Global;
 

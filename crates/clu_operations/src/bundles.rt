@@ -2,9 +2,8 @@
 //! than the module's heading. They are put together as the arguments of routine types, so that many are carried at once.
 
 use crate::modules::{OwnPart, of_routine, routines_in, whole};
-use crate::shapes::interned;
 use clu_base::{Memory, Sequence};
-use clu_head::{Head, HeadForm};
+use clu_head::{Head, HeadForm, interned};
 use clu_types::{Actual, Heading, Term, TypeArena, TypeId};
 use std::alloc::Global;
 

@@ -1,6 +1,6 @@
 //! What kinds of type have operations.
 
-use clu_base::{Bytes, Memory};
+use clu_base::Bytes;
 use clu_types::{Term, TypeArena, TypeId};
 
 /// What kind of type has operations.
@@ -31,14 +31,5 @@ pub fn cluster_name(types: &TypeArena, of: TypeId) -> Option<&Bytes> {
     match types.view(of) {
         Term::Cluster(name, _) => Some(name),
         _ => None,
-    }
-}
-
-/// The type of this term, unless a part of it is not of the arena.
-pub fn interned(types: &mut TypeArena, term: Term) -> Result<Option<TypeId>, Memory> {
-    if types.holds(&term) {
-        Ok(Some(types.intern(term)?))
-    } else {
-        Ok(None)
     }
 }

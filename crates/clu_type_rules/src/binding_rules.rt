@@ -4,7 +4,7 @@
 use crate::known::{Known, heading_of, invoked_by, may_be};
 use crate::objects::{Objects, count_declared, fit_decl, fit_decls};
 use clu_bindings::{Meaning, type_inside};
-use clu_name_rules::{is_kind, own_at, statement_at};
+use clu_name_rules::{is_kind, own_at};
 use clu_syntax::{Own, Statement};
 use clu_tree::NodeKind;
 use clu_types::TypeId;
@@ -55,7 +55,7 @@ fn assigned<'a>(k: &Known<'a>, n: u32, values: &'a [u32]) -> Option<Binding<'a>>
 }
 
 fn bound_by<'a>(k: &Known<'a>, n: u32) -> Option<Binding<'a>> {
-    match statement_at(k.tables.file, n)? {
+    match k.tables.file.statement(n)? {
         Statement::Init { value, .. } => Some(Binding {
             variables: Variables::One(n),
             objects: Objects::Value(value),

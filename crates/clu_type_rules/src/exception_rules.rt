@@ -4,7 +4,7 @@ use crate::known::{Known, routine_round, term};
 use crate::objects::{Objects, fit_types, take_objects};
 use clu_base::Bytes;
 use clu_bindings::{type_inside, type_outside};
-use clu_name_rules::{exception_at, is_kind, is_repeated, others_at, statement_at, when_at};
+use clu_name_rules::{exception_at, is_kind, is_repeated, others_at, when_at};
 use clu_syntax::{Others, Statement, Taken, When};
 use clu_tree::NodeKind;
 use clu_types::{Term, TypeId};
@@ -197,7 +197,7 @@ fn arm_for(k: &Known<'_>, n: u32, name: &Bytes) -> Option<u32> {
 /// V27: no `when` arm of that name is round the `exit` in the routine (section 12.3). In `begin exit e end except others: end` at
 /// `exit`.
 pub fn v27(k: &Known<'_>, n: u32) -> bool {
-    match statement_at(k.tables.file, n) {
+    match k.tables.file.statement(n) {
         Some(Statement::Exit { name, .. }) => arm_for(k, n, name).is_none(),
         _ => false,
     }
@@ -219,7 +219,7 @@ fn arm_takes(k: &Known<'_>, bad: &[bool], arm: u32, objects: Objects<'_>) -> boo
 }
 
 fn has_other_types(k: &Known<'_>, bad: &[bool], n: u32) -> bool {
-    match statement_at(k.tables.file, n) {
+    match k.tables.file.statement(n) {
         Some(Statement::Signal { name, values }) => {
             !fit_heading(k, n, name, Objects::Values(values))
         }

@@ -1,7 +1,8 @@
 //! The parts of routines that are asked for at their statements: whether it is a procedure, its results and its exceptions.
 
 use clu_base::Memory;
-use clu_bindings::{is_at, kind_of};
+use clu_bindings::kind_of;
+use clu_head::is_at;
 use clu_syntax::{RoutineKind, Syntax};
 use clu_tree::{NodeKind, Tree};
 use std::alloc::Global;

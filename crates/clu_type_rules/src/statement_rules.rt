@@ -11,7 +11,7 @@ use crate::objects::{Objects, fit_types};
 use crate::routines::Parts;
 use clu_base::Bytes;
 use clu_bindings::{File, Wanted, type_inside};
-use clu_name_rules::{component_type, is_kind, is_repeated, statement_at, tag_arm_at};
+use clu_name_rules::{component_type, is_kind, is_repeated, tag_arm_at};
 use clu_syntax::{Statement, TagArm};
 use clu_tree::NodeKind;
 use clu_types::{Field, Term, TypeId};
@@ -143,7 +143,7 @@ fn count_tags(f: File<'_>, arms: &[u32]) -> usize {
 /// Whether the Tagcase n leaves a tag. A foreign tag and one that stands twice are refused at their arm before; so tags that are
 /// fewer than those of the type leave one.
 fn leaves_tag(k: &Known<'_>, n: u32) -> bool {
-    match statement_at(k.tables.file, n) {
+    match k.tables.file.statement(n) {
         Some(
             Statement::Tagcase {
                 arms,
@@ -218,7 +218,7 @@ pub fn v30(k: &Known<'_>, n: u32) -> bool {
 
 /// The type of what a For invokes, if it is known and that of no iterator.
 fn loops_over_other(k: &Known<'_>, n: u32) -> bool {
-    match statement_at(k.tables.file, n) {
+    match k.tables.file.statement(n) {
         Some(Statement::For { call, .. } | Statement::ForNames { call, .. }) => {
             let of = invoked_by(k, call);
             of.is_some() && !is_iterator(k, of)

@@ -1,7 +1,6 @@
 //! The operation for which a node stands, found in the type of its operand (CLU Reference Manual, section 10).
 
 use crate::facts::{Facts, Operation, operation_of};
-use crate::nodes::statement_at;
 use crate::operators::{infix_operation, is_negated, prefix_operation};
 use clu_base::{Bytes, Memory};
 use clu_bindings::{Headed, Meaning, own_type, type_of_value};
@@ -232,7 +231,7 @@ fn by_statement(
     facts: &mut Facts,
     n: u32,
 ) -> Result<Applied, Memory> {
-    match statement_at(headed.file, n) {
+    match headed.file.statement(n) {
         Some(Statement::SetField { of, selector, .. }) => {
             selected(headed, types, facts, n, "set_", selector, of)
         }

@@ -1,7 +1,7 @@
 //! What stands at a node.
 
 use clu_bindings::{File, is_object_wanted};
-use clu_syntax::{Statement, is_expression};
+use clu_syntax::is_expression;
 use clu_tree::NodeKind;
 
 /// Whether the node n stands for an object, or for an operation that changes one. Constants and actual parameters invoke nothing.
@@ -17,14 +17,5 @@ pub fn has_actuals(file: File<'_>, n: u32) -> bool {
     match file.children(n) {
         [first, ..] => file.takes_actuals(*first),
         [] => false,
-    }
-}
-
-/// The statement at the node n, if it is there.
-pub fn statement_at<'a>(file: File<'a>, n: u32) -> Option<Statement<'a>> {
-    if n < file.syntax.tree().len() {
-        Some(file.syntax.statement(n))
-    } else {
-        None
     }
 }

@@ -2,7 +2,7 @@
 
 use crate::applied::Applied;
 use crate::facts::{Facts, Operation};
-use crate::nodes::{has_actuals, statement_at};
+use crate::nodes::has_actuals;
 use crate::raising::{FAILURE, NOTHING, RaisesId};
 use clu_base::{Bytes, Memory};
 use clu_bindings::{File, Headed, Meaning};
@@ -89,7 +89,7 @@ fn without(
 /// What of the statement of the Except or Resignal n isn't taken by name or by others.
 fn passed_on(file: File<'_>, facts: &mut Facts, n: u32) -> Result<RaisesId, Memory> {
     let mut taken = Vec::new(file.alloc);
-    match statement_at(file, n) {
+    match file.statement(n) {
         Some(
             Statement::Except {
                 statement,

@@ -1,43 +1,35 @@
 //! The types of expressions, each from the types of what stands in it. An expression that violates a rule may have none.
 
-ghost use Rattle.std.specs.Prelude.{length};
-ghost use Rattle.clu_types.specs.Arena.{PartsBelow};
-
 use crate::applied::{Applied, module_operation, result_of};
 use crate::facts::Facts;
 use clu_base::{Bytes, Const, Memory, Sequence};
 use clu_bindings::{
     Headed, Meaning, known_inside, own_type, parameter_type, representation, type_of_value,
 };
+use clu_head::interned;
 use clu_settle::Value;
 use clu_syntax::{Expression, Literal, Operator, is_expression};
 use clu_types::{Exception, Heading, Term, TypeArena, TypeId};
 use std::alloc::Global;
 
-fn simple_type(types: &mut TypeArena, term: Term) -> Result<Option<TypeId>, Memory>
-    requires { PartsBelow (length types.old) term }
-{
-    Ok(Some(types.intern(term)?))
-}
-
 fn literal_type(types: &mut TypeArena, literal: Literal<'_>) -> Result<Option<TypeId>, Memory> {
     match literal {
-        Literal::Nil => simple_type(types, Term::Null),
-        Literal::True | Literal::False => simple_type(types, Term::Bool),
-        Literal::Integer(_) => simple_type(types, Term::Int),
+        Literal::Nil => interned(types, Term::Null),
+        Literal::True | Literal::False => interned(types, Term::Bool),
+        Literal::Integer(_) => interned(types, Term::Int),
         Literal::Real(_) => Ok(None),
-        Literal::Character(_) => simple_type(types, Term::Char),
-        Literal::String(_) => simple_type(types, Term::Str),
+        Literal::Character(_) => interned(types, Term::Char),
+        Literal::String(_) => interned(types, Term::Str),
     }
 }
 
 fn constant_type(types: &mut TypeArena, constant: &Const) -> Result<Option<TypeId>, Memory> {
     match constant {
-        Const::Null => simple_type(types, Term::Null),
-        Const::Bool(_) => simple_type(types, Term::Bool),
-        Const::Int(_) => simple_type(types, Term::Int),
-        Const::Char(_) => simple_type(types, Term::Char),
-        Const::Str(_) => simple_type(types, Term::Str),
+        Const::Null => interned(types, Term::Null),
+        Const::Bool(_) => interned(types, Term::Bool),
+        Const::Int(_) => interned(types, Term::Int),
+        Const::Char(_) => interned(types, Term::Char),
+        Const::Str(_) => interned(types, Term::Str),
     }
 }
 
@@ -110,7 +102,7 @@ fn infix_type(
     operator: Operator,
 ) -> Result<Option<TypeId>, Memory> {
     match operator {
-        Operator::Cand | Operator::Cor => simple_type(types, Term::Bool),
+        Operator::Cand | Operator::Cor => interned(types, Term::Bool),
         _ => Ok(applied_type(types, facts, applied)),
     }
 }
@@ -158,11 +150,7 @@ fn force_type(
         results: one(alloc, to)?,
         signals: wrong_type(alloc)?,
     });
-    if types.holds(&term) {
-        simple_type(types, term)
-    } else {
-        Ok(None)
-    }
+    interned(types, term)
 }
 
 fn expression_type(

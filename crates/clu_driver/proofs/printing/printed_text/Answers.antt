@@ -19,5 +19,7 @@ print_found (Some all) name bytes text tokens nodes found source is =
 pub returns-in-Ok-clause-printed : goal.returns-in-Ok-clause-printed
 returns-in-Ok-clause-printed g c =
     let s = c.in_ok-source.source in
-    print_found (g.F.Store.files c.args.files.now) c.args.file.now s.bytes.items c.in-Ok.text s.tokens.items s.tree c.in_ok-source.ensures.found c.in_ok-source.ensures.parsed
-    (c.in-Ok.ensures ∙ ap (λ (b : List ℕ). printed b c.deref-2.result.now s.tree) c.deref.ensures.value ∙ ap (λ (ts : List Token). printed s.bytes.items ts s.tree) c.deref-2.ensures.value)
+    print_found (g.F.Store.files c.args.files.now) c.args.file.now s.bytes.items c.in-Ok.text s.tokens.items s.syntax c.in_ok-source.ensures.found c.in_ok-source.ensures.parsed
+    (c.in-Ok.ensures ∙ ap (λ (b : List ℕ). printed b c.deref-2.result.now c.tree.result.now) c.deref.ensures.value
+    ∙ ap (λ (ts : List Token). printed s.bytes.items ts c.tree.result.now) c.deref-2.ensures.value
+    ∙ ap (λ (ns : List Node). printed s.bytes.items s.tokens.items ns) c.tree.ensures.same)

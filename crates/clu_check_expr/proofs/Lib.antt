@@ -1,2 +1,0 @@
--- Lemmas on needs that are asked one after the other.
-pub mod Asking

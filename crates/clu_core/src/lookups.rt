@@ -1,0 +1,86 @@
+//! What is looked up of nodes and types by callers that keep no count of them: a number that is none of the tree or of the
+//! arena, and a child that isn't there, is `NotYet`.
+
+use clu_base::{Bytes, Memory};
+use clu_tree::{Node, Tree};
+use clu_types::{Actual, Term, TypeArena, TypeId};
+use std::alloc::{AllocError, Global};
+
+/// Why nothing was found.
+#[derive(Clone, Copy, Debug, PartialEq, Eq)]
+pub enum LookupError {
+    /// Memory was refused.
+    Memory,
+    /// What no source brings about, but no contract rules out yet.
+    NotYet,
+}
+
+impl From<Memory> for LookupError {
+    fn from(_error: Memory) -> LookupError {
+        LookupError::Memory
+    }
+}
+
+impl From<AllocError> for LookupError {
+    fn from(_error: AllocError) -> LookupError {
+        LookupError::Memory
+    }
+}
+
+/// The node of this number.
+pub fn node_at(tree: &Tree, n: u32) -> Result<&Node, LookupError> {
+    if n < tree.len() {
+        Ok(tree.node(n))
+    } else {
+        Err(LookupError::NotYet)
+    }
+}
+
+/// The only child of a node.
+pub fn only_child(node: &Node) -> Result<u32, LookupError> {
+    match node.children.as_slice() {
+        [child] => Ok(*child),
+        _ => Err(LookupError::NotYet),
+    }
+}
+
+/// The first name that stands directly in a node.
+pub fn first_name(node: &Node) -> Result<&Bytes, LookupError> {
+    match node.names.as_slice() {
+        [name, ..] => Ok(name),
+        [] => Err(LookupError::NotYet),
+    }
+}
+
+/// The number of the type that a term denotes.
+pub fn intern(types: &mut TypeArena, term: Term) -> Result<TypeId, LookupError> {
+    if types.holds(&term) {
+        Ok(types.intern(term)?)
+    } else {
+        Err(LookupError::NotYet)
+    }
+}
+
+/// The term of a type.
+pub fn term(types: &TypeArena, id: TypeId) -> Result<&Term, LookupError> {
+    if types.contains(id) {
+        Ok(types.view(id))
+    } else {
+        Err(LookupError::NotYet)
+    }
+}
+
+/// The type that `t` has in another arena, with actuals of this one put in for its parameters.
+pub fn carry(
+    alloc: Global,
+    types: &mut TypeArena,
+    from: &TypeArena,
+    t: TypeId,
+    actuals: &[Actual],
+) -> Result<TypeId, LookupError> {
+    if from.contains(t) && types.holds_actuals(actuals) {
+        Ok(types.carry(alloc, from, t, actuals)?)
+    } else {
+        Err(LookupError::NotYet)
+    }
+}

@@ -1,0 +1,9 @@
+pub mod ByNodes
+pub mod Counted
+pub mod Listing
+pub mod Marked
+pub mod ParameterKinds
+pub mod Places
+pub mod RepWords
+pub mod Routines
+pub mod Seen

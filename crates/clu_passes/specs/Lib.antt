@@ -1,0 +1,5 @@
+pub mod Counted
+pub mod Marks
+pub mod ParameterKinds
+pub mod Seen
+pub mod Told

@@ -1,2 +1,0 @@
-pub mod OwnSpecs
-mod Places

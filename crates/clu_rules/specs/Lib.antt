@@ -1,3 +1,0 @@
-pub mod Modules
-pub mod Refusals
-pub mod Rules
