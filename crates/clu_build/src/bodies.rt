@@ -1,6 +1,9 @@
 //! What is kept of a module beside its specification: the text, the names of other modules in it, and the object.
 
-ghost use Rattle.std.specs.Prelude.{◌≡◌, ◌-◌, IfErr, IfOk, Some, drop, take};
+ghost use Rattle.std.specs.Prelude.{◌≡◌, ◌-◌, IfErr, IfOk, Some, drop, map, take};
+ghost use Rattle.clu_frames.specs.Labels.{IsFlat};
+ghost use Rattle.clu_frames.specs.Regions.{AreRegions};
+ghost use Rattle.clu_handlers.specs.Seen.{seen};
 ghost use Rattle.clu_build.specs.Entering.{node_text};
 ghost use Rattle.clu_build.specs.Refusals.{IsInner};
 
@@ -13,7 +16,7 @@ use clu_library::Body;
 use clu_lower_ctl::lower;
 use clu_lower_expr::Declarations;
 use clu_object::{ObjRoutine, Object, copy_texts};
-use clu_peep::{Peeped, is_flattened, peep};
+use clu_peep::{Peeped, peep};
 use clu_wir::WRoutine;
 use rv_select::select;
 use std::alloc::Global;
@@ -120,14 +123,13 @@ fn routine_of(alloc: Global, routine: &WRoutine, peep: bool) -> Result<ObjRoutin
     Ok(select(alloc, &flat, &regions)?)
 }
 
-/// The code of a routine in shorter flat code. No contract shows yet that it can be shortened: it is tested.
+/// The code of a routine in shorter flat code.
 #[tactic(auto, using(crate::proofs::Refusals::bodies))]
 fn shorter(alloc: Global, flat: FlatRoutine, regions: &Regions) -> Result<ObjRoutine, BuildError>
+    requires flat { IsFlat flat.code.items }
+    requires nest { AreRegions flat.code.items (map seen regions.now) }
     ensures refused { IfErr result IsInner }
 {
-    if !is_flattened(alloc, flat.code.as_slice(), regions.as_slice())? {
-        return Err(BuildError::NotYet);
-    }
     let Peeped { flat, regions } = peep(alloc, flat, regions)?;
     Ok(select(alloc, &flat, &regions)?)
 }

@@ -166,9 +166,9 @@ region 1 5 - /6/3
 is p 7
 uses guarded
 names early,late
-does enter 0; descriptor 1 0; invoke 1; jump 0; take 0; constant 1 0; word 2 55; resume 0
-does result 4 0; show 4 5; leave 0; label 0; leave 0
-region 1 7 - early/8/3 late/8/3
+does enter 0; descriptor 1 0; invoke 1; jump 0; take 0; constant 1 0; word 2 55; resume 0; label 0; leave 0
+does result 4 0; show 4 5; leave 0
+region 1 7 - early/10/3 late/10/3
 is guarded 7
 names late
 does enter 0; word 0 1; yield 0; constant 0 0; word 1 66; signal 0

@@ -6,37 +6,10 @@ use crate::regions::put_region;
 use crate::word_code::statements;
 use clu_base::{Bytes, Const, ObjConst};
 use clu_frames::{FlatRoutine, FrameError, flatten};
-use clu_wir::{Arm, RegionBuilder, RegionError, WRoutine, WStmt};
+use clu_handlers::Regions;
+use clu_wir::{WRoutine, WStmt};
 use std::alloc::Global;
 use std::test::Fail;
-
-/// Regions as text.
-#[derive(Drop)]
-struct Listed {
-    text: String,
-    count: u32,
-}
-
-impl RegionBuilder for Listed {
-    fn add(
-        &mut self,
-        _alloc: Global,
-        first: u32,
-        last: u32,
-        parent: Option<u32>,
-        arms: Vec<Arm>,
-    ) -> Result<u32, RegionError> {
-        let number = self.count;
-        put_region(&mut self.text, first, last, parent, arms.as_slice())?;
-        self.count = number.saturating_add(1);
-        Ok(number)
-    }
-
-    fn clear(&mut self) {
-        self.text.clear();
-        self.count = 0;
-    }
-}
 
 /// A routine with this body, without names and constants.
 fn empty(alloc: Global, body: Vec<WStmt>) -> Result<Box<WRoutine>, Fail> {
@@ -102,7 +75,7 @@ fn put_made(
     text: &mut String,
     routine: &WRoutine,
     parts: usize,
-    regions: &mut Listed,
+    regions: &mut Regions,
 ) -> Result<(), Fail> {
     match &flatten(alloc, routine, regions) {
         Ok(flat) => put_flat(text, routine, flat, parts),
@@ -118,12 +91,17 @@ fn put_flattened(
     routine: &WRoutine,
     parts: usize,
 ) -> Result<(), Fail> {
-    let mut regions = Listed {
-        text: String::new(alloc),
-        count: 0,
-    };
+    let mut regions = Regions::new(alloc);
     put_made(alloc, text, routine, parts, &mut regions)?;
-    Ok(text.push_str(regions.text.as_str())?)
+    put_regions(text, &regions)
+}
+
+fn put_regions(text: &mut String, regions: &Regions) -> Result<(), Fail> {
+    for region in regions.as_slice() {
+        let arms = region.arms.as_slice();
+        put_region(text, region.first, region.last, region.parent, arms)?;
+    }
+    Ok(())
 }
 
 /// Writes the flat code of the routine with the body of a text.

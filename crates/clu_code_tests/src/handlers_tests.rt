@@ -1,10 +1,10 @@
 //! Regions in code, the arms that are found in them, and their cuts. What is found is shown as one text.
 
-use crate::regions::{add_region, parent_of};
+use crate::regions::{add_region, insert, parent_of};
 use crate::text::small_at;
 use clu_base::Bytes;
 use clu_handlers::{NO_REGION, Regions};
-use clu_wir::{RegionBuilder, RegionError};
+use clu_wir::RegionBuilder;
 use std::alloc::Global;
 use std::fmt::Write;
 use std::test::Fail;
@@ -109,20 +109,22 @@ pub const MISPLACED: &str = "\
 /// Writes whether the range of a text inside its parent may be added to the two, and how many there are then.
 pub fn put_misplaced(alloc: Global, text: &mut String, given: &str) -> Result<(), Fail> {
     let mut regions = two(alloc)?;
-    let arms = Vec::new(alloc);
+    let first = small_at(given, 0);
+    let last = small_at(given, 1);
     let parent = parent_of(given);
-    match regions.add(alloc, small_at(given, 0), small_at(given, 1), parent, arms) {
-        Ok(_) => text.push_str(" added")?,
-        Err(RegionError::Misplaced) => text.push_str(" misplaced")?,
-        Err(_) => return Err("no region")?,
+    if regions.can_add(first, last, parent) {
+        insert(&mut regions, first, last, parent, Vec::new(alloc))?;
+        text.push_str(" added")?;
+    } else {
+        text.push_str(" misplaced")?;
     }
     Ok(write!(text, " {}", regions.len())?)
 }
 
 /// Adds a region from 6 to 9 inside the first one and another before it, and writes their numbers and the cuts.
 fn put_others(alloc: Global, text: &mut String, regions: &mut Regions) -> Result<(), Fail> {
-    let inside = regions.add(alloc, 6, 9, Some(0), Vec::new(alloc))?;
-    let before = regions.add(alloc, 0, 1, None, Vec::new(alloc))?;
+    let inside = insert(regions, 6, 9, Some(0), Vec::new(alloc))?;
+    let before = insert(regions, 0, 1, None, Vec::new(alloc))?;
     write!(text, " {inside} {before}")?;
     put_cuts(alloc, text, regions)
 }

@@ -128,7 +128,8 @@ fn put_more(text: &mut String, program: &mut Program, most: u64) -> Result<(), F
 /// How many rows `COUNTED` has.
 pub const COUNTED_COUNT: usize = 28;
 
-/// Each step where its words are the most: all slots are far. None takes more than are counted.
+/// Each step where its words are the most: all slots are far. None takes more than are counted, and the last one, which
+/// follows them all, takes as many.
 pub const COUNTED: &str = "\
 move 900 901\0\
 word 900 0x123456789abcdef0\0\
@@ -138,13 +139,13 @@ load 900 901 4096\0\
 byte 900 901\0\
 save 900 4096 901\0\
 equal 900 901 902\0\
-label 0\0\
-jump 1\0\
-branch 900 1\0\
+label 1\0\
+jump 0\0\
+branch 900 0\0\
 enter 0\0\
 invoke 900\0\
 yield 900 1\0\
-resume 900\0\
+invoke 900; jump 1; take 900; resume 900; label 1\0\
 take 900\0\
 result 900 4096\0\
 cut 900\0\
@@ -159,15 +160,16 @@ write 900\0\
 save_byte 900\0\
 bind 900 901 902";
 
-/// Writes whether a step has more words than are counted of it; after it stands a label.
-pub fn put_counted(alloc: Global, text: &mut String, step: &str) -> Result<(), Fail> {
-    let mut program = begun(alloc, step)?;
-    let most = match program.flat.code.first() {
-        Some(step) => step.words(),
-        None => 0,
-    };
-    program.line("does", "label 1")?;
-    put_more(text, &mut program, most)
+/// Writes whether steps have more words than are counted of them, with a label and an end after them.
+pub fn put_counted(alloc: Global, text: &mut String, steps: &str) -> Result<(), Fail> {
+    let mut program = begun(alloc, steps)?;
+    put_ended(text, &mut program)
+}
+
+fn put_ended(text: &mut String, program: &mut Program) -> Result<(), Fail> {
+    program.line("does", "label 0; leave 900 2")?;
+    let most = program.flat.words();
+    put_more(text, program, most)
 }
 
 /// How many rows `WITHIN` has.
@@ -187,11 +189,10 @@ pub const WITHIN: &str = "\
 
 /// Writes whether a slot is set to an expression in more words than are counted.
 pub fn put_within(alloc: Global, text: &mut String, line: &str) -> Result<(), Fail> {
-    let mut program = begun(alloc, "label 0")?;
+    let mut program = begun(alloc, "label 1")?;
     program.line("names", "e")?;
     program.line("sets", line)?;
-    let most = program.flat.words();
-    put_more(text, &mut program, most)
+    put_ended(text, &mut program)
 }
 
 /// How many rows `REFUSED` has.
@@ -212,6 +213,7 @@ entry 0 1 gives refused";
 /// Writes whether steps are refused.
 pub fn put_refused(alloc: Global, text: &mut String, steps: &str) -> Result<(), Fail> {
     let mut program = begun(alloc, steps)?;
+    program.line("does", "leave")?;
     program.select()?;
     if program.is_refused {
         text.push_str(" refused")?;
@@ -227,7 +229,7 @@ pub const ENDS_COUNT: usize = 3;
 /// word 2^18. Then another word stands before label 0, and another jump back after that one.
 pub const ENDS: &str = "\
 label 1; jump 0; 639*enter 200; 76*move 0 0; label 0; jump 1; jump 1 gives 7fdff06f 8000006f\0\
-label 1; jump 0; 639*enter 200; 76*move 0 0; jump 1; label 0 gives refused\0\
+label 1; jump 0; 639*enter 200; 76*move 0 0; jump 1; label 0; leave gives refused\0\
 label 1; jump 0; 639*enter 200; 76*move 0 0; label 0; jump 1; jump 1; jump 1 gives refused";
 
 /// Writes the first and the last word of a routine of these steps, or that it is refused.

@@ -9,6 +9,8 @@ mod exception_rows;
 #[cfg(test)]
 mod expression_rows;
 #[cfg(test)]
+mod flattened;
+#[cfg(test)]
 mod flow_rows;
 #[cfg(test)]
 mod frames_rows;
@@ -20,6 +22,8 @@ mod handlers_tests;
 mod layout_tests;
 #[cfg(test)]
 mod linker;
+#[cfg(test)]
+mod loops;
 #[cfg(test)]
 mod machine_rows;
 #[cfg(test)]

@@ -1,11 +1,12 @@
 //! Flat code that is shortened, reckoned by hand.
 
+use crate::flattened::{all_placed, is_flat};
 use crate::program::{Program, no_routine};
 use crate::regions::put_region;
 use clu_base::Memory;
 use clu_frames::{Flat, FlatRoutine};
 use clu_handlers::{Region, Regions};
-use clu_peep::{Peeped, is_flattened, peep};
+use clu_peep::{Peeped, peep};
 use std::alloc::Global;
 use std::fmt::Write;
 use std::mem;
@@ -35,14 +36,17 @@ fn put_left(text: &mut String, peeped: &Peeped) -> Result<(), Fail> {
     Ok(put_regions(text, peeped.regions.as_slice())?)
 }
 
-/// Writes what is left of a routine, or that it can't be shortened.
+/// Writes what is left of a routine, or that it is not flat.
 fn put_shortened(
     alloc: Global,
     text: &mut String,
     flat: Box<FlatRoutine>,
     regions: &Regions,
 ) -> Result<(), Fail> {
-    if !is_flattened(alloc, flat.code.as_slice(), regions.as_slice())? {
+    if !is_flat(alloc, flat.code.as_slice())? {
+        return Ok(text.push_str(" refused")?);
+    }
+    if !all_placed(flat.code.len(), regions.as_slice()) {
         return Ok(text.push_str(" refused")?);
     }
     match &peep(alloc, Box::into_inner(flat), regions) {

@@ -11,7 +11,8 @@
 //! - `region ..` is a region of its steps, and `each FIRST END` a region without arms for each step before `END`.
 //! - `input TEXT` is the input of the run, and `steps COUNT` how many steps it has.
 
-use crate::regions::add_region;
+use crate::flattened::is_flat;
+use crate::regions::{add_region, insert};
 use crate::steps::{put, put_step};
 use crate::text::{first_word, number, number_at, small_at};
 use crate::word_code::Made;
@@ -130,7 +131,7 @@ impl Program {
     fn each(&mut self, first: u32, last: u32) -> Result<(), Fail> {
         for step in first..last {
             let arms = Vec::new(self.alloc);
-            self.regions.add(self.alloc, step, step, None, arms)?;
+            insert(&mut self.regions, step, step, None, arms)?;
         }
         Ok(())
     }
@@ -232,9 +233,13 @@ impl Program {
         self.put(Flat::Prim(Primitive::Write.number(), work))
     }
 
-    /// Selects the routine that was begun last, if there is one.
+    /// Selects the routine that was begun last, if there is one. Code that is not flat is refused.
     pub fn select(&mut self) -> Result<(), Fail> {
         if self.flat.code.is_empty() {
+            return Ok(());
+        }
+        if !is_flat(self.alloc, self.flat.code.as_slice())? {
+            self.is_refused = true;
             return Ok(());
         }
         let selected = select(self.alloc, &self.flat, &self.regions);

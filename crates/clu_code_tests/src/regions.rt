@@ -3,8 +3,8 @@
 
 use crate::text::{number, small, small_at};
 use clu_base::{Bytes, Memory};
-use clu_handlers::Regions;
-use clu_wir::{Arm, RegionBuilder};
+use clu_handlers::{Region, Regions};
+use clu_wir::Arm;
 use std::alloc::Global;
 use std::fmt::Write;
 use std::test::Fail;
@@ -16,8 +16,30 @@ pub fn add_region(alloc: Global, regions: &mut Regions, text: &str) -> Result<()
     let parent = parent_of(text);
     let mut arms = Vec::new(alloc);
     put_arms(alloc, &mut arms, text)?;
-    regions.add(alloc, first, last, parent, arms)?;
+    insert(regions, first, last, parent, arms)?;
     Ok(())
+}
+
+/// Adds a region that may be added, and gives its number.
+pub fn insert(
+    regions: &mut Regions,
+    first: u32,
+    last: u32,
+    parent: Option<u32>,
+    arms: Vec<Arm>,
+) -> Result<u32, Fail> {
+    if !regions.can_add(first, last, parent) {
+        return Err("misplaced")?;
+    }
+    if regions.len() >= 1000 || arms.len() >= 1000 {
+        return Err("too many regions or arms")?;
+    }
+    Ok(regions.insert(Region {
+        first,
+        last,
+        parent,
+        arms,
+    })?)
 }
 
 /// The number of the region round the one of a text.

@@ -2,7 +2,8 @@
 use Rattle.std.proofs.Common.{◌≡◌, ◌∙◌, ℕ, zero, suc, ◌<◌, List, [], ◌∷◌, length, get_or, map, ap, arith, slice_set}
 use Rattle.clu_wir.specs.declared.region.Arm.{Arm}
 use Rattle.clu_frames.specs.declared.steps.Planned.{Planned}
-use Rattle.clu_frames.specs.Regions.{Added, added_of, changed}
+use Rattle.clu_wir.specs.Adding.{Added}
+use Rattle.clu_frames.specs.Regions.{added_of, changed}
 
 abbrev pub with_arms : Planned → List Arm → Added
 with_arms p arms = record { first = p.first; last = p.last; parent = p.parent; arms = arms }

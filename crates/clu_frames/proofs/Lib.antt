@@ -1,9 +1,11 @@
 pub mod Arms
 pub mod Changing
+pub mod Giving
 pub mod Laws
 pub mod Loops
 pub mod Nested
 pub mod Nesting
+pub mod Numbering
 pub mod Pieces
 pub mod Placing
 pub mod Pushing

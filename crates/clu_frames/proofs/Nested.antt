@@ -1,6 +1,6 @@
 -- Which regions each statement adds: they nest, inside of the region round the statement, between the places where the
 -- statement begins and ends.
-use Rattle.std.proofs.Common.{◌≡◌, pos, ℕ, suc, ◌+◌, ◌≤◌, List, [], ◌∷◌, ◌++◌, length, map, Bool, true, false, Option, Some, None, refl, sym, ◌∙◌, ap, subst, arith, append_assoc, append-nil, length-append}
+use Rattle.std.proofs.Common.{◌≡◌, pos, ℕ, IsTrue, suc, ◌+◌, ◌≤◌, List, [], ◌∷◌, ◌++◌, length, map, Bool, true, false, Option, Some, None, refl, sym, ◌∙◌, ap, subst, arith, append_assoc, append-nil, length-append}
 use Rattle.clu_wir.specs.declared.expression.WExpr.{WExpr}
 use Rattle.clu_wir.specs.declared.region.Arm.{Arm}
 use Rattle.clu_wir.specs.declared.routine.WRoutine.{WRoutine}
@@ -9,8 +9,10 @@ use Rattle.clu_wir.specs.declared.statement.WArm.{WArm, WArm-F, fold-roll-WArm}
 use Rattle.clu_frames.specs.declared.flat.Flat.{Flat}
 use Rattle.clu_frames.specs.declared.flat.Flat.TheVariants as flat
 use Rattle.clu_frames.specs.declared.surroundings.Turns.{Turns}
-use Rattle.clu_frames.specs.Flattening.{ArmPart, Made, Part, Round, all_onto, arm_at, arm_begun, arm_of, arm_step, armed, arms_onto, bare, begun, begun_by, choice_onto, closed, either_onto, end_of, exit_of, guard_at, guard_onto, if_onto, in_guard, in_loop, in_region, in_turns, is_none, iterate_onto, labelled, named_onto, none, opened, other_onto, outermost, part_of, part_step, pushed, resignal_onto, results_onto, routine_onto, row_at, row_onto, turns_at, turns_onto, unless_from}
-use Rattle.clu_frames.specs.Regions.{Added, AreRegions, are_nested, begun_at, changed, ended_at, is_placed, with_arm}
+use Rattle.clu_frames.specs.Flattening.{ArmPart, Made, Part, Round, all_onto, arm_at, arm_begun, arm_of, arm_step, armed, arms_onto, bare, bare_code, begun, begun_by, choice_onto, closed, either_onto, end_of, exit_of, guard_at, guard_onto, if_onto, in_guard, in_loop, in_region, in_turns, is_none, iterate_onto, labelled, named_onto, none, opened, other_onto, outermost, part_of, part_step, pushed, regions_of, resignal_onto, results_onto, routine_onto, row_at, row_onto, steps_of, turns_at, turns_onto, unless_from}
+use Rattle.clu_wir.specs.Adding.{Added, are_nested, is_placed}
+use Rattle.clu_frames.specs.Regions.{AreRegions, begun_at, changed, ended_at, with_arm}
+use Rattle.std.proofs.lemmas.List.{length-map}
 use Rattle.std.specs.List.{list_all}
 use Rattle.clu_frames.proofs.Placing.{Still}
 use Rattle.clu_frames.proofs.Pieces.{still_break, still_call, still_continue, still_exit, still_leave, still_primitive, still_raise, still_results, still_row, still_signal, still_taken, still_yield}
@@ -449,3 +451,15 @@ routine_nests args slots body ok =
 pub regions_nest : (r : WRoutine) (m : Made) → m ≡ routine_onto (map part_of r.body.items) r.args r.slots → AreRegions m.code m.regions
 regions_nest r m e =
     subst (λ (x : Made). AreRegions x.code x.regions) (sym e) (routine_nests r.args r.slots (map part_of r.body.items) (body_nests r.body.items))
+
+-- the same of a code with these steps, which has as many places with its expressions as without
+pub regions_handed : (r : WRoutine) (code : List Flat) (regions : List Added) → bare_code code ≡ steps_of r → regions ≡ regions_of r → AreRegions code regions
+regions_handed r code regions steps e =
+    let bare_ones : AreRegions (bare_code code) regions =
+    subst (λ (l : List Flat). AreRegions l regions) (sym steps)
+    (subst (λ (l : List Added). AreRegions (steps_of r) l) (sym e)
+    (routine_nests r.args r.slots (map part_of r.body.items) (body_nests r.body.items))) in
+    record {
+      nested = bare_ones.nested;
+      placed = subst (λ (n : ℕ). IsTrue (list_all (is_placed n) regions)) (length-map code bare) bare_ones.placed;
+    }

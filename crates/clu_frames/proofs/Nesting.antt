@@ -3,7 +3,8 @@ use Rattle.std.proofs.Common.{◌≡◌, ℕ, zero, suc, ◌+◌, ◌<◌, ◌�
 use Rattle.std.specs.List.{list_all}
 use Rattle.std.proofs.lemmas.Bool.{and_from, and_parts}
 use Rattle.clu_wir.specs.declared.region.Arm.{Arm}
-use Rattle.clu_frames.specs.Regions.{Added, can_add, changed, is_apart, is_in, is_placed, nests_behind}
+use Rattle.clu_wir.specs.Adding.{Added, can_add, is_apart, is_in, is_placed, nests_behind}
+use Rattle.clu_frames.specs.Regions.{changed}
 use Rattle.clu_frames.proofs.Loops.{or_first}
 use Rattle.clu_frames.proofs.Pieces.{none_is_not}
 

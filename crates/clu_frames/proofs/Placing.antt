@@ -48,6 +48,13 @@ pub below_is : (labels n : ℕ) → n < labels → below labels n ≡ 1
 unfolding below
 below_is labels n lt = ap bit (lt-ltb n labels lt)
 
+pub below_of : (labels n : ℕ) → 1 ≤ below labels n → n < labels
+unfolding below
+below_of labels n more = ⊎_elim
+    (λ lt. lt)
+    (λ ge. let none : below labels n ≡ 0 = ap bit (le-ltb n labels ge) in absurd (omega (arith, more, none)))
+    (cases_lt n labels)
+
 bit_within : (b : Bool) → bit b ≤ 1
 bit_within true = omega arith
 bit_within false = omega arith
@@ -59,6 +66,14 @@ below_within labels n = bit_within (nat_lt n labels)
 pub hit_same : (n : ℕ) → hit n n ≡ 1
 unfolding hit
 hit_same n = ap bit (eq-eqb n n refl)
+
+pub hit_within : (label n : ℕ) → hit label n ≤ 1
+unfolding hit
+hit_within label n = bit_within (label == n)
+
+pub hit_other : (label n : ℕ) → (label ≡ n → ⊥) → hit label n ≡ 0
+unfolding hit
+hit_other label n other = ap bit (eqb_not label n (label == n) refl other)
 
 pub hit_not : (label n : ℕ) → (label == n) ≡ false → hit label n ≡ 0
 unfolding hit

@@ -3,21 +3,18 @@ use Rattle.std.proofs.Common.{◌≡◌, ◌⊎◌, ℕ, ◌+◌, ◌<◌, ◌�
 use Rattle.std.specs.List.{list_all}
 use Rattle.std.specs.Option.{option_to_list}
 use Rattle.std.proofs.lemmas.Bool.{and_from, not_from_false, or_from}
-use Rattle.std.proofs.lemmas.List.Concat.{flat_map-cons}
 use Rattle.clu_wir.specs.declared.routine.WRoutine.{WRoutine}
 use Rattle.clu_frames.specs.declared.flat.Flat.{Flat}
 use Rattle.clu_frames.specs.declared.flat.Flat.TheVariants as flat
 use Rattle.clu_frames.specs.Flattening.{Made, Part, all_onto, bare, bare_code, begun, outermost, part_of, routine_onto, steps_of}
-use Rattle.clu_frames.specs.Labels.{IsFlat, are_loops, at_last, begins_loop, differ, ends_loop, goes_on, has_loop, is_among, is_invoke, is_known, jump_of, label_of, labels_of, loop_before, loop_to, names_one, resumed_slot, same, taken_slot, target_of}
+use Rattle.clu_frames.specs.Labels.{IsFlat, are_loops, are_numbered, at_last, begins_loop, differ, ends_loop, goes_on, has_loop, is_among, is_invoke, is_known, jump_of, label_of, labels_of, loop_before, loop_to, names_one, resumed_slot, same, taken_slot, target_of}
 use Rattle.clu_frames.proofs.Laws.{AllLawful, LawAt, all_lawful, body_lawful}
 use Rattle.clu_frames.proofs.Loops.{or_first, or_second}
 use Rattle.clu_frames.proofs.Placing.{Adds, AllNamed, Names, adds_on, adds_step, below, below_is, below_none, below_within, hit, hit_not, hit_same, hits, no_label, not_hit, times}
+use Rattle.clu_frames.proofs.Numbering.{labels_cons, numbered_of}
 use Rattle.clu_frames.proofs.Pieces.{InGuards, InRange, InTurns, Known}
 
 -- Labels by how often they are placed.
-
-labels_cons : (step : Flat) (code : List Flat) → labels_of (step ∷ code) ≡ option_to_list (label_of step) ++ labels_of code
-labels_cons step code = flat_map-cons (λ (s : Flat). option_to_list (label_of s)) step code
 
 not_among_at : (o : Option ℕ) (code : List Flat) (n : ℕ) → hits n o + times n code ≡ 0 → is_among n (labels_of code) ≡ false → is_among n (option_to_list o ++ labels_of code) ≡ false
 not_among_at None code n e rest = rest
@@ -152,6 +149,7 @@ loops_bare code (x ∷ rest) =
 
 record Facts (code : List Flat) : Type 0 where
   labels : differ (labels_of code) ≡ true
+  numbered : are_numbered (labels_of code) ≡ true
   names : list_all (is_known (labels_of code)) code ≡ true
   ends : at_last (λ (s : Flat). not (goes_on s)) code ≡ true
   loops : are_loops code code ≡ true
@@ -160,6 +158,7 @@ facts_flat : (code : List Flat) → length code < 2 ^ 32 → Facts (bare_code co
 facts_flat code few f = record {
   few = few;
   labels = ap differ (sym (labels_bare code)) ∙ f.labels;
+  numbered = ap are_numbered (sym (labels_bare code)) ∙ f.numbered;
   names = sym (known_bare (labels_of code) code) ∙ ap (λ (l : List ℕ). list_all (is_known l) (bare_code code)) (sym (labels_bare code)) ∙ f.names;
   ends = sym (ends_bare code) ∙ f.ends;
   loops = sym (loops_bare code code) ∙ f.loops;
@@ -190,6 +189,7 @@ module _ (args slots : ℕ) (body : List Part) (ok : AllLawful body) where
       k in
       subst Facts (sym whole.code) (record {
         labels = differ_of whole.added (λ n. let is = counted n in let within = below_within inner.labels n in omega (arith, is, within));
+        numbered = numbered_of inner.labels whole.added counted;
         names = known_all Inside (labels_of whole.added) inside whole.added whole.named;
         ends = ap (at_last (λ (s : Flat). not (goes_on s))) (sym whole.code) ∙ last_push (λ (s : Flat). not (goes_on s)) inner.code (flat.Leave slots 0);
         loops = whole.loops;

@@ -15,7 +15,8 @@ use Rattle.clu_frames.specs.declared.surroundings.Guard.{Guard}
 use Rattle.clu_frames.specs.declared.surroundings.Guards.{Guards, Guards-F, fold-Guards}
 use Rattle.clu_frames.specs.declared.surroundings.Surroundings.{Surroundings}
 use Rattle.clu_frames.specs.declared.surroundings.Turns.{Turns}
-use Rattle.clu_frames.specs.Regions.{Added, added_of, begun_at, changed, ended_at, with_arm}
+use Rattle.clu_wir.specs.Adding.{Added}
+use Rattle.clu_frames.specs.Regions.{added_of, begun_at, changed, ended_at, with_arm}
 
 -- Steps without their expressions.
 
@@ -404,3 +405,7 @@ routine_onto body args slots = pushed (flat.Leave slots 0) (all_onto body (outer
 -- the steps of a routine, without their expressions
 abbrev pub steps_of : WRoutine → List Flat
 steps_of r = (routine_onto (map part_of r.body.items) r.args r.slots).code
+
+-- its regions
+abbrev pub regions_of : WRoutine → List Added
+regions_of r = (routine_onto (map part_of r.body.items) r.args r.slots).regions

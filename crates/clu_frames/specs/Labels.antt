@@ -1,5 +1,5 @@
 -- The labels of flat code, and the loops over iterators in it.
-use Rattle.std.specs.Prelude.{ℕ, ◌<◌, ◌^◌, ◌==◌, Bool, true, false, not, ◌&&◌, ◌||◌, IsTrue, List, [], ◌∷◌, length, Option, Some, None}
+use Rattle.std.specs.Prelude.{ℕ, ◌<◌, ◌^◌, ◌==◌, Bool, true, false, not, ◌&&◌, ◌||◌, IsTrue, List, [], ◌∷◌, length, Option, Some, None, nat_lt}
 use Rattle.std.specs.List.{flat_map, list_all, list_any}
 use Rattle.std.specs.Option.{option_to_list}
 use Rattle.clu_frames.specs.declared.flat.Flat.{Flat}
@@ -76,6 +76,10 @@ abbrev pub names_one : List ℕ → Option ℕ → Bool
 names_one labels None = true
 names_one labels (Some label) = is_among label labels
 
+-- whether each is below their number, as labels are numbered from 0
+abbrev pub are_numbered : List ℕ → Bool
+are_numbered labels = list_all (λ (n : ℕ). nat_lt n (length labels)) labels
+
 abbrev pub is_known : List ℕ → Flat → Bool
 is_known labels step = names_one labels (target_of step)
 
@@ -115,6 +119,8 @@ pub record IsFlat (code : List Flat) : Type 0 where
   pub few : length code < 2 ^ 32
   -- no label is placed twice
   pub labels : IsTrue (differ (labels_of code))
+  -- labels are numbered from 0
+  pub numbered : IsTrue (are_numbered (labels_of code))
   -- each label that a step names is placed
   pub names : IsTrue (list_all (is_known (labels_of code)) code)
   -- the last place goes on to no next one

@@ -1,7 +1,6 @@
 //! Why word code has no flat code.
 
 use clu_base::Memory;
-use clu_wir::RegionError;
 use std::alloc::{AllocError, AllocFailed};
 use thiserror::Error;
 
@@ -33,14 +32,5 @@ impl From<AllocError> for FrameError {
 impl<T: Drop> From<AllocFailed<T>> for FrameError {
     fn from(_error: AllocFailed<T>) -> FrameError {
         FrameError::Memory
-    }
-}
-
-impl From<RegionError> for FrameError {
-    fn from(error: RegionError) -> FrameError {
-        match error {
-            RegionError::Memory => FrameError::Memory,
-            RegionError::Misplaced => FrameError::NotYet,
-        }
     }
 }

@@ -1,8 +1,8 @@
 //! A routine in word code to flat code.
 
-ghost use Rattle.std.specs.Prelude.{◌≡◌, ◌<◌, ◌^◌, IfOk, length, map};
+ghost use Rattle.std.specs.Prelude.{◌≡◌, ◌<◌, ◌^◌, [], IfOk, OnErr, OnOk, length, map};
 ghost use Rattle.clu_frames.specs.Flattened.{HandsOn, HasRoom};
-ghost use Rattle.clu_frames.specs.Flattening.{bare_code, made, part_of, routine_onto, steps_of};
+ghost use Rattle.clu_frames.specs.Flattening.{bare_code, made, part_of, regions_of, routine_onto, steps_of};
 ghost use Rattle.clu_frames.specs.Labels.{IsFlat};
 ghost use Rattle.clu_frames.specs.Regions.{AreRegions};
 
@@ -29,13 +29,18 @@ pub fn flatten<B: RegionBuilder>(
     ensures room { IfOk result (HasRoom r.now) }
     ensures steps { IfOk result (λ flat. bare_code flat.code.items ≡ steps_of r.now) }
     ensures flat { IfOk result (λ flat. IsFlat flat.code.items) }
+    ensures regions { OnOk result (B.regions regions.new ≡ regions_of r.now) }
+    ensures nest { IfOk result (λ flat. AreRegions flat.code.items (B.regions regions.new)) }
+    ensures err { OnErr result (B.regions regions.new ≡ []) }
 {
     regions.clear();
-    let flat = bounded(alloc, r, regions);
-    if flat.is_err() {
-        regions.clear();
+    match bounded(alloc, r, regions) {
+        Ok(flat) => Ok(flat),
+        Err(error) => {
+            regions.clear();
+            Err(error)
+        }
     }
-    flat
 }
 
 /// No contract shows yet that the steps keep to the room and the frame of their routine: it is tested.
@@ -44,10 +49,12 @@ fn bounded<B: RegionBuilder>(
     r: &WRoutine,
     regions: &mut B,
 ) -> Result<FlatRoutine, FrameError>
+    requires none { B.regions regions.old ≡ [] }
     ensures handed { IfOk result (HandsOn r.now) }
     ensures room { IfOk result (HasRoom r.now) }
+    ensures few { IfOk result (λ flat. length flat.code.items < 2 ^ 32) }
     ensures steps { IfOk result (λ flat. bare_code flat.code.items ≡ steps_of r.now) }
-    ensures flat { IfOk result (λ flat. IsFlat flat.code.items) }
+    ensures regions { OnOk result (B.regions regions.new ≡ regions_of r.now) }
 {
     let flat = routine_of(alloc, r, regions)?;
     if flat.words() > r.room().code {
@@ -57,19 +64,6 @@ fn bounded<B: RegionBuilder>(
         return Err(FrameError::NotYet);
     }
     Ok(flat)
-}
-
-fn code_of<B: RegionBuilder>(
-    alloc: Global,
-    r: &WRoutine,
-    regions: &mut B,
-) -> Result<Vec<Flat>, FrameError>
-    ensures few { IfOk result (λ code. length code.items < 2 ^ 32) }
-    ensures steps { IfOk result (λ code. bare_code code.items ≡ steps_of r.now) }
-{
-    let steps = made_of(alloc, r)?;
-    let code = steps.finish(regions)?;
-    Ok(code)
 }
 
 /// The steps of a routine and its regions, with what holds of the regions of each routine.
@@ -84,17 +78,18 @@ fn made_of<'a>(alloc: Global, r: &'a WRoutine) -> Result<Steps<'a>, FrameError>
     Ok(steps)
 }
 
-/// The same, with what holds of the code of each routine.
-#[tactic(auto, using(crate::proofs::Whole::routine_flat))]
-fn flat_code_of<B: RegionBuilder>(
+fn code_of<B: RegionBuilder>(
     alloc: Global,
     r: &WRoutine,
     regions: &mut B,
 ) -> Result<Vec<Flat>, FrameError>
+    requires none { B.regions regions.old ≡ [] }
+    ensures few { IfOk result (λ code. length code.items < 2 ^ 32) }
     ensures steps { IfOk result (λ code. bare_code code.items ≡ steps_of r.now) }
-    ensures flat { IfOk result (λ code. IsFlat code.items) }
+    ensures regions { OnOk result (B.regions regions.new ≡ regions_of r.now) }
 {
-    let code = code_of(alloc, r, regions)?;
+    let steps = made_of(alloc, r)?;
+    let code = steps.finish(regions)?;
     Ok(code)
 }
 
@@ -103,14 +98,16 @@ fn routine_of<B: RegionBuilder>(
     r: &WRoutine,
     regions: &mut B,
 ) -> Result<FlatRoutine, FrameError>
+    requires none { B.regions regions.old ≡ [] }
     ensures handed { IfOk result (HandsOn r.now) }
+    ensures few { IfOk result (λ flat. length flat.code.items < 2 ^ 32) }
     ensures steps { IfOk result (λ flat. bare_code flat.code.items ≡ steps_of r.now) }
-    ensures flat { IfOk result (λ flat. IsFlat flat.code.items) }
+    ensures regions { OnOk result (B.regions regions.new ≡ regions_of r.now) }
 {
     Ok(FlatRoutine {
         name: r.name.copy(alloc)?,
         frame: r.width(),
-        code: flat_code_of(alloc, r, regions)?,
+        code: code_of(alloc, r, regions)?,
         nodes: r.nodes,
         uses: texts(alloc, r.uses.as_slice())?,
         constants: constants(alloc, r.constants.as_slice())?,

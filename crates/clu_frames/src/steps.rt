@@ -1,7 +1,8 @@
 //! Flat code in the making: its steps, its labels and its regions.
 
-ghost use Rattle.std.specs.Prelude.{◌≡◌, ◌+◌, ◌<◌, ◌^◌, [], IfOk, OnOk, length, map};
+ghost use Rattle.std.specs.Prelude.{◌≡◌, ◌+◌, ◌<◌, ◌^◌, [], IfOk, IsTrue, OnOk, length, map};
 ghost use Rattle.clu_frames.specs.Flattening.{armed, closed, labelled, made, moves_onto, none, opened, pushed, results_onto, with_regions};
+ghost use Rattle.clu_wir.specs.Adding.{are_nested};
 ghost use Rattle.clu_frames.specs.Regions.{added_of, changed, ended_at};
 ghost use Rattle.clu_frames.specs.declared.flat.Flat.TheVariants as flat;
 
@@ -189,8 +190,11 @@ impl<'a> Steps<'a> {
 
     /// Gives the regions to their builder, and the steps to the caller. Places have numbers of 32 bits.
     pub fn finish<B: RegionBuilder>(self, builder: &mut B) -> Result<Vec<Flat>, FrameError>
+        requires none { B.regions builder.old ≡ [] }
+        requires nested { IsTrue (are_nested (made self).regions) }
         ensures code { IfOk result (λ code. code.items ≡ self.entry.code.items) }
         ensures few { IfOk result (λ code. length code.items < 2 ^ 32) }
+        ensures regions { OnOk result (B.regions builder.new ≡ (made self.entry).regions) }
     {
         let Steps {
             alloc,
@@ -199,20 +203,40 @@ impl<'a> Steps<'a> {
             labels: _,
             regions,
         } = self;
-        for region in regions {
-            let Planned {
-                first,
-                last,
-                parent,
-                arms,
-            } = region;
-            builder.add(alloc, first, last, parent, arms)?;
-        }
         if code.len() > u32::MAX as usize {
             return Err(FrameError::NotYet);
         }
+        give(alloc, regions, builder)?;
         Ok(code)
     }
+}
+
+/// Gives regions to a builder that has none.
+fn give<B: RegionBuilder>(
+    alloc: Global,
+    regions: Vec<Planned>,
+    builder: &mut B,
+) -> Result<(), FrameError>
+    requires none { B.regions builder.old ≡ [] }
+    requires nested { IsTrue (are_nested (map added_of regions.items)) }
+    ensures { OnOk result (B.regions builder.new ≡ map added_of regions.items) }
+{
+    if regions.len() > u32::MAX as usize {
+        return Err(FrameError::NotYet);
+    }
+    for region in regions {
+        let Planned {
+            first,
+            last,
+            parent,
+            arms,
+        } = region;
+        if arms.len() > u32::MAX as usize {
+            return Err(FrameError::NotYet);
+        }
+        builder.add(alloc, first, last, parent, arms)?;
+    }
+    Ok(())
 }
 
 /// Whether a constant is this string.

@@ -1,3 +1,4 @@
 pub mod Arms
 pub mod Cuts
 pub mod Regions
+pub mod Seen

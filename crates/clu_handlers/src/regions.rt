@@ -7,7 +7,7 @@ ghost use Rattle.clu_handlers.specs.Regions.{are_nested, can_add, arm_in, found_
 
 use crate::region::{Found, Region};
 use clu_base::{Bytes, Memory};
-use clu_wir::{Arm, RegionBuilder, RegionError};
+use clu_wir::{Arm, RegionBuilder};
 use std::alloc::Global;
 use std::marker::Model;
 
@@ -139,6 +139,12 @@ impl Regions {
 }
 
 impl RegionBuilder for Regions {
+    ghost use Rattle.std.specs.Prelude.{map};
+    ghost use Rattle.clu_handlers.specs.Seen.{seen};
+
+    ghost regions = { λ r. map seen r };
+
+    #[tactic(auto, using(crate::proofs::Seeing::seeing))]
     fn add(
         &mut self,
         _alloc: Global,
@@ -146,13 +152,7 @@ impl RegionBuilder for Regions {
         last: u32,
         parent: Option<u32>,
         arms: Vec<Arm>,
-    ) -> Result<u32, RegionError> {
-        if !self.can_add(first, last, parent)
-            || self.items.len() >= u32::MAX as usize
-            || arms.len() > u32::MAX as usize
-        {
-            return Err(RegionError::Misplaced);
-        }
+    ) -> Result<u32, Memory> {
         Ok(self.insert(Region {
             first,
             last,

@@ -1,3 +1,4 @@
+pub mod Gone
 pub mod Items
 pub mod Nesting
 pub mod Passing

@@ -1,51 +1,22 @@
 -- The last place stays, so bounds and targets of regions are places of what is left.
-use Rattle.std.proofs.Common.{◌≡◌, ℕ, zero, suc, ◌+◌, ◌<◌, ◌≤◌, ◌==◌, List, [], ◌∷◌, ◌++◌, length, map, Bool, true, false, cond, not, ◌&&◌, ◌||◌, IsTrue, Option, Some, None, nat_lt, refl, sym, ◌∙◌, ap, subst, ⊎_elim, arith, lt-ltb, ltb-true, le-ltb, eqb-true, eq-eqb, filter}
+use Rattle.std.proofs.Common.{◌≡◌, ℕ, zero, suc, ◌+◌, ◌<◌, ◌≤◌, ◌==◌, List, [], ◌∷◌, ◌++◌, length, map, Bool, true, false, cond, not, ◌&&◌, IsTrue, nat_lt, refl, sym, ◌∙◌, ap, subst, arith, lt-ltb, ltb-true, le-ltb, eqb-true, eq-eqb, filter}
 use Rattle.std.specs.List.{AllZip, list_all}
-use Rattle.std.proofs.lemmas.Bool.{and_from, and_parts, false≢true, not_from_true, or_cases}
+use Rattle.std.proofs.lemmas.Bool.{and_from, and_parts, false≢true, not_from_true}
 use Rattle.std.proofs.lemmas.List.{length-map}
+use Rattle.clu_wir.specs.Adding.{is_placed}
 use Rattle.clu_wir.specs.declared.region.Arm.{Arm}
 use Rattle.clu_frames.specs.Labels.{at_last, goes_on}
 use Rattle.clu_frames.specs.declared.flat.Flat.{Flat}
-use Rattle.clu_frames.specs.declared.flat.Flat.TheVariants as flat
 use Rattle.clu_handlers.specs.declared.region.Region.{Region}
+use Rattle.clu_handlers.specs.Seen.{seen}
 use Rattle.clu_peep.specs.declared.places.Place.{Place}
-use Rattle.clu_peep.specs.declared.steps.Move.{Move}
-use Rattle.clu_peep.specs.Flattened.{Flattened, is_placed}
-use Rattle.clu_peep.specs.Left.{Removed, begins, goes, is_undone, is_useless, marked, passed, places}
+use Rattle.clu_peep.specs.Left.{Removed, begins, goes, marked, passed, places}
 use Rattle.clu_peep.specs.Moved.{IsMoved, before, has_place, moved_arm, staying}
 use Rattle.clu_peep.specs.Peeped.{IsPeeped}
-use Rattle.clu_peep.specs.Rows.{goes_alone, goes_second}
-use Rattle.clu_peep.specs.Steps.{is_back, is_idle, move_of}
-
--- A place that goes and isn't before another one is a move.
-
-move_goes_on : (s : Flat) → (o : Option Move) → move_of s ≡ o → (o ≡ None → false ≡ true) → goes_on s ≡ true
-move_goes_on (flat.Set to value) o e some = refl
-move_goes_on _ o e some = absurd (false≢true (some (sym e)))
-
-idle_is_some : (o : Option Move) → is_idle o ≡ true → o ≡ None → false ≡ true
-idle_is_some None idle none = idle
-idle_is_some (Some m) idle none = sym (ap is_idle none) ∙ idle
-
-back_is_some : (o other : Option Move) → is_back o other ≡ true → o ≡ None → false ≡ true
-back_is_some None other back none = back
-back_is_some (Some m) other back none = sym (ap (λ (p : Option Move). is_back p other) none) ∙ back
-
-second_goes_on : (x y : Place) → goes_second x y ≡ true → goes_on y.step ≡ true
-second_goes_on x y e =
-    move_goes_on y.step (move_of y.step) refl
-    (back_is_some (move_of y.step) (move_of x.step) (and_parts (not y.is_target) (is_back (move_of y.step) (move_of x.step)) e).1)
-
-undone_goes_on : (front : List Place) (y : Place) → is_undone front y ≡ true → goes_on y.step ≡ true
-undone_goes_on [] y e = absurd (false≢true e)
-undone_goes_on (x ∷ []) y e = second_goes_on x y e
-undone_goes_on (x ∷ z ∷ front) y e = undone_goes_on (z ∷ front) y e
+use Rattle.clu_peep.proofs.Gone.{what_goes}
 
 end_goes_on : (front : List Place) (x : Place) → goes front x [] ≡ true → goes_on x.step ≡ true
-end_goes_on front x e = ⊎_elim
-    (λ alone. move_goes_on x.step (move_of x.step) refl (idle_is_some (move_of x.step) alone))
-    (λ others. ⊎_elim (λ undone. undone_goes_on front x undone) (λ no. absurd (false≢true no)) (or_cases (is_undone front x) false others))
-    (or_cases (goes_alone x) (is_undone front x || is_useless x []) e)
+end_goes_on front x e = (what_goes front x [] e).last refl
 
 -- The last place, which goes on to no next one, by its number.
 
@@ -118,7 +89,7 @@ module _ (n : ℕ) (left : List Place) (last : at_last (ends_at n) left ≡ true
       (lt-ltb (before (numbers left) a.target) (length left) (target_within n a.target left last (ltb-true a.target n parts.0)))
       (arms_placed arms parts.1)
 
-  region_placed : (r r' : Region) → has_place (numbers left) r ≡ true → IsMoved (numbers left) stays r r' → is_placed n r ≡ true → is_placed (length left) r' ≡ true
+  region_placed : (r r' : Region) → has_place (numbers left) r ≡ true → IsMoved (numbers left) stays r r' → is_placed n (seen r) ≡ true → is_placed (length left) (seen r') ≡ true
   region_placed r r' has m e =
       let parts = and_parts (nat_lt r.first n) (nat_lt r.last n && list_all (λ (a : Arm). nat_lt a.target n) r.arms.items) e in
       let more = and_parts (nat_lt r.last n) (list_all (λ (a : Arm). nat_lt a.target n) r.arms.items) parts.1 in
@@ -134,24 +105,26 @@ module _ (n : ℕ) (left : List Place) (last : at_last (ends_at n) left ≡ true
   abbrev Zips : List Region → List Region → Type 0
   Zips olds news = AllZip (IsMoved (numbers left) stays) olds news
 
-  head_placed : (r : Region) (rs news : List Region) (b : Bool) → has_place (numbers left) r ≡ b → is_placed n r ≡ true
-      → ((ns : List Region) → Zips (filter (has_place (numbers left)) rs) ns → list_all (is_placed (length left)) ns ≡ true)
-      → Zips (cond b (r ∷ filter (has_place (numbers left)) rs) (filter (has_place (numbers left)) rs)) news → list_all (is_placed (length left)) news ≡ true
+  head_placed : (r : Region) (rs news : List Region) (b : Bool) → has_place (numbers left) r ≡ b → is_placed n (seen r) ≡ true
+      → ((ns : List Region) → Zips (filter (has_place (numbers left)) rs) ns → list_all (is_placed (length left)) (map seen ns) ≡ true)
+      → Zips (cond b (r ∷ filter (has_place (numbers left)) rs) (filter (has_place (numbers left)) rs)) news → list_all (is_placed (length left)) (map seen news) ≡ true
   head_placed r rs news false has e rest zip = rest news zip
   head_placed r rs [] true has e rest zip = refl
   head_placed r rs (y ∷ ys) true has e rest zip =
-      and_from (is_placed (length left) y) (list_all (is_placed (length left)) ys) (region_placed r y has zip.0 e) (rest ys zip.1)
+      and_from (is_placed (length left) (seen y)) (list_all (is_placed (length left)) (map seen ys)) (region_placed r y has zip.0 e) (rest ys zip.1)
 
-  all_placed : (rs news : List Region) → list_all (is_placed n) rs ≡ true → Zips (filter (has_place (numbers left)) rs) news → list_all (is_placed (length left)) news ≡ true
+  all_placed : (rs news : List Region) → list_all (is_placed n) (map seen rs) ≡ true → Zips (filter (has_place (numbers left)) rs) news → list_all (is_placed (length left)) (map seen news) ≡ true
   all_placed [] [] e zip = refl
   all_placed [] (y ∷ ys) e zip = absurd zip
   all_placed (r ∷ rs) news e zip =
-      let parts = and_parts (is_placed n r) (list_all (is_placed n) rs) e in
+      let parts = and_parts (is_placed n (seen r)) (list_all (is_placed n) (map seen rs)) e in
       head_placed r rs news (has_place (numbers left) r) refl parts.0 (λ ns z. all_placed rs ns parts.1 z) zip
 
-pub peeped_placed : (code : List Flat) (regions : List Region) (shorter : List Flat) (moved : List Region) → Flattened code regions → IsPeeped code regions shorter moved → IsTrue (list_all (is_placed (length shorter)) moved)
-peeped_placed code regions shorter moved f p =
-    let last = last_left (length code) p.leaves.0 (places (begins regions) 0 code) p.left p.leaves.1 (last_place (begins regions) 0 (length code) code (omega arith) f.ends) in
-    subst (λ (n : ℕ). list_all (is_placed n) moved ≡ true)
+pub peeped_placed : (code : List Flat) (regions : List Region) (shorter : List Flat) (moved : List Region)
+    → IsTrue (at_last (λ (step : Flat). not (goes_on step)) code) → IsTrue (list_all (is_placed (length code)) (map seen regions))
+    → IsPeeped code regions shorter moved → IsTrue (list_all (is_placed (length shorter)) (map seen moved))
+peeped_placed code regions shorter moved ends placed p =
+    let last = last_left (length code) p.leaves.0 (places (begins regions) 0 code) p.left p.leaves.1 (last_place (begins regions) 0 (length code) code (omega arith) ends) in
+    subst (λ (n : ℕ). list_all (is_placed n) (map seen moved) ≡ true)
     (sym (ap {B = ℕ} length p.steps ∙ length-map p.left (λ (x : Place). x.step)))
-    (all_placed (length code) p.left last (staying (numbers p.left) regions) regions moved f.bounds p.regions_are)
+    (all_placed (length code) p.left last (staying (numbers p.left) regions) regions moved placed p.regions_are)

@@ -1,8 +1,9 @@
--- What is left is no more than before, in no more words, and names no other slots.
+-- What is left is no more than before, in no more words, names no other slots, and is flat as before.
 use Rattle.std.proofs.Common.{◌≡◌, ℕ, zero, suc, ◌+◌, ◌-◌, ◌^◌, ◌≤◌, min, List, [], ◌∷◌, ◌++◌, length, map, fold, Bool, true, refl, sym, ◌∙◌, ap, subst, arith, length-append}
 use Rattle.std.proofs.lemmas.Bool.{and_from, and_parts}
 use Rattle.std.proofs.lemmas.List.{map-append}
 use Rattle.clu_wir.specs.Rooms.{plus}
+use Rattle.clu_frames.specs.Labels.{IsFlat}
 use Rattle.clu_frames.specs.Steps.{code_words, step_words}
 use Rattle.clu_frames.specs.Within.{are_within, is_within}
 use Rattle.clu_frames.specs.declared.flat.Flat.{Flat}
@@ -10,6 +11,7 @@ use Rattle.clu_handlers.specs.declared.region.Region.{Region}
 use Rattle.clu_peep.specs.declared.places.Place.{Place}
 use Rattle.clu_peep.specs.Left.{Leaves, Removal, Removed, begins, passed, places}
 use Rattle.clu_peep.specs.Peeped.{IsPeeped}
+use Rattle.clu_peep.proofs.Gone.{flat_still, what_goes}
 
 abbrev pub steps_of : List Place → List Flat
 steps_of ps = map (λ (x : Place). x.step) ps
@@ -73,12 +75,14 @@ pub record IsShorter (before after : List Flat) : Type 0 where
   pub count : length after ≤ length before
   pub words : code_words after ≤ code_words before
   pub within : (frame : ℕ) → are_within frame before ≡ true → are_within frame after ≡ true
+  pub flat : IsFlat before → IsFlat after
 
 is_same : (a b : List Flat) → a ≡ b → IsShorter a b
 is_same a b e = subst (λ (l : List Flat). IsShorter a l) e (record {
   count = omega arith;
   words = omega arith;
   within = λ frame w. w;
+  flat = λ f. f;
 })
 
 removal_shorter : (a b : List Place) → Removal a b → IsShorter (steps_of a) (steps_of b)
@@ -89,6 +93,7 @@ removal_shorter a b r =
       count = one_shorter (steps_of r.front) (steps_of r.back) r.gone.step;
       words = fewer_words (steps_of r.front) (steps_of r.back) r.gone.step 0 (omega arith);
       within = λ frame w. fewer_slots frame (steps_of r.front) (steps_of r.back) r.gone.step w;
+      flat = λ f. flat_still r.gone.step (steps_of r.back) (what_goes r.front r.gone r.back r.row) (steps_of r.front) f;
     }))
 
 shorter_on : (a b c : List Flat) → IsShorter a b → IsShorter b c → IsShorter a c
@@ -96,6 +101,7 @@ shorter_on a b c r s = record {
   count = omega (arith, r.count, s.count);
   words = omega (arith, r.words, s.words);
   within = λ frame w. s.within frame (r.within frame w);
+  flat = λ f. s.flat (r.flat f);
 }
 
 removed_shorter : (n : ℕ) (a b : List Place) → Removed n a b → IsShorter (steps_of a) (steps_of b)

@@ -1,5 +1,4 @@
--- Which flat code can be shortened, which places the rows take away, and where the bounds and targets of regions go.
-pub mod Flattened
+-- Which places the rows take away, and where the bounds and targets of regions go.
 pub mod Left
 pub mod Moved
 pub mod Peeped

@@ -2,9 +2,7 @@
 //! move with the places that are left.
 #![tactic(auto)]
 
-mod flattened;
 mod left;
-mod loops;
 mod moving;
 mod peeping;
 mod places;
@@ -13,5 +11,4 @@ mod rows;
 mod settling;
 mod steps;
 
-pub use crate::flattened::is_flattened;
 pub use crate::peeping::{Peeped, peep};

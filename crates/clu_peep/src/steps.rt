@@ -1,7 +1,7 @@
 //! What a step says to its neighbours.
 
 ghost use Rattle.std.specs.Prelude.{◌≡◌};
-ghost use Rattle.clu_frames.specs.Labels.{goes_on, is_invoke, jump_of, label_of, resumed_slot, same, taken_slot, target_of};
+ghost use Rattle.clu_frames.specs.Labels.{jump_of, label_of, same};
 ghost use Rattle.clu_peep.specs.Steps.{from_slot, is_back, is_idle, move_of, with_word, word_slot};
 
 use clu_frames::Flat;
@@ -69,62 +69,6 @@ pub fn jump_of(step: &Flat) -> Option<u32>
     match step {
         Flat::Jump(label) => Some(*label),
         _ => None,
-    }
-}
-
-/// The label at which a step may go on.
-pub fn target_of(step: &Flat) -> Option<u32>
-    ensures { result ≡ target_of step.now }
-{
-    match step {
-        Flat::Jump(label) => Some(*label),
-        Flat::Branch(_, _, label) => Some(*label),
-        _ => None,
-    }
-}
-
-/// The slot into which a step takes what travelled.
-pub fn taken_slot(step: &Flat) -> Option<u32>
-    ensures { result ≡ taken_slot step.now }
-{
-    match step {
-        Flat::Take(slot) => Some(*slot),
-        _ => None,
-    }
-}
-
-/// The slot with the top above the record of the iterator that a step resumes.
-pub fn resumed_slot(step: &Flat) -> Option<u32>
-    ensures { result ≡ resumed_slot step.now }
-{
-    match step {
-        Flat::Resume(slot) => Some(*slot),
-        _ => None,
-    }
-}
-
-/// Whether a step calls a routine.
-pub fn is_invoke(step: &Flat) -> bool
-    ensures { result ≡ is_invoke step.now }
-{
-    match step {
-        Flat::Invoke(_, _) => true,
-        _ => false,
-    }
-}
-
-/// Whether a step may go on at the next place.
-pub fn goes_on(step: &Flat) -> bool
-    ensures { result ≡ goes_on step.now }
-{
-    match step {
-        Flat::Jump(_) => false,
-        Flat::Resume(_) => false,
-        Flat::Leave(_, _) => false,
-        Flat::Raise(_) => false,
-        Flat::Signal(_) => false,
-        Flat::Pass => false,
-        _ => true,
     }
 }
 

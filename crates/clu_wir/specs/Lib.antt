@@ -1,4 +1,5 @@
--- What word code needs, and the numbers that it has.
+-- What word code needs, the numbers that it has, and the regions of its code.
+pub mod Adding
 pub mod Costs
 pub mod Numbers
 pub mod Rooms

@@ -18,7 +18,7 @@ pub use crate::cost::Cost;
 pub use crate::expression::{WExpr, WOp};
 pub use crate::hole::HoleKind;
 pub use crate::primitive::Primitive;
-pub use crate::region::{Arm, RegionBuilder, RegionError};
+pub use crate::region::{Arm, RegionBuilder};
 pub use crate::room::Room;
 pub use crate::routine::{WCode, WDeed, WLeaf, WRoutine};
 pub use crate::statement::{WArm, WStmt};

@@ -1,8 +1,7 @@
 //! The regions of a routine's code in which exceptions are handled, as the makers of code see them.
 
 use clu_base::{Bytes, Memory};
-use std::alloc::{AllocError, AllocFailed, Global};
-use thiserror::Error;
+use std::alloc::Global;
 
 /// An arm of a region: where it goes on when an exception of this name is raised in the region.
 #[derive(Drop, PartialEq, Eq)]
@@ -15,54 +14,16 @@ pub struct Arm {
     pub mark: u32,
 }
 
-/// Why a region was not added.
-#[derive(Clone, Copy, Debug, PartialEq, Eq, Error)]
-pub enum RegionError {
-    /// The range is empty, lies not inside that of the parent, or meets that of a region that is not round it.
-    #[error("misplaced")]
-    Misplaced,
-    /// Memory was refused.
-    #[error("out of memory")]
-    Memory,
-}
-
-impl From<Memory> for RegionError {
-    ghost use Rattle.clu_wir.specs.declared.region.RegionError.{RegionError};
-    ghost use Rattle.std.specs.Prelude.{◌≡◌};
-
-    ghost from_gives = { λ _ e. e ≡ RegionError.Memory };
-
-    fn from(_error: Memory) -> RegionError {
-        RegionError::Memory
-    }
-}
-
-impl From<AllocError> for RegionError {
-    ghost use Rattle.clu_wir.specs.declared.region.RegionError.{RegionError};
-    ghost use Rattle.std.specs.Prelude.{◌≡◌};
-
-    ghost from_gives = { λ _ e. e ≡ RegionError.Memory };
-
-    fn from(_error: AllocError) -> RegionError {
-        RegionError::Memory
-    }
-}
-
-impl<T: Drop> From<AllocFailed<T>> for RegionError {
-    ghost use Rattle.clu_wir.specs.declared.region.RegionError.{RegionError};
-    ghost use Rattle.std.specs.Prelude.{◌≡◌};
-
-    ghost from_gives = { λ _ e. e ≡ RegionError.Memory };
-
-    fn from(_error: AllocFailed<T>) -> RegionError {
-        RegionError::Memory
-    }
-}
-
-/// What takes the regions of a routine, outer ones before the regions inside them.
+/// What takes the regions of a routine, outer ones before the regions inside them. It is seen as the list of those that were
+/// added.
 pub trait RegionBuilder {
+    ghost use Rattle.std.specs.Prelude.{◌≡◌, ◌<◌, ◌+◌, ◌^◌, ◌++◌, ◌∷◌, [], List, length, IfOk, IsTrue, OnErr, OnOk};
+    ghost use Rattle.clu_wir.specs.Adding.{Added, added, can_add};
+
+    ghost regions: { Self → List Added };
+
     /// Adds the region of the places from `first` to `last`, inside the region `parent`, and answers its number,
-    /// which counts from 0. After an error nothing was added.
+    /// which counts from 0. The only error is that memory runs out, and then nothing was added.
     fn add(
         &mut self,
         alloc: Global,
@@ -70,8 +31,15 @@ pub trait RegionBuilder {
         last: u32,
         parent: Option<u32>,
         arms: Vec<Arm>,
-    ) -> Result<u32, RegionError>;
+    ) -> Result<u32, Memory>
+        requires fits { IsTrue (can_add (regions self.old) first last parent) }
+        requires few { length (regions self.old) + 1 < 2 ^ 32 }
+        requires few_arms { length arms.items < 2 ^ 32 }
+        ensures number { IfOk result (λ number. number ≡ length (regions self.old)) }
+        ensures added { OnOk result (regions self.new ≡ regions self.old ++ added first last parent arms.items ∷ []) }
+        ensures err { OnErr result (regions self.new ≡ regions self.old) };
 
     /// Leaves no region.
-    fn clear(&mut self);
+    fn clear(&mut self)
+        ensures { regions self.new ≡ [] };
 }

@@ -1,6 +1,7 @@
 //! A routine of flat code as an object's routine.
 
 ghost use Rattle.std.specs.Prelude.{IfOk};
+ghost use Rattle.clu_frames.specs.Labels.{IsFlat};
 ghost use Rattle.rv_select.specs.Instructions.{AreInstructions};
 ghost use Rattle.rv_select.specs.Selected.{HandsOn, IsSelected};
 
@@ -28,6 +29,7 @@ struct Selected {
 /// The steps of a region are its words, and so the word of a call is in the region of its step. No contract shows yet
 /// that each step takes no more words than are counted for it: it is tested of all together.
 pub fn select(alloc: Global, f: &FlatRoutine, r: &Regions) -> Result<ObjRoutine, SelectError>
+    requires { IsFlat f.now.code.items }
     ensures handed { IfOk result (HandsOn f.now) }
     ensures selected { IfOk result (IsSelected f.now) }
 {
@@ -66,7 +68,7 @@ fn make_routine(
 }
 
 fn select_steps(alloc: Global, steps: &[Flat], frame: u32) -> Result<Selected, SelectError> {
-    // Each label is a step, and labels are numbered from 0.
+    // Each label is a step, and labels are numbered from 0: those of flat code are below the number of steps.
     let mut words = Words::new(alloc, steps.len())?;
     let mut starts = Vec::new(alloc);
     for step in steps {

@@ -20,17 +20,10 @@ pub(crate) fn select_step(words: &mut Words, step: &Flat, frame: u32) -> Result<
     match step {
         Flat::Set(to, word) => set(words, *to, word, scope),
         Flat::Put(address, distance, word) => put(words, address, *distance, word, scope),
-        Flat::Label(label) => {
-            let label = words.named(*label)?;
-            words.label(label)
-        }
-        Flat::Jump(label) => {
-            let label = words.named(*label)?;
-            words.go(label)
-        }
+        Flat::Label(label) => words.label(*label),
+        Flat::Jump(label) => words.go(*label),
         Flat::Branch(condition, sense, label) => {
-            let target = Target::far(words.named(*label)?);
-            branch(words, condition, *sense, target, scope)
+            branch(words, condition, *sense, Target::far(*label), scope)
         }
         Flat::Enter(arguments) => enter(words, *arguments, frame),
         Flat::Bind(number, word, to) => bind(words, number, word, *to, scope),

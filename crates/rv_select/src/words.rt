@@ -16,9 +16,8 @@ use std::alloc::Global;
 pub(crate) struct Words {
     code: Vec<u32>,
     holes: Vec<Hole>,
-    /// For each label the number of the word at which it stands. So many have names outside.
+    /// For each label the number of the word at which it stands.
     labels: Vec<Option<u32>>,
-    named: usize,
     references: Vec<Reference>,
     ghost instructions: { AreInstructions code.items },
 }
@@ -47,7 +46,6 @@ impl Words {
             code: Vec::new(alloc),
             holes: Vec::new(alloc),
             labels: vec![in alloc; None; labels]?,
-            named: labels,
             references: Vec::new(alloc),
         })
     }
@@ -227,15 +225,6 @@ impl Words {
         }
     }
 
-    /// A label, if it is one that has a name outside.
-    pub fn named(&self, label: u32) -> Result<u32, SelectError> {
-        if (label as usize) < self.named {
-            Ok(label)
-        } else {
-            Err(SelectError::NotYet)
-        }
-    }
-
     /// A label that stands nowhere yet.
     pub fn fresh(&mut self) -> Result<u32, SelectError> {
         match u32::try_from(self.labels.len()) {
@@ -322,7 +311,6 @@ impl Words {
             holes,
             labels,
             references,
-            named: _,
         } = self;
         for reference in references.as_slice() {
             reference.land(code.as_mut_slice(), labels.as_slice())?;

@@ -1,6 +1,7 @@
 use Rattle.std.proofs.Common.{List, refl, ap}
 use Rattle.clu_frames.specs.Flattening.{made, with_regions}
-use Rattle.clu_frames.specs.Regions.{Added, ended_at}
+use Rattle.clu_wir.specs.Adding.{Added}
+use Rattle.clu_frames.specs.Regions.{ended_at}
 use Rattle.clu_frames.proofs.Changing.{set_changed}
 use Rattle.clu_frames.proofs.steps.Steps.end_region.Goals as goal
 

@@ -1,6 +1,7 @@
 use Rattle.std.proofs.Common.{◌≡◌, ◌∙◌, ℕ, List, [], ◌∷◌, ◌++◌, length, ap}
 use Rattle.clu_frames.specs.Flattening.{arm_at, made, with_regions}
-use Rattle.clu_frames.specs.Regions.{Added, with_arm}
+use Rattle.clu_wir.specs.Adding.{Added}
+use Rattle.clu_frames.specs.Regions.{with_arm}
 use Rattle.clu_frames.proofs.Changing.{set_changed, with_arms}
 use Rattle.clu_frames.proofs.steps.Steps.put_arm.Goals as goal
 

@@ -1,6 +1,6 @@
 use Rattle.std.proofs.Common.{◌≡◌, drop}
 use Rattle.clu_frames.specs.Labels.{is_among}
-use Rattle.clu_peep.proofs.flattened.is_among.Given as goal
+use Rattle.clu_code_tests.proofs.flattened.is_among.Given as goal
 
 -- the labels that are left decide
 abbrev pub invariant-loop-each : goal.invariant-loop-each

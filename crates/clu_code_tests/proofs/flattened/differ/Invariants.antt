@@ -1,6 +1,6 @@
 use Rattle.std.proofs.Common.{◌≡◌, length}
 use Rattle.clu_frames.specs.Labels.{differ}
-use Rattle.clu_peep.proofs.flattened.differ.Given as goal
+use Rattle.clu_code_tests.proofs.flattened.differ.Given as goal
 
 -- the labels that are left decide
 abbrev pub invariant-loop-labels : goal.invariant-loop-labels

@@ -1,7 +1,7 @@
 use Rattle.std.proofs.Common.{◌≡◌, drop, nat_lt}
 use Rattle.std.specs.List.{list_all}
 use Rattle.clu_wir.specs.declared.region.Arm.{Arm}
-use Rattle.clu_peep.proofs.flattened.are_targets.Given as goal
+use Rattle.clu_code_tests.proofs.flattened.are_targets.Given as goal
 
 -- the arms that are left decide
 abbrev pub invariant-loop-arm : goal.invariant-loop-arm

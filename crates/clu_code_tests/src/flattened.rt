@@ -1,15 +1,15 @@
-//! Whether flat code and its regions can be shortened.
+//! Whether flat code that a test wrote, and its regions, are such as flattening gives.
 
-ghost use Rattle.std.specs.Prelude.{◌≡◌, ◌↔◌, ◌++◌, IfOk, IsTrue, OnOk, length, nat_lt, not};
+ghost use Rattle.std.specs.Prelude.{◌≡◌, ◌++◌, IfOk, IsTrue, OnOk, length, map, nat_lt, not};
 ghost use Rattle.std.specs.List.{list_all};
 ghost use Rattle.std.specs.Option.{option_to_list};
+ghost use Rattle.clu_wir.specs.Adding.{is_placed};
 ghost use Rattle.clu_wir.specs.declared.region.Arm.{Arm};
-ghost use Rattle.clu_frames.specs.Labels.{at_last, differ, goes_on, is_among, is_known, label_of, labels_of};
+ghost use Rattle.clu_frames.specs.Labels.{IsFlat, are_numbered, at_last, differ, goes_on, is_among, is_known, label_of, labels_of, target_of};
 ghost use Rattle.clu_frames.specs.declared.flat.Flat.{Flat};
-ghost use Rattle.clu_peep.specs.Flattened.{Flattened, is_flattened, is_placed};
+ghost use Rattle.clu_handlers.specs.Seen.{seen};
 
 use crate::loops::are_loops;
-use crate::steps::{goes_on, label_of, target_of};
 use clu_base::Memory;
 use clu_frames::Flat;
 use clu_handlers::Region;
@@ -19,18 +19,18 @@ use std::alloc::Global;
 /// How many places 32 bits number.
 const PLACES: u64 = 1 << 32;
 
-/// Whether flat code with these regions can be shortened. The only error is that memory runs out.
-pub fn is_flattened(alloc: Global, code: &[Flat], regions: &[Region]) -> Result<bool, Memory>
-    ensures { IfOk result (λ holds. IsTrue holds ↔ Flattened code.now regions.now) }
+/// Whether code is flat. The only error is that memory runs out.
+pub fn is_flat(alloc: Global, code: &[Flat]) -> Result<bool, Memory>
+    ensures { IfOk result (λ holds. IsTrue holds → IsFlat code.now) }
 {
     let labels = labels(alloc, code)?;
-    Ok(holds(code, regions, labels.as_slice()))
+    Ok(holds(code, labels.as_slice()))
 }
 
 /// The same, where the labels of the code are these.
-fn holds(code: &[Flat], regions: &[Region], labels: &[u32]) -> bool
+fn holds(code: &[Flat], labels: &[u32]) -> bool
     requires { labels.now ≡ labels_of code.now }
-    ensures { result ≡ is_flattened code.now regions.now }
+    ensures { IsTrue result → IsFlat code.now }
 {
     if code.len() as u64 >= PLACES {
         return false;
@@ -38,10 +38,10 @@ fn holds(code: &[Flat], regions: &[Region], labels: &[u32]) -> bool
     if !differ(labels) {
         return false;
     }
-    if !all_known(labels, code) {
+    if !are_numbered(labels) {
         return false;
     }
-    if !all_placed(code.len(), regions) {
+    if !all_known(labels, code) {
         return false;
     }
     if !ends(code) {
@@ -64,9 +64,9 @@ fn labels(alloc: Global, code: &[Flat]) -> Result<Vec<u32>, Memory>
 fn push_label(labels: &mut Vec<u32>, step: &Flat) -> Result<(), Memory>
     ensures { OnOk result (labels.new.items ≡ labels.old.items ++ option_to_list (label_of step.now)) }
 {
-    match label_of(step) {
-        Some(label) => Ok(labels.push(label)?),
-        None => Ok(()),
+    match step {
+        Flat::Label(label) => Ok(labels.push(*label)?),
+        _ => Ok(()),
     }
 }
 
@@ -94,6 +94,18 @@ fn is_among(labels: &[u32], label: u32) -> bool
     false
 }
 
+/// Whether each label is below their number.
+fn are_numbered(labels: &[u32]) -> bool
+    ensures { result ≡ are_numbered labels.now }
+{
+    for each in labels {
+        if *each as usize >= labels.len() {
+            return false;
+        }
+    }
+    true
+}
+
 /// Whether each label that a step names is among these.
 fn all_known(labels: &[u32], code: &[Flat]) -> bool
     ensures { result ≡ list_all (is_known labels.now) code.now }
@@ -109,15 +121,16 @@ fn all_known(labels: &[u32], code: &[Flat]) -> bool
 fn is_known(labels: &[u32], step: &Flat) -> bool
     ensures { result ≡ is_known labels.now step.now }
 {
-    match target_of(step) {
-        Some(label) => is_among(labels, label),
-        None => true,
+    match step {
+        Flat::Jump(label) => is_among(labels, *label),
+        Flat::Branch(_, _, label) => is_among(labels, *label),
+        _ => true,
     }
 }
 
 /// Whether the bounds and targets of regions are among so many places.
-fn all_placed(count: usize, regions: &[Region]) -> bool
-    ensures { result ≡ list_all (is_placed count) regions.now }
+pub fn all_placed(count: usize, regions: &[Region]) -> bool
+    ensures { result ≡ list_all (is_placed count) (map seen regions.now) }
 {
     for region in regions {
         if !is_placed(count, region) {
@@ -128,7 +141,7 @@ fn all_placed(count: usize, regions: &[Region]) -> bool
 }
 
 fn is_placed(count: usize, region: &Region) -> bool
-    ensures { result ≡ is_placed count region.now }
+    ensures { result ≡ is_placed count (seen region.now) }
 {
     (region.first as usize) < count
         && ((region.last as usize) < count && are_targets(count, region.arms.as_slice()))
@@ -152,5 +165,20 @@ fn ends(code: &[Flat]) -> bool
     match code.split_last() {
         Some((last, _)) => !goes_on(last),
         None => false,
+    }
+}
+
+/// Whether a step may go on at the next place.
+fn goes_on(step: &Flat) -> bool
+    ensures { result ≡ goes_on step.now }
+{
+    match step {
+        Flat::Jump(_) => false,
+        Flat::Resume(_) => false,
+        Flat::Leave(_, _) => false,
+        Flat::Raise(_) => false,
+        Flat::Signal(_) => false,
+        Flat::Pass => false,
+        _ => true,
     }
 }

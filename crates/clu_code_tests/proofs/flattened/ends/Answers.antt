@@ -2,7 +2,7 @@ use Rattle.std.proofs.Common.{◌∙◌, not, ap, sym}
 use Rattle.clu_frames.specs.Labels.{goes_on}
 use Rattle.clu_frames.specs.declared.flat.Flat.{Flat}
 use Rattle.clu_peep.proofs.Items.{at_last_of}
-use Rattle.clu_peep.proofs.flattened.ends.Goals as goal
+use Rattle.clu_code_tests.proofs.flattened.ends.Goals as goal
 
 pub returns-in-Some : goal.returns-in-Some
 returns-in-Some c =
