@@ -11,7 +11,7 @@ use itoa::Buffer;
 use rv_isa::decode;
 
 /// What can stand in the place of an operand.
-#[derive(Clone, Copy, PartialEq, Eq)]
+#[derive(Clone, Copy)]
 pub(crate) enum Kind {
     Register,
     Immediate,

@@ -6,7 +6,7 @@ ghost use Rattle.clu_asm.specs.Mnemonics.{op_name, op_form, form_of};
 use rv_isa::{Instr, Op};
 
 /// What a line of an instruction begins with.
-#[derive(Clone, Copy, PartialEq, Eq)]
+#[derive(Clone, Copy)]
 pub(crate) enum Mnemonic {
     /// An operation of the instruction table.
     Table(Op),
@@ -18,7 +18,7 @@ pub(crate) enum Mnemonic {
 }
 
 /// Which operands follow a mnemonic.
-#[derive(Clone, Copy, PartialEq, Eq)]
+#[derive(Clone, Copy)]
 pub(crate) enum Form {
     /// A register and the upper 20 bits of a number.
     Upper,

@@ -7,7 +7,7 @@ use std::alloc::{AllocError, AllocFailed};
 use thiserror::Error;
 
 /// Memory was refused. It stands for nothing else.
-#[derive(Clone, Copy, Debug, PartialEq, Eq, Error)]
+#[derive(Clone, Copy, Debug, Error)]
 #[error("out of memory")]
 pub struct Memory;
 
@@ -24,12 +24,12 @@ impl<T: Drop> From<AllocFailed<T>> for Memory {
 }
 
 /// A read or a write failed; the count of faults of the source, sink or store has risen.
-#[derive(Clone, Copy, Debug, PartialEq, Eq, Error)]
+#[derive(Clone, Copy, Debug, Error)]
 #[error("failed")]
 pub struct Failed;
 
 /// Why a reader of a binary or text format gave no value.
-#[derive(Clone, Copy, Debug, PartialEq, Eq, Error)]
+#[derive(Clone, Copy, Debug, Error)]
 pub enum FormatError {
     /// The bytes are not of the format; the number is the offset of the fault from the first byte.
     #[error("bad at {0}")]

@@ -179,7 +179,7 @@ impl Rule {
 }
 
 /// The first violation of a source: its rule and the place where the rule is violated.
-#[derive(Clone, Copy, Debug, PartialEq, Eq)]
+#[derive(Clone, Copy, Debug)]
 pub struct Refused {
     pub rule: Rule,
     pub place: Place,

@@ -10,7 +10,7 @@ pub struct Place {
 }
 
 /// What a token is.
-#[derive(Clone, Copy, Debug, PartialEq, Eq)]
+#[derive(Clone, Copy, Debug)]
 pub enum Kind {
     /// A reserved word, in letters of either case.
     Word,
@@ -29,7 +29,7 @@ pub enum Kind {
 }
 
 /// A token: the bytes of the source from `start` up to and not including `end`.
-#[derive(Clone, Copy, PartialEq, Eq)]
+#[derive(Clone, Copy)]
 pub struct Token {
     pub kind: Kind,
     pub start: u32,

@@ -20,7 +20,7 @@ use clu_types::{Field, Heading, Term, TypeArena, TypeId};
 use std::alloc::Global;
 
 /// A built-in operation of a type: procedure or iterator, its heading, and what it needs of the types of the parts.
-#[derive(Drop, PartialEq, Eq)]
+#[derive(Drop)]
 pub struct Builtin {
     pub iter: bool,
     pub heading: Heading,

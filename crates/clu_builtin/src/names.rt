@@ -4,7 +4,7 @@ ghost use Rattle.std.specs.Prelude.{◌≡◌};
 ghost use Rattle.clu_builtin.specs.Names.{op_name, signal_name};
 
 /// A built-in operation. The names of `Get` to `Change` stand before the name of a selector.
-#[derive(Clone, Copy, PartialEq, Eq)]
+#[derive(Clone, Copy)]
 pub enum Op {
     Add,
     Sub,
@@ -167,7 +167,7 @@ impl Op {
 }
 
 /// A signal of a built-in operation.
-#[derive(Clone, Copy, PartialEq, Eq)]
+#[derive(Clone, Copy)]
 pub enum Signal {
     BadFormat,
     Bounds,

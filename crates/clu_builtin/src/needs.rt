@@ -13,7 +13,7 @@ use clu_types::{Heading, Term, TypeArena, TypeId};
 use std::alloc::Global;
 
 /// A type must have an operation of this name whose heading is included in the wanted type.
-#[derive(Drop, PartialEq, Eq)]
+#[derive(Drop)]
 pub struct Need {
     pub of: TypeId,
     pub op: Bytes,

@@ -7,7 +7,7 @@ use crate::names::{Op, Signal};
 
 /// A type in a row: the type that has the operation, the element or component type of it, a simple type,
 /// or an array of the element type. The element type of string is char.
-#[derive(Clone, Copy, PartialEq, Eq)]
+#[derive(Clone, Copy)]
 pub enum Slot {
     Own,
     Part,
@@ -19,7 +19,7 @@ pub enum Slot {
 }
 
 /// The arguments.
-#[derive(Clone, Copy, PartialEq, Eq)]
+#[derive(Clone, Copy)]
 pub enum Takes {
     Nothing,
     One(Slot),
@@ -28,7 +28,7 @@ pub enum Takes {
 }
 
 /// The result of a procedure, or what an iterator yields.
-#[derive(Clone, Copy, PartialEq, Eq)]
+#[derive(Clone, Copy)]
 pub enum Gives {
     Nothing,
     Value(Slot),
@@ -49,7 +49,7 @@ impl Gives {
 }
 
 /// The signals, in ascending order of their names.
-#[derive(Clone, Copy, PartialEq, Eq)]
+#[derive(Clone, Copy)]
 pub enum Raises {
     Nothing,
     One(Signal),
@@ -57,7 +57,7 @@ pub enum Raises {
 }
 
 /// The operation that each element or component type must have.
-#[derive(Clone, Copy, PartialEq, Eq)]
+#[derive(Clone, Copy)]
 pub enum Needs {
     Nothing,
     Equal,
@@ -66,5 +66,5 @@ pub enum Needs {
 }
 
 /// An operation with its heading and its needs.
-#[derive(Clone, Copy, PartialEq, Eq)]
+#[derive(Clone, Copy)]
 pub struct Row(pub Op, pub Takes, pub Gives, pub Raises, pub Needs);

@@ -4,7 +4,7 @@ use clu_base::{Memory, Refused};
 use std::alloc::{AllocError, AllocFailed};
 
 /// Why a check gave no answer.
-#[derive(Clone, Copy, Debug, PartialEq, Eq)]
+#[derive(Clone, Copy, Debug)]
 pub enum CheckError {
     /// The source violates a rule at a place.
     Refused(Refused),

@@ -7,7 +7,7 @@ use clu_base::Rule;
 use clu_tree::NodeKind;
 
 /// The walk over the headings, and the walk over the rest.
-#[derive(Clone, Copy, Debug, PartialEq, Eq)]
+#[derive(Clone, Copy)]
 pub enum Walk {
     Headings,
     Rest,

@@ -54,12 +54,4 @@ impl Checked {
             syntax,
         })
     }
-
-    /// The constant that this node stands for, if it is a name of one.
-    pub fn constant_at(&self, node: u32) -> Option<&ObjConst> {
-        match self.constant_of.get(node as usize) {
-            Some(Some(place)) => self.constants.get(*place as usize),
-            _ => None,
-        }
-    }
 }

@@ -7,7 +7,7 @@ use clu_types::{Actual, Term, TypeArena, TypeId};
 use std::alloc::{AllocError, Global};
 
 /// Why nothing was found.
-#[derive(Clone, Copy, Debug, PartialEq, Eq)]
+#[derive(Clone, Copy, Debug)]
 pub enum LookupError {
     /// Memory was refused.
     Memory,

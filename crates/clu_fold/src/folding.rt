@@ -11,7 +11,7 @@ use clu_base::{Bytes, Const, Memory};
 use std::cmp::Ordering;
 
 /// The infix operators (CLU Reference Manual, section 10.15).
-#[derive(Clone, Copy, PartialEq, Eq)]
+#[derive(Clone, Copy)]
 pub enum Operator {
     Power,
     Multiply,
@@ -37,7 +37,7 @@ pub enum Operator {
 }
 
 /// The prefix operators.
-#[derive(Clone, Copy, PartialEq, Eq)]
+#[derive(Clone, Copy)]
 pub enum Prefix {
     Minus,
     Not,

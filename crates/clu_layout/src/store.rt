@@ -4,7 +4,7 @@ ghost use Rattle.std.specs.Prelude.{◌≡◌};
 ghost use Rattle.clu_layout.specs.Cost.{cost, IsSmall};
 
 /// What an object is made of. A word has 8 bytes.
-#[derive(Clone, Copy, PartialEq, Eq)]
+#[derive(Clone, Copy)]
 pub enum Shape {
     /// A string of so many bytes.
     Str(u64),

@@ -12,7 +12,7 @@ use clu_base::{Kind, Memory, Place, Token};
 use std::alloc::{AllocFailed, Global};
 
 /// Why a source has no list of tokens.
-#[derive(Clone, Copy, Debug, PartialEq, Eq)]
+#[derive(Clone, Copy, Debug)]
 pub enum LexError {
     /// No token begins at this place.
     Token(Place),

@@ -4,7 +4,7 @@ use clu_base::Memory;
 use thiserror::Error;
 
 /// Why a specification or a program is not entered.
-#[derive(Clone, Copy, Debug, PartialEq, Eq, Error)]
+#[derive(Clone, Copy, Debug, Error)]
 pub enum EnterError {
     /// Another specification is kept of the module.
     #[error("the specification differs")]

@@ -20,7 +20,7 @@ use indexmap::IndexSet;
 use std::alloc::Global;
 
 /// Why a body is stale.
-#[derive(Drop, PartialEq, Eq)]
+#[derive(Drop)]
 pub struct StaleBy {
     /// The least name of a module that the body rests on and whose specification was replaced after the body was checked.
     pub by: Bytes,

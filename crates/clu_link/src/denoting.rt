@@ -29,7 +29,7 @@ pub enum Use {
 }
 
 /// Which of the two a use is.
-#[derive(Clone, Copy, PartialEq, Eq)]
+#[derive(Clone, Copy)]
 enum Sort {
     Instance,
     Operation,

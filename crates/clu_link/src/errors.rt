@@ -7,7 +7,7 @@ use rv_select::SelectError;
 use std::alloc::{AllocError, AllocFailed};
 
 /// Why a program is not linked, in the order in which the causes are asked.
-#[derive(Drop, PartialEq, Eq)]
+#[derive(Drop)]
 pub enum LinkError {
     /// No specification is kept of the module with which the program starts.
     NoModule(Bytes),

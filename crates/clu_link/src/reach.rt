@@ -44,7 +44,7 @@ pub enum RoutineName {
 }
 
 /// What a use comes to.
-#[derive(Clone, Copy, PartialEq, Eq)]
+#[derive(Clone, Copy)]
 pub enum Callee {
     /// The instance of this number.
     Instance(usize),

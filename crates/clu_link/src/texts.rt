@@ -17,7 +17,7 @@ pub const FAILURE: &[u8] = b"failure";
 pub const UNHANDLED: &[u8] = b"unhandled exception: ";
 
 /// The word of a constant.
-#[derive(Clone, Copy, PartialEq, Eq)]
+#[derive(Clone, Copy)]
 pub enum Cell {
     /// This word.
     Word(u64),

@@ -16,7 +16,7 @@ pub struct OpenArm {
 }
 
 /// Where an arm is: how many guards are inside of its own, and its number in that guard.
-#[derive(Clone, Copy, PartialEq, Eq)]
+#[derive(Clone, Copy)]
 pub struct ArmPlace {
     pub inside: u32,
     pub arm: u32,

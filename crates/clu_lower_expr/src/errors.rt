@@ -5,7 +5,7 @@ use clu_core::LookupError;
 use std::alloc::{AllocError, AllocFailed};
 
 /// Why a routine was not lowered.
-#[derive(Clone, Copy, Debug, PartialEq, Eq)]
+#[derive(Clone, Copy, Debug)]
 pub enum LowerError {
     /// Memory was refused.
     Memory,

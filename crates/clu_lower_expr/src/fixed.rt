@@ -11,7 +11,7 @@ use indexmap::IndexMap;
 use std::alloc::Global;
 
 /// An own variable: its kind and number in the link table.
-#[derive(Clone, Copy, PartialEq, Eq)]
+#[derive(Clone, Copy)]
 pub struct OwnVariable {
     pub kind: HoleKind,
     pub number: u32,

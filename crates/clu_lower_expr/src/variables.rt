@@ -7,7 +7,7 @@ use clu_wir::{Trap, WExpr, WStmt};
 use std::boxed::Box;
 
 /// Where a variable is.
-#[derive(Clone, Copy, PartialEq, Eq)]
+#[derive(Clone, Copy)]
 pub struct Variable {
     /// The slot of its object's word.
     pub slot: u32,

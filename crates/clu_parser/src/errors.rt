@@ -5,7 +5,7 @@ ghost use Rattle.std.specs.Prelude.{◌≡◌};
 use clu_base::{Memory, Place};
 
 /// Why a source has no tree.
-#[derive(Clone, Copy, Debug, PartialEq, Eq)]
+#[derive(Clone, Copy, Debug)]
 pub enum ParseError {
     /// The tokens up to and including the one at this place begin no file of the grammar.
     Syntax(Place),
@@ -26,7 +26,7 @@ impl From<Memory> for ParseError {
 }
 
 /// Why reading stopped.
-#[derive(Clone, Copy, PartialEq, Eq)]
+#[derive(Clone, Copy)]
 pub enum ReadError {
     /// The symbols before the one of this number begin a file, and with it they begin none.
     Syntax(usize),

@@ -81,10 +81,6 @@ routine_kind s.Proc = routine_word.Procedure
 routine_kind s.Proctype = routine_word.Procedure
 routine_kind _ = routine_word.Iterator
 
-abbrev pub is_has : Symbol → Bool
-is_has s.Has = true
-is_has _ = false
-
 unfoldable pub are_digits : List ℕ → Bool
 are_digits [] = true
 are_digits (b ∷ bs) = if nat_lt b 48 || nat_lt 57 b then false else are_digits bs

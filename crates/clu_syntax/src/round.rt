@@ -1,7 +1,7 @@
 //! What surrounds a node.
 
 /// What is wanted where a node stands.
-#[derive(Clone, Copy, Debug, PartialEq, Eq)]
+#[derive(Clone, Copy, Debug)]
 pub enum Role {
     /// A module, a declaration, a statement or a part of one of these: neither an expression nor a type.
     Part,

@@ -1,13 +1,13 @@
 //! The words and marks that choose between the forms of a construct.
 
 ghost use Rattle.std.specs.Prelude.{◌≡◌};
-ghost use Rattle.clu_syntax.specs.Words.{are_digits, fields_type, infix_operator, is_has, is_small, list_type, literal_of, literal_told, number_of, routine_kind, sign, simple_type, symbol_in, word_of};
+ghost use Rattle.clu_syntax.specs.Words.{are_digits, fields_type, infix_operator, is_small, list_type, literal_of, literal_told, number_of, routine_kind, sign, simple_type, symbol_in, word_of};
 
 use clu_base::Kind;
 use clu_lexer::{Symbol, symbol_of};
 
 /// The infix operators (CLU Reference Manual, section 10.15).
-#[derive(Clone, Copy, PartialEq, Eq)]
+#[derive(Clone, Copy)]
 pub enum Operator {
     /// `**`
     Power,
@@ -54,7 +54,7 @@ pub enum Operator {
 }
 
 /// The prefix operators.
-#[derive(Clone, Copy, PartialEq, Eq)]
+#[derive(Clone, Copy)]
 pub enum Sign {
     /// `~`
     Not,
@@ -79,14 +79,14 @@ pub enum SimpleType {
 }
 
 /// The types that are made of one other.
-#[derive(Clone, Copy, PartialEq, Eq)]
+#[derive(Clone, Copy)]
 pub enum ListType {
     Array,
     Sequence,
 }
 
 /// The types that are made of selectors with their types.
-#[derive(Clone, Copy, PartialEq, Eq)]
+#[derive(Clone, Copy)]
 pub enum FieldsType {
     Record,
     Struct,
@@ -95,7 +95,7 @@ pub enum FieldsType {
 }
 
 /// What a routine or a type of routines is.
-#[derive(Clone, Copy, PartialEq, Eq)]
+#[derive(Clone, Copy)]
 pub enum RoutineKind {
     /// `proc`, `proctype`
     Procedure,
@@ -220,16 +220,6 @@ pub fn routine_kind(value: &[u8]) -> RoutineKind
     match symbol_in(value) {
         Symbol::Proc | Symbol::Proctype => RoutineKind::Procedure,
         _ => RoutineKind::Iterator,
-    }
-}
-
-/// Whether a restriction lists operations.
-pub fn is_has(value: &[u8]) -> bool
-    ensures { result ≡ is_has (symbol_in value.now) }
-{
-    match symbol_in(value) {
-        Symbol::Has => true,
-        _ => false,
     }
 }
 

@@ -8,19 +8,12 @@ use crate::term::{Actual, Exception, Field, Heading, Term, TypeId};
 use clu_base::Memory;
 use indexmap::IndexSet;
 use std::alloc::Global;
-use std::fmt;
 use std::marker::Model;
 
 /// Types by number. Equal numbers are equal types, and equal types have one number.
 #[derive(Drop)]
 pub struct TypeArena {
     pub(crate) terms: IndexSet<Term>,
-}
-
-impl fmt::Debug for TypeArena {
-    fn fmt<W: fmt::Write>(&self, f: &mut fmt::Formatter<W>) -> fmt::Result {
-        f.write_str("TypeArena")
-    }
 }
 
 impl Model for TypeArena {

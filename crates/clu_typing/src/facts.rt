@@ -1,6 +1,6 @@
 //! What is known of the nodes of a file, as tables by node.
 
-use crate::raising::{NOTHING, Raise, RaisesId, Raising};
+use crate::raising::{NOTHING, RaisesId, Raising};
 use clu_bindings::{items_of, optional_at};
 use clu_operations::{Finding, FoundId, NameId};
 use clu_types::TypeId;
@@ -119,18 +119,8 @@ impl Facts {
         )
     }
 
-    /// What is named or invoked at the node n.
-    pub fn invoked_at(&self, n: u32) -> Option<Invoked> {
-        optional_at(self.invoked.as_slice(), n as usize)
-    }
-
     /// The set of what the expression or statement at the node n may raise.
     pub fn raised_at(&self, n: u32) -> RaisesId {
         self.raises.get(n as usize).copied().unwrap_or(NOTHING)
-    }
-
-    /// What the expression or statement at the node n may raise, each once, ascending by name.
-    pub fn raises_at(&self, n: u32) -> &[Raise] {
-        self.raising.of(self.raised_at(n))
     }
 }

@@ -12,7 +12,7 @@ use crate::reading::{Texts, WordsError, read};
 use std::alloc::Global;
 
 /// A command line, read. A file is named as the words name it.
-#[derive(Clone, Copy, Debug)]
+#[derive(Clone, Copy)]
 pub enum Command<'a> {
     /// Check a source, link it, put its image and run it.
     Go {

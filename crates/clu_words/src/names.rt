@@ -6,7 +6,7 @@ ghost use Rattle.clu_words.specs.Names.{form_of, name_of};
 use crate::form::Form;
 
 /// The name of a command.
-#[derive(Clone, Copy, Debug, PartialEq, Eq)]
+#[derive(Clone, Copy)]
 pub enum Name {
     Go,
     Spec,

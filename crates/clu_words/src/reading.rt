@@ -11,7 +11,7 @@ use clap::{ArgMatches, Error};
 use std::alloc::Global;
 
 /// Why no command was read.
-#[derive(Clone, Copy, Debug, PartialEq, Eq)]
+#[derive(Clone, Copy, Debug)]
 pub enum WordsError {
     /// The words are no command.
     Usage,
@@ -20,7 +20,7 @@ pub enum WordsError {
 }
 
 /// The texts of the words: positional words in order, the values of options, and flags.
-#[derive(Clone, Copy, Debug)]
+#[derive(Clone, Copy)]
 pub struct Texts<'a> {
     pub first: Option<&'a str>,
     pub second: Option<&'a str>,

@@ -11,7 +11,7 @@ use crate::reg::Reg;
 
 /// An instruction. `imm` is the immediate after sign extension; of a shift by a constant it is the
 /// amount. LUI's and AUIPC's is the whole 32-bit number, its low 12 bits zero.
-#[derive(Clone, Copy, PartialEq, Eq)]
+#[derive(Clone, Copy)]
 pub enum Instr {
     /// LUI and AUIPC.
     Upper {

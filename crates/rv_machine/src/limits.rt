@@ -5,7 +5,7 @@ ghost use Rattle.std.specs.Prelude.{◌≡◌, ◌↔◌, IsSome, IfSome};
 use std::marker::Model;
 
 /// The sizes in bytes of the store region and of the stack region, seen as these two numbers.
-#[derive(Clone, Copy, PartialEq, Eq)]
+#[derive(Clone, Copy)]
 pub struct Limits {
     store: u64,
     stack: u64,

@@ -4,7 +4,7 @@ use clu_base::Memory;
 use std::alloc::{AllocError, AllocFailed};
 use thiserror::Error;
 
-#[derive(Clone, Copy, Debug, PartialEq, Eq, Error)]
+#[derive(Clone, Copy, Debug, Error)]
 pub enum SelectError {
     /// Flat code that no source gives: a label that stands nowhere, a jump that is out of reach, a number of a slot or
     /// of an item that is too great, a region or an arm that is no part of the code.

@@ -20,7 +20,7 @@ use rv_isa::Op;
 use std::alloc::Global;
 
 /// The parts, each at its number.
-#[derive(Clone, Copy, PartialEq, Eq)]
+#[derive(Clone, Copy)]
 pub enum Part {
     /// Where a program starts.
     Start,
