@@ -4,7 +4,7 @@ use crate::meaning::{Meaning, ModuleId};
 use crate::wanted::Wanted;
 use clu_base::{Bytes, Sequence};
 use clu_types::{ParamKind, TypeId};
-use indexmap::IndexMap;
+use std::collections::HashMap;
 
 /// What a module is, before headings are known.
 #[derive(Drop)]
@@ -18,7 +18,7 @@ pub struct ModuleKnown {
 #[derive(Drop)]
 pub struct Modules {
     /// By name the first of the file, or that of the library; none is `stream`.
-    pub by_name: IndexMap<Bytes, ModuleId>,
+    pub by_name: HashMap<Bytes, ModuleId>,
     pub known: Vec<ModuleKnown>,
     /// How many of them are of the file.
     pub of_file: u32,

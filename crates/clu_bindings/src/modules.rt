@@ -8,8 +8,8 @@ use clu_head::kinds;
 use clu_settle::Value;
 use clu_syntax::Syntax;
 use clu_types::{Form, ParamKind, Spec, Specs, TypeArena};
-use indexmap::IndexMap;
 use std::alloc::Global;
+use std::collections::HashMap;
 
 /// Appends a module, and enters its name, unless a module of this name is known. `stream` is the name of a built-in type, by
 /// which no module is known.
@@ -106,7 +106,7 @@ pub fn modules_of(
     library: &Specs,
 ) -> Result<Modules, Memory> {
     let mut modules = Modules {
-        by_name: IndexMap::new(alloc),
+        by_name: HashMap::new(alloc),
         known: Vec::new(alloc),
         of_file: 0,
         units: vec![in alloc; None; syntax.tree().len() as usize]?,

@@ -10,8 +10,8 @@ use clu_head::is_at;
 use clu_names::Declared;
 use clu_syntax::Syntax;
 use clu_tree::NodeKind;
-use indexmap::IndexMap;
 use std::alloc::Global;
+use std::collections::HashMap;
 
 /// What a list is of.
 #[derive(Clone, Copy, PartialEq, Eq, Hash)]
@@ -40,7 +40,7 @@ struct Item {
 /// twice.
 #[derive(Drop)]
 pub struct Items {
-    first: IndexMap<Item, u32>,
+    first: HashMap<Item, u32>,
     pub repeated: Vec<bool>,
 }
 
@@ -202,7 +202,7 @@ impl Items {
     ) -> Result<Box<Items>, Memory> {
         let len = syntax.tree().len();
         let items = Items {
-            first: IndexMap::new(alloc),
+            first: HashMap::new(alloc),
             repeated: vec![in alloc; false; len as usize]?,
         };
         let mut items = Box::new(alloc, items)?;

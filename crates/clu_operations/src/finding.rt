@@ -6,8 +6,8 @@ use crate::words::{NameId, Words};
 use clu_base::{Bytes, Memory};
 use clu_bindings::ModuleId;
 use clu_types::TypeId;
-use indexmap::IndexMap;
 use std::alloc::Global;
+use std::collections::HashMap;
 
 /// What was found so far.
 #[derive(Drop)]
@@ -16,11 +16,11 @@ pub struct Finding {
     pub founds: Vec<Found>,
     pub asked: Vec<Asked>,
     /// What was looked for, with what was found.
-    pub wished: IndexMap<Wished, Option<FoundId>>,
+    pub wished: HashMap<Wished, Option<FoundId>>,
     /// What where clauses and type sets give.
-    pub given: IndexMap<Given, FoundId>,
+    pub given: HashMap<Given, FoundId>,
     /// What the modules of the file show, of those of which it was needed.
-    pub shown: IndexMap<ModuleId, Box<Shown>>,
+    pub shown: HashMap<ModuleId, Box<Shown>>,
 }
 
 impl Finding {
@@ -30,9 +30,9 @@ impl Finding {
             words: Words::new(alloc),
             founds: Vec::new(alloc),
             asked: Vec::new(alloc),
-            wished: IndexMap::new(alloc),
-            given: IndexMap::new(alloc),
-            shown: IndexMap::new(alloc),
+            wished: HashMap::new(alloc),
+            given: HashMap::new(alloc),
+            shown: HashMap::new(alloc),
         }
     }
 

@@ -3,14 +3,12 @@ use Rattle.std.proofs.Common.{◌≡◌, ℕ, ◌+◌, ◌<◌, ◌≤◌, suc, 
 use borrow.Author.Tests.{ltb-true, ltb-false}
 use Rattle.std.proofs.Math.Dec.{ltb}
 use Rattle.std.specs.Bool.{Decides}
-use Rattle.std.specs.List.{list_any}
 use Rattle.std.proofs.lemmas.List.{append-nil, length-take, take_more, get_or-take}
 use Rattle.std.proofs.lemmas.List.Sums.{fold-append}
-use Rattle.std.proofs.lemmas.List.Folds.{list_any_at}
-use Rattle.std.proofs.lemmas.Option.{get_or_from_slice_get}
+use Rattle.std.proofs.lemmas.Option.{get_or_from_slice_get, slice_get-get_or}
 use Rattle.std.proofs.Math.ListN.{get_or-append}
 use Rattle.std.proofs.Math.Seq.{get_or-append_seam, split_at}
-use Rattle.indexmap.specs.IndexSet.{insert_key}
+use Rattle.clu_types.specs.Interned.{IsAddedTo}
 use Rattle.clu_types.specs.CluType.{CluType, null_type}
 use Rattle.clu_types.specs.Arena.{type_at, type_of, types_of, PartsBelow, IsArena, Grows}
 use Rattle.clu_types.specs.declared.term.TypeId.{TypeId}
@@ -121,22 +119,18 @@ push_arena ts t arena b fresh = record { parts = parts; once = once }
           | inr h ↦ elim (item ts t j d q) [ inl k ↦ absurd (fresh j d k.0 (sym k.1 ∙ sym e ∙ h.1)) | inr k ↦ h.0 ∙ sym k.0 ]
         ]
 
-pub insert_arena : (eq : Term → Term → Bool) → ((x y : Term) → Decides (eq x y) (x ≡ y)) → (ts : List Term) (t : Term) → IsArena ts → PartsBelow (length ts) t → IsArena (insert_key eq ts t)
-insert_arena eq same ts t arena b = by (list_any (eq t) ts) refl
-  where
-    fresh : list_any (eq t) ts ≡ false → (i : ℕ) (d : Term) → i < length ts → get_or ts i d ≡ t → ⊥
-    fresh e i d lt is = let found = list_any_at (eq t) ts i d lt ((same t (get_or ts i d)).1 (sym is)) in cc
+pub added_arena : (ts new : List Term) (t : Term) → IsAddedTo ts new t → IsArena ts → PartsBelow (length ts) t → IsArena new
+added_arena ts new t added arena b =
+    elim added [
+      | inl e ↦ rw e arena
+      | inr h ↦ rw h.0 (push_arena ts t arena b (λ i d lt is. h.1 i (slice_get-get_or ts i d lt ∙ ap Some is)))
+    ]
 
-    by : (found : Bool) → list_any (eq t) ts ≡ found → IsArena (insert_key eq ts t)
-    by true e = rw e arena
-    by false e = rw e (push_arena ts t arena b (fresh e))
+pub added_grows : (ts new : List Term) (t : Term) → IsAddedTo ts new t → Grows ts new
+added_grows ts new t added = elim added [ inl e ↦ ([], e ∙ sym (append-nil ts)) | inr h ↦ (t ∷ [], h.0) ]
 
-pub insert_grows : (eq : Term → Term → Bool) (ts : List Term) (t : Term) → Grows ts (insert_key eq ts t)
-insert_grows eq ts t = by (list_any (eq t) ts) refl
-  where
-    by : (found : Bool) → list_any (eq t) ts ≡ found → Grows ts (insert_key eq ts t)
-    by true e = ([], rw e (sym (append-nil ts)))
-    by false e = (t ∷ [], rw e refl)
+pub added_at_most : (ts new : List Term) (t : Term) → IsAddedTo ts new t → (new ≡ ts) ⊎ (new ≡ ts ++ t ∷ [])
+added_at_most ts new t added = elim added [ inl e ↦ inl e | inr h ↦ inr h.0 ]
 
 -- a term has the type that its parts had before the arena grew
 pub type_grown : (old new : List Term) (t : Term) (id : TypeId) → IsArena new → Grows old new → PartsBelow (length old) t → slice_get new id.0 ≡ Some t → id.0 < length new
@@ -148,13 +142,6 @@ type_grown old new t id arena grows b found lt =
 pub equal_ids : (ts : List Term) → IsArena ts → (a b : TypeId) → a.0 < length ts → b.0 < length ts → (r : Bool) → Decides r (a ≡ b)
     → (IsTrue r → type_at (types_of ts) a ≡ type_at (types_of ts) b) × (type_at (types_of ts) a ≡ type_at (types_of ts) b → IsTrue r)
 equal_ids ts arena a b p q r same = (λ e. ap (type_at (types_of ts)) (same.0 e), λ e. same.1 (distinct ts arena a b p q e))
-
-pub insert_adds : (eq : Term → Term → Bool) (ts : List Term) (t : Term) → (insert_key eq ts t ≡ ts) ⊎ (insert_key eq ts t ≡ ts ++ t ∷ [])
-insert_adds eq ts t = by (list_any (eq t) ts) refl
-  where
-    by : (found : Bool) → list_any (eq t) ts ≡ found → (insert_key eq ts t ≡ ts) ⊎ (insert_key eq ts t ≡ ts ++ t ∷ [])
-    by true e = inl (rw e refl)
-    by false e = inr (rw e refl)
 
 -- the next term of an arena is none of those before it, so interning it adds it
 pub next_added : (ts new : List Term) → IsArena ts → (i : ℕ) (t : Term) (id : TypeId) → i < length ts → t ≡ get_or ts i t

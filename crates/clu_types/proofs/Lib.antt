@@ -1,6 +1,7 @@
 -- Lemmas on terms and arenas.
 pub mod Equality
 pub mod Parts
+pub mod Numbered
 pub mod Arenas
 pub mod PutIn
 pub mod AllParts

@@ -1,5 +1,6 @@
 -- Types as finite terms, and the terms of an arena.
 pub mod CluType
+pub mod Interned
 pub mod Arena
 pub mod Included
 pub mod Substituted

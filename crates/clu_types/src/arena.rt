@@ -4,16 +4,16 @@
 ghost use Rattle.std.specs.Prelude.{◌≡◌, ◌↔◌, ◌<◌, ◌⊎◌, [], ◌∷◌, ◌++◌, length, slice_get, IfOk, OnOk, IsTrue, Some};
 ghost use Rattle.clu_types.specs.Arena.{type_at, type_of, types_of, AreBelow, FieldsBelow, SignalsBelow, ActualBelow, ActualsBelow, HeadingBelow, PartsBelow, Grows};
 
+use crate::interned::Interned;
 use crate::term::{Actual, Exception, Field, Heading, Term, TypeId};
 use clu_base::Memory;
-use indexmap::IndexSet;
 use std::alloc::Global;
 use std::marker::Model;
 
 /// Types by number. Equal numbers are equal types, and equal types have one number.
 #[derive(Drop)]
 pub struct TypeArena {
-    pub(crate) terms: IndexSet<Term>,
+    pub(crate) terms: Interned,
 }
 
 impl Model for TypeArena {
@@ -23,9 +23,9 @@ impl Model for TypeArena {
 
     ghost Value = { List Term };
 
-    ghost view = { λ a. a.terms.keys };
+    ghost view = { λ a. a.terms };
 
-    ghost invariant = { λ a. IsArena a.terms.keys };
+    ghost invariant = { λ a. IsArena a.terms };
 }
 
 impl TypeArena {
@@ -34,7 +34,7 @@ impl TypeArena {
         ensures { result ≡ [] }
     {
         TypeArena {
-            terms: IndexSet::new(alloc),
+            terms: Interned::new(alloc),
         }
     }
 
@@ -47,7 +47,7 @@ impl TypeArena {
         ensures kept { Grows self.old self.new }
         ensures nothing_else { OnOk result ((self.new ≡ self.old) ⊎ (self.new ≡ self.old ++ term ∷ [])) }
     {
-        let (number, _) = self.terms.insert_full(term)?;
+        let number = self.terms.number(term)?;
         Ok(TypeId(number as u64))
     }
 
@@ -58,7 +58,7 @@ impl TypeArena {
         ensures parts { PartsBelow id.0 result.now }
         ensures of_type { type_at (types_of self.now) id ≡ type_of (types_of self.now) result.now }
     {
-        &self.terms[id.0 as usize]
+        &self.terms.as_slice()[id.0 as usize]
     }
 
     /// Whether two types are equal.

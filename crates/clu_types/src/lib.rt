@@ -7,6 +7,7 @@ mod arena;
 mod carry;
 mod copy;
 mod included;
+mod interned;
 mod marks;
 mod renumbered;
 mod spec;
