@@ -1,6 +1,10 @@
 //! What is looked up of nodes and types by callers that keep no count of them: a number that is none of the tree or of the
 //! arena, and a child that isn't there, is `NotYet`.
 
+ghost use Rattle.std.specs.Prelude.{◌≡◌, ◌≤◌, [], ◌∷◌, IfOk, OnErr, Some, length, slice_get, take};
+ghost use Rattle.clu_types.specs.Arena.{actuals_at, type_at, types_of, Grows};
+ghost use Rattle.clu_types.specs.Substituted.{substituted};
+
 use clu_base::{Bytes, Memory};
 use clu_tree::{Node, Tree};
 use clu_types::{Actual, Term, TypeArena, TypeId};
@@ -16,19 +20,32 @@ pub enum LookupError {
 }
 
 impl From<Memory> for LookupError {
+    ghost use Rattle.std.specs.Prelude.{◌≡◌};
+    ghost use Rattle.clu_core.specs.declared.lookups.LookupError.{LookupError};
+
+    ghost from_gives = { λ _ e. e ≡ LookupError.Memory };
+
     fn from(_error: Memory) -> LookupError {
         LookupError::Memory
     }
 }
 
 impl From<AllocError> for LookupError {
+    ghost use Rattle.std.specs.Prelude.{◌≡◌};
+    ghost use Rattle.clu_core.specs.declared.lookups.LookupError.{LookupError};
+
+    ghost from_gives = { λ _ e. e ≡ LookupError.Memory };
+
     fn from(_error: AllocError) -> LookupError {
         LookupError::Memory
     }
 }
 
 /// The node of this number.
-pub fn node_at(tree: &Tree, n: u32) -> Result<&Node, LookupError> {
+pub fn node_at(tree: &Tree, n: u32) -> Result<&Node, LookupError>
+    ensures found { IfOk result (λ node. slice_get tree.now n ≡ Some node.now) }
+    ensures none { OnErr result (length tree.now ≤ n) }
+{
     if n < tree.len() {
         Ok(tree.node(n))
     } else {
@@ -37,7 +54,9 @@ pub fn node_at(tree: &Tree, n: u32) -> Result<&Node, LookupError> {
 }
 
 /// The only child of a node.
-pub fn only_child(node: &Node) -> Result<u32, LookupError> {
+pub fn only_child(node: &Node) -> Result<u32, LookupError>
+    ensures { IfOk result (λ child. node.now.children ≡ child ∷ []) }
+{
     match node.children.as_slice() {
         [child] => Ok(*child),
         _ => Err(LookupError::NotYet),
@@ -45,7 +64,10 @@ pub fn only_child(node: &Node) -> Result<u32, LookupError> {
 }
 
 /// The first name that stands directly in a node.
-pub fn first_name(node: &Node) -> Result<&Bytes, LookupError> {
+pub fn first_name(node: &Node) -> Result<&Bytes, LookupError>
+    ensures found { IfOk result (λ name. take 1 node.now.names ≡ name.now ∷ []) }
+    ensures none { OnErr result (node.now.names ≡ []) }
+{
     match node.names.as_slice() {
         [name, ..] => Ok(name),
         [] => Err(LookupError::NotYet),
@@ -53,7 +75,10 @@ pub fn first_name(node: &Node) -> Result<&Bytes, LookupError> {
 }
 
 /// The number of the type that a term denotes.
-pub fn intern(types: &mut TypeArena, term: Term) -> Result<TypeId, LookupError> {
+pub fn intern(types: &mut TypeArena, term: Term) -> Result<TypeId, LookupError>
+    ensures found { IfOk result (λ id. slice_get types.new id.0 ≡ Some term) }
+    ensures kept { Grows types.old types.new }
+{
     if types.holds(&term) {
         Ok(types.intern(term)?)
     } else {
@@ -62,7 +87,10 @@ pub fn intern(types: &mut TypeArena, term: Term) -> Result<TypeId, LookupError> 
 }
 
 /// The term of a type.
-pub fn term(types: &TypeArena, id: TypeId) -> Result<&Term, LookupError> {
+pub fn term(types: &TypeArena, id: TypeId) -> Result<&Term, LookupError>
+    ensures found { IfOk result (λ term. slice_get types.now id.0 ≡ Some term.now) }
+    ensures none { OnErr result (length types.now ≤ id.0) }
+{
     if types.contains(id) {
         Ok(types.view(id))
     } else {
@@ -77,7 +105,10 @@ pub fn carry(
     from: &TypeArena,
     t: TypeId,
     actuals: &[Actual],
-) -> Result<TypeId, LookupError> {
+) -> Result<TypeId, LookupError>
+    ensures of_type { IfOk result (λ id. type_at (types_of types.new) id ≡ substituted (actuals_at (types_of types.old) actuals.now) (type_at (types_of from.now) t)) }
+    ensures kept { Grows types.old types.new }
+{
     if from.contains(t) && types.holds_actuals(actuals) {
         Ok(types.carry(alloc, from, t, actuals)?)
     } else {
