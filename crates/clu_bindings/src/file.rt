@@ -33,7 +33,7 @@ pub struct File<'a> {
 pub struct Headed<'a> {
     pub file: File<'a>,
     pub heads: &'a Heads,
-    pub refused: &'a [u32],
+    pub refused: &'a [usize],
 }
 
 impl<'a> File<'a> {

@@ -4,3 +4,5 @@ pub mod Unchanged
 pub mod Listed
 pub mod Ranks
 pub mod Named
+pub mod Refused
+pub mod Seen

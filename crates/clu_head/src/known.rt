@@ -1,7 +1,12 @@
 //! What heads are made from.
 
-ghost use Rattle.std.specs.Prelude.{◌≡◌, ◌<◌, IsTrue, length};
+ghost use Rattle.std.specs.Prelude.{◌≡◌, ◌<◌, ℕ, IsTrue, length};
 ghost use Rattle.clu_syntax.specs.Kinds.{kind_at};
+ghost use Rattle.clu_syntax.specs.Items.{Item};
+ghost use Rattle.clu_syntax.specs.Nodes.{item_at};
+ghost use Rattle.clu_syntax.specs.Views.{type_told};
+ghost use Rattle.clu_settle.specs.Lists.{type_id, value_of};
+ghost use Rattle.clu_head.specs.Seen.{is_cvt, is_cvt_word, seen_type};
 
 use crate::restricted::Restricted;
 use clu_base::Memory;
@@ -19,7 +24,7 @@ pub struct Known<'a> {
     pub rounds: &'a [Round],
     pub values: &'a [Value],
     /// How many of the nodes before it are refused.
-    pub refused: &'a [u32],
+    pub refused: &'a [usize],
     /// Of a Restrict what it restricts.
     pub restricted: &'a [Restricted],
     /// Of a Module how many parameters it has.
@@ -44,27 +49,38 @@ pub fn is_at(tree: &Tree, n: u32, kind: NodeKind) -> bool
     }
 }
 
-fn is_cvt_word(word: SimpleType) -> bool {
+fn is_cvt_word(word: SimpleType) -> bool
+    ensures { result ≡ is_cvt_word word }
+{
     match word {
         SimpleType::Cvt => true,
         _ => false,
     }
 }
 
-/// Whether the word `cvt` stands at the node n.
-fn is_cvt(syntax: &Syntax, n: u32) -> bool {
-    if n < syntax.tree().len() {
-        match syntax.type_expression(n) {
-            TypeExpression::Simple(word) => is_cvt_word(word),
-            _ => false,
-        }
-    } else {
-        false
+fn is_cvt_type(of: TypeExpression<'_>) -> bool
+    ensures { (items : ℕ → Item) (n : ℕ) → result ≡ is_cvt (type_told items n of.entry) }
+{
+    match of {
+        TypeExpression::Simple(word) => is_cvt_word(word),
+        TypeExpression::List { .. } => false,
+        TypeExpression::Fields { .. } => false,
+        TypeExpression::Routine { .. } => false,
+        TypeExpression::Named { .. } => false,
     }
 }
 
+/// Whether the word `cvt` stands at the node n.
+fn is_cvt(syntax: &Syntax, n: u32) -> bool
+    ensures { n < length syntax.now → result ≡ is_cvt (item_at syntax.now n).type }
+{
+    n < syntax.tree().len() && is_cvt_type(syntax.type_expression(n))
+}
+
 /// The type that a value is, if it is one that is known.
-pub fn type_in(value: Value) -> Option<TypeId> {
+pub fn type_in(value: Value) -> Option<TypeId>
+    ensures { result ≡ type_id value }
+{
     match value {
         Value::Type(id) => Some(id),
         _ => None,
@@ -72,7 +88,9 @@ pub fn type_in(value: Value) -> Option<TypeId> {
 }
 
 /// The value of the node n.
-pub fn value_of(values: &[Value], n: u32) -> Value {
+pub fn value_of(values: &[Value], n: u32) -> Value
+    ensures { result ≡ value_of values.now n }
+{
     match values.get(n as usize) {
         Some(value) => *value,
         None => Value::Lost,
@@ -98,7 +116,9 @@ pub fn number_at(place: usize) -> u32 {
 }
 
 /// The type at the node n as callers see it, where `cvt` stands for the cluster round it, if there is one. None if it is lost.
-pub fn type_outside(known: Known<'_>, own: Option<TypeId>, n: u32) -> Option<TypeId> {
+pub fn type_outside(known: Known<'_>, own: Option<TypeId>, n: u32) -> Option<TypeId>
+    ensures { n < length known.entry.syntax.now → result ≡ seen_type own (item_at known.entry.syntax.now n).type (value_of known.entry.values.now n) }
+{
     if is_cvt(known.syntax, n) {
         own
     } else {

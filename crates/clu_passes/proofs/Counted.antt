@@ -1,15 +1,16 @@
--- A node at or below another one is refused just if the counts before and behind these differ.
-use Rattle.std.proofs.Common.{◌≡◌, ◌∙◌, ℕ, zero, suc, ◌+◌, ◌-◌, ◌<◌, ◌≤◌, Bool, true, false, ◌&&◌, ◌||◌, if◌then◌else◌, nat_lt, nat_le, List, [], ◌∷◌, length, get_or, Option, refl, sym, ap, inl, inr, arith, lt-ltb, le-ltb, le-leb}
-use Rattle.std.specs.Prelude.{slice_get, filter, count_by}
+-- A node at or below another one is refused just if the counts before and after these differ.
+use Rattle.std.proofs.Common.{◌≡◌, ◌∙◌, ℕ, zero, suc, ◌+◌, ◌-◌, ◌<◌, ◌≤◌, Bool, true, false, ◌&&◌, ◌||◌, if◌then◌else◌, nat_lt, nat_le, List, [], ◌∷◌, ◌++◌, length, get_or, Option, Some, refl, sym, ap, subst, inl, inr, arith, add-one, length-append, lt-ltb, le-ltb, le-leb}
+use Rattle.std.specs.Prelude.{slice_get, filter}
 use Rattle.std.specs.List.{list_any, range_with_len}
-use Rattle.std.proofs.lemmas.Bool.{cases_eq, cases_lt, or_cases, and_parts, leb-true, true≢false}
-use Rattle.std.proofs.lemmas.Option.{slice_get_past, slice_get-get_or}
-use Rattle.std.proofs.lemmas.List.{take_all}
-use Rattle.std.proofs.lemmas.List.Sums.{count_by_more_yes, count_by_more_no}
-use Rattle.clu_syntax.specs.Rounds.{round_at}
+use Rattle.std.proofs.lemmas.Bool.{cases_eq, or_cases, and_parts, leb-true, true≢false}
+use Rattle.std.proofs.lemmas.Option.{slice_get-get_or, get_or_from_slice_get}
+use Rattle.std.proofs.Math.ListN.{get_or-append}
+use Rattle.std.proofs.Math.Seq.{get_or-append_seam}
+use Rattle.clu_syntax.specs.declared.round.Round.{Round}
+use Rattle.clu_syntax.specs.Rounds.{round_at, outside}
 use Rattle.clu_checking.specs.Files.{File, is_refused, stands_below}
-use Rattle.clu_passes.specs.Marks.{is_set}
-use Rattle.clu_passes.specs.Counted.{AreRefused, count_before, grows_below}
+use Rattle.clu_head.specs.Refused.{is_set, count_before, counts_to, number_in, grows_in}
+use Rattle.clu_passes.specs.Counted.{AreRefused}
 
 -- ---- counts
 
@@ -19,18 +20,42 @@ one_if b = if b then 1 else 0
 and_none : (x : ℕ) → x ≡ x + 0
 and_none x = omega arith
 
-count_here : (bits : List Bool) (n : ℕ) → n < length bits → (b : Bool) → get_or bits n false ≡ b → count_before bits (n + 1) ≡ count_before bits n + one_if b
-count_here bits n less true e = count_by_more_yes (λ b. b) bits n false less e
-count_here bits n less false e = count_by_more_no (λ b. b) bits n false less e ∙ and_none (count_before bits n)
+one_more : (x : ℕ) (b : Bool) → (if b then x + 1 else x) ≡ x + one_if b
+one_more x true = refl
+one_more x false = and_none x
 
 count_next : (bits : List Bool) (n : ℕ) → count_before bits (n + 1) ≡ count_before bits n + one_if (is_set (slice_get bits n))
-count_next bits n = elim (cases_lt n (length bits)) [
-  | inl less ↦ count_here bits n less (get_or bits n false) refl ∙ ap (λ (o : Option Bool). count_before bits n + one_if (is_set o)) (sym (slice_get-get_or bits n false less))
-  | inr more ↦
-      ap (λ (xs : List Bool). count_by (λ bit. bit) xs) (take_all (n + 1) bits (omega (arith, more)) ∙ sym (take_all n bits more))
-      ∙ and_none (count_before bits n)
-      ∙ ap (λ (o : Option Bool). count_before bits n + one_if (is_set o)) (sym (slice_get_past bits n more))
+unfolding count_before
+count_next bits n = ap (count_before bits) (add-one n) ∙ one_more (count_before bits n) (is_set (slice_get bits n))
+
+-- ---- their list
+
+counts_length : (bits : List Bool) (k : ℕ) → length (counts_to bits k) ≡ k + 1
+unfolding counts_to
+counts_length bits zero = refl
+counts_length bits (suc k) =
+    let before : length (counts_to bits k) ≡ k + 1 = counts_length bits k in
+    omega (arith, before, length-append (counts_to bits k) (count_before bits (suc k) ∷ []))
+
+counts_at : (bits : List Bool) (k m : ℕ) → m ≤ k → get_or (counts_to bits k) m 0 ≡ count_before bits m
+unfolding counts_to
+counts_at bits zero m least =
+    let none : 0 ≡ m = omega (arith, least) in
+    subst (λ (x : ℕ). get_or (counts_to bits 0) x 0 ≡ count_before bits x) none refl
+counts_at bits (suc k) m least = elim (cases_eq m (suc k)) [
+  | inl last ↦
+      let end : length (counts_to bits k) ≡ m = counts_length bits k ∙ add-one k ∙ sym last in
+      subst (λ (x : ℕ). get_or (counts_to bits k ++ count_before bits (suc k) ∷ []) x 0 ≡ count_before bits (suc k)) end (get_or-append_seam (counts_to bits k) (count_before bits (suc k)) [] 0)
+      ∙ ap (count_before bits) (sym last)
+  | inr apart ↦
+      let size : length (counts_to bits k) ≡ k + 1 = counts_length bits k in
+      get_or-append (counts_to bits k) (count_before bits (suc k) ∷ []) 0 m (omega (arith, size, least, apart)) ∙ counts_at bits k m (omega (arith, least, apart))
 ]
+
+number_at : (bits : List Bool) (m : ℕ) → m ≤ length bits → number_in (slice_get (counts_to bits (length bits)) m) ≡ count_before bits m
+number_at bits m least =
+    let size : length (counts_to bits (length bits)) ≡ length bits + 1 = counts_length bits (length bits) in
+    ap number_in (slice_get-get_or (counts_to bits (length bits)) m 0 (omega (arith, size, least))) ∙ counts_at bits (length bits) m least
 
 module _ (bits : List Bool) where
   abbrev bit : ℕ → Bool
@@ -142,11 +167,20 @@ module _ (f : File) (bits : List Bool) (are : AreRefused f bits) (n : ℕ) (insi
   alike false true to from = from refl
   alike false false to from = refl
 
-  pub refused_is : is_refused f n ≡ grows_below f bits n
-  refused_is =
+  counted_is : is_refused f n ≡ nat_lt (count_before bits first) (count_before bits (suc n))
+  counted_is =
       let end : first + (suc n - first) ≡ suc n = omega (arith, ordered) in
       ap (λ (ns : List ℕ). list_any (λ m. stands_below f m n) ns) are
       ∙ any_filtered (λ m. stands_below f m n) (bit bits) (range_with_len 0 (length bits))
       ∙ alike (list_any below (range_with_len 0 (length bits))) (list_any (bit bits) (range_with_len first (suc n - first))) part whole
       ∙ any_counted bits (suc n - first) first
       ∙ ap (λ (m : ℕ). nat_lt (count_before bits first) (count_before bits m)) end
+
+pub refused_is : (f : File) (bits : List Bool) → AreRefused f bits → (n : ℕ) (round : Round) → n < length bits → slice_get f.rounds n ≡ Some round → round.first ≤ n → is_refused f n ≡ grows_in (counts_to bits (length bits)) (slice_get f.rounds n) n
+refused_is f bits are n round inside there ordered =
+    let from : (round_at f.rounds n).first ≡ round.first = ap (λ (r : Round). r.first) (get_or_from_slice_get f.rounds n round outside there) in
+    counted_is f bits are n inside (omega (arith, from, ordered))
+    ∙ ap (λ (m : ℕ). nat_lt (count_before bits m) (count_before bits (suc n))) from
+    ∙ ap (λ (count : ℕ). nat_lt count (count_before bits (suc n))) (sym (number_at bits round.first (omega (arith, inside, ordered))))
+    ∙ ap (λ (count : ℕ). nat_lt (number_in (slice_get (counts_to bits (length bits)) round.first)) count) (ap (count_before bits) (sym (add-one n)) ∙ sym (number_at bits (n + 1) (omega (arith, inside))))
+    ∙ ap (λ (o : Option Round). grows_in (counts_to bits (length bits)) o n) (sym there)

@@ -19,11 +19,10 @@ use Rattle.clu_meaning.specs.Settling.{type_settled}
 use Rattle.clu_checking.specs.Files.{File, item}
 use Rattle.clu_checking.specs.Headings.{kind_of_type, kind_of_parameter, kinds_in}
 use Rattle.clu_settle.specs.declared.value.Value.{Value}
-use Rattle.clu_settle.specs.Lists.{value_of}
+use Rattle.clu_settle.specs.Lists.{type_id, value_of}
 use Rattle.clu_settle.specs.Names.{names_of}
 use Rattle.clu_settle.specs.Settled.{AreSettled}
 use Rattle.clu_settle.proofs.Parts.{item_there, before_is}
-use Rattle.clu_passes.specs.Seen.{known_type}
 use Rattle.clu_passes.specs.ParameterKinds.{kind_known, kind_by, kinds_at, IsKnownParm}
 use Rattle.clu_passes.proofs.Seen.{type_told}
 
@@ -39,7 +38,7 @@ first_type nodes n (d ∷ ds) c below e = by (is_type (kind_at nodes d)) refl e
     by false is e = absurd (none-some c e)
 
 module _ (f : File) (types : List Term) (constants : List Const) (values : List Value) (settled : AreSettled f.nodes f.scope types constants values) (tree : IsTree f.nodes) where
-  kind_told : (n : ℕ) (o : Option ℕ) → ((c : ℕ) → o ≡ Some c → (c < n) × (is_type (kind_at f.nodes c) ≡ true)) → ((c : ℕ) → o ≡ Some c → (id : TypeId) × (known_type (value_of values c) ≡ Some id)) →
+  kind_told : (n : ℕ) (o : Option ℕ) → ((c : ℕ) → o ≡ Some c → (c < n) × (is_type (kind_at f.nodes c) ≡ true)) → ((c : ℕ) → o ≡ Some c → (id : TypeId) × (type_id (value_of values c) ≡ Some id)) →
       kind_of_parameter f (type_of_option (before n (item_at f.nodes)) o) ≡ kind_by (types_of types) values o
   kind_told n None typed known = refl
   kind_told n (Some c) typed known =

@@ -1,5 +1,4 @@
 pub mod Counted
 pub mod Marks
 pub mod ParameterKinds
-pub mod Seen
 pub mod Told

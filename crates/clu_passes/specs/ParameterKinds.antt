@@ -10,9 +10,8 @@ use Rattle.clu_tree.specs.declared.node.NodeKind.TheVariants as kind
 use Rattle.clu_syntax.specs.Splits.{type_of, children_of}
 use Rattle.clu_checking.specs.Headings.{kind_of_type}
 use Rattle.clu_settle.specs.declared.value.Value.{Value}
-use Rattle.clu_settle.specs.Lists.{value_of}
+use Rattle.clu_settle.specs.Lists.{type_id, value_of}
 use Rattle.clu_settle.specs.Names.{names_of}
-use Rattle.clu_passes.specs.Seen.{known_type}
 
 abbrev pub kind_known : List CluType → Option TypeId → Option ParamKind
 kind_known types (Some id) = kind_of_type (type_at types id)
@@ -20,7 +19,7 @@ kind_known types None = None
 
 -- of a parameter that is declared with the type at a node, or of a type parameter
 abbrev pub kind_by : List CluType → List Value → Option ℕ → Option ParamKind
-kind_by types values (Some n) = kind_known types (known_type (value_of values n))
+kind_by types values (Some n) = kind_known types (type_id (value_of values n))
 kind_by types values None = Some param.OfType
 
 -- the node of the type of a Parm
@@ -36,4 +35,4 @@ pub record IsKnownParm (nodes : List Node) (values : List Value) (n : ℕ) : Typ
   pub node : Node
   pub there : slice_get nodes n ≡ Some node
   pub of_kind : node.kind ≡ kind.Parm
-  pub known : (c : ℕ) → declared_type nodes n ≡ Some c → (id : TypeId) × (known_type (value_of values c) ≡ Some id)
+  pub known : (c : ℕ) → declared_type nodes n ≡ Some c → (id : TypeId) × (type_id (value_of values c) ≡ Some id)

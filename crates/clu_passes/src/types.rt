@@ -16,14 +16,14 @@ ghost use Rattle.clu_meaning.specs.Resolving.{Place, heading_type};
 ghost use Rattle.clu_checking.specs.Files.{File, item};
 ghost use Rattle.clu_checking.specs.Headings.{for_callers, kinds_in};
 ghost use Rattle.clu_settle.specs.declared.value.Value.{Value};
-ghost use Rattle.clu_settle.specs.Lists.{value_of};
+ghost use Rattle.clu_settle.specs.Lists.{type_id, value_of};
 ghost use Rattle.clu_settle.specs.Settled.{AreSettled};
+ghost use Rattle.clu_head.specs.Seen.{seen_type};
 ghost use Rattle.clu_passes.specs.ParameterKinds.{kinds_at, IsKnownParm};
-ghost use Rattle.clu_passes.specs.Seen.{known_type, seen_type};
 
 /// A type whose node has a value that is known comes to that type.
 pub fn type_told()
-    ensures { (nodes : List Node) (scope : Scope) (types : List Term) (constants : List Const) (values : List Value) → AreSettled nodes scope types constants values → (n : ℕ) → is_type (kind_at nodes n) ≡ true → (id : TypeId) → known_type (value_of values n) ≡ Some id → type_settled scope (item_at nodes n).type ≡ type_at (types_of types) id }
+    ensures { (nodes : List Node) (scope : Scope) (types : List Term) (constants : List Const) (values : List Value) → AreSettled nodes scope types constants values → (n : ℕ) → is_type (kind_at nodes n) ≡ true → (id : TypeId) → type_id (value_of values n) ≡ Some id → type_settled scope (item_at nodes n).type ≡ type_at (types_of types) id }
 {}
 
 /// The same as callers see it, where `cvt` stands for the own type of the place.
