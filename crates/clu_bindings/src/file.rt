@@ -1,5 +1,15 @@
 //! A file as it is checked: what stands at a node, and round it. Of a node that isn't there all is nothing.
 
+ghost use Rattle.std.specs.Prelude.{◌≡◌, ℕ, IfSome, IfNone, None, get_or, slice_get};
+ghost use Rattle.clu_syntax.specs.Kinds.{kind_at};
+ghost use Rattle.clu_syntax.specs.Rounds.{round_at};
+ghost use Rattle.clu_syntax.specs.Items.{Item};
+ghost use Rattle.clu_syntax.specs.Nodes.{item_with};
+ghost use Rattle.clu_syntax.specs.Views.{expression_told};
+ghost use Rattle.clu_settle.specs.declared.value.Value.TheVariants as value;
+ghost use Rattle.clu_bindings.specs.Tables.{items_at};
+ghost use Rattle.clu_bindings.specs.Files.{names_of, bound_in, declaration_in, declaring_node, declared_by};
+
 use crate::bindings::{Bindings, ModuleKnown};
 use crate::meaning::{Meaning, ModuleId};
 use crate::nodes::{kind_of, parent_of};
@@ -43,15 +53,21 @@ impl<'a> File<'a> {
     }
 
     /// The kind of the node n; File of one that is not there.
-    pub fn kind(self, n: u32) -> NodeKind {
+    pub fn kind(self, n: u32) -> NodeKind
+        ensures { result ≡ kind_at self.entry.syntax.now n }
+    {
         kind_of(self.syntax.tree(), n)
     }
 
-    pub fn round(self, n: u32) -> Round {
+    pub fn round(self, n: u32) -> Round
+        ensures { result ≡ round_at self.entry.rounds.now n }
+    {
         self.rounds.get(n as usize).copied().unwrap_or(OUTSIDE)
     }
 
-    pub fn parent(self, n: u32) -> Option<u32> {
+    pub fn parent(self, n: u32) -> Option<u32>
+        ensures { result ≡ (round_at self.entry.rounds.now n).parent }
+    {
         parent_of(self.rounds, n)
     }
 
@@ -69,7 +85,9 @@ impl<'a> File<'a> {
         place.copied().unwrap_or(0)
     }
 
-    pub fn names(self, n: u32) -> &'a [Bytes] {
+    pub fn names(self, n: u32) -> &'a [Bytes]
+        ensures { result.now ≡ names_of (slice_get self.entry.syntax.now n) }
+    {
         if n < self.syntax.tree().len() {
             self.syntax.tree().node(n).names.as_slice()
         } else {
@@ -77,7 +95,10 @@ impl<'a> File<'a> {
         }
     }
 
-    pub fn expression(self, n: u32) -> Option<Expression<'a>> {
+    pub fn expression(self, n: u32) -> Option<Expression<'a>>
+        ensures none { IfNone result (slice_get self.entry.syntax.now n ≡ None) }
+        ensures some { IfSome result (λ e. (items : ℕ → Item) → expression_told items n e ≡ (item_with items self.entry.syntax.now n (slice_get self.entry.syntax.now n)).expression) }
+    {
         if n < self.syntax.tree().len() {
             Some(self.syntax.expression(n))
         } else {
@@ -102,18 +123,24 @@ impl<'a> File<'a> {
     }
 
     /// What the constant or type at the node n comes to.
-    pub fn value(self, n: u32) -> Value {
+    pub fn value(self, n: u32) -> Value
+        ensures { result ≡ get_or self.entry.values.now n value.Lost }
+    {
         self.values.get(n as usize).copied().unwrap_or(Value::Lost)
     }
 
     /// The declarations to which the names of the node n are bound, by their places.
-    pub fn bound(self, n: u32) -> &'a [Option<usize>] {
+    pub fn bound(self, n: u32) -> &'a [Option<usize>]
+        ensures { result.now ≡ bound_in self.entry.names.now n }
+    {
         items_of(self.names.bound.as_slice(), self.names.starts.as_slice(), n)
     }
 
     /// What the names of the node n denote: those of a Name, a NameT, a Restrict, a TypeSet, an Assign, a For and the word
     /// `rep`, and of all nodes that declare names.
-    pub fn meanings(self, n: u32) -> &'a [Meaning] {
+    pub fn meanings(self, n: u32) -> &'a [Meaning]
+        ensures { result.now ≡ items_at self.entry.bindings.now.meanings.items self.entry.names.now.starts.items n }
+    {
         items_of(
             self.bindings.meanings.as_slice(),
             self.names.starts.as_slice(),
@@ -128,12 +155,16 @@ impl<'a> File<'a> {
     }
 
     /// The declaration to which the first name of the node n is bound.
-    pub fn declaration(self, n: u32) -> Option<usize> {
+    pub fn declaration(self, n: u32) -> Option<usize>
+        ensures { result ≡ declaration_in self.entry.names.now n }
+    {
         self.bound(n).first().copied().flatten()
     }
 
     /// The node of the declaration at a place.
-    pub fn declaring_node(self, place: Option<usize>) -> Option<u32> {
+    pub fn declaring_node(self, place: Option<usize>) -> Option<u32>
+        ensures { result ≡ declaring_node self.entry.names.now place }
+    {
         match self.names.declared.as_slice().get(place?) {
             Some(one) => Some(one.node),
             None => None,
@@ -141,7 +172,9 @@ impl<'a> File<'a> {
     }
 
     /// The node that declares the first name of the node n.
-    pub fn declared_by(self, n: u32) -> Option<u32> {
+    pub fn declared_by(self, n: u32) -> Option<u32>
+        ensures { result ≡ declared_by self.entry.names.now n }
+    {
         self.declaring_node(self.declaration(n))
     }
 

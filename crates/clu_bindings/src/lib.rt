@@ -24,7 +24,8 @@ pub use crate::inside::{
     known_inside, own_type, representation, type_inside, type_of_value, type_outside,
 };
 pub use crate::meaning::{Meaning, ModuleId};
+pub use crate::modules::is_stream;
 pub use crate::named::{Named, has_fitting_kinds, named_at, parameter_type, wants_type};
-pub use crate::nodes::kind_of;
+pub use crate::nodes::{is_there, kind_of};
 pub use crate::tables::{is_set, items_of, number_at, optional_at, set};
 pub use crate::wanted::{Wanted, is_object_wanted};

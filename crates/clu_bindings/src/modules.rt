@@ -1,5 +1,8 @@
 //! The modules that a file may name, by name: its own before those of the library.
 
+ghost use Rattle.std.specs.Prelude.{◌≡◌};
+ghost use Rattle.clu_names.specs.Scopes.{is_stream};
+
 use crate::bindings::{ModuleKnown, Modules};
 use crate::headline::headline_at;
 use crate::meaning::ModuleId;
@@ -11,8 +14,14 @@ use clu_types::{Form, ParamKind, Spec, Specs, TypeArena};
 use std::alloc::Global;
 use std::collections::HashMap;
 
-/// Appends a module, and enters its name, unless a module of this name is known. `stream` is the name of a built-in type, by
-/// which no module is known.
+/// Whether the name is that of the built-in type `stream`, by which no module is known.
+pub fn is_stream(name: &Bytes) -> bool
+    ensures { result ≡ is_stream name.now }
+{
+    name.as_slice() == b"stream".as_slice()
+}
+
+/// Appends a module, and enters its name, unless a module of this name is known.
 fn push(
     alloc: Global,
     modules: &mut Modules,
@@ -21,7 +30,7 @@ fn push(
 ) -> Result<ModuleId, Memory> {
     let module = ModuleId(modules.count());
     modules.known.push(known)?;
-    if name.as_slice() != b"stream".as_slice() && !modules.by_name.contains_key(name) {
+    if !is_stream(name) && !modules.by_name.contains_key(name) {
         modules.by_name.insert(name.copy(alloc)?, module)?;
     }
     Ok(module)

@@ -1,22 +1,29 @@
 //! The rules on names: V4 LiteralRange, V5 UnknownName, V6 DefinedTwice, V7 CircularEquate, V37 OwnPlace.
 
-ghost use Rattle.std.specs.Prelude.{◌≡◌, IsFalse, Some, slice_get};
-ghost use Rattle.std.specs.List.{list_any};
+ghost use Rattle.std.specs.Prelude.{◌≡◌, ◌||◌, ◌+◌, ◌-◌, ◌*◌, ℕ, IsFalse, Some, drop, get_or, is_some, length, min, slice_get, take};
+ghost use Rattle.std.specs.List.{list_any, range_with_len};
 ghost use Rattle.clu_tree.specs.declared.node.Node.{Node};
+ghost use Rattle.clu_syntax.specs.Kinds.{kind_at};
+ghost use Rattle.clu_syntax.specs.Items.{Item};
+ghost use Rattle.clu_syntax.specs.Nodes.{item_with};
+ghost use Rattle.clu_syntax.specs.Views.{expression_told, variable_told};
+ghost use Rattle.clu_syntax.specs.Words.{literal_told};
+ghost use Rattle.clu_settle.specs.declared.value.Value.TheVariants as value;
+ghost use Rattle.clu_names.specs.Denotes.{rank};
+ghost use Rattle.clu_bindings.specs.Tables.{items_at};
+ghost use Rattle.clu_bindings.specs.Files.{names_of, bound_in};
 ghost use Rattle.clu_name_rules.specs.Closed.{has_long_name, is_long};
+ghost use Rattle.clu_name_rules.specs.NameRules.{declares_variable, if_named, last_if, bound_defined, is_module_node, begins_with_stream, is_listed_once, is_defined_twice, is_unusable, disagrees_by, same_unit, comes_before, is_redefined, has_redefined, number_after, is_large, is_out_of_range, is_literal_out_of_range, is_known, has_unknown, uses_unknown, is_marked, leads_to_mark, is_argument, names_argument, takes_argument};
 
-use crate::tables::{
-    Tables, declared_at, is_bad_name, is_repeated, is_stream, leads_to_circle, literal_at,
-    stands_in,
-};
-use crate::views::{is_kind, tag_arm_at};
+use crate::tables::{Tables, is_bad_name, is_repeated, leads_to_circle, stands_in};
+use crate::views::is_kind;
 use clu_base::Bytes;
-use clu_bindings::{File, Meaning, is_set};
+use clu_bindings::{File, Meaning, is_set, is_stream};
 use clu_literal::char_byte;
 use clu_names::Declared;
 use clu_settle::Value;
-use clu_syntax::Literal;
-use clu_tree::{NodeKind, Tree};
+use clu_syntax::{Expression, Literal, Variable};
+use clu_tree::NodeKind;
 
 /// The longest identifier, in bytes.
 const LONGEST_NAME: usize = 200;
@@ -41,20 +48,18 @@ fn has_long(mut names: &[Bytes]) -> bool
     false
 }
 
-fn has_long_name(tree: &Tree, n: u32) -> bool
-    ensures { (node : Node) → slice_get tree.now n ≡ Some node → result ≡ has_long_name node }
-{
-    n < tree.len() && has_long(tree.node(n).names.as_slice())
-}
-
 /// What a decimal digit writes after a number; what has no 64 bits stays too large.
-fn with_digit(number: u64, digit: u8) -> u64 {
+fn with_digit(number: u64, digit: u8) -> u64
+    ensures { result ≡ min (10 * number + (digit - 48)) 18446744073709551615 }
+{
     number
         .saturating_mul(10)
         .saturating_add(u64::from(digit.saturating_sub(b'0')))
 }
 
-fn is_large(digits: &[u8]) -> bool {
+fn is_large(digits: &[u8]) -> bool
+    ensures { result ≡ is_large (number_after 0 digits.now) }
+{
     let mut number = 0u64;
     for digit in digits {
         number = with_digit(number, *digit);
@@ -63,181 +68,301 @@ fn is_large(digits: &[u8]) -> bool {
 }
 
 /// A string that comes to no constant has an octal code that is too large.
-fn is_out_of_range(f: File<'_>, n: u32) -> bool {
-    match literal_at(f, n) {
-        Some(Literal::Integer(digits)) => is_large(digits),
-        Some(Literal::Character(text)) => char_byte(text).is_none(),
-        Some(Literal::String(_)) => matches!(f.value(n), Value::Nothing),
+fn is_out_of_range(literal: Literal<'_>, value: Value) -> bool
+    ensures { result ≡ is_out_of_range (literal_told literal.entry) value }
+{
+    match literal {
+        Literal::Integer(digits) => is_large(digits),
+        Literal::Character(text) => char_byte(text).is_none(),
+        Literal::String(_) => matches!(value, Value::Nothing),
         _ => false,
+    }
+}
+
+fn is_literal_out_of_range(expression: Expression<'_>, value: Value) -> bool
+    ensures { (items : ℕ → Item) (n : ℕ) → result ≡ is_literal_out_of_range (expression_told items n expression.entry) value }
+{
+    match expression {
+        Expression::Literal(literal) => is_out_of_range(literal, value),
+        _ => false,
+    }
+}
+
+fn has_bad_literal(f: File<'_>, n: u32) -> bool
+    ensures { (items : ℕ → Item) → result ≡ is_literal_out_of_range (item_with items f.entry.syntax.now n (slice_get f.entry.syntax.now n)).expression (get_or f.entry.values.now n value.Lost) }
+{
+    match f.expression(n) {
+        Some(expression) => is_literal_out_of_range(expression, f.value(n)),
+        None => false,
     }
 }
 
 /// V4: an integer literal above 9223372036854775807, an octal code above 377, an identifier of more than 200 bytes (CLU
 /// Reference Manual, section 5). In `x: int := 9223372036854775808` at the literal.
 pub fn v4(t: &Tables<'_>, n: u32) -> bool
-    ensures { (node : Node) → slice_get t.now.file.syntax.now n ≡ Some node → IsFalse result → IsFalse (has_long_name node) }
+    ensures lengths { (node : Node) → slice_get t.now.file.syntax.now n ≡ Some node → IsFalse result → IsFalse (has_long_name node) }
+    ensures exact { (items : ℕ → Item) → result ≡ (list_any is_long (names_of (slice_get t.now.file.syntax.now n)) || is_literal_out_of_range (item_with items t.now.file.syntax.now n (slice_get t.now.file.syntax.now n)).expression (get_or t.now.file.values.now n value.Lost)) }
 {
-    has_long_name(t.file.syntax.tree(), n) || is_out_of_range(t.file, n)
+    has_long(t.file.names(n)) || has_bad_literal(t.file, n)
 }
 
 // ---- V5
 
 /// Whether a name denotes a declaration of the file, a module of the library, or the type `stream`.
-fn is_known(bound: Option<usize>, meaning: Meaning, name: &Bytes) -> bool {
+fn is_known(name: &Bytes, bound: Option<usize>, meaning: Meaning) -> bool
+    ensures { result ≡ is_known name.now bound meaning }
+{
     bound.is_some() || matches!(meaning, Meaning::Module(Some(_))) || is_stream(name)
 }
 
-/// The first of the names that are used, of those of the node n; those of a type set are its variable and the one before `has`.
-fn first_used(kind: NodeKind) -> Option<usize> {
-    match kind {
-        NodeKind::Name | NodeKind::NameT | NodeKind::Assign | NodeKind::For | NodeKind::Restrict =>
-            Some(0),
-        NodeKind::TypeSet => Some(1),
-        _ => None,
-    }
-}
-
-fn has_unknown(f: File<'_>, n: u32, from: usize) -> bool {
-    let names = f.names(n);
-    let bound = f.bound(n);
-    let meanings = f.meanings(n);
-    for at in from..names.len() {
-        if at < bound.len()
-            && at < meanings.len()
-            && !is_known(bound[at], meanings[at], &names[at])
-        {
+/// Whether one of these names denotes nothing, by what each is bound to and means.
+fn has_unknown(mut names: &[Bytes], mut bounds: &[Option<usize>], mut meanings: &[Meaning]) -> bool
+    ensures { result ≡ has_unknown names.entry.now bounds.entry.now meanings.entry.now }
+{
+    while let [name, more_names @ ..] = names
+        && let [bound, more_bounds @ ..] = bounds
+        && let [meaning, more_meanings @ ..] = meanings
+    {
+        if !is_known(name, *bound, *meaning) {
             return true;
         }
+        names = more_names;
+        bounds = more_bounds;
+        meanings = more_meanings;
     }
     false
 }
 
 /// V5: the name denotes nothing in scope, no module of the file and none of the library (section 4.2). In `x: int := y + 1`
 /// at `y`.
-pub fn v5(t: &Tables<'_>, n: u32) -> bool {
-    match first_used(t.file.kind(n)) {
-        Some(from) => has_unknown(t.file, n, from),
-        None => false,
+pub fn v5(t: &Tables<'_>, n: u32) -> bool
+    ensures { result ≡ uses_unknown (kind_at t.now.file.syntax.now n) (names_of (slice_get t.now.file.syntax.now n)) (bound_in t.now.file.names.now n) (items_at t.now.file.bindings.now.meanings.items t.now.file.names.now.starts.items n) }
+{
+    let names = t.file.names(n);
+    let bounds = t.file.bound(n);
+    let meanings = t.file.meanings(n);
+    match t.file.kind(n) {
+        NodeKind::Name | NodeKind::NameT | NodeKind::Assign | NodeKind::For | NodeKind::Restrict =>
+            has_unknown(names, bounds, meanings),
+        NodeKind::TypeSet => has_unknown(
+            names.get(1..).unwrap_or(&[]),
+            bounds.get(1..).unwrap_or(&[]),
+            meanings.get(1..).unwrap_or(&[]),
+        ),
+        _ => false,
     }
 }
 
 // ---- V6
 
 /// How far out a declaration stands: further, the later its scope ends.
-fn rank(one: &Declared) -> u64 {
+fn rank(one: &Declared) -> u64
+    ensures { result ≡ rank one.now }
+{
     match one.unit {
         Some(_) => u64::from(one.to).saturating_add(1),
         None => 0,
     }
 }
 
+/// Whether both declarations are of one module.
+fn same_unit(a: Option<u32>, b: Option<u32>) -> bool
+    ensures { result ≡ same_unit a b }
+{
+    match a {
+        Some(a) => match b {
+            Some(b) => a == b,
+            None => false,
+        },
+        None => false,
+    }
+}
+
 /// Whether the declaration d at the place k counts before another one of its module.
-fn comes_before(k: usize, d: &Declared, own: usize, e: &Declared) -> bool {
-    let is_of_unit = d.unit.is_some() && d.unit == e.unit;
-    is_of_unit && (rank(e) < rank(d) || (rank(d) == rank(e) && k < own))
+fn comes_before(k: usize, d: &Declared, own: usize, e: &Declared) -> bool
+    ensures { result ≡ comes_before k d.now own e.now }
+{
+    same_unit(d.unit, e.unit) && (rank(e) < rank(d) || (rank(d) == rank(e) && k < own))
 }
 
 /// Whether a name that is declared at this place is in scope already: what it is bound to there is another declaration of the
-/// module. None of a name that is bound to none.
-fn is_redefined(f: File<'_>, own: usize, bound: Option<usize>) -> Option<bool> {
-    let k = bound?;
-    Some(comes_before(k, declared_at(f, k)?, own, declared_at(f, own)?))
+/// module.
+fn is_redefined(declared: &[Declared], own: usize, bound: Option<usize>) -> bool
+    ensures { result ≡ is_redefined declared.now own bound }
+{
+    match bound {
+        Some(k) => {
+            k < declared.len()
+                && own < declared.len()
+                && comes_before(k, &declared[k], own, &declared[own])
+        }
+        None => false,
+    }
 }
 
-/// Whether one of the names is, of those of the node n, whose declarations follow one another from a place on.
-fn has_redefined(f: File<'_>, own: usize, bound: &[Option<usize>]) -> bool {
+/// Whether one of the names is, whose declarations follow one another from a place on.
+fn has_redefined(declared: &[Declared], own: usize, mut bounds: &[Option<usize>]) -> bool
+    ensures { result ≡ has_redefined declared.now own bounds.entry.now }
+{
     let mut place = own;
-    for bound in bound {
-        if is_redefined(f, place, *bound) == Some(true) {
+    while let [bound, rest @ ..] = bounds {
+        if place >= declared.len() {
+            return false;
+        }
+        if is_redefined(declared, place, *bound) {
             return true;
         }
-        place = place.saturating_add(1);
+        place += 1;
+        bounds = rest;
     }
     false
 }
 
-fn has_variable(f: File<'_>, arm: u32) -> bool {
-    match tag_arm_at(f, arm) {
-        Some(arm) => arm.variable.is_some(),
+fn is_declared(variable: Option<Variable<'_>>) -> bool
+    ensures { (items : ℕ → Item) → result ≡ is_some (variable_told items variable.entry) }
+{
+    match variable {
+        Some(_) => true,
         None => false,
+    }
+}
+
+fn declares_variable(f: File<'_>, n: u32) -> bool
+    ensures { (items : ℕ → Item) → result ≡ declares_variable items f.entry.syntax.now n }
+{
+    if is_kind(f, NodeKind::TagArm, n) {
+        is_declared(f.syntax.tag_arm(n).variable)
+    } else {
+        false
+    }
+}
+
+fn if_named<'a>(names: &[Bytes], bounds: &'a [Option<usize>]) -> &'a [Option<usize>]
+    ensures { result.now ≡ if_named names.now bounds.now }
+{
+    match names {
+        [] => &[],
+        [_, ..] => bounds,
+    }
+}
+
+fn first_only(bounds: &[Option<usize>]) -> &[Option<usize>]
+    ensures { result.now ≡ take 1 bounds.now }
+{
+    match bounds {
+        [] => bounds,
+        [_, ..] => &bounds[..1],
+    }
+}
+
+fn last_if(with_variable: bool, bounds: &[Option<usize>]) -> &[Option<usize>]
+    ensures { result.now ≡ last_if with_variable bounds.now }
+{
+    if with_variable {
+        let before = bounds.len().saturating_sub(1);
+        &bounds[before..]
+    } else {
+        &[]
     }
 }
 
 /// What the names that a node declares in its module are bound to there: of an arm that is the last name, if it declares a
 /// variable, of a type set and a routine the first. The word `rep` is no name.
-fn bound_defined<'a>(f: File<'a>, n: u32) -> &'a [Option<usize>] {
-    let bound = f.bound(n);
+fn bound_defined<'a>(f: File<'a>, n: u32) -> &'a [Option<usize>]
+    ensures { (items : ℕ → Item) → result.now ≡ bound_defined (kind_at f.entry.syntax.now n) (names_of (slice_get f.entry.syntax.now n)) (declares_variable items f.entry.syntax.now n) (bound_in f.entry.names.now n) }
+{
+    let bounds = f.bound(n);
     match f.kind(n) {
-        NodeKind::Equate if f.names(n).is_empty() => &[],
+        NodeKind::Equate => if_named(f.names(n), bounds),
+        NodeKind::Parm | NodeKind::Decl | NodeKind::Init | NodeKind::Own | NodeKind::Others =>
+            bounds,
+        NodeKind::Routine | NodeKind::TypeSet => first_only(bounds),
+        NodeKind::TagArm => last_if(declares_variable(f, n), bounds),
+        _ => &[],
+    }
+}
+
+fn is_module(f: File<'_>, n: u32) -> bool
+    ensures { result ≡ is_module_node f.entry.syntax.now f.entry.rounds.now n }
+{
+    is_kind(f, NodeKind::Cluster, n)
+        || (is_kind(f, NodeKind::Routine, n) && stands_in(f, NodeKind::Module, n))
+}
+
+fn begins_with_stream(names: &[Bytes]) -> bool
+    ensures { result ≡ begins_with_stream names.now }
+{
+    match names {
+        [name, ..] => is_stream(name),
+        [] => false,
+    }
+}
+
+/// Where the declarations of the node n begin; behind all if it has none.
+fn own_place(t: &Tables<'_>, n: u32) -> usize
+    ensures { result ≡ get_or t.now.own.now n (length t.now.file.names.now.declared.items) }
+{
+    t.own
+        .get(n as usize)
+        .copied()
+        .unwrap_or(t.file.names.declared.len())
+}
+
+/// Whether names that stand twice at a node of this kind are defined twice. Of selectors, tags and arms other rules are asked.
+fn is_listed_once(kind: NodeKind) -> bool
+    ensures { result ≡ is_listed_once kind }
+{
+    match kind {
         NodeKind::Equate
         | NodeKind::Parm
         | NodeKind::Decl
         | NodeKind::Init
         | NodeKind::Own
-        | NodeKind::Others => bound,
-        NodeKind::Routine | NodeKind::TypeSet => bound.get(..1).unwrap_or(bound),
-        NodeKind::TagArm if has_variable(f, n) => &bound[bound.len().saturating_sub(1)..],
-        _ => &[],
+        | NodeKind::Others
+        | NodeKind::Exc
+        | NodeKind::Routine
+        | NodeKind::Cluster => true,
+        _ => false,
     }
 }
 
-fn is_module(f: File<'_>, n: u32) -> bool {
-    is_kind(f, NodeKind::Cluster, n)
-        || (is_kind(f, NodeKind::Routine, n) && stands_in(f, NodeKind::Module, n))
+fn has_redefined_name(t: &Tables<'_>, n: u32) -> bool
+    ensures { (items : ℕ → Item) → result ≡ has_redefined t.now.file.names.now.declared.items (get_or t.now.own.now n (length t.now.file.names.now.declared.items)) (bound_defined (kind_at t.now.file.syntax.now n) (names_of (slice_get t.now.file.syntax.now n)) (declares_variable items t.now.file.syntax.now n) (bound_in t.now.file.names.now n)) }
+{
+    let declared = t.file.names.declared.as_slice();
+    has_redefined(declared, own_place(t, n), bound_defined(t.file, n))
 }
 
-/// Whether the node n is a module of the name `stream`.
-fn is_stream_module(f: File<'_>, n: u32) -> bool {
-    match f.names(n) {
-        [name, ..] => is_module(f, n) && is_stream(name),
-        [] => false,
-    }
-}
-
-fn own_place(t: &Tables<'_>, n: u32) -> usize {
-    match t.own.get(n as usize) {
-        Some(place) => *place,
-        None => t.file.names.declared.len(),
-    }
-}
-
-/// Whether names that stand twice at a node of this kind are defined twice. Of selectors, tags and arms other rules are asked.
-fn is_listed_once(kind: NodeKind) -> bool {
-    matches!(
-        kind,
-        NodeKind::Equate
-            | NodeKind::Parm
-            | NodeKind::Decl
-            | NodeKind::Init
-            | NodeKind::Own
-            | NodeKind::Others
-            | NodeKind::Exc
-            | NodeKind::Routine
-            | NodeKind::Cluster
-    )
-}
-
-/// A name that the node declares stands twice or is in scope already.
-fn is_defined_twice(t: &Tables<'_>, n: u32) -> bool {
+/// A name that the node declares stands twice or is in scope already, or it is a module of the name `stream`.
+fn is_defined_twice(t: &Tables<'_>, n: u32) -> bool
+    ensures { (items : ℕ → Item) → result ≡ is_defined_twice items t.now.file.syntax.now t.now.file.rounds.now t.now.file.names.now t.now.items.now.repeated.items t.now.own.now n }
+{
     (is_listed_once(t.file.kind(n)) && is_repeated(t, n))
-        || is_stream_module(t.file, n)
-        || has_redefined(t.file, own_place(t, n), bound_defined(t.file, n))
+        || ((is_module(t.file, n) && begins_with_stream(t.file.names(n)))
+            || has_redefined_name(t, n))
 }
 
-/// Whether nothing is asked by a type set that is named at the node n, since it is bad or circular.
-fn has_unusable(t: &Tables<'_>, bad: &[bool], n: u32) -> bool {
-    for bound in t.file.bound(n) {
+/// Whether nothing is asked by a type set of one of these names, since it is bad or circular.
+fn has_unusable(t: &Tables<'_>, bad: &[bool], mut bounds: &[Option<usize>]) -> bool
+    ensures { result ≡ list_any (is_unusable t.now.file.syntax.now t.now.file.names.now t.now.circular.now bad.now) bounds.entry.now }
+{
+    while let [bound, rest @ ..] = bounds {
         if leads_to_circle(t, *bound) || is_bad_name(t, bad, *bound) {
             return true;
         }
+        bounds = rest;
     }
     false
 }
 
-fn disagrees_at(t: &Tables<'_>, bad: &[bool], disagrees: &[bool], n: u32) -> bool {
+fn disagrees_at(t: &Tables<'_>, bad: &[bool], disagrees: &[bool], n: u32) -> bool
+    ensures { result ≡ disagrees_by t.now.file.syntax.now t.now.file.names.now t.now.circular.now bad.now disagrees.now (kind_at t.now.file.syntax.now n) n }
+{
     match t.file.kind(n) {
         NodeKind::Oper => is_set(disagrees, n as usize),
-        NodeKind::Restrict => is_set(disagrees, n as usize) && !has_unusable(t, bad, n),
+        NodeKind::Restrict => {
+            is_set(disagrees, n as usize) && !has_unusable(t, bad, t.file.bound(n))
+        }
         _ => false,
     }
 }
@@ -245,23 +370,30 @@ fn disagrees_at(t: &Tables<'_>, bad: &[bool], disagrees: &[bool], n: u32) -> boo
 /// V6: the name is in scope already from the same module, or stands twice among modules, parameters, exports or signals; or a
 /// demand on a parameter disagrees with one before it (sections 4.2 and 12.4). In `x: int begin x: string end` at the second
 /// `x`. `disagrees` says of each node whether a demand of it does.
-pub fn v6(t: &Tables<'_>, bad: &[bool], disagrees: &[bool], n: u32) -> bool {
+pub fn v6(t: &Tables<'_>, bad: &[bool], disagrees: &[bool], n: u32) -> bool
+    ensures { (items : ℕ → Item) → result ≡ (is_defined_twice items t.now.file.syntax.now t.now.file.rounds.now t.now.file.names.now t.now.items.now.repeated.items t.now.own.now n || disagrees_by t.now.file.syntax.now t.now.file.names.now t.now.circular.now bad.now disagrees.now (kind_at t.now.file.syntax.now n) n) }
+{
     is_defined_twice(t, n) || disagrees_at(t, bad, disagrees, n)
 }
 
 // ---- V7
 
-fn has_circle(t: &Tables<'_>, bound: &[Option<usize>]) -> bool {
-    for bound in bound {
-        if leads_to_circle(t, *bound) {
+fn has_circle(t: &Tables<'_>, mut bound: &[Option<usize>]) -> bool
+    ensures { result ≡ list_any (is_marked t.now.circular.now) bound.entry.now }
+{
+    while let [first, rest @ ..] = bound {
+        if leads_to_circle(t, *first) {
             return true;
         }
+        bound = rest;
     }
     false
 }
 
 /// V7: the unfolding of the equate that is named meets itself (section 7.2). In `a = b b = a + 1` at `b`.
-pub fn v7(t: &Tables<'_>, n: u32) -> bool {
+pub fn v7(t: &Tables<'_>, n: u32) -> bool
+    ensures { result ≡ leads_to_mark t.now.circular.now (kind_at t.now.file.syntax.now n) (bound_in t.now.file.names.now n) }
+{
     match t.file.kind(n) {
         NodeKind::Name | NodeKind::NameT | NodeKind::Simple | NodeKind::Restrict => {
             has_circle(t, t.file.bound(n))
@@ -272,18 +404,24 @@ pub fn v7(t: &Tables<'_>, n: u32) -> bool {
 
 // ---- V37
 
-fn is_argument(f: File<'_>, declaring: u32) -> bool {
-    is_kind(f, NodeKind::Decl, declaring) && stands_in(f, NodeKind::Routine, declaring)
-}
-
-fn names_argument(f: File<'_>, n: u32) -> bool {
-    match f.declared_by(n) {
-        Some(declaring) => is_kind(f, NodeKind::Name, n) && is_argument(f, declaring),
+fn is_argument(f: File<'_>, declaring: Option<u32>) -> bool
+    ensures { result ≡ is_argument f.entry.syntax.now f.entry.rounds.now f.entry.names.now declaring }
+{
+    match declaring {
+        Some(d) => is_kind(f, NodeKind::Decl, d) && stands_in(f, NodeKind::Routine, d),
         None => false,
     }
 }
 
-fn has_argument(f: File<'_>, from: u32, to: u32) -> bool {
+fn names_argument(f: File<'_>, n: u32) -> bool
+    ensures { result ≡ names_argument f.entry.syntax.now f.entry.rounds.now f.entry.names.now n }
+{
+    is_kind(f, NodeKind::Name, n) && is_argument(f, f.declared_by(n))
+}
+
+fn has_argument(f: File<'_>, from: u32, to: u32) -> bool
+    ensures { result ≡ list_any (names_argument f.entry.syntax.now f.entry.rounds.now f.entry.names.now) (range_with_len from (to - from)) }
+{
     for n in from..to {
         if names_argument(f, n) {
             return true;
@@ -294,6 +432,8 @@ fn has_argument(f: File<'_>, from: u32, to: u32) -> bool {
 
 /// V37: the initial object of an own variable names an argument of the routine (section 8.3). In
 /// `p = proc (x: int) own n: int := x` at `own`.
-pub fn v37(t: &Tables<'_>, n: u32) -> bool {
+pub fn v37(t: &Tables<'_>, n: u32) -> bool
+    ensures { result ≡ takes_argument t.now.file.syntax.now t.now.file.rounds.now t.now.file.names.now n }
+{
     is_kind(t.file, NodeKind::Own, n) && has_argument(t.file, t.file.round(n).first, n)
 }

@@ -1,12 +1,15 @@
 //! A file with what the rules on names, constants and types read of it. Each function here answers for any number, so that no
 //! rule asks anything of its caller.
 
+ghost use Rattle.std.specs.Prelude.{◌≡◌, slice_get};
+ghost use Rattle.clu_head.specs.Refused.{is_set};
+ghost use Rattle.clu_bindings.specs.Files.{declaring_node, stands_in};
+ghost use Rattle.clu_name_rules.specs.NameRules.{equate_of, is_bad_name, is_marked};
+
 use crate::repeated::Items;
 use crate::views::is_kind;
 use crate::words::Words;
-use clu_base::Bytes;
 use clu_bindings::{File, is_set};
-use clu_names::Declared;
 use clu_syntax::{Expression, Literal, SimpleType, TypeExpression};
 use clu_tree::NodeKind;
 use clu_types::TypeArena;
@@ -28,24 +31,26 @@ pub struct Tables<'a> {
 }
 
 /// Whether a name of the node n stands twice.
-pub fn is_repeated(t: &Tables<'_>, n: u32) -> bool {
+pub fn is_repeated(t: &Tables<'_>, n: u32) -> bool
+    ensures { result ≡ is_set (slice_get t.now.items.now.repeated.items n) }
+{
     is_set(t.items.repeated.as_slice(), n as usize)
 }
 
 /// Whether the parent of the node n is of this kind.
-pub fn stands_in(f: File<'_>, kind: NodeKind, n: u32) -> bool {
+pub fn stands_in(f: File<'_>, kind: NodeKind, n: u32) -> bool
+    ensures { result ≡ stands_in f.entry.syntax.now f.entry.rounds.now kind n }
+{
     match f.parent(n) {
         Some(parent) => is_kind(f, kind, parent),
         None => false,
     }
 }
 
-pub fn declared_at<'a>(f: File<'a>, place: usize) -> Option<&'a Declared> {
-    f.names.declared.as_slice().get(place)
-}
-
 /// The Equate to which a name is bound.
-fn equate_named(f: File<'_>, bound: Option<usize>) -> Option<u32> {
+fn equate_named(f: File<'_>, bound: Option<usize>) -> Option<u32>
+    ensures { result ≡ equate_of f.entry.syntax.now (declaring_node f.entry.names.now bound) }
+{
     let n = f.declaring_node(bound)?;
     if is_kind(f, NodeKind::Equate, n) {
         Some(n)
@@ -55,7 +60,9 @@ fn equate_named(f: File<'_>, bound: Option<usize>) -> Option<u32> {
 }
 
 /// Whether a name is that of an equate whose unfolding meets itself.
-pub fn leads_to_circle(t: &Tables<'_>, bound: Option<usize>) -> bool {
+pub fn leads_to_circle(t: &Tables<'_>, bound: Option<usize>) -> bool
+    ensures { result ≡ is_marked t.now.circular.now bound }
+{
     match bound {
         Some(place) => is_set(t.circular, place),
         None => false,
@@ -64,7 +71,9 @@ pub fn leads_to_circle(t: &Tables<'_>, bound: Option<usize>) -> bool {
 
 /// Whether a name is that of a bad equate: a rule is violated in it, or in an equate to which it leads. Of a circle V7 is asked
 /// alone. `bad` says of each Equate whether it is bad.
-pub fn is_bad_name(t: &Tables<'_>, bad: &[bool], bound: Option<usize>) -> bool {
+pub fn is_bad_name(t: &Tables<'_>, bad: &[bool], bound: Option<usize>) -> bool
+    ensures { result ≡ is_bad_name t.now.file.syntax.now t.now.file.names.now t.now.circular.now bad.now bound }
+{
     match equate_named(t.file, bound) {
         Some(e) => is_set(bad, e as usize) && !leads_to_circle(t, bound),
         None => false,
@@ -85,9 +94,4 @@ pub fn is_word(f: File<'_>, word: SimpleType, n: u32) -> bool {
         Some(TypeExpression::Simple(other)) => { other == word && is_kind(f, NodeKind::Simple, n) }
         _ => false,
     }
-}
-
-/// Whether the name is that of the built-in type `stream`, by which no module is known.
-pub fn is_stream(name: &Bytes) -> bool {
-    name.as_slice() == b"stream".as_slice()
 }

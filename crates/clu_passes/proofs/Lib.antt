@@ -1,9 +1,15 @@
 pub mod ByNodes
 pub mod Counted
 pub mod Listing
+pub mod Literals
 pub mod Marked
+pub mod OwnPlaces
 pub mod ParameterKinds
 pub mod Places
+pub mod Redefined
 pub mod RepWords
 pub mod Routines
 pub mod Seen
+pub mod Strings
+pub mod Tables
+pub mod Unknown

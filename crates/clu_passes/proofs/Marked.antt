@@ -20,7 +20,9 @@ use Rattle.clu_checking.specs.Files.{File, is_kind, kind_in, node_names, names, 
 use Rattle.clu_checking.specs.Equates.{names_unfolded, leads_on, is_circular, is_circular_at}
 use Rattle.clu_checking.specs.NameRules.{leads_to_circle, v7}
 use Rattle.clu_settle.specs.Circular as by_place
-use Rattle.clu_passes.specs.Marks.{AreMarks, IsMarked, is_set, is_marked, leads_to_mark}
+use Rattle.clu_head.specs.Refused.{is_set}
+use Rattle.clu_name_rules.specs.NameRules.{is_marked, leads_to_mark}
+use Rattle.clu_passes.specs.Marks.{AreMarks, IsMarked}
 use Rattle.clu_passes.proofs.ByNodes.{any_mapped, circular_same, names_same}
 use Rattle.clu_passes.proofs.Places.{Declares, found_inside, equate_declares}
 use denote.Enum.Bare.{same_true}
@@ -28,7 +30,7 @@ use denote.Enum.Bare.{same_true}
 kind_is : (k : NodeKind) → is_of kind.Equate k ≡ true → k ≡ kind.Equate
 kind_is k h = same_true the_type (search rules) k kind.Equate h
 
-none_there : {X : Type 0} (xs : List X) (i : ℕ) → i < length xs → slice_get xs i ≡ None → ⊥
+pub none_there : {X : Type 0} (xs : List X) (i : ℕ) → i < length xs → slice_get xs i ≡ None → ⊥
 none_there [] i less at = absurd (omega (arith, less))
 none_there (x ∷ xs) zero less at = none-some x (sym at)
 none_there (x ∷ xs) (suc i) less at = none_there xs i (omega (arith, less)) at

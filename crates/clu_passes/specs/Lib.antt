@@ -1,4 +1,5 @@
 pub mod Counted
 pub mod Marks
 pub mod ParameterKinds
+pub mod Tables
 pub mod Told

@@ -13,7 +13,8 @@ ghost use Rattle.clu_checking.specs.Files.{File, is_kind, equate_named};
 ghost use Rattle.clu_checking.specs.Equates.{is_circular, is_circular_at};
 ghost use Rattle.clu_checking.specs.NameRules.{v7};
 ghost use Rattle.clu_settle.specs.Circular as by_place;
-ghost use Rattle.clu_passes.specs.Marks.{AreMarks, IsMarked, is_marked, leads_to_mark};
+ghost use Rattle.clu_name_rules.specs.NameRules.{is_marked, leads_to_mark};
+ghost use Rattle.clu_passes.specs.Marks.{AreMarks, IsMarked};
 
 /// Of a tree of the grammar, a declaration is circular by its place just if its node is an Equate that is circular.
 pub fn circular_by_nodes()
