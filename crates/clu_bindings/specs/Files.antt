@@ -4,19 +4,10 @@ use Rattle.clu_tree.specs.declared.node.Node.{Node}
 use Rattle.clu_tree.specs.declared.node.NodeKind.{NodeKind}
 use Rattle.clu_syntax.specs.declared.round.Round.{Round}
 use Rattle.clu_syntax.specs.Rounds.{round_at}
-use Rattle.clu_syntax.specs.Splits.{is_of}
+use Rattle.clu_head.specs.There.{is_there}
 use Rattle.clu_names.specs.declared.binding.Names.{Names}
 use Rattle.clu_names.specs.declared.scopes.Declared.{Declared}
 use Rattle.clu_bindings.specs.Tables.{optional, items_at}
-
--- the node is there and of this kind
-abbrev pub is_there : NodeKind → Option Node → Bool
-is_there k (Some node) = is_of k node.kind
-is_there k None = false
-
-abbrev pub names_of : Option Node → List (List ℕ)
-names_of (Some node) = node.names
-names_of None = []
 
 abbrev pub is_there_at : List Node → NodeKind → Option ℕ → Bool
 is_there_at nodes k (Some n) = is_there k (slice_get nodes n)

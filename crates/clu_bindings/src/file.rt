@@ -8,7 +8,8 @@ ghost use Rattle.clu_syntax.specs.Nodes.{item_with};
 ghost use Rattle.clu_syntax.specs.Views.{expression_told};
 ghost use Rattle.clu_settle.specs.declared.value.Value.TheVariants as value;
 ghost use Rattle.clu_bindings.specs.Tables.{items_at};
-ghost use Rattle.clu_bindings.specs.Files.{names_of, bound_in, declaration_in, declaring_node, declared_by};
+ghost use Rattle.clu_settle.specs.Names.{names_of};
+ghost use Rattle.clu_bindings.specs.Files.{bound_in, declaration_in, declaring_node, declared_by};
 
 use crate::bindings::{Bindings, ModuleKnown};
 use crate::meaning::{Meaning, ModuleId};

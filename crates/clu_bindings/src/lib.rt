@@ -26,6 +26,6 @@ pub use crate::inside::{
 pub use crate::meaning::{Meaning, ModuleId};
 pub use crate::modules::is_stream;
 pub use crate::named::{Named, has_fitting_kinds, named_at, parameter_type, wants_type};
-pub use crate::nodes::{is_there, kind_of};
+pub use crate::nodes::kind_of;
 pub use crate::tables::{is_set, items_of, number_at, optional_at, set};
 pub use crate::wanted::{Wanted, is_object_wanted};

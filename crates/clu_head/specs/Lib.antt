@@ -6,3 +6,4 @@ pub mod Ranks
 pub mod Named
 pub mod Refused
 pub mod Seen
+pub mod There

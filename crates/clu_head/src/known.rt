@@ -1,11 +1,13 @@
 //! What heads are made from.
 
-ghost use Rattle.std.specs.Prelude.{◌≡◌, ◌<◌, ℕ, IsTrue, length};
+ghost use Rattle.std.specs.Prelude.{◌≡◌, ◌<◌, ℕ, IsTrue, length, slice_get};
 ghost use Rattle.clu_syntax.specs.Kinds.{kind_at};
+ghost use Rattle.clu_syntax.specs.Splits.{is_of};
 ghost use Rattle.clu_syntax.specs.Items.{Item};
 ghost use Rattle.clu_syntax.specs.Nodes.{item_at};
 ghost use Rattle.clu_syntax.specs.Views.{type_told};
 ghost use Rattle.clu_settle.specs.Lists.{type_id, value_of};
+ghost use Rattle.clu_head.specs.There.{is_there};
 ghost use Rattle.clu_head.specs.Seen.{is_cvt, is_cvt_word, seen_type};
 
 use crate::restricted::Restricted;
@@ -32,18 +34,20 @@ pub struct Known<'a> {
 }
 
 fn is_of(kind: NodeKind, other: NodeKind) -> bool
-    ensures { IsTrue result → kind ≡ other }
+    ensures same { result ≡ is_of kind other }
+    ensures kind { IsTrue result → other ≡ kind }
 {
-    if kind == other { true } else { false }
+    other == kind
 }
 
 /// Whether the node n is there and of this kind.
 pub fn is_at(tree: &Tree, n: u32, kind: NodeKind) -> bool
+    ensures exact { result ≡ is_there kind (slice_get tree.now n) }
     ensures inside { IsTrue result → n < length tree.now }
     ensures kind { IsTrue result → kind_at tree.now n ≡ kind }
 {
     if n < tree.len() {
-        is_of(tree.node(n).kind, kind)
+        is_of(kind, tree.node(n).kind)
     } else {
         false
     }

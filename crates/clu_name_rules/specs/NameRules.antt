@@ -21,7 +21,9 @@ use Rattle.clu_settle.specs.declared.value.Value.TheVariants as value
 use Rattle.clu_bindings.specs.declared.meaning.Meaning.{Meaning}
 use Rattle.clu_bindings.specs.declared.meaning.Meaning.TheVariants as meaning
 use Rattle.clu_head.specs.Refused.{is_set}
-use Rattle.clu_bindings.specs.Files.{is_there, names_of, stands_in, bound_in, declaring_node, declared_by}
+use Rattle.clu_head.specs.There.{is_there}
+use Rattle.clu_settle.specs.Names.{names_of}
+use Rattle.clu_bindings.specs.Files.{stands_in, bound_in, declaring_node, declared_by}
 
 -- ---- V4: a literal is out of range, by the value to which it comes
 

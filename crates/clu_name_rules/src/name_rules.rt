@@ -11,7 +11,8 @@ ghost use Rattle.clu_syntax.specs.Words.{literal_told};
 ghost use Rattle.clu_settle.specs.declared.value.Value.TheVariants as value;
 ghost use Rattle.clu_names.specs.Denotes.{rank};
 ghost use Rattle.clu_bindings.specs.Tables.{items_at};
-ghost use Rattle.clu_bindings.specs.Files.{names_of, bound_in};
+ghost use Rattle.clu_settle.specs.Names.{names_of};
+ghost use Rattle.clu_bindings.specs.Files.{bound_in};
 ghost use Rattle.clu_name_rules.specs.Closed.{has_long_name, is_long};
 ghost use Rattle.clu_name_rules.specs.NameRules.{declares_variable, if_named, last_if, bound_defined, is_module_node, begins_with_stream, is_listed_once, is_defined_twice, is_unusable, disagrees_by, same_unit, comes_before, is_redefined, has_redefined, number_after, is_large, is_out_of_range, is_literal_out_of_range, is_known, has_unknown, uses_unknown, is_marked, leads_to_mark, is_argument, names_argument, takes_argument};
 

@@ -2,9 +2,10 @@
 
 ghost use Rattle.std.specs.Prelude.{◌≡◌, ◌<◌, IsTrue, length, slice_get};
 ghost use Rattle.clu_syntax.specs.Kinds.{kind_at};
-ghost use Rattle.clu_bindings.specs.Files.{is_there};
+ghost use Rattle.clu_head.specs.There.{is_there};
 
-use clu_bindings::{File, is_there};
+use clu_bindings::File;
+use clu_head::is_at;
 use clu_syntax::{Cluster, Exception, Others, Own, Restriction, TagArm, When};
 use clu_tree::NodeKind;
 
@@ -14,7 +15,7 @@ pub fn is_kind(f: File<'_>, kind: NodeKind, n: u32) -> bool
     ensures inside { IsTrue result → n < length f.entry.syntax.now }
     ensures kind { IsTrue result → kind_at f.entry.syntax.now n ≡ kind }
 {
-    is_there(f.syntax.tree(), kind, n)
+    is_at(f.syntax.tree(), n, kind)
 }
 
 pub fn own_at<'a>(f: File<'a>, n: u32) -> Option<Own<'a>> {

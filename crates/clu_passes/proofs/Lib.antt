@@ -4,6 +4,7 @@ pub mod Listing
 pub mod Literals
 pub mod Marked
 pub mod OwnPlaces
+pub mod Owns
 pub mod ParameterKinds
 pub mod Places
 pub mod Redefined

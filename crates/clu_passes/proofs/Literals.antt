@@ -16,7 +16,7 @@ use Rattle.clu_checking.specs.NameRules as rules_of
 use Rattle.clu_checking.specs.NameRules.{has_bad_literal, v4}
 use Rattle.clu_settle.specs.declared.value.Value.{Value}
 use Rattle.clu_settle.specs.declared.value.Value.TheVariants as value
-use Rattle.clu_bindings.specs.Files.{names_of}
+use Rattle.clu_settle.specs.Names.{names_of}
 use Rattle.clu_name_rules.specs.Closed.{is_long}
 use Rattle.clu_name_rules.specs.NameRules.{number_after, is_out_of_range, is_literal_out_of_range}
 use Rattle.clu_passes.specs.Tables.{TellStrings}

@@ -23,7 +23,8 @@ use Rattle.clu_checking.specs.Files.{File, is_kind, is_kind_at, node_names}
 use Rattle.clu_checking.specs.NameRules as rules_of
 use Rattle.clu_checking.specs.NameRules.{v37}
 use Rattle.clu_bindings.specs.Tables.{optional}
-use Rattle.clu_bindings.specs.Files.{is_there, is_there_at, node_of, declaration_in, declaring_node, declared_by}
+use Rattle.clu_head.specs.There.{is_there}
+use Rattle.clu_bindings.specs.Files.{is_there_at, node_of, declaration_in, declaring_node, declared_by}
 use Rattle.clu_name_rules.specs.NameRules.{is_argument, names_argument, takes_argument}
 use Rattle.clu_passes.specs.Tables.{AreNames}
 use Rattle.clu_passes.proofs.Tables.{bound_is}

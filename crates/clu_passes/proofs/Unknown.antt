@@ -17,7 +17,8 @@ use Rattle.clu_checking.specs.Files.{File, is_kept, node_names}
 use Rattle.clu_checking.specs.NameRules.{names_used, v5}
 use Rattle.clu_bindings.specs.declared.meaning.Meaning.{Meaning}
 use Rattle.clu_bindings.specs.Tables.{items_at}
-use Rattle.clu_bindings.specs.Files.{names_of, bound_in}
+use Rattle.clu_settle.specs.Names.{names_of}
+use Rattle.clu_bindings.specs.Files.{bound_in}
 use Rattle.clu_name_rules.specs.NameRules.{is_module, is_known, has_unknown, uses_unknown}
 use Rattle.clu_passes.specs.Tables.{AreNames, MeansModule, AreMeant, AreMeanings}
 use Rattle.clu_passes.proofs.Marked.{none_there}

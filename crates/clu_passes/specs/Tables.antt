@@ -15,7 +15,7 @@ use Rattle.clu_settle.specs.declared.value.Value.{Value}
 use Rattle.clu_settle.specs.declared.value.Value.TheVariants as value
 use Rattle.clu_bindings.specs.declared.meaning.Meaning.{Meaning}
 use Rattle.clu_bindings.specs.Tables.{items_at}
-use Rattle.clu_bindings.specs.Files.{names_of}
+use Rattle.clu_settle.specs.Names.{names_of}
 use Rattle.clu_name_rules.specs.NameRules.{is_nothing, is_module, same_unit}
 
 -- what `names_of` of clu_names gives of the file

@@ -11,8 +11,8 @@ mod types;
 pub use circles::{circle_by_mark, circular_by_nodes, circular_found, v7_by_marks};
 pub use heads::{demands_listed, routines_headed, routines_listed};
 pub use name_rules::{
-    names_of_node, redefined_by_binding, strings_told, v4_by_tables, v5_by_tables, v7_by_tables,
-    v37_by_tables,
+    names_of_node, own_is_first, redefined_by_binding, strings_told, v4_by_tables, v5_by_tables,
+    v7_by_tables, v37_by_tables,
 };
 pub use refusals::refused_counted;
 pub use types::{kinds_told, type_seen, type_told};

@@ -1,7 +1,7 @@
 //! That the rules on names, as `clu_name_rules` asks them of tables, are those of the definitions, where each table is what its
 //! own definition says.
 
-ghost use Rattle.std.specs.Prelude.{◌≡◌, ◌||◌, ℕ, Bool, List, Some, get_or, slice_get};
+ghost use Rattle.std.specs.Prelude.{◌≡◌, ◌||◌, ◌<◌, ℕ, Bool, List, Some, get_or, length, slice_get};
 ghost use Rattle.std.specs.List.{list_any};
 ghost use Rattle.clu_base.specs.declared.constants.Const.{Const};
 ghost use Rattle.clu_types.specs.declared.term.Term.{Term};
@@ -20,10 +20,13 @@ ghost use Rattle.clu_settle.specs.declared.value.Value.TheVariants as value;
 ghost use Rattle.clu_settle.specs.Settled.{AreSettled};
 ghost use Rattle.clu_bindings.specs.declared.meaning.Meaning.{Meaning};
 ghost use Rattle.clu_bindings.specs.Tables.{items_at};
-ghost use Rattle.clu_bindings.specs.Files.{names_of, bound_in};
+ghost use Rattle.clu_settle.specs.Names.{names_of};
+ghost use Rattle.clu_bindings.specs.Files.{bound_in};
 ghost use Rattle.clu_name_rules.specs.Closed.{is_long};
 ghost use Rattle.clu_name_rules.specs.NameRules.{is_literal_out_of_range, uses_unknown, is_redefined, leads_to_mark, takes_argument};
+ghost use Rattle.clu_name_rules.specs.Own.{own_places};
 ghost use Rattle.clu_passes.specs.Marks.{AreMarks};
+ghost use Rattle.clu_passes.specs.Owns.{first_from};
 ghost use Rattle.clu_passes.specs.Tables.{AreNames, AreMeanings, AreFoundStrings, OpenOfOne, TellStrings};
 
 /// What the table of names has at a node is what the names of the node denote.
@@ -50,6 +53,11 @@ pub fn v5_by_tables()
 /// is bound there.
 pub fn redefined_by_binding()
     ensures { (ds : List Declared) (n : ℕ) (name : Identifier) (own : ℕ) (e : Declared) → slice_get ds own ≡ Some e → OpenOfOne ds n name e → is_preceded n name own e 0 ds ≡ is_redefined ds own (found ds name n) }
+{}
+
+/// The place that is noted of a node is that of its first declaration; the number of all if it has none.
+pub fn own_is_first()
+    ensures { (ds : List Declared) (nodes m : ℕ) → m < nodes → get_or (own_places ds nodes) m 0 ≡ first_from 0 ds m (length ds) }
 {}
 
 /// V7 of a tree of the grammar, where the bits are those of circular equates.

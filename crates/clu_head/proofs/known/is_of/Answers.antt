@@ -1,7 +1,7 @@
-use Rattle.std.proofs.Common.{sym, rules}
-use denote.Enum.Bare.{same_true}
+use Rattle.std.proofs.Common.{◌≡◌, ◌∙◌, sym, rules}
 use Rattle.clu_tree.specs.contracts.node.NodeKind.{the_type}
 use Rattle.clu_head.proofs.known.is_of.Goals as goal
+use denote.Enum.Bare.{same_true}
 
-pub returns-then-eq : goal.returns-then-eq
-returns-then-eq c = λ t. same_true the_type (search rules) _ _ (sym c.if-eq.ensures)
+pub returns-clause-kind : goal.returns-clause-kind
+returns-clause-kind c = λ h. same_true the_type (search rules) c.args.other c.args.kind (sym c.eq.ensures ∙ h)
