@@ -1,7 +1,9 @@
+pub mod Below
 pub mod Classes
 pub mod Downward
 pub mod Enough
 pub mod Items
+pub mod Parts
 pub mod Runs
 pub mod Slots
 pub mod Unique

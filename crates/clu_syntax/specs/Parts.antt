@@ -1,5 +1,5 @@
 -- Where the parts that the code gives of a node stand: they are nodes before it, those in lists of one kind of that kind.
-use Rattle.std.specs.Prelude.{◌≡◌, ℕ, ◌<◌, List, All, Option, Some, None}
+use Rattle.std.specs.Prelude.{◌≡◌, ℕ, ◌<◌, List, length, All, Option, Some, None}
 use Rattle.clu_tree.specs.declared.node.Node.{Node}
 use Rattle.clu_tree.specs.declared.node.NodeKind.{NodeKind}
 use Rattle.clu_tree.specs.declared.node.NodeKind.TheVariants as kind
@@ -13,8 +13,12 @@ use Rattle.clu_syntax.specs.declared.statements.Clauses.{Clauses}
 use Rattle.clu_syntax.specs.declared.statements.Statement.{Statement}
 use Rattle.clu_syntax.specs.declared.statements.Statement.TheVariants as s
 use Rattle.clu_syntax.specs.declared.arms.Variable.{Variable}
+use Rattle.clu_syntax.specs.declared.arms.TagArm.{TagArm}
+use Rattle.clu_syntax.specs.declared.arms.When.{When}
+use Rattle.clu_syntax.specs.declared.arms.Others.{Others}
 use Rattle.clu_syntax.specs.declared.arms.Taken.{Taken}
 use Rattle.clu_syntax.specs.declared.arms.Taken.TheVariants as taken
+use Rattle.clu_syntax.specs.declared.declarations.TypeSet.{TypeSet}
 use Rattle.clu_syntax.specs.declared.declarations.Restriction.{Restriction}
 use Rattle.clu_syntax.specs.declared.declarations.Restriction.TheVariants as r
 use Rattle.clu_syntax.specs.declared.declarations.Equated.{Equated}
@@ -30,13 +34,31 @@ use Rattle.clu_syntax.specs.Kinds.{kind_at}
 abbrev pub AreBefore : ℕ → List ℕ → Type 0
 AreBefore n cs = All (λ c. c < n) cs
 
+-- a type before n, and the variable of an arm with one
+abbrev pub type_option_parts : ℕ → Option ℕ → Type 0
+type_option_parts n None = Unit {0}
+type_option_parts n (Some c) = c < n
+
+abbrev pub variable_parts : ℕ → Option Variable → Type 0
+variable_parts n None = Unit {0}
+variable_parts n (Some v) = v.declared < n
+
+-- the clauses after the first are fewer nodes
+abbrev pub are_fewer : Option (Clause × Clauses) → List ℕ → Type 0
+are_fewer None cs = Unit {0}
+are_fewer (Some both) cs = length both.1.rest.now < length cs
+
 module _ (nodes : List Node) where
   -- a node before n, and nodes before n, of this kind
   abbrev pub IsOf : NodeKind → ℕ → ℕ → Type 0
   IsOf k n c = (c < n) × (kind_at nodes c ≡ k)
 
   abbrev pub AreOf : NodeKind → ℕ → List ℕ → Type 0
-  AreOf k n cs = All (IsOf k n) cs
+  AreOf k n cs = AreBefore n cs × All (λ c. kind_at nodes c ≡ k) cs
+
+  abbrev pub option_parts : NodeKind → ℕ → Option ℕ → Type 0
+  option_parts k n None = Unit {0}
+  option_parts k n (Some c) = IsOf k n c
 
   abbrev pub body_parts : ℕ → Body → Type 0
   body_parts n body = AreOf kind.Equate n body.equates.now × AreBefore n body.statements.now
@@ -48,10 +70,6 @@ module _ (nodes : List Node) where
   abbrev pub clause_parts : ℕ → Option (Clause × Clauses) → Type 0
   clause_parts n None = Unit {0}
   clause_parts n (Some both) = (both.0.condition < n) × body_parts n both.0.body × AreBefore n both.1.rest.now
-
-  abbrev pub others_parts : ℕ → Option ℕ → Type 0
-  others_parts n None = Unit {0}
-  others_parts n (Some c) = IsOf kind.Others n c
 
   abbrev pub expression_parts : ℕ → Expression → Type 0
   expression_parts n (e.Infix operator left right) = (left < n) × (right < n)
@@ -77,7 +95,7 @@ module _ (nodes : List Node) where
   type_parts n (t.Named name constants) = AreBefore n constants.now
 
   abbrev pub statement_parts : ℕ → Statement → Type 0
-  statement_parts n (s.Declare declaration) = declaration < n
+  statement_parts n (s.Declare declaration) = IsOf kind.Decl n declaration
   statement_parts n (s.Init name declared value) = (declared < n) × (value < n)
   statement_parts n (s.InitByCall declarations call) = AreOf kind.Decl n declarations.now × (call < n)
   statement_parts n (s.Assign names values) = AreBefore n values.now
@@ -97,15 +115,27 @@ module _ (nodes : List Node) where
   statement_parts n s.Continue = Unit {0}
   statement_parts n (s.Begin body) = body_parts n body
   statement_parts n (s.Resignal statement names) = statement < n
-  statement_parts n (s.Except statement arms other) = (statement < n) × AreOf kind.When n arms.now × others_parts n other
-
-  abbrev pub variable_parts : ℕ → Option Variable → Type 0
-  variable_parts n None = Unit {0}
-  variable_parts n (Some v) = v.declared < n
+  statement_parts n (s.Except statement arms other) = (statement < n) × AreOf kind.When n arms.now × option_parts kind.Others n other
 
   abbrev pub taken_parts : ℕ → Taken → Type 0
   taken_parts n (taken.Objects declarations) = AreOf kind.Decl n declarations.now
   taken_parts n taken.Any = Unit {0}
+
+  pub record TagArmParts (n : ℕ) (v : TagArm) : Type 0 where
+    pub variable : variable_parts n v.variable
+    pub body : body_parts n v.body
+
+  pub record WhenParts (n : ℕ) (v : When) : Type 0 where
+    pub taken : taken_parts n v.taken
+    pub body : body_parts n v.body
+
+  pub record OthersParts (n : ℕ) (v : Others) : Type 0 where
+    pub variable : variable_parts n v.variable
+    pub body : body_parts n v.body
+
+  pub record TypeSetParts (n : ℕ) (v : TypeSet) : Type 0 where
+    pub operations : AreOf kind.Oper n v.operations.now
+    pub equates : AreOf kind.Equate n v.equates.now
 
   abbrev pub restriction_parts : ℕ → Restriction → Type 0
   restriction_parts n (r.Has name operations) = AreOf kind.Oper n operations.now
@@ -139,5 +169,5 @@ module _ (nodes : List Node) where
     pub routines : AreOf kind.Routine n v.routines.now
 
   abbrev pub definition_parts : ℕ → Definition → Type 0
-  definition_parts n (defines.Routine c) = c < n
+  definition_parts n (defines.Routine c) = IsOf kind.Routine n c
   definition_parts n (defines.Cluster c) = IsOf kind.Cluster n c

@@ -6,6 +6,7 @@ ghost use Rattle.clu_syntax.specs.Enough.{HasEnough};
 ghost use Rattle.clu_syntax.specs.Items.{Item};
 ghost use Rattle.clu_syntax.specs.Nodes.{constant_of, elements_of, expression_of, routine_type_of, type_expression_of};
 ghost use Rattle.clu_syntax.specs.Kinds.{is_type};
+ghost use Rattle.clu_syntax.specs.Parts.{expression_parts, type_parts};
 ghost use Rattle.clu_syntax.specs.Splits.{leading_types};
 ghost use Rattle.clu_syntax.specs.Views.{constant_told, expression_told, type_told};
 
@@ -128,8 +129,17 @@ pub enum Constant {
 }
 
 /// What stands in the brackets of a constructor with elements; the value is the `:` after a low bound.
-fn elements_in<'a>(of: u32, value: Option<u32>, children: &'a [u32]) -> Expression<'a>
-    ensures { (items : ℕ → Item) (nodes : List Node) (n : ℕ) → expression_told items n result ≡ elements_of items nodes n (items of).type value children.now }
+fn elements_in<'a>(
+    tree: &Tree,
+    n: u32,
+    of: u32,
+    value: Option<u32>,
+    children: &'a [u32],
+) -> Expression<'a>
+    requires of { of < n }
+    requires below { All (λ c. c < n) children.now }
+    ensures told { (items : ℕ → Item) (nodes : List Node) (n : ℕ) → expression_told items n result ≡ elements_of items nodes n (items of).type value children.now }
+    ensures parts { expression_parts tree.now n result }
 {
     match value {
         None => Expression::Elements {
@@ -151,10 +161,12 @@ fn elements_in<'a>(of: u32, value: Option<u32>, children: &'a [u32]) -> Expressi
 }
 
 /// What an expression is made of.
-pub fn expression_in<'a>(tree: &'a Tree, node: &'a Node) -> Expression<'a>
+pub fn expression_in<'a>(tree: &'a Tree, n: u32, node: &'a Node) -> Expression<'a>
     requires enough { HasEnough node.now }
-    requires below { All (λ c. c < length tree.now) node.now.children }
-    ensures { (items : ℕ → Item) (n : ℕ) → expression_told items n result ≡ expression_of items tree.now n node.now node.now.kind }
+    requires inside { n < length tree.now }
+    requires below { All (λ c. c < n) node.now.children }
+    ensures told { (items : ℕ → Item) (n : ℕ) → expression_told items n result ≡ expression_of items tree.now n node.now node.now.kind }
+    ensures parts { expression_parts tree.now n result }
 {
     let children = node.children.as_slice();
     let names = node.names.as_slice();
@@ -162,85 +174,97 @@ pub fn expression_in<'a>(tree: &'a Tree, node: &'a Node) -> Expression<'a>
     match node.kind {
         NodeKind::Infix => Expression::Infix {
             operator: infix_operator(value),
-            left: child(node, 0),
-            right: child(node, 1),
+            left: child(n, node, 0),
+            right: child(n, node, 1),
         },
         NodeKind::Prefix => Expression::Prefix {
             sign: prefix_operator(value),
-            operand: child(node, 0),
+            operand: child(n, node, 0),
         },
         NodeKind::Paren => Expression::Paren {
-            inside: child(node, 0),
+            inside: child(n, node, 0),
         },
         NodeKind::Literal => Expression::Literal(literal_in(value)),
         NodeKind::Name => Expression::Name(name_at(names, 0)),
         NodeKind::Index => Expression::Index {
-            of: child(node, 0),
+            of: child(n, node, 0),
             constants: &children[1..],
         },
         NodeKind::Get => Expression::Get {
-            of: child(node, 0),
+            of: child(n, node, 0),
             selector: name_at(names, 0),
         },
         NodeKind::Call => Expression::Call {
-            routine: child(node, 0),
+            routine: child(n, node, 0),
             arguments: &children[1..],
         },
         NodeKind::Fields => Expression::Fields {
-            of: child(node, 0),
-            components: run(tree, NodeKind::FieldE, &children[1..]).0,
+            of: child(n, node, 0),
+            components: run(tree, n, NodeKind::FieldE, &children[1..]).0,
         },
-        NodeKind::Elems => elements_in(child(node, 0), node.value_token, &children[1..]),
+        NodeKind::Elems => elements_in(
+            tree,
+            n,
+            child(n, node, 0),
+            node.value_token,
+            &children[1..],
+        ),
         NodeKind::OperOf => Expression::Operation {
-            of: child(node, 0),
+            of: child(n, node, 0),
             operation: name_at(names, 0),
         },
-        NodeKind::Force => Expression::Force { to: child(node, 0) },
+        NodeKind::Force => Expression::Force {
+            to: child(n, node, 0),
+        },
         NodeKind::Up => Expression::Up {
-            inside: child(node, 0),
+            inside: child(n, node, 0),
         },
         NodeKind::Down => Expression::Down {
-            inside: child(node, 0),
+            inside: child(n, node, 0),
         },
         _ => Expression::Name(&node.value),
     }
 }
 
 /// What a type of routines is made of.
-fn routine_type_in<'a>(tree: &'a Tree, node: &'a Node) -> TypeExpression<'a>
-    requires below { All (λ c. c < length tree.now) node.now.children }
-    ensures { (items : ℕ → Item) (n : ℕ) → type_told items n result ≡ routine_type_of items tree.now n node.now (take (leading_types tree.now node.now.children) node.now.children) (drop (leading_types tree.now node.now.children) node.now.children) }
+fn routine_type_in<'a>(tree: &'a Tree, n: u32, node: &'a Node) -> TypeExpression<'a>
+    requires inside { n < length tree.now }
+    requires below { All (λ c. c < n) node.now.children }
+    ensures told { (items : ℕ → Item) (n : ℕ) → type_told items n result ≡ routine_type_of items tree.now n node.now (take (leading_types tree.now node.now.children) node.now.children) (drop (leading_types tree.now node.now.children) node.now.children) }
+    ensures parts { type_parts tree.now n result }
 {
     let children = node.children.as_slice();
-    let (arguments, rest) = children.split_at(leading_types(tree, children));
-    let (results, rest) = parts(tree, NodeKind::Results, rest);
-    let (exceptions, _) = parts(tree, NodeKind::Signals, rest);
+    let (arguments, rest) = children.split_at(leading_types(tree, n, children));
+    let (results, rest) = parts(tree, n, NodeKind::Results, rest);
+    let (exceptions, _) = parts(tree, n, NodeKind::Signals, rest);
     TypeExpression::Routine {
         kind: routine_kind(node.value.as_slice()),
         arguments,
         results,
-        exceptions: run(tree, NodeKind::Exc, exceptions).0,
+        exceptions: run(tree, n, NodeKind::Exc, exceptions).0,
     }
 }
 
 /// What a type is made of.
-pub fn type_in<'a>(tree: &'a Tree, node: &'a Node) -> TypeExpression<'a>
+pub fn type_in<'a>(tree: &'a Tree, n: u32, node: &'a Node) -> TypeExpression<'a>
     requires enough { HasEnough node.now }
-    requires below { All (λ c. c < length tree.now) node.now.children }
-    ensures { (items : ℕ → Item) (n : ℕ) → type_told items n result ≡ type_expression_of items tree.now n node.now node.now.kind }
+    requires inside { n < length tree.now }
+    requires below { All (λ c. c < n) node.now.children }
+    ensures told { (items : ℕ → Item) (n : ℕ) → type_told items n result ≡ type_expression_of items tree.now n node.now node.now.kind }
+    ensures parts { type_parts tree.now n result }
 {
     let children = node.children.as_slice();
     let value = node.value.as_slice();
     match node.kind {
         NodeKind::ListT => TypeExpression::List {
             word: list_type(value),
-            of: child(node, 0),
+            of: child(n, node, 0),
         },
         NodeKind::FieldsT => TypeExpression::Fields {
             word: fields_type(value),
-            selectors: run(tree, NodeKind::FieldT, children).0,
+            selectors: run(tree, n, NodeKind::FieldT, children).0,
         },
-        NodeKind::RoutineT => routine_type_in(tree, node),
+        NodeKind::RoutineT => routine_type_in(tree, n, node),
         NodeKind::NameT => TypeExpression::Named {
             name: name_at(node.names.as_slice(), 0),
             constants: children,

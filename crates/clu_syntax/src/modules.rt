@@ -1,10 +1,11 @@
 //! Routines, clusters and modules as their parts.
 
-ghost use Rattle.std.specs.Prelude.{◌≡◌, ◌<◌, All, ℕ, List, length};
+ghost use Rattle.std.specs.Prelude.{◌≡◌, ◌<◌, ◌⊎◌, All, ℕ, List, length};
 ghost use Rattle.clu_tree.specs.declared.node.Node.{Node};
 ghost use Rattle.clu_syntax.specs.Items.{Item};
 ghost use Rattle.clu_syntax.specs.Kinds.{kind_at};
 ghost use Rattle.clu_syntax.specs.Nodes.{cluster_from, defined, routine_from};
+ghost use Rattle.clu_syntax.specs.Parts.{ClusterParts, RoutineParts, definition_parts};
 ghost use Rattle.clu_syntax.specs.Splits.{after_run, last_child, run};
 ghost use Rattle.clu_syntax.specs.Views.{cluster_told, definition_told, module_told, routine_told};
 
@@ -73,19 +74,21 @@ pub struct Module<'a> {
 }
 
 /// What a Routine is made of.
-pub fn routine_in<'a>(tree: &'a Tree, node: &'a Node) -> Routine<'a>
+pub fn routine_in<'a>(tree: &'a Tree, n: u32, node: &'a Node) -> Routine<'a>
     requires names { 0 < length node.now.names }
-    requires below { All (λ c. c < length tree.now) node.now.children }
-    ensures { (items : ℕ → Item) (n : ℕ) → routine_told items n result ≡ routine_from items tree.now n node.now node.now.children (after_run tree.now NodeKind.Decl (after_run tree.now NodeKind.Parm node.now.children)) }
+    requires inside { n < length tree.now }
+    requires below { All (λ c. c < n) node.now.children }
+    ensures told { (items : ℕ → Item) (n : ℕ) → routine_told items n result ≡ routine_from items tree.now n node.now node.now.children (after_run tree.now NodeKind.Decl (after_run tree.now NodeKind.Parm node.now.children)) }
+    ensures parts { RoutineParts tree.now n result }
 {
     let names = node.names.as_slice();
-    let (parameters, rest) = run(tree, NodeKind::Parm, node.children.as_slice());
-    let (arguments, rest) = run(tree, NodeKind::Decl, rest);
-    let (results, rest) = parts(tree, NodeKind::Results, rest);
-    let (exceptions, rest) = parts(tree, NodeKind::Signals, rest);
-    let (restrictions, rest) = parts(tree, NodeKind::Where, rest);
-    let (equates, rest) = run(tree, NodeKind::Equate, rest);
-    let (owns, statements) = run(tree, NodeKind::Own, rest);
+    let (parameters, rest) = run(tree, n, NodeKind::Parm, node.children.as_slice());
+    let (arguments, rest) = run(tree, n, NodeKind::Decl, rest);
+    let (results, rest) = parts(tree, n, NodeKind::Results, rest);
+    let (exceptions, rest) = parts(tree, n, NodeKind::Signals, rest);
+    let (restrictions, rest) = parts(tree, n, NodeKind::Where, rest);
+    let (equates, rest) = run(tree, n, NodeKind::Equate, rest);
+    let (owns, statements) = run(tree, n, NodeKind::Own, rest);
     Routine {
         kind: routine_kind(node.value.as_slice()),
         name: name_at(names, 0),
@@ -93,8 +96,8 @@ pub fn routine_in<'a>(tree: &'a Tree, node: &'a Node) -> Routine<'a>
         parameters,
         arguments,
         results,
-        exceptions: run(tree, NodeKind::Exc, exceptions).0,
-        restrictions: run(tree, NodeKind::Restrict, restrictions).0,
+        exceptions: run(tree, n, NodeKind::Exc, exceptions).0,
+        restrictions: run(tree, n, NodeKind::Restrict, restrictions).0,
         equates,
         owns,
         statements,
@@ -102,31 +105,36 @@ pub fn routine_in<'a>(tree: &'a Tree, node: &'a Node) -> Routine<'a>
 }
 
 /// What a Cluster is made of.
-pub fn cluster_in<'a>(tree: &'a Tree, node: &'a Node) -> Cluster<'a>
+pub fn cluster_in<'a>(tree: &'a Tree, n: u32, node: &'a Node) -> Cluster<'a>
     requires names { 1 < length node.now.names }
-    requires below { All (λ c. c < length tree.now) node.now.children }
-    ensures { (items : ℕ → Item) (n : ℕ) → cluster_told items n result ≡ cluster_from items tree.now n node.now node.now.children (after_run tree.now NodeKind.Parm node.now.children) }
+    requires inside { n < length tree.now }
+    requires below { All (λ c. c < n) node.now.children }
+    ensures told { (items : ℕ → Item) (n : ℕ) → cluster_told items n result ≡ cluster_from items tree.now n node.now node.now.children (after_run tree.now NodeKind.Parm node.now.children) }
+    ensures parts { ClusterParts tree.now n result }
 {
     let names = node.names.as_slice();
-    let (parameters, rest) = run(tree, NodeKind::Parm, node.children.as_slice());
-    let (restrictions, rest) = parts(tree, NodeKind::Where, rest);
-    let (equates, rest) = run(tree, NodeKind::Equate, rest);
-    let (owns, rest) = run(tree, NodeKind::Own, rest);
+    let (parameters, rest) = run(tree, n, NodeKind::Parm, node.children.as_slice());
+    let (restrictions, rest) = parts(tree, n, NodeKind::Where, rest);
+    let (equates, rest) = run(tree, n, NodeKind::Equate, rest);
+    let (owns, rest) = run(tree, n, NodeKind::Own, rest);
     Cluster {
         name: name_at(names, 0),
         closing: name_at(names, names.len() - 1),
         parameters,
         exports: &but_last(names)[1..],
-        restrictions: run(tree, NodeKind::Restrict, restrictions).0,
+        restrictions: run(tree, n, NodeKind::Restrict, restrictions).0,
         equates,
         owns,
-        routines: run(tree, NodeKind::Routine, rest).0,
+        routines: run(tree, n, NodeKind::Routine, rest).0,
     }
 }
 
-fn definition_in(tree: &Tree, c: u32) -> Definition
-    requires { c < length tree.now }
-    ensures { (items : ℕ → Item) (nodes : List Node) (n : ℕ) (equates : List ℕ) → definition_told items n equates result ≡ defined items nodes n equates (kind_at tree.now c) c }
+fn definition_in(tree: &Tree, n: u32, c: u32) -> Definition
+    requires inside { n < length tree.now }
+    requires below { c < n }
+    requires defined { (kind_at tree.now c ≡ NodeKind.Routine) ⊎ (kind_at tree.now c ≡ NodeKind.Cluster) }
+    ensures told { (items : ℕ → Item) (nodes : List Node) (n : ℕ) (equates : List ℕ) → definition_told items n equates result ≡ defined items nodes n equates (kind_at tree.now c) c }
+    ensures parts { definition_parts tree.now n result }
 {
     match tree.node(c).kind {
         NodeKind::Cluster => Definition::Cluster(c),
@@ -135,13 +143,16 @@ fn definition_in(tree: &Tree, c: u32) -> Definition
 }
 
 /// What a Module is made of.
-pub fn module_in<'a>(tree: &Tree, node: &'a Node) -> Module<'a>
+pub fn module_in<'a>(tree: &Tree, n: u32, node: &'a Node) -> Module<'a>
     requires enough { 0 < length node.now.children }
-    requires below { All (λ c. c < length tree.now) node.now.children }
-    ensures { (items : ℕ → Item) (n : ℕ) → module_told items n result ≡ defined items tree.now n (run tree.now NodeKind.Equate node.now.children) (kind_at tree.now (last_child node.now)) (last_child node.now) }
+    requires inside { n < length tree.now }
+    requires below { All (λ c. c < n) node.now.children }
+    requires defined { (kind_at tree.now (last_child node.now) ≡ NodeKind.Routine) ⊎ (kind_at tree.now (last_child node.now) ≡ NodeKind.Cluster) }
+    ensures told { (items : ℕ → Item) (n : ℕ) → module_told items n result ≡ defined items tree.now n (run tree.now NodeKind.Equate node.now.children) (kind_at tree.now (last_child node.now)) (last_child node.now) }
+    ensures parts { definition_parts tree.now n result.definition }
 {
     Module {
-        equates: run(tree, NodeKind::Equate, node.children.as_slice()).0,
-        definition: definition_in(tree, last_child(node)),
+        equates: run(tree, n, NodeKind::Equate, node.children.as_slice()).0,
+        definition: definition_in(tree, n, last_child(n, node)),
     }
 }

@@ -4,6 +4,7 @@
 ghost use Rattle.std.specs.Prelude.{◌≡◌, ◌<◌, ◌≤◌, ◌-◌, All, length, take, drop, get_or, slice_get, option_map, Some};
 ghost use Rattle.clu_tree.specs.Nodes.{IsTree};
 ghost use Rattle.clu_syntax.specs.Kinds.{kind_at};
+ghost use Rattle.clu_syntax.specs.Parts.{option_parts, type_option_parts};
 ghost use Rattle.clu_syntax.specs.Splits.{child, last_child, name_at, last_option, leading, leading_types, leading_items, leading_before, run, after_run, parts, after_one, one_of, type_of, after_option, is_of};
 
 use crate::bodies::is_behind;
@@ -11,17 +12,22 @@ use crate::kinds::{is_expression, is_type};
 use clu_base::Bytes;
 use clu_tree::{Node, NodeKind, Tree};
 
-/// The child of this place, from 0.
-pub fn child(node: &Node, k: usize) -> u32
-    requires { k < length node.now.children }
-    ensures { result ≡ child k node.now }
+/// The child of this place, from 0, of the node n.
+pub fn child(n: u32, node: &Node, k: usize) -> u32
+    requires enough { k < length node.now.children }
+    requires below { All (λ c. c < n) node.now.children }
+    ensures is { result ≡ child k node.now }
+    ensures below { result < n }
 {
     node.children.as_slice()[k]
 }
 
-pub fn last_child(node: &Node) -> u32
-    requires { 0 < length node.now.children }
-    ensures { result ≡ last_child node.now }
+/// The last child of the node n.
+pub fn last_child(n: u32, node: &Node) -> u32
+    requires enough { 0 < length node.now.children }
+    requires below { All (λ c. c < n) node.now.children }
+    ensures is { result ≡ last_child node.now }
+    ensures below { result < n }
 {
     let children = node.children.as_slice();
     children[children.len() - 1]
@@ -61,8 +67,9 @@ fn is_of(kind: NodeKind, other: NodeKind) -> bool
 
 /// How many children of this kind a list begins with.
 #[tactic(auto, unfolding(crate::specs::Splits::leading))]
-fn leading(tree: &Tree, kind: NodeKind, children: &[u32]) -> usize
-    requires { All (λ c. c < length tree.now) children.now }
+fn leading(tree: &Tree, n: u32, kind: NodeKind, children: &[u32]) -> usize
+    requires inside { n < length tree.now }
+    requires below { All (λ c. c < n) children.now }
     ensures count { result ≡ leading tree.now kind children.now }
     ensures within { result ≤ length children.now }
 {
@@ -80,8 +87,9 @@ fn leading(tree: &Tree, kind: NodeKind, children: &[u32]) -> usize
 
 /// How many types a list begins with.
 #[tactic(auto, unfolding(crate::specs::Splits::leading_types))]
-pub fn leading_types(tree: &Tree, children: &[u32]) -> usize
-    requires { All (λ c. c < length tree.now) children.now }
+pub fn leading_types(tree: &Tree, n: u32, children: &[u32]) -> usize
+    requires inside { n < length tree.now }
+    requires below { All (λ c. c < n) children.now }
     ensures count { result ≡ leading_types tree.now children.now }
     ensures within { result ≤ length children.now }
 {
@@ -99,8 +107,9 @@ pub fn leading_types(tree: &Tree, children: &[u32]) -> usize
 
 /// How many children that are no expressions a list begins with.
 #[tactic(auto, unfolding(crate::specs::Splits::leading_items))]
-pub fn leading_items(tree: &Tree, children: &[u32]) -> usize
-    requires { All (λ c. c < length tree.now) children.now }
+pub fn leading_items(tree: &Tree, n: u32, children: &[u32]) -> usize
+    requires inside { n < length tree.now }
+    requires below { All (λ c. c < n) children.now }
     ensures count { result ≡ leading_items tree.now children.now }
     ensures within { result ≤ length children.now }
 {
@@ -118,8 +127,9 @@ pub fn leading_items(tree: &Tree, children: &[u32]) -> usize
 
 /// How many children that stand before the value of the node a list begins with.
 #[tactic(auto, unfolding(crate::specs::Splits::leading_before))]
-pub fn leading_before(tree: &Tree, node: &Node, children: &[u32]) -> usize
-    requires { All (λ c. c < length tree.now) children.now }
+pub fn leading_before(tree: &Tree, n: u32, node: &Node, children: &[u32]) -> usize
+    requires inside { n < length tree.now }
+    requires below { All (λ c. c < n) children.now }
     ensures count { result ≡ leading_before tree.now node.now children.now }
     ensures within { result ≤ length children.now }
 {
@@ -136,24 +146,32 @@ pub fn leading_before(tree: &Tree, node: &Node, children: &[u32]) -> usize
 }
 
 /// The children of this kind with which a list begins, and those after them.
-pub fn run<'a>(tree: &Tree, kind: NodeKind, children: &'a [u32]) -> (&'a [u32], &'a [u32])
-    requires { All (λ c. c < length tree.now) children.now }
+pub fn run<'a>(tree: &Tree, n: u32, kind: NodeKind, children: &'a [u32]) -> (&'a [u32], &'a [u32])
+    requires inside { n < length tree.now }
+    requires below { All (λ c. c < n) children.now }
     ensures run { result.0.now ≡ run tree.now kind children.now }
     ensures after { result.1.now ≡ after_run tree.now kind children.now }
     ensures kinds { All (λ c. kind_at tree.now c ≡ kind) result.0.now }
-    ensures run_inside { All (λ c. c < length tree.now) result.0.now }
-    ensures after_inside { All (λ c. c < length tree.now) result.1.now }
+    ensures run_below { All (λ c. c < n) result.0.now }
+    ensures after_below { All (λ c. c < n) result.1.now }
 {
-    children.split_at(leading(tree, kind, children))
+    children.split_at(leading(tree, n, kind, children))
 }
 
 /// The children of the first node of a list, if that is of this kind, and the list without it.
-pub fn parts<'a>(tree: &'a Tree, kind: NodeKind, children: &'a [u32]) -> (&'a [u32], &'a [u32])
-    requires { All (λ c. c < length tree.now) children.now }
+#[tactic(auto, using(crate::proofs::Below::before_more))]
+pub fn parts<'a>(
+    tree: &'a Tree,
+    n: u32,
+    kind: NodeKind,
+    children: &'a [u32],
+) -> (&'a [u32], &'a [u32])
+    requires inside { n < length tree.now }
+    requires below { All (λ c. c < n) children.now }
     ensures parts { result.0.now ≡ parts tree.now kind children.now }
     ensures after { result.1.now ≡ after_one tree.now kind children.now }
-    ensures parts_inside { All (λ c. c < length tree.now) result.0.now }
-    ensures after_inside { All (λ c. c < length tree.now) result.1.now }
+    ensures parts_below { All (λ c. c < n) result.0.now }
+    ensures after_below { All (λ c. c < n) result.1.now }
 {
     match children {
         [] => (&[], children),
@@ -169,9 +187,11 @@ pub fn parts<'a>(tree: &'a Tree, kind: NodeKind, children: &'a [u32]) -> (&'a [u
 }
 
 /// The first node of a list, if it is of this kind.
-pub fn one_of(tree: &Tree, kind: NodeKind, children: &[u32]) -> Option<u32>
-    requires { All (λ c. c < length tree.now) children.now }
-    ensures { result ≡ one_of tree.now kind children.now }
+pub fn one_of(tree: &Tree, n: u32, kind: NodeKind, children: &[u32]) -> Option<u32>
+    requires inside { n < length tree.now }
+    requires below { All (λ c. c < n) children.now }
+    ensures is { result ≡ one_of tree.now kind children.now }
+    ensures parts { option_parts tree.now kind n result }
 {
     match children {
         [] => None,
@@ -186,9 +206,11 @@ pub fn one_of(tree: &Tree, kind: NodeKind, children: &[u32]) -> Option<u32>
 }
 
 /// The first node of a list, if it is a type.
-pub fn type_of(tree: &Tree, children: &[u32]) -> Option<u32>
-    requires { All (λ c. c < length tree.now) children.now }
-    ensures { result ≡ type_of tree.now children.now }
+pub fn type_of(tree: &Tree, n: u32, children: &[u32]) -> Option<u32>
+    requires inside { n < length tree.now }
+    requires below { All (λ c. c < n) children.now }
+    ensures is { result ≡ type_of tree.now children.now }
+    ensures below { type_option_parts n result }
 {
     match children {
         [] => None,
@@ -203,8 +225,10 @@ pub fn type_of(tree: &Tree, children: &[u32]) -> Option<u32>
 }
 
 /// What stands after the first node, if that was taken.
-pub fn after_option(taken: Option<u32>, children: &[u32]) -> &[u32]
-    ensures { result.now ≡ after_option taken children.now }
+pub fn after_option(n: u32, taken: Option<u32>, children: &[u32]) -> &[u32]
+    requires { All (λ c. c < n) children.now }
+    ensures is { result.now ≡ after_option taken children.now }
+    ensures below { All (λ c. c < n) result.now }
 {
     match taken {
         None => children,

@@ -1,11 +1,13 @@
 //! A tree of the grammar: each of its nodes is made as one production says, so that its parts are always there.
 
 ghost use Rattle.std.specs.Prelude.{◌≡◌, ◌<◌, All, ℕ, length, slice_get, Some};
+ghost use Rattle.clu_tree.specs.Nodes.{modules};
 ghost use Rattle.clu_parser.specs.Shape.{HaveForms};
 ghost use Rattle.clu_syntax.specs.Enough.{HasEnough};
 ghost use Rattle.clu_syntax.specs.Items.{Item};
 ghost use Rattle.clu_syntax.specs.Kinds.{kind_at};
 ghost use Rattle.clu_syntax.specs.Nodes.{clauses_of, item_with};
+ghost use Rattle.clu_syntax.specs.Parts.{AreBefore, AreOf, ClusterParts, OthersParts, RoutineParts, TagArmParts, TypeSetParts, WhenParts, are_fewer, clause_parts, definition_parts, equated_parts, expression_parts, own_parts, restriction_parts, statement_parts, type_parts};
 ghost use Rattle.clu_syntax.specs.Views.{clauses_told, cluster_told, component_told, constant_told, equate_told, exception_told, expression_told, module_told, others_told, own_told, parameter_told, restriction_told, routine_told, statement_told, tag_arm_told, type_set_told, type_told, typed_told, when_told};
 
 use crate::arms::{Others, TagArm, When, others_in, tag_arm_in, when_in};
@@ -54,6 +56,14 @@ impl Syntax {
         &self.tree
     }
 
+    /// The numbers of the modules, in the order of the text.
+    pub fn modules(&self) -> &[u32]
+        ensures are { result.now ≡ modules self.now }
+        ensures parts { AreOf self.now NodeKind.Module (length self.now) result.now }
+    {
+        self.tree.modules()
+    }
+
     /// The node n, which has as many children and names as its kind wants.
     #[tactic(auto, using(crate::proofs::Enough::enough))]
     fn node(&self, n: u32) -> &Node
@@ -68,17 +78,19 @@ impl Syntax {
     /// What the expression at the node n is made of.
     pub fn expression(&self, n: u32) -> Expression<'_>
         requires { n < length self.now }
-        ensures { (items : ℕ → Item) → expression_told items n result ≡ (item_with items self.now n (slice_get self.now n)).expression }
+        ensures told { (items : ℕ → Item) → expression_told items n result ≡ (item_with items self.now n (slice_get self.now n)).expression }
+        ensures parts { expression_parts self.now n result }
     {
-        expression_in(&self.tree, self.node(n))
+        expression_in(&self.tree, n, self.node(n))
     }
 
     /// What the type at the node n is made of.
     pub fn type_expression(&self, n: u32) -> TypeExpression<'_>
         requires { n < length self.now }
-        ensures { (items : ℕ → Item) → type_told items n result ≡ (item_with items self.now n (slice_get self.now n)).type }
+        ensures told { (items : ℕ → Item) → type_told items n result ≡ (item_with items self.now n (slice_get self.now n)).type }
+        ensures parts { type_parts self.now n result }
     {
-        type_in(&self.tree, self.node(n))
+        type_in(&self.tree, n, self.node(n))
     }
 
     /// Whether the constant at the node n is an expression or a type.
@@ -90,64 +102,74 @@ impl Syntax {
     }
 
     /// What the statement at the node n is made of.
+    #[tactic(auto, using(crate::proofs::Classes::declared_kind))]
     pub fn statement(&self, n: u32) -> Statement<'_>
         requires { n < length self.now }
-        ensures { (items : ℕ → Item) → statement_told items self.now n result ≡ (item_with items self.now n (slice_get self.now n)).statement }
+        ensures told { (items : ℕ → Item) → statement_told items self.now n result ≡ (item_with items self.now n (slice_get self.now n)).statement }
+        ensures parts { statement_parts self.now n result }
     {
-        statement_in(&self.tree, self.node(n))
+        statement_in(&self.tree, n, self.node(n))
     }
 
-    /// The first of these clauses of an If, and those after it; None if there are no more.
-    pub fn clause<'a>(&self, clauses: Clauses<'a>) -> Option<(Clause<'a>, Clauses<'a>)>
-        requires { All (λ c. c < length self.now) clauses.rest.now }
-        ensures { (items : ℕ → Item) → clauses_told items self.now result ≡ clauses_of items self.now clauses.entry.rest.now }
+    /// The first of these clauses of the If n, and those after it; None if there are no more.
+    pub fn clause<'a>(&self, n: u32, clauses: Clauses<'a>) -> Option<(Clause<'a>, Clauses<'a>)>
+        requires inside { n < length self.now }
+        requires below { AreBefore n clauses.rest.now }
+        ensures told { (items : ℕ → Item) → clauses_told items self.now result ≡ clauses_of items self.now clauses.entry.rest.now }
+        ensures parts { clause_parts self.now n result }
+        ensures shorter { are_fewer result clauses.entry.rest.now }
     {
-        clause_in(&self.tree, clauses)
+        clause_in(&self.tree, n, clauses)
     }
 
     /// What the Decl at the node n is made of.
     pub fn declaration(&self, n: u32) -> Typed<'_>
         requires inside { n < length self.now }
         requires kind { kind_at self.now n ≡ NodeKind.Decl }
-        ensures { (items : ℕ → Item) → typed_told items n result ≡ (item_with items self.now n (slice_get self.now n)).declaration }
+        ensures told { (items : ℕ → Item) → typed_told items n result ≡ (item_with items self.now n (slice_get self.now n)).declaration }
+        ensures parts { result.declared < n }
     {
-        typed_in(self.node(n))
+        typed_in(n, self.node(n))
     }
 
     /// What the FieldT at the node n is made of.
     pub fn selector(&self, n: u32) -> Typed<'_>
         requires inside { n < length self.now }
         requires kind { kind_at self.now n ≡ NodeKind.FieldT }
-        ensures { (items : ℕ → Item) → typed_told items n result ≡ (item_with items self.now n (slice_get self.now n)).selector }
+        ensures told { (items : ℕ → Item) → typed_told items n result ≡ (item_with items self.now n (slice_get self.now n)).selector }
+        ensures parts { result.declared < n }
     {
-        typed_in(self.node(n))
+        typed_in(n, self.node(n))
     }
 
     /// What the Oper at the node n is made of.
     pub fn operation(&self, n: u32) -> Typed<'_>
         requires inside { n < length self.now }
         requires kind { kind_at self.now n ≡ NodeKind.Oper }
-        ensures { (items : ℕ → Item) → typed_told items n result ≡ (item_with items self.now n (slice_get self.now n)).operation }
+        ensures told { (items : ℕ → Item) → typed_told items n result ≡ (item_with items self.now n (slice_get self.now n)).operation }
+        ensures parts { result.declared < n }
     {
-        typed_in(self.node(n))
+        typed_in(n, self.node(n))
     }
 
     /// What the FieldE at the node n is made of.
     pub fn component(&self, n: u32) -> Component<'_>
         requires inside { n < length self.now }
         requires kind { kind_at self.now n ≡ NodeKind.FieldE }
-        ensures { (items : ℕ → Item) → component_told items n result ≡ (item_with items self.now n (slice_get self.now n)).component }
+        ensures told { (items : ℕ → Item) → component_told items n result ≡ (item_with items self.now n (slice_get self.now n)).component }
+        ensures parts { result.value < n }
     {
-        component_in(self.node(n))
+        component_in(n, self.node(n))
     }
 
     /// What the Exc at the node n is made of.
     pub fn exception(&self, n: u32) -> Exception<'_>
         requires inside { n < length self.now }
         requires kind { kind_at self.now n ≡ NodeKind.Exc }
-        ensures { (items : ℕ → Item) → exception_told items n result ≡ (item_with items self.now n (slice_get self.now n)).exception }
+        ensures told { (items : ℕ → Item) → exception_told items n result ≡ (item_with items self.now n (slice_get self.now n)).exception }
+        ensures parts { AreBefore n result.types.now }
     {
-        exception_in(self.node(n))
+        exception_in(n, self.node(n))
     }
 
     /// What the Parm at the node n is made of.
@@ -156,96 +178,107 @@ impl Syntax {
         requires kind { kind_at self.now n ≡ NodeKind.Parm }
         ensures { (items : ℕ → Item) → parameter_told items n result ≡ (item_with items self.now n (slice_get self.now n)).parameter }
     {
-        parameter_in(&self.tree, self.node(n))
+        parameter_in(&self.tree, n, self.node(n))
     }
 
     /// What the Restrict at the node n is made of.
     pub fn restriction(&self, n: u32) -> Restriction<'_>
         requires inside { n < length self.now }
         requires kind { kind_at self.now n ≡ NodeKind.Restrict }
-        ensures { (items : ℕ → Item) → restriction_told items n result ≡ (item_with items self.now n (slice_get self.now n)).restriction }
+        ensures told { (items : ℕ → Item) → restriction_told items n result ≡ (item_with items self.now n (slice_get self.now n)).restriction }
+        ensures parts { restriction_parts self.now n result }
     {
-        restriction_in(&self.tree, self.node(n))
+        restriction_in(&self.tree, n, self.node(n))
     }
 
     /// What the TypeSet at the node n is made of.
     pub fn type_set(&self, n: u32) -> TypeSet<'_>
         requires inside { n < length self.now }
         requires kind { kind_at self.now n ≡ NodeKind.TypeSet }
-        ensures { (items : ℕ → Item) → type_set_told items n result ≡ (item_with items self.now n (slice_get self.now n)).type_set }
+        ensures told { (items : ℕ → Item) → type_set_told items n result ≡ (item_with items self.now n (slice_get self.now n)).type_set }
+        ensures parts { TypeSetParts self.now n result }
     {
-        type_set_in(&self.tree, self.node(n))
+        type_set_in(&self.tree, n, self.node(n))
     }
 
     /// What the Equate at the node n is made of.
     pub fn equate(&self, n: u32) -> Equate<'_>
         requires inside { n < length self.now }
         requires kind { kind_at self.now n ≡ NodeKind.Equate }
-        ensures { (items : ℕ → Item) → equate_told items n result ≡ (item_with items self.now n (slice_get self.now n)).equate }
+        ensures told { (items : ℕ → Item) → equate_told items n result ≡ (item_with items self.now n (slice_get self.now n)).equate }
+        ensures parts { equated_parts self.now n result.value }
     {
-        equate_in(&self.tree, self.node(n))
+        equate_in(&self.tree, n, self.node(n))
     }
 
     /// What the Own at the node n is made of.
     pub fn own(&self, n: u32) -> Own<'_>
         requires inside { n < length self.now }
         requires kind { kind_at self.now n ≡ NodeKind.Own }
-        ensures { (items : ℕ → Item) → own_told items n result ≡ (item_with items self.now n (slice_get self.now n)).own }
+        ensures told { (items : ℕ → Item) → own_told items n result ≡ (item_with items self.now n (slice_get self.now n)).own }
+        ensures parts { own_parts self.now n result }
     {
-        own_in(&self.tree, self.node(n))
+        own_in(&self.tree, n, self.node(n))
     }
 
     /// What the TagArm at the node n is made of.
     pub fn tag_arm(&self, n: u32) -> TagArm<'_>
         requires inside { n < length self.now }
         requires kind { kind_at self.now n ≡ NodeKind.TagArm }
-        ensures { (items : ℕ → Item) → tag_arm_told items n result ≡ (item_with items self.now n (slice_get self.now n)).tag_arm }
+        ensures told { (items : ℕ → Item) → tag_arm_told items n result ≡ (item_with items self.now n (slice_get self.now n)).tag_arm }
+        ensures parts { TagArmParts self.now n result }
     {
-        tag_arm_in(&self.tree, self.node(n))
+        tag_arm_in(&self.tree, n, self.node(n))
     }
 
     /// What the When at the node n is made of.
     pub fn when(&self, n: u32) -> When<'_>
         requires inside { n < length self.now }
         requires kind { kind_at self.now n ≡ NodeKind.When }
-        ensures { (items : ℕ → Item) → when_told items n result ≡ (item_with items self.now n (slice_get self.now n)).when }
+        ensures told { (items : ℕ → Item) → when_told items n result ≡ (item_with items self.now n (slice_get self.now n)).when }
+        ensures parts { WhenParts self.now n result }
     {
-        when_in(&self.tree, self.node(n))
+        when_in(&self.tree, n, self.node(n))
     }
 
     /// What the Others at the node n is made of.
     pub fn others(&self, n: u32) -> Others<'_>
         requires inside { n < length self.now }
         requires kind { kind_at self.now n ≡ NodeKind.Others }
-        ensures { (items : ℕ → Item) → others_told items n result ≡ (item_with items self.now n (slice_get self.now n)).others }
+        ensures told { (items : ℕ → Item) → others_told items n result ≡ (item_with items self.now n (slice_get self.now n)).others }
+        ensures parts { OthersParts self.now n result }
     {
-        others_in(&self.tree, self.node(n))
+        others_in(&self.tree, n, self.node(n))
     }
 
     /// What the Routine at the node n is made of.
     pub fn routine(&self, n: u32) -> Routine<'_>
         requires inside { n < length self.now }
         requires kind { kind_at self.now n ≡ NodeKind.Routine }
-        ensures { (items : ℕ → Item) → routine_told items n result ≡ (item_with items self.now n (slice_get self.now n)).routine }
+        ensures told { (items : ℕ → Item) → routine_told items n result ≡ (item_with items self.now n (slice_get self.now n)).routine }
+        ensures parts { RoutineParts self.now n result }
     {
-        routine_in(&self.tree, self.node(n))
+        routine_in(&self.tree, n, self.node(n))
     }
 
     /// What the Cluster at the node n is made of.
     pub fn cluster(&self, n: u32) -> Cluster<'_>
         requires inside { n < length self.now }
         requires kind { kind_at self.now n ≡ NodeKind.Cluster }
-        ensures { (items : ℕ → Item) → cluster_told items n result ≡ (item_with items self.now n (slice_get self.now n)).cluster }
+        ensures told { (items : ℕ → Item) → cluster_told items n result ≡ (item_with items self.now n (slice_get self.now n)).cluster }
+        ensures parts { ClusterParts self.now n result }
     {
-        cluster_in(&self.tree, self.node(n))
+        cluster_in(&self.tree, n, self.node(n))
     }
 
     /// What the Module at the node n is made of.
+    #[tactic(auto, using(crate::proofs::Classes::defined_kind))]
     pub fn module(&self, n: u32) -> Module<'_>
         requires inside { n < length self.now }
         requires kind { kind_at self.now n ≡ NodeKind.Module }
-        ensures { (items : ℕ → Item) → module_told items n result ≡ (item_with items self.now n (slice_get self.now n)).module_ }
+        ensures told { (items : ℕ → Item) → module_told items n result ≡ (item_with items self.now n (slice_get self.now n)).module_ }
+        ensures parts { definition_parts self.now n result.definition }
     {
-        module_in(&self.tree, self.node(n))
+        module_in(&self.tree, n, self.node(n))
     }
 }

@@ -8,4 +8,4 @@ pub returns-then-n-len : goal.returns-then-n-len
 unfolding item_to
 returns-then-n-len c inside =
     let items : ℕ → Item = before c.args.n (item_to c.args.syntax.now c.args.n) in
-    c.is_cvt_type.ensures items c.args.n ∙ ap is_cvt (c.type_expression.ensures items)
+    c.is_cvt_type.ensures items c.args.n ∙ ap is_cvt (c.type_expression.ensures.told items)

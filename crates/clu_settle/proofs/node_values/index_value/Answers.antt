@@ -15,7 +15,7 @@ returns-in_ok-value-in-Name-clause-known c = λ scope unfolded gs known is given
     let here = node_at c.args.asked.syntax.now c.args.of c.requires in
     indexed_name c.args.asked.syntax.now scope c.args.asked.meanings.now (types_of c.args.types.now) c.args.constants.now c.args.values.now unfolded known known.tree known.shaped c.args.of here.node here.at c.in-Name.name.now c.args.given.now gs
     (told (types_of c.value_of_name.new.types) c.args.constants.now c.in_ok-value-in-Name.value) _ is
-    (λ items. ap (expression_told items c.args.of) (sym c.in-Name.is) ∙ c.expression.ensures items) given
+    (λ items. ap (expression_told items c.args.of) (sym c.in-Name.is) ∙ c.expression.ensures.told items) given
     (λ m gs a b. c.in_ok-value-in-Name.ensures.known scope unfolded m gs (meant_as _ _ _ unfolded _ c.meaning_at-meaning.result m (sym c.meaning_at-meaning.ensures) a) b)
     (λ s a. c.with_brackets.ensures.known (types_of c.value_of_name.new.types) c.args.constants.now s a)
 
@@ -24,7 +24,7 @@ returns-in_ok-value-in-Name-clause-within c = λ n all. c.with_brackets.ensures.
 
 pub returns-in_default-clause-known : goal.returns-in_default-clause-known
 returns-in_default-clause-known c = λ scope unfolded gs known is given.
-    other_indexed scope unfolded c.args.asked.syntax.now c.args.of c.expression.result c.expression.ensures c.in_default.not-Name gs
+    other_indexed scope unfolded c.args.asked.syntax.now c.args.of c.expression.result c.expression.ensures.told c.in_default.not-Name gs
 
 pub returns-in_ok-value-in-Name-clause-lost : goal.returns-in_ok-value-in-Name-clause-lost
 returns-in_ok-value-in-Name-clause-lost c = λ lost within.

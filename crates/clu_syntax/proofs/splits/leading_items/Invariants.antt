@@ -6,7 +6,7 @@ use Rattle.clu_syntax.proofs.splits.leading_items.Given as goal
 abbrev pub invariant-loop-rest : goal.invariant-loop-rest
 invariant-loop-rest l =
     (leading_items l.fn.tree l.rest + l.count ≡ leading_items l.fn.tree l.fn.children) × (l.count + length l.rest ≡ length l.fn.children)
-    × All (λ c. c < length l.fn.tree) l.rest
+    × All (λ c. c < l.fn.n) l.rest
 
 abbrev pub decreases-loop-rest : goal.decreases-loop-rest
 decreases-loop-rest l = length l.rest

@@ -3,7 +3,7 @@ use Rattle.clu_tree.specs.declared.node.NodeKind.TheVariants as k
 use Rattle.clu_syntax.proofs.Runs.{node_kind}
 use Rattle.clu_syntax.proofs.syntax.Syntax.component.Goals as goal
 
-pub returns : goal.returns
-returns c = λ items.
-    c.component_in.ensures items c.args.self.now c.args.n
+pub returns-clause-told : goal.returns-clause-told
+returns-clause-told c = λ items.
+    c.component_in.ensures.told items c.args.self.now c.args.n
     ∙ rw (c.node.ensures.node, node_kind c.args.self.now c.args.n c.node.result.now k.FieldE c.node.ensures.node c.requires.kind) refl
