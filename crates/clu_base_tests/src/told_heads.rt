@@ -89,7 +89,7 @@ fn put_under(
     requires bound { names.now.bound.items ≡ bound_to syntax.now names.now.declared.items (length syntax.now) }
     requires starts { names.now.starts.items ≡ starts_to syntax.now names.now.declared.items (length syntax.now) }
 {
-    let mut values = Box::new(alloc, settle(alloc, syntax, names)?)?;
+    let mut values = Box::new(alloc, settle(alloc, syntax, rounds, names)?)?;
     put_over(alloc, text, syntax, rounds, names, &mut values, refused)
 }
 

@@ -135,7 +135,7 @@ fn told_over(
     requires bound { names.now.bound.items ≡ bound_to syntax.now names.now.declared.items (length syntax.now) }
     requires starts { names.now.starts.items ≡ starts_to syntax.now names.now.declared.items (length syntax.now) }
 {
-    let mut out = match settle(alloc, syntax, names) {
+    let mut out = match settle(alloc, syntax, rounds, names) {
         Ok(values) => tell_all(alloc, syntax.tree(), &values)?,
         Err(_) => return Err("no memory for the values")?,
     };

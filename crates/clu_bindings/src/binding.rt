@@ -124,7 +124,7 @@ pub fn bindings_of(
     requires starts { names.now.starts.items ≡ starts_to syntax.now names.now.declared.items (length syntax.now) }
 {
     let modules = modules_of(alloc, syntax, types, values, library)?;
-    let parameters = parameters_of(alloc, syntax, names)?;
+    let parameters = parameters_of(alloc, syntax, rounds, names)?;
     let declared = declared_of(
         alloc,
         syntax,

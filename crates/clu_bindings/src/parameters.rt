@@ -6,7 +6,7 @@ use clu_base::{Bytes, Memory};
 use clu_head::is_at;
 use clu_names::Names;
 use clu_settle::{Parameters, number_parameters};
-use clu_syntax::Syntax;
+use clu_syntax::{Round, Syntax};
 use clu_tree::NodeKind;
 use std::alloc::Global;
 
@@ -49,15 +49,18 @@ fn push_units(
     Ok(())
 }
 
-/// The parameters of the modules of a file. The only error is that memory runs out.
+/// The parameters of the modules of a file, where `rounds` is what surrounds its nodes. The only error is that memory runs
+/// out.
 pub fn parameters_of(
     alloc: Global,
     syntax: &Syntax,
+    rounds: &[Round],
     names: &Names,
 ) -> Result<ParameterTypes, Memory> {
     let Parameters { numbers, counts } = number_parameters(
         alloc,
         syntax.tree(),
+        rounds,
         names.declared.as_slice(),
     )?;
     let mut starts = Vec::new(alloc);

@@ -228,7 +228,7 @@ fn check_syntax(
 {
     let rounds = rounds(alloc, syntax.tree())?;
     let names = names_of(alloc, syntax.tree(), rounds.as_slice())?;
-    let mut settled = Box::new(alloc, settle(alloc, syntax, &names)?)?;
+    let mut settled = Box::new(alloc, settle(alloc, syntax, rounds.as_slice(), &names)?)?;
     let found = check_settled(
         alloc,
         syntax,

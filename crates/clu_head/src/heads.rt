@@ -225,7 +225,7 @@ pub fn heads_of(
     requires bound { names.now.bound.items ≡ bound_to syntax.now names.now.declared.items (length syntax.now) }
     requires starts { names.now.starts.items ≡ starts_to syntax.now names.now.declared.items (length syntax.now) }
 {
-    let parameters = number_parameters(alloc, syntax.tree(), names.declared.as_slice())?;
+    let parameters = number_parameters(alloc, syntax.tree(), rounds, names.declared.as_slice())?;
     let sets = sets_of(alloc, syntax, names)?;
     let numbers = parameters.numbers.as_slice();
     let restricted = restricted_of(alloc, syntax, names, numbers, sets.as_slice())?;

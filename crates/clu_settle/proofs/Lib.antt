@@ -1,4 +1,5 @@
 pub mod Numbers
+pub mod Numbering
 pub mod Telling
 pub mod Fields
 pub mod Counted

@@ -12,3 +12,5 @@ pub mod Operators
 pub mod Settled
 pub mod Lost
 pub mod Circular
+pub mod Parameters
+pub mod Meant

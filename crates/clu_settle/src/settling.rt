@@ -6,6 +6,7 @@ ghost use Rattle.clu_names.specs.Denotes.{bound_to, starts_to};
 ghost use Rattle.clu_meaning.specs.Scoping.{Scope};
 ghost use Rattle.clu_settle.specs.declared.value.Value.{Value};
 ghost use Rattle.clu_settle.specs.Names.{AreMeanings};
+ghost use Rattle.clu_settle.specs.Meant.{meanings_of};
 ghost use Rattle.clu_settle.specs.Steps.{ArePassed};
 ghost use Rattle.clu_settle.specs.Settled.{AreSettled};
 ghost use Rattle.clu_settle.specs.Lists.{value_of};
@@ -18,7 +19,7 @@ use crate::value::Value;
 use clu_base::{Const, Memory};
 use clu_circles::{Circles, find_circles};
 use clu_names::Names;
-use clu_syntax::Syntax;
+use clu_syntax::{Round, Syntax};
 use clu_types::TypeArena;
 use std::alloc::Global;
 
@@ -145,14 +146,21 @@ fn settle_by(alloc: Global, syntax: &Syntax, meanings: &[Meaning]) -> Result<Tab
     settle_in(alloc, asked, found.order.as_slice())
 }
 
-/// The values of the nodes of a tree, whose names are bound so. The only error is that memory runs out.
-pub fn settle(alloc: Global, syntax: &Syntax, names: &Names) -> Result<Values, Memory>
+/// The values of the nodes of a tree, whose names are bound so; `rounds` is what surrounds its nodes. The only error is that
+/// memory runs out.
+pub fn settle(
+    alloc: Global,
+    syntax: &Syntax,
+    rounds: &[Round],
+    names: &Names,
+) -> Result<Values, Memory>
     requires bound { names.now.bound.items ≡ bound_to syntax.now names.now.declared.items (length syntax.now) }
     requires starts { names.now.starts.items ≡ starts_to syntax.now names.now.declared.items (length syntax.now) }
+    ensures meanings { IfOk result (λ all. all.meanings.items ≡ meanings_of syntax.now rounds.now names.now.declared.items) }
     ensures known { IfOk result (λ all. (scope : Scope) → AreMeanings syntax.now scope all.meanings.items → AreSettled syntax.now scope all.types all.constants.items all.values.items) }
     ensures lost { IfOk result (λ all. (n : ℕ) → n < length syntax.now → value_of all.values.items n ≡ Value.Lost → is_lost syntax.now all.meanings.items n ≡ true) }
 {
-    let meanings = meanings(alloc, syntax, names)?;
+    let meanings = meanings(alloc, syntax, rounds, names)?;
     let Tables {
         types,
         constants,
