@@ -1,2 +1,4 @@
 pub mod Files
+pub mod Named
+pub mod Readers
 pub mod Tables

@@ -1,15 +1,16 @@
 //! A file as it is checked: what stands at a node, and round it. Of a node that isn't there all is nothing.
 
-ghost use Rattle.std.specs.Prelude.{◌≡◌, ℕ, IfSome, IfNone, None, get_or, slice_get};
+ghost use Rattle.std.specs.Prelude.{◌≡◌, ℕ, IfSome, IfNone, None, get_or, is_some, option_map, slice_get};
 ghost use Rattle.clu_syntax.specs.Kinds.{kind_at};
 ghost use Rattle.clu_syntax.specs.Rounds.{round_at};
 ghost use Rattle.clu_syntax.specs.Items.{Item};
 ghost use Rattle.clu_syntax.specs.Nodes.{item_with};
-ghost use Rattle.clu_syntax.specs.Views.{expression_told};
+ghost use Rattle.clu_syntax.specs.Views.{expression_told, type_told};
 ghost use Rattle.clu_settle.specs.declared.value.Value.TheVariants as value;
 ghost use Rattle.clu_bindings.specs.Tables.{items_at};
 ghost use Rattle.clu_settle.specs.Names.{names_of};
 ghost use Rattle.clu_bindings.specs.Files.{bound_in, declaration_in, declaring_node, declared_by};
+ghost use Rattle.clu_bindings.specs.Readers.{children_in, place_in, meaning_in, module_in, set_at, wanted_in, takes_actuals, known_in, kinds_in, is_routine, declared_parameter};
 
 use crate::bindings::{Bindings, ModuleKnown};
 use crate::meaning::{Meaning, ModuleId};
@@ -72,7 +73,9 @@ impl<'a> File<'a> {
         parent_of(self.rounds, n)
     }
 
-    pub fn children(self, n: u32) -> &'a [u32] {
+    pub fn children(self, n: u32) -> &'a [u32]
+        ensures { result.now ≡ children_in self.entry n }
+    {
         if n < self.syntax.tree().len() {
             self.syntax.tree().node(n).children.as_slice()
         } else {
@@ -81,7 +84,9 @@ impl<'a> File<'a> {
     }
 
     /// The place of the node n among its parent's children.
-    pub fn place(self, n: u32) -> usize {
+    pub fn place(self, n: u32) -> usize
+        ensures { result ≡ place_in self.entry n }
+    {
         let place = self.bindings.places.as_slice().get(n as usize);
         place.copied().unwrap_or(0)
     }
@@ -115,7 +120,10 @@ impl<'a> File<'a> {
         }
     }
 
-    pub fn type_expression(self, n: u32) -> Option<TypeExpression<'a>> {
+    pub fn type_expression(self, n: u32) -> Option<TypeExpression<'a>>
+        ensures none { IfNone result (slice_get self.entry.syntax.now n ≡ None) }
+        ensures some { IfSome result (λ t. (items : ℕ → Item) → type_told items n t ≡ (item_with items self.entry.syntax.now n (slice_get self.entry.syntax.now n)).type) }
+    {
         if n < self.syntax.tree().len() {
             Some(self.syntax.type_expression(n))
         } else {
@@ -150,7 +158,9 @@ impl<'a> File<'a> {
     }
 
     /// What the first name of the node n denotes.
-    pub fn meaning(self, n: u32) -> Meaning {
+    pub fn meaning(self, n: u32) -> Meaning
+        ensures { result ≡ meaning_in self.entry n }
+    {
         let first = self.meanings(n).first();
         first.copied().unwrap_or(Meaning::Module(None))
     }
@@ -180,7 +190,9 @@ impl<'a> File<'a> {
     }
 
     /// The module of the file or the library that the first name of the node n names.
-    pub fn module_at(self, n: u32) -> Option<ModuleId> {
+    pub fn module_at(self, n: u32) -> Option<ModuleId>
+        ensures { result ≡ module_in self.entry n }
+    {
         match self.meaning(n) {
             Meaning::Module(module) => module,
             _ => None,
@@ -188,28 +200,38 @@ impl<'a> File<'a> {
     }
 
     /// Whether the first name of the node n is that of a module of the file or the library.
-    pub fn is_of_module(self, n: u32) -> bool {
+    pub fn is_of_module(self, n: u32) -> bool
+        ensures { result ≡ is_some (module_in self.entry n) }
+    {
         self.module_at(n).is_some()
     }
 
     /// The TypeSet for which the declaration at a place stands.
-    pub fn set_at(self, place: Option<usize>) -> Option<u32> {
+    pub fn set_at(self, place: Option<usize>) -> Option<u32>
+        ensures { result ≡ set_at self.entry place }
+    {
         optional_at(self.bindings.sets.as_slice(), place?)
     }
 
     /// The TypeSet for which the first name of the node n stands.
-    pub fn set_named(self, n: u32) -> Option<u32> {
+    pub fn set_named(self, n: u32) -> Option<u32>
+        ensures { result ≡ set_at self.entry (declaration_in self.entry.names.now n) }
+    {
         self.set_at(self.declaration(n))
     }
 
     /// What is wanted where the node n stands.
-    pub fn wanted(self, n: u32) -> Wanted {
+    pub fn wanted(self, n: u32) -> Wanted
+        ensures { result ≡ wanted_in self.entry n }
+    {
         let wanted = self.bindings.wanted.as_slice().get(n as usize);
         wanted.copied().unwrap_or(Wanted::Nothing)
     }
 
     /// Whether the node n is a Name and brackets after it hold actual parameters.
-    pub fn takes_actuals(self, n: u32) -> bool {
+    pub fn takes_actuals(self, n: u32) -> bool
+        ensures { result ≡ takes_actuals self.entry n }
+    {
         is_set(self.bindings.takes_actuals.as_slice(), n as usize)
     }
 
@@ -224,24 +246,27 @@ impl<'a> File<'a> {
         optional_at(self.bindings.modules.units.as_slice(), unit as usize)
     }
 
-    fn module(self, module: Option<ModuleId>) -> Option<&'a ModuleKnown> {
-        self.bindings
-            .modules
-            .known
-            .as_slice()
-            .get(module?.0 as usize)
+    fn module(self, id: Option<ModuleId>) -> Option<&'a ModuleKnown>
+        ensures { option_map (λ known. known.now) result ≡ known_in self.entry id }
+    {
+        self.bindings.modules.known.as_slice().get(id?.0 as usize)
     }
 
     /// The kinds of a module's parameters; none of what is no module.
-    pub fn kinds(self, module: Option<ModuleId>) -> &'a [Option<ParamKind>] {
-        match self.module(module) {
+    pub fn kinds(self, id: Option<ModuleId>) -> &'a [Option<ParamKind>]
+        ensures { result.now ≡ kinds_in self.entry id }
+    {
+        match self.module(id) {
             Some(known) => known.kinds.as_slice(),
             None => &[],
         }
     }
 
-    pub fn is_routine(self, module: Option<ModuleId>) -> bool {
-        match self.module(module) {
+    /// Whether a module is a routine; not so of what is no module.
+    pub fn is_routine(self, id: Option<ModuleId>) -> bool
+        ensures { result ≡ is_routine self.entry id }
+    {
+        match self.module(id) {
             Some(known) => known.is_routine,
             None => false,
         }
@@ -254,7 +279,9 @@ impl<'a> File<'a> {
 
     /// The node of the type with which the parameter of this number of the module round the node n is declared; None of a
     /// type parameter.
-    pub fn declared_parameter(self, n: u32, number: u32) -> Option<u32> {
+    pub fn declared_parameter(self, n: u32, number: u32) -> Option<u32>
+        ensures { result ≡ declared_parameter self.entry n number }
+    {
         let parameters = &self.bindings.parameters;
         let unit = self.round(n).unit?;
         let declared = items_of(

@@ -1,5 +1,8 @@
 //! Types as the bodies of a cluster's routines see them, and as callers do.
 
+ghost use Rattle.std.specs.Prelude.{◌≡◌};
+ghost use Rattle.clu_settle.specs.Lists.{type_id};
+
 use crate::file::{File, Headed};
 use crate::meaning::Meaning;
 use crate::tables::optional_at;
@@ -19,7 +22,9 @@ fn is_cvt(file: File<'_>, n: u32) -> bool {
 }
 
 /// The type that a value is.
-pub fn type_of_value(value: Value) -> Option<TypeId> {
+pub fn type_of_value(value: Value) -> Option<TypeId>
+    ensures { result ≡ type_id value }
+{
     match value {
         Value::Type(id) => Some(id),
         _ => None,

@@ -1,5 +1,9 @@
 //! Names with actual parameters, and where a type is wanted and not another constant.
 
+ghost use Rattle.std.specs.Prelude.{◌≡◌, option_map};
+ghost use Rattle.clu_bindings.specs.Readers.{kinds_in, module_in};
+ghost use Rattle.clu_bindings.specs.Named.{kind_of_constant, legal_type, named_alone, named_before, named_in, takes_type, takes_type_before, wants_type, parameter_type, value_kind, kinds_fit, has_fitting_kinds};
+
 use crate::file::File;
 use crate::inside::type_of_value;
 use crate::tables::optional_at;
@@ -7,7 +11,6 @@ use crate::wanted::Wanted;
 use clu_base::Const;
 use clu_head::kind_of_type;
 use clu_settle::Value;
-use clu_syntax::{Expression, TypeExpression};
 use clu_tree::NodeKind;
 use clu_types::{ParamKind, TypeArena, TypeId};
 
@@ -18,60 +21,76 @@ pub struct Named<'a> {
     pub constants: &'a [u32],
 }
 
-/// The type of the constant parameter of this number of the module round the node n, if it has one that parameters may have.
-pub fn parameter_type(file: File<'_>, types: &TypeArena, n: u32, number: u32) -> Option<TypeId> {
-    let of = type_of_value(file.value(file.declared_parameter(n, number)?));
-    match kind_of_type(types, of) {
+fn legal_type(of: Option<TypeId>, kind: Option<ParamKind>) -> Option<TypeId>
+    ensures { result ≡ legal_type of kind }
+{
+    match kind {
         Some(_) => of,
         None => None,
     }
 }
 
+/// The type of the constant parameter of this number of the module round the node n, if it has one that parameters may have.
+pub fn parameter_type(file: File<'_>, types: &TypeArena, n: u32, number: u32) -> Option<TypeId>
+    ensures { result ≡ parameter_type file.entry types.now n number }
+{
+    let of = type_of_value(file.value(file.declared_parameter(n, number)?));
+    legal_type(of, kind_of_type(types, of))
+}
+
 // ---- names with actual parameters
 
-fn named_by<'a>(file: File<'a>, n: u32) -> Option<Named<'a>> {
-    match file.expression(n)? {
-        Expression::Name(_) => Some(Named {
+fn named_alone<'a>(wanted: Wanted, n: u32) -> Option<Named<'a>>
+    ensures { option_map (λ named. (named.node, named.constants.now)) result ≡ named_alone wanted n }
+{
+    match wanted {
+        Wanted::NameWithActuals => None,
+        _ => Some(Named {
             node: n,
             constants: &[],
         }),
-        Expression::Index { of, constants } => {
-            if file.takes_actuals(of) {
+    }
+}
+
+/// The name that stands first of the children of an Index, if the others are its actual parameters.
+fn named_before<'a>(file: File<'a>, children: &'a [u32]) -> Option<Named<'a>>
+    ensures { option_map (λ named. (named.node, named.constants.now)) result ≡ named_before file.entry children.now }
+{
+    match children {
+        [of, constants @ ..] => {
+            if file.takes_actuals(*of) {
                 Some(Named {
-                    node: of,
+                    node: *of,
                     constants,
                 })
             } else {
                 None
             }
         }
-        _ => None,
-    }
-}
-
-fn named_by_type<'a>(file: File<'a>, n: u32) -> Option<Named<'a>> {
-    match file.type_expression(n)? {
-        TypeExpression::Named { constants, .. } => Some(Named { node: n, constants }),
-        _ => None,
+        [] => None,
     }
 }
 
 /// The name at the node n with its actual parameters, if it is one. Before brackets with some a Name is none by itself.
-pub fn named_at<'a>(file: File<'a>, n: u32) -> Option<Named<'a>> {
+pub fn named_at<'a>(file: File<'a>, n: u32) -> Option<Named<'a>>
+    ensures { option_map (λ named. (named.node, named.constants.now)) result ≡ named_in file.entry n }
+{
     match file.kind(n) {
-        NodeKind::Name => match file.wanted(n) {
-            Wanted::NameWithActuals => None,
-            _ => named_by(file, n),
-        },
-        NodeKind::Index => named_by(file, n),
-        NodeKind::NameT => named_by_type(file, n),
+        NodeKind::Name => named_alone(file.wanted(n), n),
+        NodeKind::Index => named_before(file, file.children(n)),
+        NodeKind::NameT => Some(Named {
+            node: n,
+            constants: file.children(n),
+        }),
         _ => None,
     }
 }
 
 // ---- kinds of actual parameters
 
-fn kind_of_constant(constant: &Const) -> ParamKind {
+fn kind_of_constant(constant: &Const) -> ParamKind
+    ensures { result ≡ kind_of_constant constant.now }
+{
     match constant {
         Const::Null => ParamKind::Null,
         Const::Bool(_) => ParamKind::Bool,
@@ -82,7 +101,9 @@ fn kind_of_constant(constant: &Const) -> ParamKind {
 }
 
 /// Of which kind a value is that stands in the module round the node n; None if it is neither a constant nor a type.
-fn value_kind(file: File<'_>, types: &TypeArena, n: u32, value: Value) -> Option<ParamKind> {
+fn value_kind(file: File<'_>, types: &TypeArena, n: u32, value: Value) -> Option<ParamKind>
+    ensures { result ≡ value_kind file.entry types.now n value }
+{
     match value {
         Value::Type(_) => Some(ParamKind::OfType),
         Value::Constant(place) => match file.constants.get(place) {
@@ -94,54 +115,68 @@ fn value_kind(file: File<'_>, types: &TypeArena, n: u32, value: Value) -> Option
     }
 }
 
-/// Whether the actual parameters of a name are as many as the module takes, each of its kind. A parameter of no legal type
-/// takes every actual.
-pub fn has_fitting_kinds(file: File<'_>, types: &TypeArena, named: Named<'_>) -> bool {
-    let kinds = file.kinds(file.module_at(named.node));
-    if kinds.len() != named.constants.len() {
-        return false;
-    }
-    for at in 0..kinds.len() {
-        let given = value_kind(file, types, named.node, file.value(named.constants[at]));
-        if kinds[at].is_some() && kinds[at] != given {
+/// Whether these actual parameters of the module that is named at the node n are as many as these kinds, each of its kind.
+fn kinds_fit(
+    file: File<'_>,
+    types: &TypeArena,
+    n: u32,
+    mut kinds: &[Option<ParamKind>],
+    mut constants: &[u32],
+) -> bool
+    ensures { result ≡ kinds_fit file.entry types.now n kinds.entry.now constants.entry.now }
+{
+    while let [kind, more_kinds @ ..] = kinds
+        && let [constant, more_constants @ ..] = constants
+    {
+        if kind.is_some() && *kind != value_kind(file, types, n, file.value(*constant)) {
             return false;
         }
+        kinds = more_kinds;
+        constants = more_constants;
     }
-    true
+    kinds.is_empty() && constants.is_empty()
+}
+
+/// Whether the actual parameters of a name are as many as the module takes, each of its kind. A parameter of no legal type
+/// takes every actual; what is no module takes none.
+pub fn has_fitting_kinds(file: File<'_>, types: &TypeArena, named: Named<'_>) -> bool
+    ensures { result ≡ has_fitting_kinds file.entry types.now named.entry.node named.entry.constants.now }
+{
+    let kinds = file.kinds(file.module_at(named.node));
+    kinds_fit(file, types, named.node, kinds, named.constants)
 }
 
 // ---- where a type is wanted
 
 /// Whether the module that is named at the node m takes a type at this place.
-fn takes_type(file: File<'_>, m: u32, place: usize) -> bool {
+fn takes_type(file: File<'_>, m: u32, place: usize) -> bool
+    ensures { result ≡ takes_type file.entry m place }
+{
     match optional_at(file.kinds(file.module_at(m)), place) {
         Some(ParamKind::OfType) => true,
         _ => false,
     }
 }
 
-/// Whether an Index with these children takes a type where the node n stands.
-fn index_takes_type(file: File<'_>, children: &[u32], n: u32) -> bool {
+/// Whether the first of the children of an Index takes a type where another one stands, the node n.
+fn takes_type_before(file: File<'_>, children: &[u32], n: u32) -> bool
+    ensures { result ≡ takes_type_before file.entry children.now n }
+{
     match children {
-        [first, rest @ ..] => {
-            let place = if *first == n {
-                rest.len()
-            } else {
-                file.place(n).saturating_sub(1)
-            };
-            takes_type(file, *first, place)
-        }
+        [first, ..] => takes_type(file, *first, file.place(n).saturating_sub(1)),
         [] => false,
     }
 }
 
-/// Whether a type is wanted at the node n: `rep` is equated to a type, and a type parameter takes one.
-pub fn wants_type(file: File<'_>, n: u32) -> bool {
+/// Whether a type is wanted at the node n, a constant: `rep` is equated to a type, and a type parameter takes one.
+pub fn wants_type(file: File<'_>, n: u32) -> bool
+    ensures { result ≡ wants_type file.entry n }
+{
     match file.parent(n) {
         Some(parent) => match file.kind(parent) {
             NodeKind::Equate => file.names(parent).is_empty(),
             NodeKind::NameT => takes_type(file, parent, file.place(n)),
-            NodeKind::Index => index_takes_type(file, file.children(parent), n),
+            NodeKind::Index => takes_type_before(file, file.children(parent), n),
             _ => false,
         },
         None => false,

@@ -1,5 +1,8 @@
 //! What is wanted where a node stands.
 
+ghost use Rattle.std.specs.Prelude.{◌≡◌};
+ghost use Rattle.clu_bindings.specs.Readers.{is_object_wanted};
+
 use clu_syntax::Role;
 
 /// What is wanted where a node stands.
@@ -20,7 +23,9 @@ pub enum Wanted {
 }
 
 /// Whether one object is wanted, or any number of them.
-pub fn is_object_wanted(wanted: Wanted) -> bool {
+pub fn is_object_wanted(wanted: Wanted) -> bool
+    ensures { result ≡ is_object_wanted wanted }
+{
     match wanted {
         Wanted::Object | Wanted::Objects | Wanted::LoopCall => true,
         _ => false,

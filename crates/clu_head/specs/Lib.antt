@@ -4,6 +4,7 @@ pub mod Unchanged
 pub mod Listed
 pub mod Ranks
 pub mod Named
+pub mod ParameterKinds
 pub mod Refused
 pub mod Seen
 pub mod There

@@ -1,5 +1,8 @@
 //! The kinds of the parameters of modules, and a module's type with its own parameters.
 
+ghost use Rattle.std.specs.Prelude.{◌≡◌};
+ghost use Rattle.clu_head.specs.ParameterKinds.{kind_of_term, kind_of_type};
+
 use crate::known::{interned, is_at, number_at, type_in, value_of};
 use clu_base::{Bytes, Memory, Sequence};
 use clu_settle::Value;
@@ -9,7 +12,9 @@ use clu_types::{Actual, ParamKind, Term, TypeArena, TypeId};
 use std::alloc::Global;
 
 /// The kind of constants that a parameter of this type takes.
-fn kind_of_term(term: &Term) -> Option<ParamKind> {
+fn kind_of_term(term: &Term) -> Option<ParamKind>
+    ensures { result ≡ kind_of_term term.now }
+{
     match term {
         Term::Null => Some(ParamKind::Null),
         Term::Bool => Some(ParamKind::Bool),
@@ -21,7 +26,9 @@ fn kind_of_term(term: &Term) -> Option<ParamKind> {
 }
 
 /// The same of a type that is known.
-pub fn kind_of_type(types: &TypeArena, of: Option<TypeId>) -> Option<ParamKind> {
+pub fn kind_of_type(types: &TypeArena, of: Option<TypeId>) -> Option<ParamKind>
+    ensures { result ≡ kind_of_type types.now of }
+{
     match of {
         Some(id) => {
             if types.contains(id) {
