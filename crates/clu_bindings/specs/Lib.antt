@@ -1,4 +1,5 @@
 pub mod Files
+pub mod Inside
 pub mod Named
 pub mod Readers
 pub mod Tables

@@ -7,8 +7,10 @@ ghost use Rattle.clu_syntax.specs.Items.{Item};
 ghost use Rattle.clu_syntax.specs.Nodes.{item_with};
 ghost use Rattle.clu_syntax.specs.Views.{expression_told, type_told};
 ghost use Rattle.clu_settle.specs.declared.value.Value.TheVariants as value;
-ghost use Rattle.clu_bindings.specs.Tables.{items_at};
+ghost use Rattle.clu_bindings.specs.declared.wanted.Wanted.TheVariants as wanted;
+ghost use Rattle.clu_bindings.specs.Tables.{optional, items_at};
 ghost use Rattle.clu_settle.specs.Names.{names_of};
+ghost use Rattle.clu_bindings.specs.Inside.{is_refused};
 ghost use Rattle.clu_bindings.specs.Files.{bound_in, declaration_in, declaring_node, declared_by};
 ghost use Rattle.clu_bindings.specs.Readers.{children_in, place_in, meaning_in, module_in, set_at, wanted_in, takes_actuals, known_in, kinds_in, is_routine, declared_parameter};
 
@@ -293,19 +295,25 @@ impl<'a> File<'a> {
     }
 
     /// The place of the declaration of `rep` that counts at the node n.
-    pub fn rep(self, n: u32) -> Option<usize> {
+    pub fn rep(self, n: u32) -> Option<usize>
+        ensures { result ≡ optional (slice_get self.entry.bindings.now.reps.items n) }
+    {
         optional_at(self.bindings.reps.as_slice(), n as usize)
     }
 
     /// What the declaration at a place declares.
-    pub fn declares(self, place: usize) -> Option<Meaning> {
+    pub fn declares(self, place: usize) -> Option<Meaning>
+        ensures { result ≡ slice_get self.entry.bindings.now.declared.items place }
+    {
         self.bindings.declared.as_slice().get(place).copied()
     }
 }
 
 impl<'a> Headed<'a> {
     /// Whether a node at or below the node n is refused.
-    pub fn is_refused(self, n: u32) -> bool {
+    pub fn is_refused(self, n: u32) -> bool
+        ensures { result ≡ is_refused self.entry n }
+    {
         is_refused(self.refused, self.file.rounds, n)
     }
 }
