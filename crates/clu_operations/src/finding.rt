@@ -1,5 +1,8 @@
 //! What was found so far: operations of types and modules with actual parameters, each once.
 
+ghost use Rattle.std.specs.Prelude.{◌≡◌};
+ghost use Rattle.clu_operations.specs.Finding.{found_at};
+
 use crate::bundles::Shown;
 use crate::found::{Asked, Found, FoundId, Given, Wished};
 use crate::words::{NameId, Words};
@@ -37,7 +40,9 @@ impl Finding {
     }
 
     /// What was found at a place.
-    pub fn found(&self, id: FoundId) -> Found {
+    pub fn found(&self, id: FoundId) -> Found
+        ensures { result ≡ found_at self.now.founds.items id }
+    {
         match self.founds.as_slice().get(id.0) {
             Some(found) => *found,
             None => Found {

@@ -1,5 +1,8 @@
 //! What is known of the nodes of a file, as tables by node.
 
+ghost use Rattle.std.specs.Prelude.{◌≡◌};
+ghost use Rattle.clu_typing.specs.Facts.{type_of, invocations, arguments, operation_type, operations_at};
+
 use crate::raising::{NOTHING, RaisesId, Raising};
 use clu_bindings::{items_of, optional_at};
 use clu_operations::{Finding, FoundId, NameId};
@@ -84,24 +87,32 @@ impl Invocations {
 
 impl Facts {
     /// The type of the expression at the node n, if it is one that has a type.
-    pub fn type_of(&self, n: u32) -> Option<TypeId> {
+    pub fn type_of(&self, n: u32) -> Option<TypeId>
+        ensures { result ≡ type_of self.now n }
+    {
         optional_at(self.types.as_slice(), n as usize)
     }
 
     /// What is invoked at the node n, by a call or by an operator, a selector or brackets.
-    pub fn invocations(&self, n: u32) -> &[Invocation] {
+    pub fn invocations(&self, n: u32) -> &[Invocation]
+        ensures { result.now ≡ invocations self.now n }
+    {
         let list = &self.invocations;
         items_of(list.all.as_slice(), list.starts.as_slice(), n)
     }
 
     /// The types of the arguments of an invocation, as far as they have some.
-    pub fn arguments(&self, of: Invocation) -> &[Option<TypeId>] {
+    pub fn arguments(&self, of: Invocation) -> &[Option<TypeId>]
+        ensures { result.now ≡ arguments self.now of }
+    {
         let all = self.invocations.arguments.as_slice();
         all.get(of.from..of.to).unwrap_or(&[])
     }
 
     /// The type of an operation; None if there is none, or if it is refused where it is declared.
-    pub fn operation_type(&self, operation: Operation) -> Option<TypeId> {
+    pub fn operation_type(&self, operation: Operation) -> Option<TypeId>
+        ensures { result ≡ operation_type self.now operation }
+    {
         match operation {
             Operation::Missing => None,
             Operation::Found(found) => self.finding.found(found).of,
@@ -110,7 +121,9 @@ impl Facts {
     }
 
     /// The operations that are invoked at the node n, and behind them those that are named there.
-    pub fn operations_at(&self, n: u32) -> &[Operation] {
+    pub fn operations_at(&self, n: u32) -> &[Operation]
+        ensures { result.now ≡ operations_at self.now n }
+    {
         let list = &self.invocations;
         items_of(
             list.operations.as_slice(),

@@ -1,0 +1,29 @@
+-- What is known of the nodes of a file, read from its tables. Of a node that isn't there all is nothing.
+use Rattle.std.specs.Prelude.{ℕ, List, slice_get, Option, Some, None}
+use Rattle.clu_types.specs.declared.term.TypeId.{TypeId}
+use Rattle.clu_bindings.specs.Tables.{optional, between, items_at}
+use Rattle.clu_operations.specs.Finding.{found_at}
+use Rattle.clu_typing.specs.declared.facts.Operation.{Operation}
+use Rattle.clu_typing.specs.declared.facts.Operation.TheVariants as operation
+use Rattle.clu_typing.specs.declared.facts.Invocation.{Invocation}
+use Rattle.clu_typing.specs.declared.facts.Facts.{Facts}
+
+module _ (facts : Facts) where
+  -- the type of the expression that the node is
+  abbrev pub type_of : ℕ → Option TypeId
+  type_of n = optional (slice_get facts.types.items n)
+
+  abbrev pub invocations : ℕ → List Invocation
+  invocations n = items_at facts.invocations.all.items facts.invocations.starts.items n
+
+  -- the types of the arguments of an invocation
+  abbrev pub arguments : Invocation → List (Option TypeId)
+  arguments i = between facts.invocations.arguments.items i.from i.to
+
+  abbrev pub operation_type : Operation → Option TypeId
+  operation_type operation.Missing = None
+  operation_type (operation.Found id) = (found_at facts.finding.founds.items id).of
+  operation_type (operation.Object of) = Some of
+
+  abbrev pub operations_at : ℕ → List Operation
+  operations_at n = items_at facts.invocations.operations.items facts.invocations.operation_starts.items n
