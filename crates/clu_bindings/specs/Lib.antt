@@ -3,3 +3,4 @@ pub mod Inside
 pub mod Named
 pub mod Readers
 pub mod Tables
+pub mod Wanted

@@ -19,13 +19,6 @@ use Rattle.clu_bindings.specs.declared.wanted.Wanted.TheVariants as wanted
 use Rattle.clu_bindings.specs.declared.file.File.{File}
 use Rattle.clu_bindings.specs.Tables.{optional, items_at}
 
--- one object, or any number of them
-abbrev pub is_object_wanted : Wanted → Bool
-is_object_wanted wanted.Object = true
-is_object_wanted wanted.Objects = true
-is_object_wanted wanted.LoopCall = true
-is_object_wanted _ = false
-
 -- the module that a meaning is
 abbrev pub module_of : Meaning → Option ModuleId
 module_of (meaning.Module its) = its

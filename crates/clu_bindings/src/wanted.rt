@@ -1,7 +1,7 @@
 //! What is wanted where a node stands.
 
 ghost use Rattle.std.specs.Prelude.{◌≡◌};
-ghost use Rattle.clu_bindings.specs.Readers.{is_object_wanted};
+ghost use Rattle.clu_bindings.specs.Wanted.{is_object_wanted};
 
 use clu_syntax::Role;
 
