@@ -1,5 +1,5 @@
 -- What each node declares is bound by its file.
-use Rattle.std.proofs.Common.{◌≡◌, ◌∙◌, ℕ, zero, suc, ◌+◌, ◌&&◌, ◌||◌, ◌==◌, Bool, true, false, List, [], ◌∷◌, ◌++◌, length, take, Option, Some, None, slice_get, refl, ap, sym, subst, inl, inr}
+use Rattle.std.proofs.Common.{◌≡◌, ◌∙◌, ℕ, zero, suc, ◌+◌, ◌&&◌, ◌||◌, ◌==◌, Bool, true, false, List, [], ◌∷◌, ◌++◌, length, take, Option, Some, None, slice_get, refl, ap, ap₂, sym, subst, inl, inr}
 use Rattle.std.specs.Prelude.{bytes_eq}
 use Rattle.std.specs.List.{AllByRecursion}
 use Rattle.std.proofs.lemmas.Bool.{true≢false, cases_Bool}
@@ -17,7 +17,9 @@ use Rattle.clu_syntax.specs.Nodes.{before, item_at, type_set_of}
 use Rattle.clu_parts.proofs.Fitting.{AreBefore, children_before}
 use Rattle.clu_meaning.specs.Scoping.{is_module, is_routine_of_cluster, is_own_of_cluster, is_type_parameter, Bindings, binding, of_equates, of_owns, of_names, of_parameters, of_routine, of_routines, of_module}
 use Rattle.clu_checking.specs.Files.{variable_number, of_type_set, parameters_round}
-use Rattle.clu_declares.specs.Declares.{IsParsed, HasPlainRoutines, numbered, of_parameter, of_set_variable, has, declared_in, declared_by}
+use Rattle.clu_names.specs.Scopes.{kind_at_parent}
+use Rattle.clu_settle.specs.Parameters.{parent_round, is_of_module, is_parameter}
+use Rattle.clu_declares.specs.Declares.{IsParsed, numbered, of_parameter, of_parm, of_set_variable, has, declared_in, declared_by}
 use Rattle.clu_declares.proofs.Around.{IsAround}
 use Rattle.clu_declares.proofs.Firsts.{has_left, has_right}
 use Rattle.clu_declares.proofs.Below.{binds, same_kind, before_is, item_there}
@@ -56,7 +58,7 @@ none_declared nodes rounds kind.Routine n b e = absurd (true≢false e)
 none_declared nodes rounds kind.Cluster n b e = absurd (true≢false e)
 none_declared nodes rounds _ n b e = refl
 
-module _ (t : Text) (nodes : List Node) (rounds : List Round) (parsed : IsParsed t nodes) (are : AreRounds nodes rounds) (plain : HasPlainRoutines nodes rounds) (p : ℕ) (name : Identifier) where
+module _ (t : Text) (nodes : List Node) (rounds : List Round) (parsed : IsParsed t nodes) (are : AreRounds nodes rounds) (p : ℕ) (name : Identifier) where
   abbrev Bound : Bindings → Type 0
   Bound = IsBound t nodes rounds parsed are p name
 
@@ -187,8 +189,8 @@ module _ (t : Text) (nodes : List Node) (rounds : List Round) (parsed : IsParsed
 
   -- ---- parameters of a module
 
-  parm_of_routine : (c : ℕ) → kind_at nodes c ≡ kind.Parm → (q : HasParent nodes c) → q.node.kind ≡ kind.Routine → Bound (of_parameter 1 (item_at nodes c).parameter) → Filed
-  parm_of_routine c e q is h = by (parent_of t nodes rounds parsed are p name q.parent kind.Routine its refl)
+  parm_of_routine : (c : ℕ) → kind_at nodes c ≡ kind.Parm → is_parameter nodes rounds c ≡ true → (q : HasParent nodes c) → q.node.kind ≡ kind.Routine → Bound (of_parameter 1 (item_at nodes c).parameter) → Filed
+  parm_of_routine c e in_module q is h = by (parent_of t nodes rounds parsed are p name q.parent kind.Routine its refl)
     where
       its : kind_at nodes q.parent ≡ kind.Routine
       its = ap kind_of q.at ∙ is
@@ -209,7 +211,8 @@ module _ (t : Text) (nodes : List Node) (rounds : List Round) (parsed : IsParsed
             routine_parameters_up m.parent m.node m.at is_module_node (ap (kind_at nodes) same ∙ its) (subst (λ (n : ℕ). Bound (of_parameters 1 (item_at nodes n).routine.parameters)) (sym same) bound))
         | inr other ↦
             (let cluster : m.node.kind ≡ kind.Cluster = same_kind kind.Cluster m.node.kind (second_true (is_of kind.Module m.node.kind) (is_of kind.Cluster m.node.kind) (round_routine nodes parsed.tree m.parent m.node m.at (form_at t nodes rounds parsed are p name m.parent m.node m.at) q.parent m.child its) other) in
-            absurd (plain c q.parent m.parent e (outer_parent c q) (outer_parent q.parent m) (ap kind_of m.at ∙ cluster)))
+            let outer : kind_at_parent nodes (parent_round rounds (round_at rounds c).parent) ≡ kind.Cluster = ap (λ (o : Option ℕ). kind_at_parent nodes (parent_round rounds o)) (outer_parent c q) ∙ ap (kind_at_parent nodes) (outer_parent q.parent m) ∙ ap kind_of m.at ∙ cluster in
+            absurd (true≢false (sym in_module ∙ ap₂ is_of_module e outer)))
       ]
 
   parm_of_cluster : (c : ℕ) → kind_at nodes c ≡ kind.Parm → (q : HasParent nodes c) → q.node.kind ≡ kind.Cluster → Bound (of_parameter 1 (item_at nodes c).parameter) → Filed
@@ -221,12 +224,12 @@ module _ (t : Text) (nodes : List Node) (rounds : List Round) (parsed : IsParsed
       let same : (module_at t nodes rounds parsed are m.0.parent m.0.node m.0.at m.1).last ≡ q.parent = last_is m.0.parent m.0.node m.0.at m.1 q.parent kind.Cluster its refl m.0.child in
       cluster_parameters_up m.0.parent m.0.node m.0.at m.1 (ap (kind_at nodes) same ∙ its) (subst (λ (n : ℕ). Bound (of_parameters 1 (item_at nodes n).cluster.parameters)) (sym same) bound)
 
-  parm_bound : (c : ℕ) → kind_at nodes c ≡ kind.Parm → Bound (of_parameter 1 (item_at nodes c).parameter) → Filed
-  parm_bound c e h = by (parent_of t nodes rounds parsed are p name c kind.Parm e refl)
+  parm_bound : (c : ℕ) → kind_at nodes c ≡ kind.Parm → is_parameter nodes rounds c ≡ true → Bound (of_parameter 1 (item_at nodes c).parameter) → Filed
+  parm_bound c e in_module h = by (parent_of t nodes rounds parsed are p name c kind.Parm e refl)
     where
       by : HasParent nodes c → Filed
       by q = elim (cases_Bool (is_of kind.Routine q.node.kind)) [
-        | inl r ↦ parm_of_routine c e q (same_kind kind.Routine q.node.kind r) h
+        | inl r ↦ parm_of_routine c e in_module q (same_kind kind.Routine q.node.kind r) h
         | inr other ↦ parm_of_cluster c e q (same_kind kind.Cluster q.node.kind (second_true (is_of kind.Routine q.node.kind) (is_of kind.Cluster q.node.kind) (round_parm nodes parsed.tree q.parent q.node q.at (form_at t nodes rounds parsed are p name q.parent q.node q.at) c q.child e) other)) h
       ]
 
@@ -244,10 +247,14 @@ module _ (t : Text) (nodes : List Node) (rounds : List Round) (parsed : IsParsed
   nothing_declared : (bs : Bindings) → bs ≡ [] → Bound bs → Filed
   nothing_declared bs e h = absurd (true≢false (sym (sym (ap (λ (bs : Bindings). has bs p name) e) ∙ h)))
 
-  by_kind : (n : ℕ) (node : Node) → slice_get nodes n ≡ Some node → (k : NodeKind) → node.kind ≡ k → Bound (declared_in nodes rounds k n) → Bound (declared_by nodes rounds n) → Filed
-  by_kind n node at kind.Parm is h own =
-      parm_bound n (ap kind_of at ∙ is)
+  parm_by : (n : ℕ) → kind_at nodes n ≡ kind.Parm → (b : Bool) → is_parameter nodes rounds n ≡ b → Bound (of_parm b (numbered 1 (parameters_round nodes (round_at rounds n).unit) n) (item_at nodes n).parameter) → Filed
+  parm_by n e true is h =
+      parm_bound n e is
       (sym (names_same p name (item_at nodes n).parameter.node (item_at nodes n).parameter.type (item_at nodes n).parameter.type (numbered 1 (parameters_round nodes (round_at rounds n).unit) n) 1 (item_at nodes n).parameter.names) ∙ h)
+  parm_by n e false is h = absurd (true≢false (sym h))
+
+  by_kind : (n : ℕ) (node : Node) → slice_get nodes n ≡ Some node → (k : NodeKind) → node.kind ≡ k → Bound (declared_in nodes rounds k n) → Bound (declared_by nodes rounds n) → Filed
+  by_kind n node at kind.Parm is h own = parm_by n (ap kind_of at ∙ is) (is_parameter nodes rounds n) refl h
   by_kind n node at kind.Routine is h own = routine_name_bound n node at is h
   by_kind n node at kind.Cluster is h own = cluster_bound n node at is h
   by_kind n node at kind.TypeSet is h own = set_variable_up n node at is h

@@ -345,7 +345,7 @@ module _ (t : Text) (nodes : List Node) (rounds : List Round) (parsed : IsParsed
   ]
 
   -- nothing stands round the root
-  top_alone : IsRoot nodes top
+  pub top_alone : IsRoot nodes top
   top_alone i n at h =
       let less : get_or n.children h.0 top < i = parsed.tree.below i n at h.0 top h.1 in
       let l : i < length nodes = slice_get_within nodes i n at in

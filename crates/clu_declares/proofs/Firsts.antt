@@ -7,7 +7,7 @@ use Rattle.clu_syntax.specs.Syntax.{Identifier}
 use Rattle.clu_meaning.specs.Scoping.{Meaning, Binding, Bindings, bound_at}
 use Rattle.clu_declares.specs.Declares.{has}
 
-abbrev is_it : Binding → ℕ → Identifier → Bool
+abbrev pub is_it : Binding → ℕ → Identifier → Bool
 is_it b n name = b.node == n && bytes_eq b.name name
 
 one_or : (a b c d : Bool) → d ≡ (b || c) → (a || d) ≡ ((a || b) || c)

@@ -1,14 +1,22 @@
+pub mod Amounts
 pub mod Around
 pub mod Below
 pub mod Bound
+pub mod Each
 pub mod Facts
 pub mod Firsts
 pub mod Haves
 pub mod IfWhole
+pub mod Meant
+pub mod Modules
+pub mod Numbered
 pub mod Owned
 pub mod Parents
 pub mod Plain
+pub mod RepNames
+pub mod RepWords
 pub mod Rights
+pub mod Said
 mod Samples
 pub mod Tops
 pub mod Whole

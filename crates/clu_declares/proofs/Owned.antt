@@ -1,5 +1,5 @@
 -- What a node declares is bound at this node.
-use Rattle.std.proofs.Common.{◌≡◌, ◌∙◌, ℕ, suc, List, [], ◌∷◌, ◌++◌, map, Option, Some, None, slice_get, refl, ap, sym, subst}
+use Rattle.std.proofs.Common.{◌≡◌, ◌∙◌, ℕ, suc, Bool, true, false, List, [], ◌∷◌, ◌++◌, map, Option, Some, None, slice_get, refl, ap, sym, subst}
 use Rattle.clu_tree.specs.declared.node.Node.{Node}
 use Rattle.clu_tree.specs.declared.node.NodeKind.{NodeKind}
 use Rattle.clu_tree.specs.declared.node.NodeKind.TheVariants as kind
@@ -7,12 +7,13 @@ use Rattle.clu_syntax.specs.declared.round.Round.{Round}
 use Rattle.clu_syntax.specs.Kinds.{kind_of, kind_at}
 use Rattle.clu_syntax.specs.Rounds.{round_at}
 use Rattle.clu_syntax.specs.Splits.{child, run, after_run, type_of, last_option}
-use Rattle.clu_syntax.specs.Syntax.{Identifier, TypeExpression, Equate, TypeSet, a_type_set, Statement, Own, Variable, Others}
+use Rattle.clu_syntax.specs.Syntax.{Identifier, TypeExpression, Equate, Parameter, TypeSet, a_type_set, Statement, Own, Variable, Others}
 use Rattle.clu_syntax.specs.Items.{Item, variable_of}
 use Rattle.clu_syntax.specs.Nodes.{before, item_at, item_of, equate_name, equated, equate_of, declaration_of, parameter_of, statement_of, init_of, own_of, owned, others_of}
 use Rattle.clu_meaning.specs.Scoping.{Meaning, is_local, Bindings, binding, equate_binding, of_declarations, of_variable, of_names}
 use Rattle.clu_checking.specs.Files.{parameters_round, variable_number}
-use Rattle.clu_declares.specs.Declares.{own_variable, variable_in, outer_kind, numbered, of_initial, of_own_initial, of_arm, of_set_variable, declared_in, declared_by}
+use Rattle.clu_settle.specs.Parameters.{is_parameter}
+use Rattle.clu_declares.specs.Declares.{own_variable, variable_in, outer_kind, numbered, of_parm, of_initial, of_own_initial, of_arm, of_set_variable, declared_in, declared_by}
 use Rattle.clu_declares.proofs.Firsts.{AreAt}
 use Rattle.clu_declares.proofs.Below.{item_there}
 
@@ -27,6 +28,10 @@ mapped_at n m (name ∷ names) = (refl, mapped_at n m names)
 both_at : (n : ℕ) (xs ys : Bindings) → AreAt n xs → AreAt n ys → AreAt n (xs ++ ys)
 both_at n [] ys a b = b
 both_at n (x ∷ xs) ys a b = (a.0, both_at n xs ys a.1 b)
+
+parm_at : (n : ℕ) (b : Bool) (k : ℕ) (p : Parameter) → p.node ≡ n → AreAt n (of_parm b k p)
+parm_at n true k p e = subst (λ (m : ℕ). AreAt m (of_names p.node p.type k p.names)) e (names_at p.node p.type k p.names)
+parm_at n false k p e = tt
 
 variable_at : (n : ℕ) (v : TypeExpression → Meaning) (x : Option Variable) → AreAt n (of_variable n v x)
 variable_at n v None = tt
@@ -70,9 +75,7 @@ module _ (nodes : List Node) (rounds : List Round) (n : ℕ) (node : Node) (at :
         ∙ equated_node items nodes n (equate_name node.names) (kind_at nodes (child 0 node)) (child 0 node),
     tt,
   )
-  owned_at kind.Parm is =
-      subst (λ (m : ℕ). AreAt m (of_names (item_at nodes n).parameter.node (item_at nodes n).parameter.type (numbered 1 (parameters_round nodes (round_at rounds n).unit) n) (item_at nodes n).parameter.names)) (parameter_node is)
-      (names_at (item_at nodes n).parameter.node (item_at nodes n).parameter.type (numbered 1 (parameters_round nodes (round_at rounds n).unit) n) (item_at nodes n).parameter.names)
+  owned_at kind.Parm is = parm_at n (is_parameter nodes rounds n) (numbered 1 (parameters_round nodes (round_at rounds n).unit) n) (item_at nodes n).parameter (parameter_node is)
   owned_at kind.TypeSet is = set_at (variable_number nodes rounds n) n (item_at nodes n).type_set
   owned_at kind.Decl is =
       subst (λ (m : ℕ). AreAt m (of_declarations (variable_in (outer_kind nodes rounds n) (round_at rounds n)) ((item_at nodes n).declaration ∷ []))) (declaration_node is)

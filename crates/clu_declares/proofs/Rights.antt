@@ -17,7 +17,9 @@ use Rattle.clu_syntax.specs.Nodes.{before, item_at, file_of, type_set_of}
 use Rattle.clu_parts.proofs.Fitting.{AreParts, AreBefore, children_before}
 use Rattle.clu_meaning.specs.Scoping.{is_routine_of_cluster, is_module, is_own_of_cluster, is_type_parameter, Bindings, binding, of_equates, of_parameters, of_owns, of_routine, of_routines, of_module, of_modules}
 use Rattle.clu_checking.specs.Files.{parameters_in, parameters_round, variable_number, of_type_set, is_type_set_node, of_type_sets, numbers, scope_in}
-use Rattle.clu_declares.specs.Declares.{IsParsed, numbered, of_parameter, of_set_variable, routine_meaning, outer_kind, declared_in, declared_by}
+use Rattle.clu_names.specs.Scopes.{kind_at_parent}
+use Rattle.clu_settle.specs.Parameters.{parent_round, is_of_module}
+use Rattle.clu_declares.specs.Declares.{IsParsed, numbered, of_parameter, of_parm, of_set_variable, routine_meaning, outer_kind, declared_in, declared_by}
 use Rattle.clu_declares.proofs.Around.{IsAround}
 use Rattle.clu_declares.proofs.Firsts.{AreAt, IsRight, right_none, right_both, right_own}
 use Rattle.clu_declares.proofs.Below.{binds, same_kind, before_is, item_there, all_at, all_in, all_nil, all_more, none_at}
@@ -88,9 +90,13 @@ module _ (t : Text) (nodes : List Node) (rounds : List Round) (parsed : IsParsed
   numbered_tail d all k p c cs [] is apart ns = tt
   numbered_tail d all k p c cs (x ∷ xs) is apart ns = (ns.0 ∙ numbered_later k p (params d cs) x (λ e. apart.0 (sym is ∙ e)), numbered_tail d all k p c cs xs is apart.1 ns.1)
 
-  right_parameters : (d : ℕ) (all : List Parameter) (k : ℕ) (cs : List ℕ) → AreParts nodes (is_of kind.Parm) d cs → AreApart cs → AreOf all cs → AreNumbered d all k cs → Right (of_parameters k (params d cs))
-  right_parameters d all k [] ps apart us ns = right_none said
-  right_parameters d all k (c ∷ cs) ps apart us ns =
+  -- they stand in a module
+  abbrev AreOfModule : List ℕ → Type 0
+  AreOfModule cs = AllByRecursion (λ (x : ℕ). kind_at_parent nodes (parent_round rounds (round_at rounds x).parent) ≡ kind.Module) cs
+
+  right_parameters : (d : ℕ) (all : List Parameter) (k : ℕ) (cs : List ℕ) → AreParts nodes (is_of kind.Parm) d cs → AreOfModule cs → AreApart cs → AreOf all cs → AreNumbered d all k cs → Right (of_parameters k (params d cs))
+  right_parameters d all k [] ps ms apart us ns = right_none said
+  right_parameters d all k (c ∷ cs) ps ms apart us ns =
       let its : kind_at nodes c ≡ kind.Parm = same_kind kind.Parm (kind_at nodes c) ps.0.1 in
       let th : There nodes c kind.Parm = there nodes c kind.Parm refl its in
       let p : Parameter = (before d (item_at nodes) c).parameter in
@@ -100,10 +106,11 @@ module _ (t : Text) (nodes : List Node) (rounds : List Round) (parsed : IsParsed
       let own : of_parameter k (before d (item_at nodes) c).parameter ≡ said c =
       ap (of_parameter k) same
       ∙ ap (λ (j : ℕ). of_parameter j (item_at nodes c).parameter) (sym (ap (λ (qs : List Parameter). numbered 1 qs c) us.0 ∙ number))
+      ∙ ap (λ (b : Bool). of_parm b (numbered 1 (parameters_round nodes (round_at rounds c).unit) c) (item_at nodes c).parameter) (sym (ap₂ is_of_module its ms.0))
       ∙ sym (said_is kind.Parm c its) in
       both (of_parameter k (before d (item_at nodes) c).parameter) (of_parameters (k + length (before d (item_at nodes) c).parameter.names) (params d cs))
       (right_own said c (of_parameter k (before d (item_at nodes) c).parameter) (subst (AreAt c) (sym own) (declared_at_node nodes rounds c th.node th.at)) own)
-      (right_parameters d all (k + length (before d (item_at nodes) c).parameter.names) cs ps.1 apart.1 us.1 (numbered_tail d all k (before d (item_at nodes) c).parameter c cs cs at apart.0 ns.1))
+      (right_parameters d all (k + length (before d (item_at nodes) c).parameter.names) cs ps.1 ms.1 apart.1 us.1 (numbered_tail d all k (before d (item_at nodes) c).parameter c cs cs at apart.0 ns.1))
 
   -- of a definition d in the module c
   same_numbers : (ps : List Parameter) (xs : List ℕ) → AllByRecursion (λ (x : ℕ). numbered 1 ps x ≡ numbered 1 ps x) xs
@@ -114,10 +121,15 @@ module _ (t : Text) (nodes : List Node) (rounds : List Round) (parsed : IsParsed
   units_of c d node ps k u is [] rs = tt
   units_of c d node ps k u is (x ∷ xs) rs = (ap (parameters_round nodes) (rs.0.unit ∙ k ∙ u) ∙ is, units_of c d node ps k u is xs rs.1)
 
-  right_all_parameters : (c d : ℕ) (node : Node) → slice_get nodes d ≡ Some node → unit_in node.kind d (round_at rounds d) ≡ (round_at rounds d).unit → (round_at rounds d).unit ≡ Some c → (ps : List Parameter) → ps ≡ params d (run nodes kind.Parm node.children) → parameters_in (item_at nodes c).module_ ≡ ps → AreParts nodes (is_of kind.Parm) d (run nodes kind.Parm node.children) → Right (of_parameters 1 ps)
-  right_all_parameters c d node at k u ps e is parts =
+  modules_of : (d c : ℕ) (node module_node : Node) → (round_at rounds d).parent ≡ Some c → slice_get nodes c ≡ Some module_node → module_node.kind ≡ kind.Module → (xs : List ℕ) → AllByRecursion (IsAround rounds d node) xs → AreOfModule xs
+  modules_of d c node module_node p at is [] rs = tt
+  modules_of d c node module_node p at is (x ∷ xs) rs = (ap (λ (o : Option ℕ). kind_at_parent nodes (parent_round rounds o)) rs.0.parent ∙ ap (kind_at_parent nodes) p ∙ ap kind_of at ∙ is, modules_of d c node module_node p at is xs rs.1)
+
+  right_all_parameters : (c d : ℕ) (node module_node : Node) → (round_at rounds d).parent ≡ Some c → slice_get nodes c ≡ Some module_node → module_node.kind ≡ kind.Module → slice_get nodes d ≡ Some node → unit_in node.kind d (round_at rounds d) ≡ (round_at rounds d).unit → (round_at rounds d).unit ≡ Some c → (ps : List Parameter) → ps ≡ params d (run nodes kind.Parm node.children) → parameters_in (item_at nodes c).module_ ≡ ps → AreParts nodes (is_of kind.Parm) d (run nodes kind.Parm node.children) → Right (of_parameters 1 ps)
+  right_all_parameters c d node module_node p m_at m_is at k u ps e is parts =
       subst (λ (ps : List Parameter). Right (of_parameters 1 ps)) (sym e)
       (right_parameters d (params d (run nodes kind.Parm node.children)) 1 (run nodes kind.Parm node.children) parts
+      (modules_of d c node module_node p m_at m_is (run nodes kind.Parm node.children) (all_take (IsAround rounds d node) (leading nodes kind.Parm node.children) node.children (around_at t nodes rounds parsed are d node at)))
       (apart_take (leading nodes kind.Parm node.children) node.children (are_apart node.children (parsed.tree.once d node at)))
       (units_of c d node (params d (run nodes kind.Parm node.children)) k u (is ∙ e) (run nodes kind.Parm node.children) (all_take (IsAround rounds d node) (leading nodes kind.Parm node.children) node.children (around_at t nodes rounds parsed are d node at)))
       (same_numbers (params d (run nodes kind.Parm node.children)) (run nodes kind.Parm node.children)))
@@ -175,7 +187,7 @@ module _ (t : Text) (nodes : List Node) (rounds : List Round) (parsed : IsParsed
         (both (binding (item_at nodes last).routine.node is_module (item_at nodes last).routine.name ∷ of_equates facts.equates) (of_parameters 1 (item_at nodes last).routine.parameters)
         (both (binding (item_at nodes last).routine.node is_module (item_at nodes last).routine.name ∷ []) (of_equates facts.equates)
         (routine_name kind.Module last k r.itself (outer_of t nodes rounds parsed are c node kind.Module last at is facts.round)) equates_right)
-        (right_all_parameters c last th.node th.at (ap (λ (k : NodeKind). unit_in k last (round_at rounds last)) th.is) unit_there (item_at nodes last).routine.parameters r.parameters (ap parameters_in e)
+        (right_all_parameters c last th.node node facts.round.parent at is th.at (ap (λ (k : NodeKind). unit_in k last (round_at rounds last)) th.is) unit_there (item_at nodes last).routine.parameters r.parameters (ap parameters_in e)
         (run_kinds nodes kind.Parm last th.node.children (children_before nodes parsed.tree last th.node th.at))))
         (subst Right (sym r.bound) (right_children last th.node th.at)))
 
@@ -195,7 +207,7 @@ module _ (t : Text) (nodes : List Node) (rounds : List Round) (parsed : IsParsed
         (both (binding (item_at nodes last).cluster.node is_module (item_at nodes last).cluster.name ∷ of_equates facts.equates ++ of_parameters 1 (item_at nodes last).cluster.parameters) (of_equates (item_at nodes last).cluster.equates ++ of_owns is_own_of_cluster (item_at nodes last).cluster.owns)
         (both (binding (item_at nodes last).cluster.node is_module (item_at nodes last).cluster.name ∷ of_equates facts.equates) (of_parameters 1 (item_at nodes last).cluster.parameters)
         (both (binding (item_at nodes last).cluster.node is_module (item_at nodes last).cluster.name ∷ []) (of_equates facts.equates) (cluster_name k r.itself) equates_right)
-        (right_all_parameters c last th.node th.at (ap (λ (k : NodeKind). unit_in k last (round_at rounds last)) th.is) unit_there (item_at nodes last).cluster.parameters r.parameters (ap parameters_in e) r.parts.parms))
+        (right_all_parameters c last th.node node facts.round.parent at is th.at (ap (λ (k : NodeKind). unit_in k last (round_at rounds last)) th.is) unit_there (item_at nodes last).cluster.parameters r.parameters (ap parameters_in e) r.parts.parms))
         (subst Right (sym r.bound) (right_children last th.node th.at)))
         (subst (λ (rs : List Routine). Right (of_routines rs)) (sym r.routines)
         (right_routines last (cluster_routines nodes rounds last th.node.children) r.parts.routines

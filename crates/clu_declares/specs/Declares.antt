@@ -1,5 +1,5 @@
 -- What each node declares by itself, by what stands at it and round it; and when that is what the bindings of its file say.
-use Rattle.std.specs.Prelude.{◌≡◌, ◌+◌, ◌-◌, ◌&&◌, ◌||◌, ◌==◌, ℕ, Bool, true, false, if◌then◌else◌, List, [], ◌∷◌, length, bytes_eq, slice_get, Option, Some, None}
+use Rattle.std.specs.Prelude.{◌≡◌, ◌<◌, ◌+◌, ◌-◌, ◌^◌, ◌&&◌, ◌||◌, ◌==◌, ℕ, Bool, true, false, if◌then◌else◌, List, [], ◌∷◌, length, bytes_eq, slice_get, Option, Some, None}
 use Rattle.clu_tree.specs.declared.node.Node.{Node}
 use Rattle.clu_tree.specs.declared.node.NodeKind.{NodeKind}
 use Rattle.clu_tree.specs.declared.node.NodeKind.TheVariants as kind
@@ -13,9 +13,10 @@ use Rattle.clu_syntax.specs.Rounds.{round_at}
 use Rattle.clu_syntax.specs.Nodes.{item_at}
 use Rattle.clu_syntax.specs.Syntax.{Identifier, TypeExpression, TypeSet, a_type_set, Statement, an_init, Own, own_init, Others, no_others, others, Parameter}
 use Rattle.clu_names.specs.declared.scopes.Declared.{Declared}
-use Rattle.clu_names.specs.Scopes.{kind_at_parent}
+use Rattle.clu_names.specs.Scopes.{kind_at_parent, declarations}
 use Rattle.clu_meaning.specs.Scoping.{Meaning, is_local, is_own_of_routine, is_own_of_cluster, is_routine_of_cluster, is_module, is_type_parameter, Bindings, binding, equate_binding, of_declarations, of_variable, of_names, bound_at}
 use Rattle.clu_checking.specs.Files.{parameters_round, variable_number, scope_in}
+use Rattle.clu_settle.specs.Parameters.{is_parameter}
 
 -- ---- variables: those of an Own are the routine's in which it stands, or the cluster's
 
@@ -39,7 +40,8 @@ abbrev pub of_arm : Others → Bindings
 of_arm no_others = []
 of_arm (others n x body) = of_variable n is_local x
 
--- ---- parameters: the number of the first one of the node n, where the first of the list has the number k
+-- ---- parameters of modules: the number of the first one of the node n, where the first of the list has the number k; a Parm in
+-- a routine of a cluster declares none
 
 abbrev pub numbered : ℕ → List Parameter → ℕ → ℕ
 numbered k [] n = k
@@ -47,6 +49,10 @@ numbered k (p ∷ ps) n = if p.node == n then k else numbered (k + length p.name
 
 abbrev pub of_parameter : ℕ → Parameter → Bindings
 of_parameter k p = of_names p.node p.type k p.names
+
+abbrev pub of_parm : Bool → ℕ → Parameter → Bindings
+of_parm true k p = of_parameter k p
+of_parm false k p = []
 
 -- ---- routines, which are modules, or those of a cluster
 
@@ -63,7 +69,7 @@ module _ (nodes : List Node) (rounds : List Round) where
 
   abbrev pub declared_in : NodeKind → ℕ → Bindings
   declared_in kind.Equate n = equate_binding (item_at nodes n).equate ∷ []
-  declared_in kind.Parm n = of_parameter (numbered 1 (parameters_round nodes (round_at rounds n).unit) n) (item_at nodes n).parameter
+  declared_in kind.Parm n = of_parm (is_parameter nodes rounds n) (numbered 1 (parameters_round nodes (round_at rounds n).unit) n) (item_at nodes n).parameter
   declared_in kind.TypeSet n = of_set_variable (variable_number nodes rounds n) n (item_at nodes n).type_set
   declared_in kind.Decl n = of_declarations (variable_in (outer_kind n) (round_at rounds n)) ((item_at nodes n).declaration ∷ [])
   declared_in kind.Init n = of_initial (item_at nodes n).statement
@@ -88,10 +94,9 @@ pub record IsSaid (nodes : List Node) (rounds : List Round) (d : Declared) : Typ
   pub there : has (scope_in nodes rounds).bindings d.node d.name ≡ true
   pub said : bound_at (scope_in nodes rounds).bindings d.node d.name ≡ bound_at (declared_by nodes rounds d.node) d.node d.name
 
--- no Parm stands in a Routine of a Cluster
-abbrev pub HasPlainRoutines : List Node → List Round → Type 0
-HasPlainRoutines nodes rounds =
-    (n r c : ℕ) → kind_at nodes n ≡ kind.Parm → (round_at rounds n).parent ≡ Some r → (round_at rounds r).parent ≡ Some c → kind_at nodes c ≡ kind.Cluster → ⊥
+-- so few nodes and declarations that 32 bits count them, so that each parameter has a number
+abbrev pub AreFew : List Node → List Round → Type 0
+AreFew nodes rounds = length nodes + length (declarations nodes rounds) < 2 ^ 32
 
 -- the tree of a text
 pub record IsParsed (t : Text) (nodes : List Node) : Type 0 where

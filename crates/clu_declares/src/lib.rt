@@ -1,4 +1,5 @@
-//! That what a file binds is what its nodes declare. The functions do nothing: their contracts are the laws.
+//! That what a file binds is what its nodes declare, and so what `settle` of clu_settle says that its names stand for. The
+//! functions do nothing: their contracts are the laws.
 #![tactic(auto)]
 
 ghost use Rattle.std.specs.Prelude.{◌≡◌, ℕ, true, List};
@@ -7,9 +8,14 @@ ghost use Rattle.clu_parser.specs.Trees.{Text};
 ghost use Rattle.clu_syntax.specs.declared.round.Round.{Round};
 ghost use Rattle.clu_syntax.specs.Rounds.{AreRounds};
 ghost use Rattle.clu_syntax.specs.Syntax.{Identifier};
-ghost use Rattle.clu_meaning.specs.Scoping.{bound_at};
+ghost use Rattle.clu_names.specs.Scopes.{declarations};
+ghost use Rattle.clu_meaning.specs.Scoping.{Scope, bound_at};
 ghost use Rattle.clu_checking.specs.Files.{scope_in};
-ghost use Rattle.clu_declares.specs.Declares.{IsParsed, HasPlainRoutines, has, declared_by};
+ghost use Rattle.clu_settle.specs.declared.settling.Values.{Values};
+ghost use Rattle.clu_settle.specs.Names.{AreMeanings};
+ghost use Rattle.clu_settle.specs.Meant.{meanings_of};
+ghost use Rattle.clu_settle.specs.Settled.{AreSettled};
+ghost use Rattle.clu_declares.specs.Declares.{IsParsed, AreFew, has, declared_by};
 
 /// What a file binds at a node is what this node says.
 pub fn bindings_said()
@@ -18,5 +24,15 @@ pub fn bindings_said()
 
 /// What a node declares is bound by its file.
 pub fn declared_bound()
-    ensures { (t : Text) (nodes : List Node) (rounds : List Round) → IsParsed t nodes → AreRounds nodes rounds → HasPlainRoutines nodes rounds → (n : ℕ) (name : Identifier) → has (declared_by nodes rounds n) n name ≡ true → has (scope_in nodes rounds).bindings n name ≡ true }
+    ensures { (t : Text) (nodes : List Node) (rounds : List Round) → IsParsed t nodes → AreRounds nodes rounds → (n : ℕ) (name : Identifier) → has (declared_by nodes rounds n) n name ≡ true → has (scope_in nodes rounds).bindings n name ≡ true }
+{}
+
+/// What `settle` of clu_settle says that names stand for is what they mean in the scope of the file.
+pub fn meanings_said()
+    ensures { (t : Text) (nodes : List Node) (rounds : List Round) → IsParsed t nodes → AreRounds nodes rounds → AreFew nodes rounds → AreMeanings nodes (scope_in nodes rounds) (meanings_of nodes rounds (declarations nodes rounds)) }
+{}
+
+/// So the values that it gives are those of the nodes in the scope of the file.
+pub fn values_said()
+    ensures { (t : Text) (nodes : List Node) (rounds : List Round) → IsParsed t nodes → AreRounds nodes rounds → AreFew nodes rounds → (all : Values) → all.meanings.items ≡ meanings_of nodes rounds (declarations nodes rounds) → ((scope : Scope) → AreMeanings nodes scope all.meanings.items → AreSettled nodes scope all.types all.constants.items all.values.items) → AreSettled nodes (scope_in nodes rounds) all.types all.constants.items all.values.items }
 {}

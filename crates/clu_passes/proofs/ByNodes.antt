@@ -27,7 +27,7 @@ use Rattle.clu_settle.specs.Graph as graph
 use Rattle.clu_settle.specs.Graph.{is_equate_kind, is_equate_at, if_used, unfolded_at}
 use Rattle.clu_settle.specs.Circular as circular
 use Rattle.clu_settle.specs.Circular.{nodes_of, nodes_in, goes_on, goes_far}
-use Rattle.clu_passes.proofs.RepWords.{rep_told}
+use Rattle.clu_declares.proofs.RepWords.{rep_told}
 
 -- ---- lists
 

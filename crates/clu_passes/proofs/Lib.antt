@@ -8,7 +8,6 @@ pub mod Owns
 pub mod ParameterKinds
 pub mod Places
 pub mod Redefined
-pub mod RepWords
 pub mod Routines
 pub mod Seen
 pub mod Strings

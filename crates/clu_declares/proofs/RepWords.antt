@@ -51,7 +51,7 @@ marks_told = refl
 -- ---- of a token
 
 -- in lower case a text is the word that it spells
-lower_is : (word text : List ℕ) → spells word text ≡ true → map to_ascii_lowercase text ≡ word
+pub lower_is : (word text : List ℕ) → spells word text ≡ true → map to_ascii_lowercase text ≡ word
 lower_is [] [] e = refl
 lower_is [] (t ∷ text) e = absurd (true≢false (sym e))
 lower_is (w ∷ word) [] e = absurd (true≢false (sym e))
