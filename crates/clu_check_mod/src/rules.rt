@@ -1,7 +1,8 @@
 //! The table of rules: which of them a node of each kind may violate, and which the two walks ask. V1 to V3 are asked before there
 //! is a tree.
 
-ghost use Rattle.std.specs.Prelude.{◌≡◌, ◌∷◌, []};
+ghost use Rattle.std.specs.Prelude.{◌≡◌};
+ghost use Rattle.clu_type_rules.specs.Asked.{rules_at, rules_if, rules_of_headings, rules_of_rest};
 
 use clu_base::Rule;
 use clu_tree::NodeKind;
@@ -223,7 +224,9 @@ const OPERATION: [Rule; 6] = [
 const UP_DOWN: [Rule; 3] = [Rule::NotConstant, Rule::NotType, Rule::UpDown];
 
 /// The rules that a node of this kind may violate, in ascending order.
-pub fn rules_at(kind: NodeKind) -> &'static [Rule] {
+pub fn rules_at(kind: NodeKind) -> &'static [Rule]
+    ensures { result.now ≡ rules_at kind }
+{
     match kind {
         NodeKind::Routine => &ROUTINE,
         NodeKind::Cluster => &CLUSTER,
@@ -266,8 +269,8 @@ pub fn rules_at(kind: NodeKind) -> &'static [Rule] {
 /// The rules that a walk asks at a node of this kind, which belongs to a heading or doesn't. At the node of a module, routine or
 /// cluster the first walk asks V6 and V33 alone, of names and exports.
 pub fn rules_asked(walk: Walk, kind: NodeKind, in_heading: bool) -> &'static [Rule]
-    ensures routine { walk ≡ Walk.Rest → kind ≡ NodeKind.Routine → result.now ≡ Rule.LiteralRange ∷ Rule.EndName ∷ Rule.RoutineTooLarge ∷ [] }
-    ensures cluster { walk ≡ Walk.Rest → kind ≡ NodeKind.Cluster → result.now ≡ Rule.LiteralRange ∷ Rule.CvtPlace ∷ Rule.EndName ∷ Rule.RoutineTooLarge ∷ [] }
+    ensures headings { walk ≡ Walk.Headings → result.now ≡ rules_of_headings kind in_heading }
+    ensures rest { walk ≡ Walk.Rest → result.now ≡ rules_of_rest kind in_heading }
 {
     match walk {
         Walk::Headings => match kind {
@@ -285,6 +288,8 @@ pub fn rules_asked(walk: Walk, kind: NodeKind, in_heading: bool) -> &'static [Ru
     }
 }
 
-fn rules_if(is_asked: bool, kind: NodeKind) -> &'static [Rule] {
+fn rules_if(is_asked: bool, kind: NodeKind) -> &'static [Rule]
+    ensures { result.now ≡ rules_if is_asked kind }
+{
     if is_asked { rules_at(kind) } else { &[] }
 }

@@ -14,7 +14,7 @@ pub record IsAround (rounds : List Round) (n : ℕ) (node : Node) (c : ℕ) : Ty
   pub cluster : (round_at rounds c).cluster ≡ cluster_in node.kind n (round_at rounds n)
   pub routine : (round_at rounds c).routine ≡ routine_in node.kind n (round_at rounds n)
 
-there : (nodes : List Node) (c : ℕ) → c < length nodes → (m : Node) × (slice_get nodes c ≡ Some m)
+pub there : (nodes : List Node) (c : ℕ) → c < length nodes → (m : Node) × (slice_get nodes c ≡ Some m)
 there [] c l = absurd (omega (arith, l))
 there (x ∷ xs) zero l = (x, refl)
 there (x ∷ xs) (suc c) l = there xs c (omega (arith, l))

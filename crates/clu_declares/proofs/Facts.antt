@@ -53,7 +53,7 @@ all_last : (P : ℕ → Type 0) (xs : List ℕ) (y : ℕ) → AllByRecursion P (
 all_last P [] y ps = ps.0
 all_last P (x ∷ xs) y ps = all_last P xs y ps.1
 
-further : (n m : ℕ) (cs : List ℕ) → n ≤ m → AreBefore n cs → AreBefore m cs
+pub further : (n m : ℕ) (cs : List ℕ) → n ≤ m → AreBefore n cs → AreBefore m cs
 further n m [] l bs = tt
 further n m (c ∷ cs) l bs = let less : c < n = bs.0 in (omega (arith, less, l), further n m cs l bs.1)
 

@@ -2,12 +2,14 @@
 //! contracts are the laws.
 #![tactic(auto)]
 
+mod asking;
 mod circles;
 mod heads;
 mod name_rules;
 mod refusals;
 mod types;
 
+pub use asking::{bad_settled, least_asked};
 pub use circles::{circle_by_mark, circular_by_nodes, circular_found, v7_by_marks};
 pub use heads::{demands_listed, routines_headed, routines_listed};
 pub use name_rules::{

@@ -1,0 +1,2 @@
+-- Which rules are asked of a node.
+pub mod Asked
