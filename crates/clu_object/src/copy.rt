@@ -3,19 +3,9 @@
 ghost use Rattle.std.specs.Prelude.{◌≡◌, IfOk};
 
 use crate::object::{ObjRoutine, Object, Region};
-use clu_base::{Bytes, Memory, ObjConst, Sequence};
-use clu_wir::Arm;
+use clu_base::{Memory, Sequence};
+use clu_wir::{Arm, copy_constants, copy_texts};
 use std::alloc::Global;
-
-/// An equal constant of its own.
-pub fn copy_constant(alloc: Global, constant: &ObjConst) -> Result<ObjConst, Memory>
-    ensures { IfOk result (λ copied. copied ≡ constant.now) }
-{
-    match constant {
-        ObjConst::Value(value) => Ok(ObjConst::Value(value.copy(alloc)?)),
-        ObjConst::Param(number) => Ok(ObjConst::Param(*number)),
-    }
-}
 
 /// An equal arm of its own.
 pub fn copy_arm(alloc: Global, arm: &Arm) -> Result<Arm, Memory>
@@ -26,28 +16,6 @@ pub fn copy_arm(alloc: Global, arm: &Arm) -> Result<Arm, Memory>
         target: arm.target,
         mark: arm.mark,
     })
-}
-
-/// Equal texts of their own.
-pub fn copy_texts(alloc: Global, texts: &[Bytes]) -> Result<Sequence<Bytes>, Memory>
-    ensures { IfOk result (λ copied. copied ≡ texts.now) }
-{
-    let mut copied = Vec::new(alloc);
-    for text in texts {
-        copied.push(text.copy(alloc)?)?;
-    }
-    Ok(Sequence::from_vec(copied))
-}
-
-/// Equal constants of their own.
-pub fn copy_constants(alloc: Global, constants: &[ObjConst]) -> Result<Sequence<ObjConst>, Memory>
-    ensures { IfOk result (λ copied. copied ≡ constants.now) }
-{
-    let mut copied = Vec::new(alloc);
-    for constant in constants {
-        copied.push(copy_constant(alloc, constant)?)?;
-    }
-    Ok(Sequence::from_vec(copied))
 }
 
 fn copy_arms(alloc: Global, arms: &[Arm]) -> Result<Sequence<Arm>, Memory>

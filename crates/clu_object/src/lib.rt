@@ -15,8 +15,8 @@ mod testing;
 mod writing;
 
 pub use clu_base::{Const, ObjConst};
-pub use clu_wir::{Arm, HoleKind};
-pub use copy::{copy_arm, copy_constant, copy_constants, copy_texts};
+pub use clu_wir::{Arm, HoleKind, copy_constant, copy_constants, copy_texts};
+pub use copy::copy_arm;
 pub use object::{Hole, ObjRoutine, Object, Region};
 pub use reading::read;
 pub use testing::is_object;

@@ -1,7 +1,9 @@
-//! Copies of expressions.
+//! Copies of expressions, and of what routines name.
+
+ghost use Rattle.std.specs.Prelude.{◌≡◌, IfOk};
 
 use crate::expression::WExpr;
-use clu_base::Memory;
+use clu_base::{Bytes, Memory, ObjConst, Sequence};
 use std::alloc::Global;
 
 impl WExpr {
@@ -48,4 +50,36 @@ fn copies(alloc: Global, values: &[WExpr]) -> Result<Vec<WExpr>, Memory> {
         copied.push(value.copy(alloc)?)?;
     }
     Ok(copied)
+}
+
+/// An equal constant of its own.
+pub fn copy_constant(alloc: Global, constant: &ObjConst) -> Result<ObjConst, Memory>
+    ensures { IfOk result (λ copied. copied ≡ constant.now) }
+{
+    match constant {
+        ObjConst::Value(value) => Ok(ObjConst::Value(value.copy(alloc)?)),
+        ObjConst::Param(number) => Ok(ObjConst::Param(*number)),
+    }
+}
+
+/// Equal texts of their own.
+pub fn copy_texts(alloc: Global, texts: &[Bytes]) -> Result<Sequence<Bytes>, Memory>
+    ensures { IfOk result (λ copied. copied ≡ texts.now) }
+{
+    let mut copied = Vec::new(alloc);
+    for text in texts {
+        copied.push(text.copy(alloc)?)?;
+    }
+    Ok(Sequence::from_vec(copied))
+}
+
+/// Equal constants of their own.
+pub fn copy_constants(alloc: Global, constants: &[ObjConst]) -> Result<Sequence<ObjConst>, Memory>
+    ensures { IfOk result (λ copied. copied ≡ constants.now) }
+{
+    let mut copied = Vec::new(alloc);
+    for constant in constants {
+        copied.push(copy_constant(alloc, constant)?)?;
+    }
+    Ok(Sequence::from_vec(copied))
 }

@@ -5,6 +5,7 @@
 mod copy;
 mod cost;
 mod expression;
+mod formed;
 mod hole;
 mod primitive;
 mod region;
@@ -14,8 +15,10 @@ mod statement;
 mod trap;
 mod width;
 
+pub use crate::copy::{copy_constant, copy_constants, copy_texts};
 pub use crate::cost::Cost;
 pub use crate::expression::{WExpr, WOp};
+pub use crate::formed::place_of;
 pub use crate::hole::HoleKind;
 pub use crate::primitive::Primitive;
 pub use crate::region::{Arm, RegionBuilder};

@@ -1,5 +1,5 @@
 use Rattle.std.proofs.Common.{◌≡◌, take}
-use Rattle.clu_object.proofs.copy.copy_texts.Given as goal
+use Rattle.clu_wir.proofs.copy.copy_texts.Given as goal
 
 abbrev pub invariant-loop-text : goal.invariant-loop-text
 invariant-loop-text l = l.copied.items ≡ take l.text-index l.texts

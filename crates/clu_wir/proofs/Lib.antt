@@ -1,0 +1,2 @@
+-- What the functions of word code need.
+mod Counts
