@@ -1,10 +1,13 @@
 -- The arms of a guard in the code: their slots, and that what a guard adds is put together from its parts.
-use Rattle.std.proofs.Common.{◌≡◌, ◌∙◌, ℕ, ◌+◌, ◌<◌, List, length, get_or, map, Some, refl, sym, ap}
-use Rattle.std.specs.Prelude.{Option, option_map, slice_get}
+use Rattle.std.proofs.Common.{◌≡◌, ◌∙◌, ℕ, ◌+◌, ◌<◌, List, length, get_or, map, None, Some, refl, subst, sym, ap}
+use Rattle.std.specs.Prelude.{IsSome, IsTrue, Option, option_map, slice_get}
 use Rattle.std.proofs.lemmas.List.{length-map}
-use Rattle.std.proofs.lemmas.Option.{slice_get-map, slice_get_read}
+use Rattle.std.proofs.lemmas.Option.{slice_get-map, slice_get_read, slice_get_within}
 use Rattle.clu_wir.specs.declared.statement.WStmt.{WStmt, WStmt-F, fold-roll-WStmt, fold_out-WStmt, map-WStmt, out-WStmt, roll-WStmt}
 use Rattle.clu_wir.specs.declared.statement.WArm.{WArm, fold_out-WArm}
+use Rattle.clu_wir.specs.Formed.{ArmTest, arm_formed_of, counts_of, has_arm, is_count}
+use Rattle.clu_frames.specs.declared.surroundings.Guard.{Guard}
+use Rattle.clu_frames.specs.Standing.{arms_of}
 use Rattle.clu_frames.specs.Flattening.{ArmPart, Guarding, Made, Part, Round, arm_of, arm_step, arms_onto, guard_at, guard_onto, guarded_onto, labelled, opened, part_of, part_step}
 
 slots_of : (arm : WArm) → (arm_of arm).slots ≡ arm.slots.items
@@ -23,6 +26,27 @@ part_roll = fold-roll-WStmt Part ArmPart part_step arm_step
 
 pub part_out : (s : WStmt) → part_of s ≡ part_step (map-WStmt WStmt WArm Part ArmPart part_of arm_of (out-WStmt s))
 part_out = fold_out-WStmt Part ArmPart part_step arm_step
+
+-- an arm of which the number of slots is known is there
+pub arm_there : (arms : List WArm) (arm count : ℕ) → IsTrue (is_count count (slice_get (counts_of arms) arm)) → arm < length arms
+arm_there arms arm count has = subst (λ n. arm < n) same (within (slice_get (counts_of arms) arm) refl has)
+  where
+    same : length (counts_of arms) ≡ length arms
+    same = length-map (map arm_formed_of arms) (λ (a : ArmTest). a.slots) ∙ length-map arms arm_formed_of
+
+    within : (o : Option ℕ) → slice_get (counts_of arms) arm ≡ o → IsTrue (is_count count o) → arm < length (counts_of arms)
+    within None is has = absurd (cc)
+    within (Some slots) is has = slice_get_within (counts_of arms) arm slots is
+
+-- the guard that was found has the arm
+pub arm_found : (gs : List Guard) (inside arm count : ℕ) (o : Option Guard) → o ≡ slice_get gs inside
+    → IsTrue (has_arm arm count (slice_get (map arms_of gs) inside)) → IsTrue (has_arm arm count (option_map arms_of o))
+arm_found gs inside arm count o is has =
+    subst (λ (p : Option (List ℕ)). IsTrue (has_arm arm count p)) (slice_get-map arms_of gs inside ∙ ap (option_map arms_of) (sym is)) has
+
+pub guard_there : (arm count : ℕ) (o : Option Guard) → IsTrue (has_arm arm count (option_map arms_of o)) → IsSome o
+guard_there arm count None has = has
+guard_there arm count (Some guard) has = refl
 
 pub guard_made : (body : List Part) (arms : List WArm) (round : Round) (m m1 m2 m3 : Made) (g : Guarding) (end region : ℕ)
     → g ≡ guard_at (map arm_of arms) m.labels round.mark → end ≡ m.labels + length arms → region ≡ length m.regions → m1 ≡ opened round.region (labelled 1 (labelled (length arms) m))

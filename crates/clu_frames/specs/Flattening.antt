@@ -375,21 +375,21 @@ arm_of = fold-WArm Part ArmPart part_step arm_step
 abbrev pub guarding_of : Guard → Guarding
 guarding_of g = guard_at (map arm_of g.arms.now) g.label g.mark
 
-abbrev pub or_none : Option (List Guarding) → List Guarding
+abbrev pub or_none : Option (List Guard) → List Guard
 or_none None = []
 or_none (Some gs) = gs
 
-abbrev pub guards_step : Guards-F (List Guarding) → List Guarding
-guards_step g = guarding_of g.guard ∷ or_none (option_copied g.outside)
+abbrev pub guards_step : Guards-F (List Guard) → List Guard
+guards_step g = g.guard ∷ or_none (option_copied g.outside)
 
-abbrev pub all_guards : Guards → List Guarding
-all_guards = fold-Guards (List Guarding) guards_step
+abbrev pub all_guards : Guards → List Guard
+all_guards = fold-Guards (List Guard) guards_step
 
-abbrev pub guards_of : Surroundings → List Guarding
+abbrev pub guards_of : Surroundings → List Guard
 guards_of s = or_none (option_map all_guards (option_copied s.guards))
 
 abbrev pub round_of : Surroundings → Round
-round_of s = record { work = s.work; turns = s.turns; guards = guards_of s; mark = s.mark; region = s.region }
+round_of s = record { work = s.work; turns = s.turns; guards = map guarding_of (guards_of s); mark = s.mark; region = s.region }
 
 -- A routine.
 

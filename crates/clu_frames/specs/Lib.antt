@@ -3,5 +3,6 @@ pub mod Flattened
 pub mod Flattening
 pub mod Labels
 pub mod Regions
+pub mod Standing
 pub mod Steps
 pub mod Within

@@ -9,7 +9,7 @@ use crate::steps::{Steps, above};
 use crate::surroundings::{Surroundings, Turns};
 use clu_wir::WExpr;
 
-impl Steps<'_> {
+impl Steps {
     /// Goes on at a label, which is the answer, where the condition is 0.
     pub fn begin_choice(&mut self, condition: &WExpr) -> Result<u32, FrameError>
         ensures label { IfOk result (λ label. label ≡ (made self.old).labels) }

@@ -10,9 +10,8 @@ pub enum FrameError {
     /// Memory was refused.
     #[error("out of memory")]
     Memory,
-    /// The word code is none that lowering makes: the name of an exception is no constant of the routine, an Exit
-    /// has no arm or another number of words than it, a Break or Continue stands in no loop, a slot is none of the
-    /// routine, or a number is too large.
+    /// The word code is none that lowering makes: a slot is none of the routine, the steps have no room, or a number is too
+    /// large.
     #[error("not yet")]
     NotYet,
 }

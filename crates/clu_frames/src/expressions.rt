@@ -9,7 +9,7 @@ use crate::flat::Flat;
 use crate::steps::{Steps, above};
 use clu_wir::WExpr;
 
-impl Steps<'_> {
+impl Steps {
     /// To a slot the word of an expression.
     pub fn set(&mut self, to: u32, value: &WExpr) -> Result<(), FrameError>
         ensures made { OnOk result (made self.new ≡ pushed (flat.Set to none) (made self.old)) }

@@ -10,7 +10,7 @@ use crate::surroundings::{Guard, Surroundings};
 use clu_base::Bytes;
 use clu_wir::WArm;
 
-impl Steps<'_> {
+impl Steps {
     /// Begins the region of a guard. It ends with the Jump over the arms, so that it has a step.
     pub fn begin_guard<'a>(
         &mut self,
@@ -18,6 +18,7 @@ impl Steps<'_> {
         round: Surroundings<'_>,
     ) -> Result<Guard<'a>, FrameError>
         ensures guard { IfOk result (λ guard. guarding_of guard ≡ guard_at (map arm_of arms.now) (made self.old).labels round.entry.mark) }
+        ensures arms { IfOk result (λ guard. guard.arms.now ≡ arms.now) }
         ensures end { IfOk result (λ guard. guard.end ≡ (made self.old).labels + length arms.now) }
         ensures region { IfOk result (λ guard. guard.region ≡ length (made self.old).regions) }
         ensures made { OnOk result (made self.new ≡ opened round.entry.region (labelled 1 (labelled (length arms.now) (made self.old)))) }
@@ -49,7 +50,7 @@ impl Steps<'_> {
     {
         self.name_arm(arm.names.as_slice(), region, mark)?;
         if arm.others {
-            self.add_others(region, mark)?;
+            self.add_arm(region, Bytes::from_vec(Vec::new(self.alloc)), mark)?;
             return self.take(arm.slots.as_slice());
         }
         self.push_results(arm.slots.as_slice())
@@ -60,7 +61,7 @@ impl Steps<'_> {
         ensures made { OnOk result (made self.new ≡ named_onto region mark names.now (made self.old)) }
     {
         for name in names {
-            self.add_arm(region, name, mark)?;
+            self.add_arm(region, name.copy(self.alloc)?, mark)?;
         }
         Ok(())
     }

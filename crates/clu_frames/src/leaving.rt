@@ -1,26 +1,23 @@
 //! Statements that go on elsewhere.
 
-ghost use Rattle.std.specs.Prelude.{◌≡◌, OnOk};
-ghost use Rattle.clu_frames.specs.Flattening.{break_onto, continue_onto, cut_onto, exception_onto, exit_onto, guard_exit_onto, guarding_of, leave_onto, made, raise_onto, recut_onto, round_of, signal_onto};
+ghost use Rattle.std.specs.Prelude.{◌≡◌, IsTrue, OnOk, Some, length, map, slice_get};
+ghost use Rattle.clu_wir.specs.Formed.{has_arm, is_count, is_named};
+ghost use Rattle.clu_frames.specs.Flattening.{break_onto, cut_onto, exception_onto, exit_onto, guard_exit_onto, guarding_of, guards_of, leave_onto, made, recut_onto, round_of};
+ghost use Rattle.clu_frames.specs.Standing.{arms_of, standing_of};
 
 use crate::errors::FrameError;
 use crate::flat::Flat;
 use crate::steps::{Steps, above, number};
 use crate::surroundings::{Guard, Surroundings, Turns};
 use clu_base::Bytes;
-use clu_wir::WExpr;
+use clu_wir::{HoleKind, WExpr, place_of};
 
-impl Steps<'_> {
-    pub fn break_loop(&mut self, turns: Option<Turns>) -> Result<(), FrameError>
-        ensures made { OnOk result (made self.new ≡ break_onto turns (made self.old)) }
+impl Steps {
+    pub fn break_loop(&mut self, turns: Turns) -> Result<(), FrameError>
+        ensures made { OnOk result (made self.new ≡ break_onto (Some turns) (made self.old)) }
     {
-        match turns {
-            Some(turns) => {
-                self.cut(turns.cut)?;
-                self.push(Flat::Jump(turns.end))
-            }
-            None => Err(FrameError::NotYet),
-        }
+        self.cut(turns.cut)?;
+        self.push(Flat::Jump(turns.end))
     }
 
     fn cut(&mut self, mark: Option<u32>) -> Result<(), FrameError>
@@ -32,35 +29,20 @@ impl Steps<'_> {
         }
     }
 
-    pub fn continue_loop(&mut self, turns: Option<Turns>) -> Result<(), FrameError>
-        ensures made { OnOk result (made self.new ≡ continue_onto turns (made self.old)) }
+    /// Puts the name of an exception, which is a constant, into the first free slot and its objects after it.
+    pub fn exception(
+        &mut self,
+        name: &Bytes,
+        objects: &[WExpr],
+        round: Surroundings<'_>,
+    ) -> Result<(), FrameError>
+        requires named { IsTrue (is_named name.now (standing_of round)) }
+        ensures made { OnOk result (made self.new ≡ exception_onto objects.now round.entry.work (made self.old)) }
     {
-        match turns {
-            Some(turns) => self.push(Flat::Jump(turns.next)),
-            None => Err(FrameError::NotYet),
-        }
-    }
-
-    /// Puts the name of an exception into `work` and its objects after it.
-    fn exception(&mut self, name: &Bytes, objects: &[WExpr], work: u32) -> Result<(), FrameError>
-        ensures made { OnOk result (made self.new ≡ exception_onto objects.now work (made self.old)) }
-    {
-        self.push_name(work, name)?;
-        self.set_row(above(work, 1)?, objects)
-    }
-
-    pub fn raise(&mut self, name: &Bytes, objects: &[WExpr], work: u32) -> Result<(), FrameError>
-        ensures made { OnOk result (made self.new ≡ raise_onto objects.now work (made self.old)) }
-    {
-        self.exception(name, objects, work)?;
-        self.push(Flat::Raise(work))
-    }
-
-    pub fn signal(&mut self, name: &Bytes, objects: &[WExpr], work: u32) -> Result<(), FrameError>
-        ensures made { OnOk result (made self.new ≡ signal_onto objects.now work (made self.old)) }
-    {
-        self.exception(name, objects, work)?;
-        self.push(Flat::Signal(work))
+        let place = number(place_of(round.constants, name).unwrap())?;
+        let name = WExpr::Hole(HoleKind::Constant, place);
+        self.push(Flat::Set(round.work, name))?;
+        self.set_row(above(round.work, 1)?, objects)
     }
 
     /// Goes on at an arm of the guard that so many others stand inside of.
@@ -71,12 +53,10 @@ impl Steps<'_> {
         words: &[WExpr],
         round: Surroundings<'_>,
     ) -> Result<(), FrameError>
+        requires formed { IsTrue (has_arm arm (length words.now) (slice_get (map arms_of (guards_of round)) inside)) }
         ensures made { OnOk result (made self.new ≡ exit_onto inside arm words.now (round_of round.entry) (made self.old)) }
     {
-        match round.guard(inside) {
-            Some(guard) => self.exit_guard(guard, arm, words, round),
-            None => Err(FrameError::NotYet),
-        }
+        self.exit_guard(round.guard(inside).unwrap(), arm, words, round)
     }
 
     /// Goes on at an arm of a guard.
@@ -87,21 +67,15 @@ impl Steps<'_> {
         words: &[WExpr],
         round: Surroundings<'_>,
     ) -> Result<(), FrameError>
+        requires formed { IsTrue (is_count (length words.now) (slice_get (arms_of guard) arm)) }
         ensures made { OnOk result (made self.new ≡ guard_exit_onto (Some (guarding_of guard.entry)) arm words.now (round_of round.entry) (made self.old)) }
     {
-        match guard.arms.get(arm as usize) {
-            Some(target) => {
-                let label = above(guard.label, arm)?;
-                if target.slots.len() != words.len() {
-                    return Err(FrameError::NotYet);
-                }
-                self.set_row(round.work, words)?;
-                self.recut(round.mark, guard.mark)?;
-                self.push_moves(target.slots.as_slice(), round.work)?;
-                self.push(Flat::Jump(label))
-            }
-            None => Err(FrameError::NotYet),
-        }
+        let target = &guard.arms[arm as usize];
+        let label = above(guard.label, arm)?;
+        self.set_row(round.work, words)?;
+        self.recut(round.mark, guard.mark)?;
+        self.push_moves(target.slots.as_slice(), round.work)?;
+        self.push(Flat::Jump(label))
     }
 
     /// Cuts the stack to the mark outside, if it is another.

@@ -1,21 +1,21 @@
 //! A routine in word code to flat code.
 
-ghost use Rattle.std.specs.Prelude.{◌≡◌, ◌<◌, ◌^◌, [], IfOk, OnErr, OnOk, length, map};
+ghost use Rattle.std.specs.Prelude.{◌≡◌, ◌<◌, ◌^◌, [], IfOk, IsTrue, OnErr, OnOk, length, map};
 ghost use Rattle.clu_frames.specs.Flattened.{HandsOn, HasRoom};
 ghost use Rattle.clu_frames.specs.Flattening.{bare_code, made, part_of, regions_of, routine_onto, steps_of};
 ghost use Rattle.clu_frames.specs.Labels.{IsFlat};
 ghost use Rattle.clu_frames.specs.Regions.{AreRegions};
+ghost use Rattle.clu_wir.specs.Formed.{is_formed};
 
 use crate::errors::FrameError;
 use crate::flat::{Flat, FlatRoutine};
 use crate::steps::Steps;
 use crate::surroundings::Surroundings;
 use crate::within::are_within;
-use clu_base::{Bytes, Const, Memory, ObjConst};
-use clu_wir::{RegionBuilder, WRoutine};
+use clu_wir::{RegionBuilder, WRoutine, copy_constants, copy_texts};
 use std::alloc::Global;
 
-/// The flat code of a routine. The builder gets the regions of its guards; their ranges and targets are places of
+/// The flat code of a routine that is well formed. The builder gets the regions of its guards; their ranges and targets are places of
 /// the code, which count from 0. The routine ends with a step that leaves it without results. After an error the
 /// builder has no region.
 ///
@@ -25,6 +25,7 @@ pub fn flatten<B: RegionBuilder>(
     r: &WRoutine,
     regions: &mut B,
 ) -> Result<FlatRoutine, FrameError>
+    requires formed { IsTrue (is_formed r.now) }
     ensures handed { IfOk result (HandsOn r.now) }
     ensures room { IfOk result (HasRoom r.now) }
     ensures steps { IfOk result (λ flat. bare_code flat.code.items ≡ steps_of r.now) }
@@ -49,6 +50,7 @@ fn bounded<B: RegionBuilder>(
     r: &WRoutine,
     regions: &mut B,
 ) -> Result<FlatRoutine, FrameError>
+    requires formed { IsTrue (is_formed r.now) }
     requires none { B.regions regions.old ≡ [] }
     ensures handed { IfOk result (HandsOn r.now) }
     ensures room { IfOk result (HasRoom r.now) }
@@ -67,13 +69,15 @@ fn bounded<B: RegionBuilder>(
 }
 
 /// The steps of a routine and its regions, with what holds of the regions of each routine.
-fn made_of<'a>(alloc: Global, r: &'a WRoutine) -> Result<Steps<'a>, FrameError>
-    ensures made { IfOk result (λ steps. made steps ≡ routine_onto (map part_of r.entry.now.body.items) r.entry.now.args r.entry.now.slots) }
+fn made_of(alloc: Global, r: &WRoutine) -> Result<Steps, FrameError>
+    requires formed { IsTrue (is_formed r.now) }
+    ensures made { IfOk result (λ steps. made steps ≡ routine_onto (map part_of r.now.body.items) r.now.args r.now.slots) }
     ensures regions { IfOk result (λ steps. AreRegions (made steps).code (made steps).regions) }
 {
-    let mut steps = Steps::new(alloc, r.constants.as_slice());
+    let mut steps = Steps::new(alloc);
     steps.push(Flat::Enter(r.args))?;
-    steps.list(r.body.as_slice(), Surroundings::outermost(r.slots))?;
+    let round = Surroundings::outermost(r.slots, r.constants.as_slice());
+    steps.list(r.body.as_slice(), round)?;
     steps.push(Flat::Leave(r.slots, 0))?;
     Ok(steps)
 }
@@ -83,6 +87,7 @@ fn code_of<B: RegionBuilder>(
     r: &WRoutine,
     regions: &mut B,
 ) -> Result<Vec<Flat>, FrameError>
+    requires formed { IsTrue (is_formed r.now) }
     requires none { B.regions regions.old ≡ [] }
     ensures few { IfOk result (λ code. length code.items < 2 ^ 32) }
     ensures steps { IfOk result (λ code. bare_code code.items ≡ steps_of r.now) }
@@ -98,6 +103,7 @@ fn routine_of<B: RegionBuilder>(
     r: &WRoutine,
     regions: &mut B,
 ) -> Result<FlatRoutine, FrameError>
+    requires formed { IsTrue (is_formed r.now) }
     requires none { B.regions regions.old ≡ [] }
     ensures handed { IfOk result (HandsOn r.now) }
     ensures few { IfOk result (λ flat. length flat.code.items < 2 ^ 32) }
@@ -109,37 +115,8 @@ fn routine_of<B: RegionBuilder>(
         frame: r.width(),
         code: code_of(alloc, r, regions)?,
         nodes: r.nodes,
-        uses: texts(alloc, r.uses.as_slice())?,
-        constants: constants(alloc, r.constants.as_slice())?,
-        types: texts(alloc, r.types.as_slice())?,
+        uses: copy_texts(alloc, r.uses.as_slice())?.into_vec(),
+        constants: copy_constants(alloc, r.constants.as_slice())?.into_vec(),
+        types: copy_texts(alloc, r.types.as_slice())?.into_vec(),
     })
-}
-
-fn texts(alloc: Global, from: &[Bytes]) -> Result<Vec<Bytes>, Memory>
-    ensures { IfOk result (λ copies. copies.items ≡ from.now) }
-{
-    let mut copies = Vec::new(alloc);
-    for text in from {
-        copies.push(text.copy(alloc)?)?;
-    }
-    Ok(copies)
-}
-
-fn constants(alloc: Global, from: &[ObjConst]) -> Result<Vec<ObjConst>, Memory>
-    ensures { IfOk result (λ copies. copies.items ≡ from.now) }
-{
-    let mut copies = Vec::new(alloc);
-    for constant in from {
-        copies.push(constant_copy(alloc, constant)?)?;
-    }
-    Ok(copies)
-}
-
-fn constant_copy(alloc: Global, constant: &ObjConst) -> Result<ObjConst, Memory>
-    ensures { IfOk result (λ copied. copied ≡ constant.now) }
-{
-    match constant {
-        ObjConst::Value(value) => Ok(ObjConst::Value(value.copy(alloc)?)),
-        ObjConst::Param(number) => Ok(ObjConst::Param(*number)),
-    }
 }

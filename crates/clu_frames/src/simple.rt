@@ -8,7 +8,7 @@ use crate::flat::Flat;
 use crate::steps::{Steps, number};
 use clu_wir::WExpr;
 
-impl Steps<'_> {
+impl Steps {
     pub fn call(
         &mut self,
         routine: &WExpr,

@@ -1,7 +1,9 @@
 //! The walk over the statements of word code.
 
-ghost use Rattle.std.specs.Prelude.{◌≡◌, OnOk, map};
+ghost use Rattle.std.specs.Prelude.{◌≡◌, IsTrue, OnOk, map};
+ghost use Rattle.clu_wir.specs.Formed.{all_formed, arm_formed_of, arms_formed, formed_of, in_a_guard, in_a_loop};
 ghost use Rattle.clu_frames.specs.Flattening.{all_onto, arm_of, arms_onto, end_of_turns, end_uncut, exit_of, guarded_onto, guarding_of, is_none, is_only_break, made, part_of, resignal_onto, round_of, turns_ended, turns_onto, unless_onto};
+ghost use Rattle.clu_frames.specs.Standing.{arms_of, standing_of};
 
 use crate::errors::FrameError;
 use crate::flat::Flat;
@@ -10,9 +12,10 @@ use crate::surroundings::{Guard, Guards, Surroundings, Turns};
 use clu_base::Bytes;
 use clu_wir::{WArm, WExpr, WStmt};
 
-impl Steps<'_> {
+impl Steps {
     #[cycle(statements)]
     pub fn list(&mut self, statements: &[WStmt], round: Surroundings<'_>) -> Result<(), FrameError>
+        requires formed { IsTrue (all_formed (map formed_of statements.now) (standing_of round)) }
         ensures made { OnOk result (made self.new ≡ all_onto (map part_of statements.now) (round_of round.entry) (made self.old)) }
     {
         for statement in statements {
@@ -23,6 +26,7 @@ impl Steps<'_> {
 
     #[cycle(statements)]
     fn statement(&mut self, statement: &WStmt, round: Surroundings<'_>) -> Result<(), FrameError>
+        requires formed { IsTrue (formed_of statement.now (standing_of round)) }
         ensures made { OnOk result (made self.new ≡ (part_of statement.now).onto (round_of round.entry) (made self.old)) }
     {
         let work = round.work;
@@ -47,8 +51,8 @@ impl Steps<'_> {
                 self.push(Flat::Label(end))
             }
             WStmt::Loop(body) => self.turns(body.as_slice(), round),
-            WStmt::Break => self.break_loop(round.turns),
-            WStmt::Continue => self.continue_loop(round.turns),
+            WStmt::Break => self.break_loop(round.turns.unwrap()),
+            WStmt::Continue => self.push(Flat::Jump(round.turns.unwrap().next)),
             WStmt::Iterate(routine, arguments, items, body) => {
                 let turns = self.begin_turns(
                     routine,
@@ -59,8 +63,14 @@ impl Steps<'_> {
                 self.iterate(body.as_slice(), turns, round)
             }
             WStmt::Yield(words) => self.yield_words(words.as_slice(), work),
-            WStmt::Raise(name, objects) => self.raise(name, objects.as_slice(), work),
-            WStmt::Signal(name, objects) => self.signal(name, objects.as_slice(), work),
+            WStmt::Raise(name, objects) => {
+                self.exception(name, objects.as_slice(), round)?;
+                self.push(Flat::Raise(work))
+            }
+            WStmt::Signal(name, objects) => {
+                self.exception(name, objects.as_slice(), round)?;
+                self.push(Flat::Signal(work))
+            }
             WStmt::Exit(inside, arm, words) => self.exit(*inside, *arm, words.as_slice(), round),
             WStmt::Guard(body, arms) => {
                 let guard = self.begin_guard(arms.as_slice(), round)?;
@@ -82,6 +92,7 @@ impl Steps<'_> {
         condition: &WExpr,
         round: Surroundings<'_>,
     ) -> Result<(), FrameError>
+        requires formed { IsTrue (all_formed (map formed_of other.now) (standing_of round)) }
         ensures made { OnOk result (made self.new ≡ unless_onto (map part_of other.now) (round_of round.entry) (made self.old)) }
     {
         match exit_of(other, round.turns) {
@@ -97,6 +108,7 @@ impl Steps<'_> {
 
     #[cycle(statements)]
     fn turns(&mut self, body: &[WStmt], round: Surroundings<'_>) -> Result<(), FrameError>
+        requires formed { IsTrue (all_formed (map formed_of body.now) (in_a_loop (standing_of round))) }
         ensures made { OnOk result (made self.new ≡ turns_onto (map part_of body.now) (round_of round.entry) (made self.old)) }
     {
         let next = self.labels(2)?;
@@ -120,6 +132,7 @@ impl Steps<'_> {
         turns: Turns,
         round: Surroundings<'_>,
     ) -> Result<(), FrameError>
+        requires formed { IsTrue (all_formed (map formed_of body.now) (in_a_loop (standing_of round))) }
         ensures made { OnOk result (made self.new ≡ turns_ended (map part_of body.now) turns (round_of round.entry) (made self.old)) }
     {
         let top = round.work;
@@ -141,12 +154,13 @@ impl Steps<'_> {
 
     /// The list of a guard, in its region.
     #[cycle(statements)]
-    fn guarded(
+    fn guarded<'a>(
         &mut self,
         body: &[WStmt],
-        guard: Guard<'_>,
-        round: Surroundings<'_>,
+        guard: Guard<'a>,
+        round: Surroundings<'a>,
     ) -> Result<(), FrameError>
+        requires formed { IsTrue (all_formed (map formed_of body.now) (in_a_guard (arms_of guard) (standing_of round))) }
         ensures made { OnOk result (made self.new ≡ guarded_onto (map part_of body.now) (guarding_of guard.entry) guard.entry.region guard.entry.end (round_of round.entry) (made self.old)) }
     {
         let guards = Guards {
@@ -172,6 +186,7 @@ impl Steps<'_> {
         names: &[Bytes],
         round: Surroundings<'_>,
     ) -> Result<(), FrameError>
+        requires formed { IsTrue (all_formed (map formed_of body.now) (standing_of round)) }
         ensures made { OnOk result (made self.new ≡ resignal_onto (map part_of body.now) names.now (round_of round.entry) (made self.old)) }
     {
         let end = self.label()?;
@@ -195,6 +210,7 @@ impl Steps<'_> {
         guard: Guard<'_>,
         round: Surroundings<'_>,
     ) -> Result<(), FrameError>
+        requires formed { IsTrue (arms_formed (map arm_formed_of arms.now) (standing_of round)) }
         ensures made { OnOk result (made self.new ≡ arms_onto guard.entry.label guard.entry.end guard.entry.region (map arm_of arms.now) (round_of round.entry) (made self.old)) }
     {
         let mut label = guard.label;

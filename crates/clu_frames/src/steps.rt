@@ -8,15 +8,14 @@ ghost use Rattle.clu_frames.specs.declared.flat.Flat.TheVariants as flat;
 
 use crate::errors::FrameError;
 use crate::flat::{FOOT, Flat};
-use clu_base::{Bytes, Const, ObjConst};
-use clu_wir::{Arm, HoleKind, RegionBuilder, WExpr};
+use clu_base::Bytes;
+use clu_wir::{Arm, RegionBuilder, WExpr};
 use std::alloc::Global;
 
 /// The flat code of a routine in the making.
 #[derive(Drop)]
-pub struct Steps<'a> {
+pub struct Steps {
     pub alloc: Global,
-    constants: &'a [ObjConst],
     code: Vec<Flat>,
     /// How many labels have numbers.
     labels: u32,
@@ -33,16 +32,15 @@ struct Planned {
     arms: Vec<Arm>,
 }
 
-impl<'a> Steps<'a> {
-    /// No steps, of a routine with these constants.
-    pub fn new(alloc: Global, constants: &'a [ObjConst]) -> Steps<'a>
+impl Steps {
+    /// No steps.
+    pub fn new(alloc: Global) -> Steps
         ensures code { result.code.items ≡ [] }
         ensures labels { result.labels ≡ 0 }
         ensures regions { result.regions.items ≡ [] }
     {
         Steps {
             alloc,
-            constants,
             code: Vec::new(alloc),
             labels: 0,
             regions: Vec::new(alloc),
@@ -81,19 +79,6 @@ impl<'a> Steps<'a> {
         let first = self.labels;
         self.labels = above(first, count)?;
         Ok(first)
-    }
-
-    /// To a slot the name of an exception.
-    pub fn push_name(&mut self, slot: u32, name: &Bytes) -> Result<(), FrameError>
-        ensures made { OnOk result (made self.new ≡ pushed (flat.Set slot none) (made self.old)) }
-    {
-        let place = self
-            .constants
-            .iter()
-            .position(|constant| is_text(constant, name))
-            .ok_or(FrameError::NotYet)?;
-        let name = WExpr::Hole(HoleKind::Constant, number(place)?);
-        self.push(Flat::Set(slot, name))
     }
 
     /// To the slots the words at the address that travelled.
@@ -159,23 +144,8 @@ impl<'a> Steps<'a> {
         }
     }
 
-    /// Gives a region an arm of a name that begins at the next step.
-    pub fn add_arm(&mut self, region: u32, name: &Bytes, mark: u32) -> Result<(), FrameError>
-        ensures made { OnOk result (made self.new ≡ armed region mark name.now (made self.old)) }
-    {
-        let name = name.copy(self.alloc)?;
-        self.put_arm(region, name, mark)
-    }
-
-    /// Gives a region an arm of all other names that begins at the next step.
-    pub fn add_others(&mut self, region: u32, mark: u32) -> Result<(), FrameError>
-        ensures made { OnOk result (made self.new ≡ armed region mark [] (made self.old)) }
-    {
-        let name = Bytes::from_vec(Vec::new(self.alloc));
-        self.put_arm(region, name, mark)
-    }
-
-    fn put_arm(&mut self, region: u32, name: Bytes, mark: u32) -> Result<(), FrameError>
+    /// Gives a region an arm of a name that begins at the next step, or without one of all other names.
+    pub fn add_arm(&mut self, region: u32, name: Bytes, mark: u32) -> Result<(), FrameError>
         ensures made { OnOk result (made self.new ≡ armed region mark name (made self.old)) }
     {
         let target = self.place()?;
@@ -192,13 +162,12 @@ impl<'a> Steps<'a> {
     pub fn finish<B: RegionBuilder>(self, builder: &mut B) -> Result<Vec<Flat>, FrameError>
         requires none { B.regions builder.old ≡ [] }
         requires nested { IsTrue (are_nested (made self).regions) }
-        ensures code { IfOk result (λ code. code.items ≡ self.entry.code.items) }
+        ensures code { IfOk result (λ code. code.items ≡ self.code.items) }
         ensures few { IfOk result (λ code. length code.items < 2 ^ 32) }
-        ensures regions { OnOk result (B.regions builder.new ≡ (made self.entry).regions) }
+        ensures regions { OnOk result (B.regions builder.new ≡ (made self).regions) }
     {
         let Steps {
             alloc,
-            constants: _,
             code,
             labels: _,
             regions,
@@ -237,14 +206,6 @@ fn give<B: RegionBuilder>(
         builder.add(alloc, first, last, parent, arms)?;
     }
     Ok(())
-}
-
-/// Whether a constant is this string.
-fn is_text(constant: &ObjConst, text: &Bytes) -> bool {
-    match constant {
-        ObjConst::Value(Const::Str(bytes)) => bytes == text,
-        _ => false,
-    }
 }
 
 /// A count as a number of 32 bits.

@@ -1,14 +1,19 @@
 //! What stands round a statement of word code.
 
-ghost use Rattle.std.specs.Prelude.{◌≡◌, option_map, slice_get};
-ghost use Rattle.clu_frames.specs.Flattening.{guarding_of, guards_of, outermost, round_of};
+ghost use Rattle.std.specs.Prelude.{◌≡◌, slice_get};
+ghost use Rattle.clu_frames.specs.Flattening.{guards_of, outermost, round_of};
+ghost use Rattle.clu_frames.specs.Standing.{standing_of};
+ghost use Rattle.clu_wir.specs.Formed.{begun_with};
 
 use crate::flat::OUTER_MARK;
+use clu_base::ObjConst;
 use clu_wir::WArm;
 
 /// What stands round a statement.
 #[derive(Clone, Copy)]
 pub struct Surroundings<'a> {
+    /// Those of the routine.
+    pub constants: &'a [ObjConst],
     /// The first slot that is free for work.
     pub work: u32,
     pub turns: Option<Turns>,
@@ -51,11 +56,13 @@ pub struct Guards<'a> {
 }
 
 impl<'a> Surroundings<'a> {
-    /// What stands round the body of a routine with so many slots.
-    pub fn outermost(slots: u32) -> Surroundings<'a>
-        ensures { round_of result ≡ outermost slots }
+    /// What stands round the body of a routine with so many slots and these constants.
+    pub fn outermost(slots: u32, constants: &'a [ObjConst]) -> Surroundings<'a>
+        ensures round { round_of result ≡ outermost slots }
+        ensures standing { standing_of result ≡ begun_with constants.now }
     {
         Surroundings {
+            constants,
             work: slots,
             turns: None,
             guards: None,
@@ -66,7 +73,7 @@ impl<'a> Surroundings<'a> {
 
     /// The guard that so many others stand inside of.
     pub fn guard(self, inside: u32) -> Option<Guard<'a>>
-        ensures { option_map guarding_of result ≡ slice_get (guards_of self.entry) inside }
+        ensures { result ≡ slice_get (guards_of self.entry) inside }
     {
         let mut guards = self.guards?;
         let mut left = inside;

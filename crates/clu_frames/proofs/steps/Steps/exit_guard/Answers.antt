@@ -1,8 +1,9 @@
-use Rattle.std.proofs.Common.{rules}
-use Rattle.clu_frames.proofs.Arms.{slots_at}
+use Rattle.std.proofs.Common.{length, rules}
+use Rattle.clu_frames.proofs.Arms.{arm_there, slots_at}
 use Rattle.clu_frames.proofs.steps.Steps.exit_guard.Goals as goal
 
-pub returns-in_ok-push_moves-in-Some : goal.returns-in_ok-push_moves-in-Some
-returns-in_ok-push_moves-in-Some c =
-    let slots = slots_at c.args.guard.arms.now c.args.arm c.in-Some.target.now c.in-Some.ensures.lookup.3.0 c.in-Some.ensures.lookup.1 in
+pub returns : goal.returns
+returns c =
+    let inside = arm_there c.args.guard.arms.now c.args.arm (length c.args.words.now) c.requires.formed in
+    let slots = slots_at c.args.guard.arms.now c.args.arm c.index-guard-arm.result inside c.index-guard-arm.is in
     record { made = rw slots (search rules) }

@@ -3,7 +3,7 @@ use Rattle.clu_frames.specs.Flattening.{arm_at, made, with_regions}
 use Rattle.clu_wir.specs.Adding.{Added}
 use Rattle.clu_frames.specs.Regions.{with_arm}
 use Rattle.clu_frames.proofs.Changing.{set_changed, with_arms}
-use Rattle.clu_frames.proofs.steps.Steps.put_arm.Goals as goal
+use Rattle.clu_frames.proofs.steps.Steps.add_arm.Goals as goal
 
 pub returns-in_ok-push-in-Some : goal.returns-in_ok-push-in-Some
 returns-in_ok-push-in-Some c =
