@@ -1,8 +1,9 @@
 //! What is kept of a module beside its specification: the text, the names of other modules in it, and the object.
 
-ghost use Rattle.std.specs.Prelude.{◌≡◌, ◌-◌, IfErr, IfOk, Some, drop, map, take};
+ghost use Rattle.std.specs.Prelude.{◌≡◌, ◌-◌, IfErr, IfOk, IsTrue, Some, drop, map, take};
 ghost use Rattle.clu_frames.specs.Labels.{IsFlat};
 ghost use Rattle.clu_frames.specs.Regions.{AreRegions};
+ghost use Rattle.clu_wir.specs.Formed.{is_formed};
 ghost use Rattle.clu_handlers.specs.Seen.{seen};
 ghost use Rattle.clu_build.specs.Entering.{node_text};
 ghost use Rattle.clu_build.specs.Refusals.{IsInner};
@@ -105,14 +106,16 @@ fn routines_of(
     ensures refused { IfErr result IsInner }
 {
     let mut routines = Vec::new(alloc);
-    for routine in lower(alloc, c, declarations, module)? {
-        routines.push(routine_of(alloc, &routine, peep)?)?;
+    let lowered = lower(alloc, c, declarations, module)?;
+    for routine in &lowered {
+        routines.push(routine_of(alloc, routine, peep)?)?;
     }
     Ok(routines)
 }
 
 #[tactic(auto, using(crate::proofs::Refusals::bodies))]
 fn routine_of(alloc: Global, routine: &WRoutine, peep: bool) -> Result<ObjRoutine, BuildError>
+    requires formed { IsTrue (is_formed routine.now) }
     ensures refused { IfErr result IsInner }
 {
     let mut regions = Regions::new(alloc);

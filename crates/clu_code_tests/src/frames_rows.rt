@@ -1,4 +1,5 @@
-//! Bodies of routines in word code, each after what comes of it: the steps and the regions, or ` refused`.
+//! Bodies of routines in word code, each after what comes of it: the steps and the regions, ` malformed` if it is
+//! not well formed, or ` refused`.
 
 /// How many rows `FLATS` has.
 pub const FLATS_COUNT: usize = 34;
@@ -76,9 +77,9 @@ type_word 0; slot 1; bind 2
 = Enter(1) Bind(Slot(0), Word(9), 2) Leave(3, 0)
 slot 0; word 9; bind 2
 
-= refused
+= malformed
 break
-= refused
+= malformed
 continue
 = refused
 word 0; set 3
@@ -86,12 +87,12 @@ word 0; set 3
 slot 3; set 0
 = refused
 word 0; slot 3; bound 0; with 2; set 0
-= refused
+= malformed
 raise g
-= refused
+= malformed
 exit 0 0
-= refused
+= malformed
 begin; exit 0 1; begin; arm e; guard 1
-= refused
+= malformed
 begin; exit 0 0; begin; arm e 1; guard 1
 ";

@@ -69,7 +69,7 @@ fn put_flat(
     Ok(put_steps(text, flat.code.as_slice())?)
 }
 
-/// Writes the steps of a routine, or that it is refused.
+/// Writes the steps of a routine, or that it is malformed or refused.
 fn put_made(
     alloc: Global,
     text: &mut String,
@@ -77,6 +77,9 @@ fn put_made(
     parts: usize,
     regions: &mut Regions,
 ) -> Result<(), Fail> {
+    if !routine.is_formed() {
+        return Ok(text.push_str(" malformed")?);
+    }
     match &flatten(alloc, routine, regions) {
         Ok(flat) => put_flat(text, routine, flat, parts),
         Err(FrameError::NotYet) => Ok(text.push_str(" refused")?),
@@ -84,7 +87,7 @@ fn put_made(
     }
 }
 
-/// Writes the steps of a routine and after them its regions, or that it is refused without a region.
+/// Writes the steps of a routine and after them its regions, or that it has none as it is malformed or refused.
 fn put_flattened(
     alloc: Global,
     text: &mut String,

@@ -87,8 +87,11 @@ pub fn operation_code(alloc: Global, operation: &Operation) -> Result<ObjRoutine
     }
 }
 
-/// The words of a routine in word code.
+/// The words of a routine in word code. No contract shows yet that those of the runtime are well formed: it is tested.
 pub fn code_of(alloc: Global, routine: &WRoutine) -> Result<ObjRoutine, LinkError> {
+    if !routine.is_formed() {
+        return Err(LinkError::NotYet);
+    }
     let mut regions = Regions::new(alloc);
     let flat = flatten(alloc, routine, &mut regions)?;
     Ok(select(alloc, &flat, &regions)?)

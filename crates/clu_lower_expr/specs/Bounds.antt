@@ -1,8 +1,9 @@
 -- What a lowered routine is, and how much of a frame and of an image it may take.
-use Rattle.std.specs.Prelude.{◌≡◌, ◌≤◌, ◌*◌, ◌/◌, ℕ, List, fold, length}
+use Rattle.std.specs.Prelude.{◌≡◌, ◌≤◌, ◌*◌, ◌/◌, ℕ, IsTrue, List, fold, length}
 use Rattle.clu_base.specs.declared.constants.Const.TheVariants as constant
 use Rattle.clu_base.specs.declared.constants.ObjConst.{ObjConst}
 use Rattle.clu_base.specs.declared.constants.ObjConst.TheVariants as named
+use Rattle.clu_wir.specs.Formed.{is_formed}
 use Rattle.clu_wir.specs.Rooms.{plus, times, routine_room}
 use Rattle.clu_wir.specs.Widths.{routine_width}
 use Rattle.clu_wir.specs.declared.routine.WRoutine.{WRoutine}
@@ -22,8 +23,9 @@ string_nodes _ = 0
 abbrev pub weight : WRoutine → ℕ
 weight r = fold (λ n c. plus n (string_nodes c)) r.nodes r.constants.items
 
--- two words of its frame and 64 words of code for each of its nodes, and 256 bytes for each of these and of its constants'
+-- it is well formed, and takes at most two words of its frame and 64 words of code for each of its nodes, and 256 bytes for each of these and of its constants'
 pub record IsBounded (r : WRoutine) : Type 0 where
+  pub formed : IsTrue (is_formed r)
   pub width : routine_width r ≤ 2 * r.nodes
   pub code : (routine_room r).code ≤ 64 * r.nodes
   pub bytes : (routine_room r).«data» ≤ times 256 (weight r)

@@ -18,10 +18,13 @@ const BYTES: u64 = 256;
 /// The bytes of a string that count as a node.
 const STRING: usize = 64;
 
-/// Whether the routine takes no more than its nodes allow.
+/// Whether the routine is well formed and takes no more than its nodes allow.
 pub fn is_bounded(routine: &WRoutine) -> bool
     ensures { IsTrue result → IsBounded routine.now }
 {
+    if !routine.is_formed() {
+        return false;
+    }
     let nodes = u64::from(routine.nodes);
     if u64::from(routine.width()) > WIDTH * nodes {
         return false;

@@ -73,8 +73,8 @@ impl Lowering {
         }
     }
 
-    /// The routine, which is taken out. What it takes comes in its first slots. No contract shows yet that it takes no
-    /// more than its nodes allow: it is tested.
+    /// The routine, which is taken out. What it takes comes in its first slots. No contract shows yet that it is
+    /// well formed and takes no more than its nodes allow: it is tested.
     pub fn finish(&mut self, name: Bytes, args: u32, nodes: u32) -> Result<WRoutine>
         ensures named { IfOk result (IsNamed name args nodes) }
         ensures bounded { IfOk result IsBounded }
