@@ -23,7 +23,8 @@ string_nodes _ = 0
 abbrev pub weight : WRoutine → ℕ
 weight r = fold (λ n c. plus n (string_nodes c)) r.nodes r.constants.items
 
--- it is well formed, and takes at most two words of its frame and 64 words of code for each of its nodes, and 256 bytes for each of these and of its constants'
+-- it is well formed, and takes at most two words of its frame and 64 words of code for each of its nodes, and 256 bytes for
+-- each of these and of its constants'
 pub record IsBounded (r : WRoutine) : Type 0 where
   pub formed : IsTrue (is_formed r)
   pub width : routine_width r ≤ 2 * r.nodes
