@@ -1,3 +1,4 @@
 pub mod Closed
+pub mod ConstantRules
 pub mod NameRules
 pub mod Own

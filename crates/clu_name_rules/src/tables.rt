@@ -10,7 +10,6 @@ use crate::repeated::Items;
 use crate::views::is_kind;
 use crate::words::Words;
 use clu_bindings::{File, is_set};
-use clu_syntax::{Expression, Literal, SimpleType, TypeExpression};
 use clu_tree::NodeKind;
 use clu_types::TypeArena;
 
@@ -77,21 +76,5 @@ pub fn is_bad_name(t: &Tables<'_>, bad: &[bool], bound: Option<usize>) -> bool
     match equate_named(t.file, bound) {
         Some(e) => is_set(bad, e as usize) && !leads_to_circle(t, bound),
         None => false,
-    }
-}
-
-/// The literal at the node n.
-pub fn literal_at<'a>(f: File<'a>, n: u32) -> Option<Literal<'a>> {
-    match f.expression(n) {
-        Some(Expression::Literal(literal)) => Some(literal),
-        _ => None,
-    }
-}
-
-/// Whether the node n is this word, as a type.
-pub fn is_word(f: File<'_>, word: SimpleType, n: u32) -> bool {
-    match f.type_expression(n) {
-        Some(TypeExpression::Simple(other)) => { other == word && is_kind(f, NodeKind::Simple, n) }
-        _ => false,
     }
 }

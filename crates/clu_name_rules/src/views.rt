@@ -6,7 +6,7 @@ ghost use Rattle.clu_head.specs.There.{is_there};
 
 use clu_bindings::File;
 use clu_head::is_at;
-use clu_syntax::{Cluster, Exception, Others, Own, Restriction, TagArm, When};
+use clu_syntax::{Exception, Others, Own, TagArm, When};
 use clu_tree::NodeKind;
 
 /// Whether the node n is there and of this kind.
@@ -53,31 +53,6 @@ pub fn others_at<'a>(f: File<'a>, n: u32) -> Option<Others<'a>> {
 pub fn exception_at<'a>(f: File<'a>, n: u32) -> Option<Exception<'a>> {
     if is_kind(f, NodeKind::Exc, n) {
         Some(f.syntax.exception(n))
-    } else {
-        None
-    }
-}
-
-pub fn restriction_at<'a>(f: File<'a>, n: u32) -> Option<Restriction<'a>> {
-    if is_kind(f, NodeKind::Restrict, n) {
-        Some(f.syntax.restriction(n))
-    } else {
-        None
-    }
-}
-
-pub fn cluster_at<'a>(f: File<'a>, n: u32) -> Option<Cluster<'a>> {
-    if is_kind(f, NodeKind::Cluster, n) {
-        Some(f.syntax.cluster(n))
-    } else {
-        None
-    }
-}
-
-/// The type with which the Parm n declares constants; None of type parameters.
-pub fn declared_type_of_parm(f: File<'_>, n: u32) -> Option<u32> {
-    if is_kind(f, NodeKind::Parm, n) {
-        f.syntax.parameter(n).declared
     } else {
         None
     }
