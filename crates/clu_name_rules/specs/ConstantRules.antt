@@ -27,7 +27,8 @@ use Rattle.clu_bindings.specs.declared.meaning.Meaning.TheVariants as meaning
 use Rattle.clu_bindings.specs.declared.wanted.Wanted.{Wanted}
 use Rattle.clu_bindings.specs.declared.wanted.Wanted.TheVariants as wanted
 use Rattle.clu_bindings.specs.Files.{stands_in, bound_in, declaration_in}
-use Rattle.clu_bindings.specs.Readers.{kind_in, round_in, children_in, value_in, wanted_in, takes_actuals, meaning_in, is_routine, set_at, is_object_wanted}
+use Rattle.clu_bindings.specs.Readers.{kind_in, round_in, children_in, value_in, wanted_in, takes_actuals, meaning_in, is_routine, set_at}
+use Rattle.clu_bindings.specs.Wanted.{is_object_wanted}
 use Rattle.clu_bindings.specs.Named.{named_in, wants_type, parameter_type, has_fitting_kinds}
 use Rattle.clu_name_rules.specs.declared.tables.Tables.{Tables}
 use Rattle.clu_name_rules.specs.NameRules.{is_bad_name}
