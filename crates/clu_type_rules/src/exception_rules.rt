@@ -1,5 +1,10 @@
 //! The rules on exceptions: V23 ArmTypes, V24 ArmTwice, V25 SignalNotListed, V26 SignalTypes, V27 ExitNoArm.
 
+ghost use Rattle.std.specs.Prelude.{◌≡◌, ◌&&◌, slice_get};
+ghost use Rattle.clu_tree.specs.declared.node.NodeKind.TheVariants as kind;
+ghost use Rattle.clu_head.specs.Refused.{is_set};
+ghost use Rattle.clu_head.specs.There.{is_there};
+
 use crate::known::{Known, routine_round, term};
 use crate::objects::{Objects, fit_types, take_objects};
 use clu_base::Bytes;
@@ -150,7 +155,9 @@ pub fn v23(k: &Known<'_>, n: u32) -> bool {
 // ---- V24
 
 /// V24: a name of the arm stands in one before it (section 12.2). In `except when e: when f, e: end` at the second `when`.
-pub fn v24(k: &Known<'_>, n: u32) -> bool {
+pub fn v24(k: &Known<'_>, n: u32) -> bool
+    ensures { result ≡ (is_there kind.When (slice_get k.now.tables.file.syntax.now n) && is_set (slice_get k.now.tables.items.now.repeated.items n)) }
+{
     is_kind(k.tables.file, NodeKind::When, n) && is_repeated(&k.tables, n)
 }
 

@@ -1,5 +1,9 @@
 //! Objects, and whether variables and the types of a heading take them.
 
+ghost use Rattle.std.specs.Prelude.{◌≡◌, ℕ};
+ghost use Rattle.clu_syntax.specs.Items.{Item};
+ghost use Rattle.clu_type_rules.specs.StatementRules.{are_included, fit_values};
+
 use crate::known::{Known, may_be};
 use clu_bindings::{is_set, type_inside};
 use clu_types::TypeId;
@@ -49,6 +53,33 @@ pub fn fit_types(k: &Known<'_>, n: u32, objects: Objects<'_>, wanted: &[u32]) ->
         }
     }
     true
+}
+
+/// Whether each value of an expression is included in the type at its place, as far as there are both.
+fn are_included(k: &Known<'_>, n: u32, mut values: &[u32], mut wanted: &[u32]) -> bool
+    ensures { (items : ℕ → Item) → result ≡ are_included k.now items n values.entry.now wanted.entry.now }
+{
+    while let [value, more @ ..] = values
+        && let [t, rest @ ..] = wanted
+    {
+        if !may_be(
+            k.tables.types,
+            k.facts.type_of(*value),
+            type_inside(k.tables.file, n, *t),
+        ) {
+            return false;
+        }
+        values = more;
+        wanted = rest;
+    }
+    true
+}
+
+/// Whether these are as many values as types, each included.
+pub fn fit_values(k: &Known<'_>, n: u32, values: &[u32], wanted: &[u32]) -> bool
+    ensures { (items : ℕ → Item) → result ≡ fit_values k.now items n values.now wanted.now }
+{
+    values.len() == wanted.len() && are_included(k, n, values, wanted)
 }
 
 /// How many variables Decls declare.

@@ -1,13 +1,21 @@
 //! The rules on statements: V14 ResultCount, V15 AssignType, V16 NotBool, V21 NotTagged, V22 TagMissingOrTwice, V28 NotInLoop,
 //! V29 NotInIterator, V30 ReturnValues, V36 IteratorUse.
 
+ghost use Rattle.std.specs.Prelude.{◌≡◌, ℕ, IfNone, IfSome, None, Some};
+ghost use Rattle.clu_syntax.specs.Items.{Item};
+ghost use Rattle.clu_type_rules.specs.Known.{kind_in, parts_round};
+ghost use Rattle.clu_type_rules.specs.Routines.{is_in_procedure};
+ghost use Rattle.clu_type_rules.specs.Leaving.{is_outside_loop, is_outside_iterator};
+ghost use Rattle.clu_type_rules.specs.InvocationRules.{is_loop_call, misuses_iterator};
+ghost use Rattle.clu_type_rules.specs.StatementRules.{has_no_condition, tagged_by, tags_by, is_on_no_tags, results_round, returned, gives_other, call_in, invoked_in, loops_over_other};
+
 use crate::binding_rules::{binds_misfit, binds_other_number};
 use crate::expression_rules::{has_no_bool, is_not_one_object};
 use crate::invocation_rules::{Fault, some_has_fault};
 use crate::known::{
-    Known, invoked_by, is_iterator, may_be, routine_round, some_other_than_bool, term,
+    Known, first_type, invoked_by, is_iterator, may_be, routine_round, some_no_condition, term,
 };
-use crate::objects::{Objects, fit_types};
+use crate::objects::fit_values;
 use crate::routines::Parts;
 use clu_base::Bytes;
 use clu_bindings::{File, Wanted, type_inside};
@@ -25,17 +33,23 @@ pub fn v14(k: &Known<'_>, n: u32) -> bool {
 // ---- tagcase
 
 /// The type on which the Tagcase n selects: that of its first child.
-fn tagged_by(k: &Known<'_>, n: u32) -> Option<TypeId> {
-    match k.tables.file.children(n) {
-        [of, ..] if is_kind(k.tables.file, NodeKind::Tagcase, n) => k.facts.type_of(*of),
-        _ => None,
+fn tagged_by(k: &Known<'_>, n: u32) -> Option<TypeId>
+    ensures { result ≡ tagged_by k.now n }
+{
+    if is_kind(k.tables.file, NodeKind::Tagcase, n) {
+        first_type(k, k.tables.file.children(n))
+    } else {
+        None
     }
 }
 
 /// The tags of that type, if it is a oneof or variant.
-fn tags_by<'a>(k: &Known<'a>, n: u32) -> Option<&'a [Field]> {
-    match term(k, tagged_by(k, n))? {
-        Term::Oneof(fields) | Term::Variant(fields) => Some(fields.as_slice()),
+fn tags_by<'a>(k: &Known<'a>, n: u32) -> Option<&'a [Field]>
+    ensures some { IfSome result (λ fields. tags_by k.now n ≡ Some fields.now) }
+    ensures none { IfNone result (tags_by k.now n ≡ None) }
+{
+    match term(k, tagged_by(k, n)) {
+        Some(Term::Oneof(fields) | Term::Variant(fields)) => Some(fields.as_slice()),
         _ => None,
     }
 }
@@ -96,9 +110,11 @@ pub fn v15(k: &Known<'_>, n: u32) -> bool {
 // ---- V16
 
 /// V16: a condition, or an operand of `cand` or `cor`, isn't bool (sections 10.15, 11.4 and 11.5). In `true cand 1` at `cand`.
-pub fn v16(k: &Known<'_>, n: u32) -> bool {
+pub fn v16(k: &Known<'_>, n: u32) -> bool
+    ensures { (items : ℕ → Item) → result ≡ has_no_condition k.now items (kind_in k.now n) n }
+{
     match k.tables.file.kind(n) {
-        NodeKind::If | NodeKind::While => some_other_than_bool(k, n),
+        NodeKind::If | NodeKind::While => some_no_condition(k, n),
         NodeKind::Infix => has_no_bool(k, n),
         _ => false,
     }
@@ -107,8 +123,13 @@ pub fn v16(k: &Known<'_>, n: u32) -> bool {
 // ---- V21
 
 /// V21: `tagcase` on what is no oneof or variant (section 11.6). In `tagcase x tag a: end`, where `x` is a record, at `tagcase`.
-pub fn v21(k: &Known<'_>, n: u32) -> bool {
-    tagged_by(k, n).is_some() && tags_by(k, n).is_none()
+pub fn v21(k: &Known<'_>, n: u32) -> bool
+    ensures { result ≡ is_on_no_tags k.now n }
+{
+    match tags_by(k, n) {
+        Some(_) => false,
+        None => tagged_by(k, n).is_some(),
+    }
 }
 
 // ---- V22
@@ -170,11 +191,18 @@ pub fn v22(k: &Known<'_>, n: u32) -> bool {
 // ---- V28 and V29
 
 /// V28: `break` or `continue` outside a loop of the routine (section 11). At that word.
-pub fn v28(f: File<'_>, n: u32) -> bool {
-    matches!(f.kind(n), NodeKind::Break | NodeKind::Continue) && !f.round(n).in_loop
+pub fn v28(f: File<'_>, n: u32) -> bool
+    ensures { result ≡ is_outside_loop f.entry.syntax.now f.entry.rounds.now n }
+{
+    match f.kind(n) {
+        NodeKind::Break | NodeKind::Continue => !f.round(n).in_loop,
+        _ => false,
+    }
 }
 
-fn is_in_procedure(k: &Known<'_>, n: u32) -> bool {
+fn is_in_procedure(k: &Known<'_>, n: u32) -> bool
+    ensures { result ≡ is_in_procedure (parts_round k.now n) }
+{
     match routine_round(k, n) {
         Some(parts) => parts.is_procedure,
         None => true,
@@ -182,14 +210,18 @@ fn is_in_procedure(k: &Known<'_>, n: u32) -> bool {
 }
 
 /// V29: `yield` outside an iterator (section 11). In `p = proc () yield (1)` at `yield`.
-pub fn v29(k: &Known<'_>, n: u32) -> bool {
+pub fn v29(k: &Known<'_>, n: u32) -> bool
+    ensures { result ≡ is_outside_iterator k.now.tables.file.syntax.now k.now.tables.file.rounds.now k.now.routines.now.parts.items n }
+{
     is_kind(k.tables.file, NodeKind::Yield, n) && is_in_procedure(k, n)
 }
 
 // ---- V30
 
 /// The nodes of the types that the routine round the node n gives.
-fn results_round<'a>(k: &Known<'a>, n: u32) -> &'a [u32] {
+fn results_round<'a>(k: &Known<'a>, n: u32) -> &'a [u32]
+    ensures { result.now ≡ results_round k.now n }
+{
     match routine_round(k, n) {
         Some(
             Parts {
@@ -201,39 +233,77 @@ fn results_round<'a>(k: &Known<'a>, n: u32) -> &'a [u32] {
     }
 }
 
+/// What a `return` at the node n gives: an iterator nothing.
+fn returned<'a>(k: &Known<'a>, n: u32) -> &'a [u32]
+    ensures { result.now ≡ returned k.now n }
+{
+    if is_in_procedure(k, n) {
+        results_round(k, n)
+    } else {
+        &[]
+    }
+}
+
 /// V30: the number or the types of what is returned or yielded don't fit the heading; a `return` of an iterator gives nothing
 /// (section 11). In `p = proc () returns (int) return ("a")` at `return`.
-pub fn v30(k: &Known<'_>, n: u32) -> bool {
+pub fn v30(k: &Known<'_>, n: u32) -> bool
+    ensures { (items : ℕ → Item) → result ≡ gives_other k.now items (kind_in k.now n) n }
+{
     let values = k.tables.file.children(n);
     match k.tables.file.kind(n) {
-        NodeKind::Return if !is_in_procedure(k, n) => !values.is_empty(),
-        NodeKind::Return | NodeKind::Yield => {
-            !fit_types(k, n, Objects::Values(values), results_round(k, n))
-        }
+        NodeKind::Return => !fit_values(k, n, values, returned(k, n)),
+        NodeKind::Yield => !fit_values(k, n, values, results_round(k, n)),
         _ => false,
     }
 }
 
 // ---- V36
 
-/// The type of what a For invokes, if it is known and that of no iterator.
-fn loops_over_other(k: &Known<'_>, n: u32) -> bool {
-    match k.tables.file.statement(n) {
-        Some(Statement::For { call, .. } | Statement::ForNames { call, .. }) => {
-            let of = invoked_by(k, call);
-            of.is_some() && !is_iterator(k, of)
-        }
+fn is_loop_call(wanted: Wanted) -> bool
+    ensures { result ≡ is_loop_call wanted }
+{
+    match wanted {
+        Wanted::LoopCall => true,
         _ => false,
     }
 }
 
+/// The call of a loop: the first of its children that declares nothing.
+fn call_in(f: File<'_>, mut children: &[u32]) -> Option<u32>
+    ensures { result ≡ call_in f.entry.syntax.now children.entry.now }
+{
+    while let [c, rest @ ..] = children {
+        if !is_kind(f, NodeKind::Decl, *c) {
+            return Some(*c);
+        }
+        children = rest;
+    }
+    None
+}
+
+/// The type of what the For n invokes.
+fn invoked_in(k: &Known<'_>, n: u32) -> Option<TypeId>
+    ensures { result ≡ invoked_in k.now n }
+{
+    let f = k.tables.file;
+    invoked_by(k, call_in(f, f.children(n))?)
+}
+
+/// Whether the type of what the For n invokes is known and that of no iterator.
+fn loops_over_other(k: &Known<'_>, n: u32) -> bool
+    ensures { result ≡ loops_over_other k.now n }
+{
+    let of = invoked_in(k, n);
+    of.is_some() && !is_iterator(k, of)
+}
+
 /// V36: an iterator is invoked outside of `for`, or `for` is over none (sections 8 and 11.5). In
 /// `for i: int in int$add(1, 2) do end` at `for`.
-pub fn v36(k: &Known<'_>, n: u32) -> bool {
+pub fn v36(k: &Known<'_>, n: u32) -> bool
+    ensures { result ≡ misuses_iterator k.now (kind_in k.now n) n }
+{
     match k.tables.file.kind(n) {
         NodeKind::For => loops_over_other(k, n),
-        _ => {
-            k.tables.file.wanted(n) != Wanted::LoopCall && some_has_fault(k, n, Fault::Iterator)
-        }
+        _ => !is_loop_call(k.tables.file.wanted(n)) && some_has_fault(k, n, Fault::Iterator),
     }
 }

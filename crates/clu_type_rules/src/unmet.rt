@@ -1,6 +1,9 @@
 //! What is asked of types at nodes and not met (CLU Reference Manual, section 12.4). Each operation or module that asks is asked
 //! once for all nodes at which the same where clauses count.
 
+ghost use Rattle.std.specs.Prelude.{◌≡◌};
+ghost use Rattle.clu_type_rules.specs.Unmet.{unmet_at};
+
 use crate::known::may_be;
 use clu_base::Memory;
 use clu_bindings::Headed;
@@ -23,7 +26,9 @@ const ALL_MET: Unmet = Unmet {
 };
 
 /// What is asked at the node n and not met.
-pub fn unmet_at(unmet: &[Unmet], n: u32) -> Unmet {
+pub fn unmet_at(unmet: &[Unmet], n: u32) -> Unmet
+    ensures { result ≡ unmet_at unmet.now n }
+{
     unmet.get(n as usize).copied().unwrap_or(ALL_MET)
 }
 
