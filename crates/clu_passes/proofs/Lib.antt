@@ -5,6 +5,7 @@ pub mod Counted
 pub mod Elsewhere
 pub mod InEquates
 pub mod Least
+pub mod Leaving
 pub mod Listing
 pub mod Literals
 pub mod Marked
@@ -19,5 +20,6 @@ pub mod Routines
 pub mod Seen
 pub mod Strings
 pub mod Subtrees
+pub mod Surrounding
 pub mod Tables
 pub mod Unknown

@@ -3,6 +3,7 @@ pub mod Counted
 pub mod Marks
 pub mod Owns
 pub mod ParameterKinds
+pub mod Routines
 pub mod Tables
 pub mod Told
 pub mod Trees

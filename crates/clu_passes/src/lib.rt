@@ -7,6 +7,7 @@ mod circles;
 mod heads;
 mod name_rules;
 mod refusals;
+mod statement_rules;
 mod types;
 
 pub use asking::{bad_settled, least_asked};
@@ -17,4 +18,5 @@ pub use name_rules::{
     v7_by_tables, v37_by_tables,
 };
 pub use refusals::refused_counted;
+pub use statement_rules::{stands_in_routine, v28_by_tables, v29_by_tables};
 pub use types::{kinds_told, type_seen, type_told};
