@@ -4,6 +4,7 @@ pub mod Below
 pub mod Bound
 pub mod Each
 pub mod Facts
+pub mod Few
 pub mod Firsts
 pub mod Haves
 pub mod IfWhole

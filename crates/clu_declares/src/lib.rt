@@ -2,9 +2,10 @@
 //! functions do nothing: their contracts are the laws.
 #![tactic(auto)]
 
-ghost use Rattle.std.specs.Prelude.{◌≡◌, ℕ, true, List};
+ghost use Rattle.std.specs.Prelude.{◌≡◌, ◌≤◌, ◌^◌, ℕ, true, List};
 ghost use Rattle.clu_tree.specs.declared.node.Node.{Node};
 ghost use Rattle.clu_parser.specs.Trees.{Text};
+ghost use Rattle.clu_parser.specs.Order.{IsFileOver};
 ghost use Rattle.clu_syntax.specs.declared.round.Round.{Round};
 ghost use Rattle.clu_syntax.specs.Rounds.{AreRounds};
 ghost use Rattle.clu_syntax.specs.Syntax.{Identifier};
@@ -35,4 +36,9 @@ pub fn meanings_said()
 /// So the values that it gives are those of the nodes in the scope of the file.
 pub fn values_said()
     ensures { (t : Text) (nodes : List Node) (rounds : List Round) → IsParsed t nodes → AreRounds nodes rounds → AreFew nodes rounds → (all : Values) → all.meanings.items ≡ meanings_of nodes rounds (declarations nodes rounds) → ((scope : Scope) → AreMeanings nodes scope all.meanings.items → AreSettled nodes scope all.types all.constants.items all.values.items) → AreSettled nodes (scope_in nodes rounds) all.types all.constants.items all.values.items }
+{}
+
+/// A tree over so many tokens as a source of a MiB may have has few nodes and declarations.
+pub fn few_declared()
+    ensures { (t : Text) (nodes : List Node) (rounds : List Round) (tokens : ℕ) → IsParsed t nodes → IsFileOver tokens nodes → tokens ≤ 2 ^ 20 → AreFew nodes rounds }
 {}
