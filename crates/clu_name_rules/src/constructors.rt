@@ -1,5 +1,10 @@
 //! The rule on selectors and constructors, V17 Selectors, and the types of their parts.
 
+ghost use Rattle.std.specs.Prelude.{◌≡◌, IsTrue, slice_get};
+ghost use Rattle.clu_syntax.specs.Kinds.{kind_at};
+ghost use Rattle.clu_head.specs.Refused.{is_set};
+ghost use Rattle.clu_name_rules.specs.Constructors.{is_selector};
+
 use crate::tables::{Tables, is_repeated};
 use crate::views::is_kind;
 use clu_base::Bytes;
@@ -104,11 +109,19 @@ pub fn is_constructor(f: File<'_>, n: u32) -> bool {
         && is_object_wanted(f.wanted(n))
 }
 
+fn is_selector(kind: NodeKind) -> bool
+    ensures { result ≡ is_selector kind }
+{
+    matches!(kind, NodeKind::FieldT | NodeKind::FieldE)
+}
+
 /// V17: a selector stands twice in a type or constructor, the constructor has not exactly the selectors of its type, or its type
 /// has no such constructor (CLU Reference Manual, section 10.8). In `record[a, b: int]${a: 1}` at `record`.
-pub fn v17(t: &Tables<'_>, n: u32) -> bool {
-    match t.file.kind(n) {
-        NodeKind::FieldT | NodeKind::FieldE => is_repeated(t, n),
-        _ => is_constructor(t.file, n) && is_fitting(t, n) == Some(false),
+pub fn v17(t: &Tables<'_>, n: u32) -> bool
+    ensures { IsTrue (is_selector (kind_at t.now.file.syntax.now n)) → result ≡ is_set (slice_get t.now.items.now.repeated.items n) }
+{
+    if is_selector(t.file.kind(n)) {
+        return is_repeated(t, n);
     }
+    is_constructor(t.file, n) && is_fitting(t, n) == Some(false)
 }

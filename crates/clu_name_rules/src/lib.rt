@@ -21,7 +21,7 @@ pub use crate::lengths::{long_constants, long_types};
 pub use crate::module_rules::{v33, v34, v35};
 pub use crate::name_rules::{v4, v5, v6, v7, v37};
 pub use crate::own::own_places;
-pub use crate::repeated::Items;
+pub use crate::repeated::{Items, ListKind, Listed};
 pub use crate::tables::{Tables, is_repeated, stands_in};
 pub use crate::views::{exception_at, is_kind, others_at, own_at, tag_arm_at, when_at};
 pub use crate::words::Words;
