@@ -1,6 +1,7 @@
 pub mod Bad
 pub mod Counted
 pub mod Marks
+pub mod Notes
 pub mod Owns
 pub mod ParameterKinds
 pub mod Routines

@@ -5,18 +5,22 @@
 mod asking;
 mod circles;
 mod heads;
+mod module_rules;
 mod name_rules;
 mod refusals;
+mod repeated;
 mod statement_rules;
 mod types;
 
 pub use asking::{bad_settled, least_asked};
 pub use circles::{circle_by_mark, circular_by_nodes, circular_found, v7_by_marks};
 pub use heads::{demands_listed, routines_headed, routines_listed};
+pub use module_rules::{v34_by_nodes, v35_by_nodes};
 pub use name_rules::{
     names_of_node, own_is_first, redefined_by_binding, strings_told, v4_by_tables, v5_by_tables,
     v7_by_tables, v37_by_tables,
 };
 pub use refusals::refused_counted;
+pub use repeated::{arms_repeated, items_repeated, names_repeated, v17_of_selectors};
 pub use statement_rules::{stands_in_routine, v28_by_tables, v29_by_tables};
 pub use types::{kinds_told, type_seen, type_told};
