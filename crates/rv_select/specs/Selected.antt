@@ -1,5 +1,6 @@
 -- What a routine of flat code hands on to its object, and what the parts of the runtime are.
 use Rattle.std.specs.Prelude.{◌≡◌, ◌≤◌, ℕ, List, [], length, IsTrue}
+use Rattle.clu_base.specs.declared.constants.ObjConst.{ObjConst}
 use Rattle.clu_wir.specs.declared.routine.WLeaf.{WLeaf}
 use Rattle.clu_frames.specs.Steps.{code_words}
 use Rattle.clu_frames.specs.declared.flat.FlatRoutine.{FlatRoutine}
@@ -22,24 +23,20 @@ pub record IsSelected (flat : FlatRoutine) (object : ObjRoutine) : Type 0 where
   pub instructions : AreInstructions object.code
   pub holes : IsTrue (has_holes object)
 
--- a part has a name and the words of instructions with holes, and nothing else
-pub record IsPart (name : List ℕ) (object : ObjRoutine) : Type 0 where
+-- a routine has a name, constants, and the words of instructions with holes, and nothing else
+pub record IsBare (name : List ℕ) (items : List ObjConst) (object : ObjRoutine) : Type 0 where
   pub named : object.name ≡ name
   pub nodes : object.nodes ≡ 0
   pub uses : object.uses ≡ []
-  pub constants : object.constants ≡ []
+  pub constants : object.constants ≡ items
   pub types : object.types ≡ []
   pub regions : object.regions ≡ []
   pub instructions : AreInstructions object.code
   pub holes : IsTrue (has_holes object)
 
--- a routine without a frame has its name and constants, and the words of instructions with holes, and nothing else
-pub record IsLeaf (leaf : WLeaf) (object : ObjRoutine) : Type 0 where
-  pub named : object.name ≡ leaf.name
-  pub nodes : object.nodes ≡ 0
-  pub uses : object.uses ≡ []
-  pub constants : object.constants ≡ leaf.constants.items
-  pub types : object.types ≡ []
-  pub regions : object.regions ≡ []
-  pub instructions : AreInstructions object.code
-  pub holes : IsTrue (has_holes object)
+-- a part names no constants, and a routine without a frame has its own
+abbrev pub IsPart : List ℕ → ObjRoutine → Type 0
+IsPart name = IsBare name []
+
+abbrev pub IsLeaf : WLeaf → ObjRoutine → Type 0
+IsLeaf leaf = IsBare leaf.name leaf.constants.items

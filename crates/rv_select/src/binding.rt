@@ -7,7 +7,7 @@ ghost use Rattle.std.specs.Prelude.{IfOk, codes};
 ghost use Rattle.rv_select.specs.Selected.{IsPart};
 
 use crate::calls::STORE_FULL;
-use crate::error::SelectError;
+use crate::error::{Answer, SelectError};
 use crate::evaluating::value;
 use crate::operand::Scope;
 use crate::parts::{Part, make_part};
@@ -41,7 +41,7 @@ pub(crate) fn bind(
     word: &WExpr,
     to: u32,
     scope: Scope,
-) -> Result<(), SelectError> {
+) -> Answer<()> {
     let number = value(words, number, scope)?;
     let word = value(words, word, scope.keeping(number))?;
     number.put(words, Value)?;
@@ -63,7 +63,7 @@ pub fn bind_part(alloc: Global) -> Result<ObjRoutine, SelectError>
 }
 
 /// From the number of the static type to that of the own one.
-fn own_type(words: &mut Words) -> Result<(), SelectError> {
+fn own_type(words: &mut Words) -> Answer<()> {
     words.go_unless(Op::Beq, Value, Zero, Goal::Bound as u32)?;
     words.copy(Value, Travelling)?;
     words.jalr(Zero, Second, 0)?;
@@ -75,7 +75,7 @@ fn own_type(words: &mut Words) -> Result<(), SelectError> {
 }
 
 /// The pair of the number and the word, at the end of the store.
-fn pair(words: &mut Words) -> Result<(), SelectError> {
+fn pair(words: &mut Words) -> Answer<()> {
     words.addi(T3, Zero, PAIR)?;
     words.three(Op::Sub, A2, StoreEnd, Store)?;
     words.service_unless(Op::Bgeu, A2, T3, STORE_FULL)?;

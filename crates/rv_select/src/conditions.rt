@@ -1,6 +1,11 @@
 //! Jumps that depend on a comparison.
 
-use crate::error::SelectError;
+ghost use Rattle.std.specs.Prelude.{◌≡◌, OnOk};
+ghost use Rattle.rv_select.specs.Conditions.{always_onto, branching as branching_of, far, jump_onto, near};
+ghost use Rattle.rv_select.specs.Written.{written};
+
+use crate::combining::registers;
+use crate::error::Answer;
 use crate::operand::{Operand, Scope};
 use crate::register::Register;
 use crate::words::Words;
@@ -16,14 +21,18 @@ pub(crate) struct Target {
 }
 
 impl Target {
-    pub fn near(label: u32) -> Target {
+    pub fn near(label: u32) -> Target
+        ensures { result ≡ near label }
+    {
         Target {
             label,
             is_near: true,
         }
     }
 
-    pub fn far(label: u32) -> Target {
+    pub fn far(label: u32) -> Target
+        ensures { result ≡ far label }
+    {
         Target {
             label,
             is_near: false,
@@ -31,47 +40,51 @@ impl Target {
     }
 
     /// Goes on there or not, as is known.
-    pub fn go_always(self, words: &mut Words, is_so: bool) -> Result<(), SelectError> {
+    pub fn go_always(self, words: &mut Words, is_so: bool) -> Answer<()>
+        ensures { OnOk result (written words.new ≡ always_onto self is_so (written words.old)) }
+    {
         if is_so { words.go(self.label) } else { Ok(()) }
     }
-}
 
-/// A comparison of two registers.
-#[derive(Clone, Copy)]
-pub(crate) struct Comparison {
-    op: WOp,
-    left: Register,
-    right: Register,
-}
-
-/// A comparison of two words, which go into registers.
-pub(crate) fn compare(
-    words: &mut Words,
-    op: WOp,
-    left: Operand,
-    right: Operand,
-    scope: Scope,
-) -> Result<Comparison, SelectError> {
-    let left = left.register(words, scope.keeping(right).free()?)?;
-    let kept = scope.keeping(Operand::At(left));
-    let right = right.register(words, kept.free()?)?;
-    Ok(Comparison { op, left, right })
-}
-
-impl Comparison {
-    /// Goes on at the target where it holds, if `sense` is true, else where it doesn't hold.
-    pub fn go(self, words: &mut Words, sense: bool, target: Target) -> Result<(), SelectError> {
-        let Comparison { op, left, right } = self;
-        if target.is_near {
-            words.branch(branching(op, sense), left, right, target.label)
+    /// Goes on there where the comparison of two registers holds, if `sense` is true, else where it doesn't hold.
+    fn go(
+        self,
+        words: &mut Words,
+        op: WOp,
+        left: Register,
+        right: Register,
+        sense: bool,
+    ) -> Answer<()>
+        ensures { OnOk result (written words.new ≡ jump_onto op left right sense self (written words.old)) }
+    {
+        if self.is_near {
+            words.branch(branching(op, sense), left, right, self.label)
         } else {
-            words.go_unless(branching(op, !sense), left, right, target.label)
+            words.go_unless(branching(op, !sense), left, right, self.label)
         }
     }
 }
 
+/// A comparison of two words.
+#[derive(Clone, Copy)]
+pub(crate) struct Comparison {
+    pub op: WOp,
+    pub left: Operand,
+    pub right: Operand,
+}
+
+impl Comparison {
+    /// Goes on at the target where it holds, if `sense` is true, else where it doesn't hold. The words go into registers.
+    pub fn go(self, words: &mut Words, sense: bool, target: Target, scope: Scope) -> Answer<()> {
+        let (left, right) = registers(words, self.left, self.right, scope)?;
+        target.go(words, self.op, left, right, sense)
+    }
+}
+
 /// The branch where a comparison holds, if `sense` is true, else where it doesn't hold.
-fn branching(op: WOp, sense: bool) -> Op {
+fn branching(op: WOp, sense: bool) -> Op
+    ensures { result ≡ branching_of op sense }
+{
     match op {
         WOp::Slt if sense => Op::Blt,
         WOp::Slt => Op::Bge,

@@ -2,7 +2,11 @@
 
 use clu_base::Memory;
 use std::alloc::{AllocError, AllocFailed};
+use std::num::TryFromIntError;
 use thiserror::Error;
+
+/// What selection answers.
+pub(crate) type Answer<T> = Result<T, SelectError>;
 
 #[derive(Clone, Copy, Debug, Error)]
 pub enum SelectError {
@@ -13,6 +17,12 @@ pub enum SelectError {
     /// Memory was refused.
     #[error("out of memory")]
     Memory,
+}
+
+impl From<TryFromIntError> for SelectError {
+    fn from(_error: TryFromIntError) -> SelectError {
+        SelectError::NotYet
+    }
 }
 
 impl From<Memory> for SelectError {

@@ -1,10 +1,10 @@
 //! Expressions in registers: the word of each is known, or in a register from its first use to its last.
 
-use crate::combining::{combine, is_small};
-use crate::conditions::{Target, compare};
-use crate::error::SelectError;
+use crate::combining::{combine, small};
+use crate::conditions::{Comparison, Target};
+use crate::error::{Answer, SelectError};
 use crate::knowing::{
-    Side, is_comparison, is_known, is_opposite, is_short, is_told, known_of, ready_side, small_of,
+    is_comparison, is_known, is_opposite, is_short, is_told, known_of, ready_side, small_of,
 };
 use crate::operand::{Operand, Scope};
 use crate::parts::raise_trap;
@@ -17,11 +17,7 @@ use rv_isa::Op;
 
 /// Where the word of an expression is. What the scope keeps stays as it is.
 #[cycle(evaluation)]
-pub(crate) fn value(
-    words: &mut Words,
-    expression: &WExpr,
-    scope: Scope,
-) -> Result<Operand, SelectError> {
+pub(crate) fn value(words: &mut Words, expression: &WExpr, scope: Scope) -> Answer<Operand> {
     if let Some(word) = known_of(expression, scope) {
         return Ok(Operand::Known(word));
     }
@@ -37,28 +33,32 @@ pub(crate) fn value(
             combine(words, *op, left, right, scope)
         }
         WExpr::If(condition, then, other) => {
-            let choice = Choice::new(words, scope)?;
+            let to = scope.free()?;
+            let otherwise = words.fresh()?;
+            let end = words.fresh()?;
+            // A word that is there already stays there unless the other one takes its place.
+            let kept = scope.keeping(Operand::At(to));
             match ready_side(condition, then, other, scope) {
-                Side::Then(word) => {
-                    let kept = choice.begin(words, word, scope)?;
-                    branch(words, condition, true, choice.end(), kept)?;
-                    let word = value(words, other, scope)?;
-                    choice.finish(words, word)
+                Some((word, is_first)) => {
+                    word.put(words, to)?;
+                    branch(words, condition, is_first, Target::near(end), kept)?;
+                    let word = if is_first {
+                        value(words, other, scope)?
+                    } else {
+                        value(words, then, scope)?
+                    };
+                    word.put(words, to)?;
                 }
-                Side::Other(word) => {
-                    let kept = choice.begin(words, word, scope)?;
-                    branch(words, condition, false, choice.end(), kept)?;
-                    let word = value(words, then, scope)?;
-                    choice.finish(words, word)
-                }
-                Side::Neither => {
-                    branch(words, condition, false, choice.otherwise(), scope)?;
-                    let word = value(words, then, scope)?;
-                    choice.turn(words, word)?;
-                    let word = value(words, other, scope)?;
-                    choice.finish(words, word)
+                None => {
+                    branch(words, condition, false, Target::far(otherwise), scope)?;
+                    value(words, then, scope)?.put(words, to)?;
+                    words.go(end)?;
+                    words.label(otherwise)?;
+                    value(words, other, scope)?.put(words, to)?;
                 }
             }
+            words.label(end)?;
+            Ok(Operand::At(to))
         }
         WExpr::Check(condition, trap, word) => {
             check(words, condition, *trap, scope)?;
@@ -72,24 +72,25 @@ pub(crate) fn value(
     }
 }
 
+/// The same in a register.
+pub(crate) fn in_register(words: &mut Words, expression: &WExpr, scope: Scope) -> Answer<Register> {
+    value(words, expression, scope)?.register(words, scope.free()?)
+}
+
 /// The word of an expression that has none inside.
-fn single_word(
-    words: &mut Words,
-    expression: &WExpr,
-    scope: Scope,
-) -> Result<Operand, SelectError> {
+fn single_word(words: &mut Words, expression: &WExpr, scope: Scope) -> Answer<Operand> {
     match expression {
         WExpr::Slot(slot) => slot_word(words, *slot, scope),
         WExpr::Word(word) => Ok(Operand::Known(*word)),
         WExpr::Hole(kind, number) => hole_word(words, *kind, *number, scope),
-        WExpr::Bound(number) => scope.bound(*number),
+        WExpr::Bound(number) => scope.bound(*number).ok_or(SelectError::NotYet),
         _ => Err(SelectError::NotYet),
     }
 }
 
 /// The scope of a body in which the words of these expressions are bound.
 #[cycle(evaluation)]
-fn bind_all(words: &mut Words, values: &[WExpr], scope: Scope) -> Result<Scope, SelectError> {
+fn bind_all(words: &mut Words, values: &[WExpr], scope: Scope) -> Answer<Scope> {
     let mut kept = scope;
     let mut inner = Scope::new(scope.is_leaf);
     let mut number = 0usize;
@@ -105,12 +106,7 @@ fn bind_all(words: &mut Words, values: &[WExpr], scope: Scope) -> Result<Scope, 
 
 /// The word so many bytes after an address. A small number that is added last is one of the distance.
 #[cycle(evaluation)]
-fn load(
-    words: &mut Words,
-    address: &WExpr,
-    bytes: u32,
-    scope: Scope,
-) -> Result<Operand, SelectError> {
+fn load(words: &mut Words, address: &WExpr, bytes: u32, scope: Scope) -> Answer<Operand> {
     let Ok(distance) = i32::try_from(bytes) else {
         return Err(SelectError::NotYet);
     };
@@ -126,12 +122,7 @@ fn load(
 
 /// Raises a trap where the condition is 0.
 #[cycle(evaluation)]
-fn check(
-    words: &mut Words,
-    condition: &WExpr,
-    trap: Trap,
-    scope: Scope,
-) -> Result<(), SelectError> {
+fn check(words: &mut Words, condition: &WExpr, trap: Trap, scope: Scope) -> Answer<()> {
     let holds = words.fresh()?;
     branch(words, condition, true, Target::near(holds), scope)?;
     raise_trap(words, trap, scope.is_leaf)?;
@@ -146,7 +137,7 @@ pub(crate) fn branch(
     sense: bool,
     target: Target,
     scope: Scope,
-) -> Result<(), SelectError> {
+) -> Answer<()> {
     if let Some(word) = known_of(condition, scope) {
         return target.go_always(words, (word != 0) == sense);
     }
@@ -161,7 +152,12 @@ pub(crate) fn branch(
         WExpr::Binary(op, left, right) if is_comparison(*op) => {
             let left = value(words, left, scope)?;
             let right = value(words, right, scope.keeping(left))?;
-            compare(words, *op, left, right, scope)?.go(words, sense, target)
+            Comparison {
+                op: *op,
+                left,
+                right,
+            }
+            .go(words, sense, target, scope)
         }
         // Both are wanted, or one of them is enough.
         WExpr::If(first, second, other) if is_short(second, other, scope) => {
@@ -190,15 +186,20 @@ pub(crate) fn branch(
         }
         _ => {
             let word = value(words, condition, scope)?;
-            compare(words, WOp::Equal, word, Operand::Known(0), scope)?.go(words, !sense, target)
+            Comparison {
+                op: WOp::Equal,
+                left: word,
+                right: Operand::Known(0),
+            }
+            .go(words, !sense, target, scope)
         }
     }
 }
 
 /// A word that is bound: a known one that no immediate holds goes into a register.
-fn held(words: &mut Words, operand: Operand, scope: Scope) -> Result<Operand, SelectError> {
+fn held(words: &mut Words, operand: Operand, scope: Scope) -> Answer<Operand> {
     match operand {
-        Operand::Known(word) if !is_small(word) => {
+        Operand::Known(word) if small(word.cast_signed()).is_none() => {
             let register = operand.register(words, scope.free()?)?;
             Ok(Operand::At(register))
         }
@@ -207,7 +208,7 @@ fn held(words: &mut Words, operand: Operand, scope: Scope) -> Result<Operand, Se
 }
 
 /// The word of a slot. Those of a routine without a frame are where its arguments are.
-fn slot_word(words: &mut Words, slot: u32, scope: Scope) -> Result<Operand, SelectError> {
+fn slot_word(words: &mut Words, slot: u32, scope: Scope) -> Answer<Operand> {
     let to = scope.free()?;
     if scope.is_leaf {
         load_at(words, to, Value, word_distance(slot)?)?;
@@ -218,12 +219,7 @@ fn slot_word(words: &mut Words, slot: u32, scope: Scope) -> Result<Operand, Sele
 }
 
 /// What the linker knows is in a cell of the link table, is the address of one, or is the number of the hole itself.
-fn hole_word(
-    words: &mut Words,
-    kind: HoleKind,
-    number: u32,
-    scope: Scope,
-) -> Result<Operand, SelectError> {
+fn hole_word(words: &mut Words, kind: HoleKind, number: u32, scope: Scope) -> Answer<Operand> {
     let to = scope.free()?;
     words.hole(to, kind, number)?;
     match kind {
@@ -238,68 +234,16 @@ fn hole_word(
 }
 
 /// The word so many bytes from an address in a register.
-fn load_word(
-    words: &mut Words,
-    address: Operand,
-    distance: i32,
-    scope: Scope,
-) -> Result<Operand, SelectError> {
+fn load_word(words: &mut Words, address: Operand, distance: i32, scope: Scope) -> Answer<Operand> {
     let to = scope.free()?;
     let base = address.register(words, to)?;
     load_at(words, to, base, distance)?;
     Ok(Operand::At(to))
 }
 
-fn load_byte(words: &mut Words, address: Operand, scope: Scope) -> Result<Operand, SelectError> {
+fn load_byte(words: &mut Words, address: Operand, scope: Scope) -> Answer<Operand> {
     let to = scope.free()?;
     let base = address.register(words, to)?;
-    words.lbu(to, base, 0)?;
+    words.load(Op::Lbu, to, base, 0)?;
     Ok(Operand::At(to))
-}
-
-/// One of two words, in a register.
-#[derive(Clone, Copy)]
-struct Choice {
-    to: Register,
-    otherwise: u32,
-    end: u32,
-}
-
-impl Choice {
-    fn new(words: &mut Words, scope: Scope) -> Result<Choice, SelectError> {
-        Ok(Choice {
-            to: scope.free()?,
-            otherwise: words.fresh()?,
-            end: words.fresh()?,
-        })
-    }
-
-    fn otherwise(self) -> Target {
-        Target::far(self.otherwise)
-    }
-
-    /// Where the word is there that was there already.
-    fn end(self) -> Target {
-        Target::near(self.end)
-    }
-
-    /// A word that is there already, unless the other one takes its place; it is to be left as it is until then.
-    fn begin(self, words: &mut Words, word: Operand, scope: Scope) -> Result<Scope, SelectError> {
-        word.put(words, self.to)?;
-        Ok(scope.keeping(Operand::At(self.to)))
-    }
-
-    /// After the first word the second one begins.
-    fn turn(self, words: &mut Words, word: Operand) -> Result<(), SelectError> {
-        word.put(words, self.to)?;
-        words.go(self.end)?;
-        words.label(self.otherwise)
-    }
-
-    /// After the last word.
-    fn finish(self, words: &mut Words, word: Operand) -> Result<Operand, SelectError> {
-        word.put(words, self.to)?;
-        words.label(self.end)?;
-        Ok(Operand::At(self.to))
-    }
 }

@@ -2,8 +2,12 @@
 //!
 //! A record is where the iterator goes on, the place of its frame, and its link table.
 
+ghost use Rattle.std.specs.Prelude.{◌≡◌, OnOk};
+ghost use Rattle.rv_select.specs.Steps.{resume_onto, yield_onto, yielded_onto};
+ghost use Rattle.rv_select.specs.Written.{written};
+
 use crate::calls::{caller_frame, test_room};
-use crate::error::SelectError;
+use crate::error::Answer;
 use crate::register::Register::{
     First, Frame, Second, Table, Top, Value, Words as Travelling, Zero,
 };
@@ -20,13 +24,13 @@ const _: () = prove!(RECORD <= 16 * 8);
 const BODY: i32 = 4;
 
 /// Yields so many words from this slot on.
-pub(crate) fn yield_words(words: &mut Words, slot: u32, count: u32) -> Result<(), SelectError> {
+pub(crate) fn yield_words(words: &mut Words, slot: u32, count: u32) -> Answer<()>
+    ensures { OnOk result (written words.new ≡ yield_onto slot count (written words.old)) }
+{
     let resumed = words.fresh()?;
     words.addi(Second, Top, RECORD)?;
     test_room(words)?;
-    if count > 0 {
-        slot_address(words, Travelling, slot)?;
-    }
+    hand_out(words, slot, count)?;
     words.address(First, resumed)?;
     words.sd(First, Top, 0)?;
     words.sd(Frame, Top, 8)?;
@@ -39,8 +43,19 @@ pub(crate) fn yield_words(words: &mut Words, slot: u32, count: u32) -> Result<()
     words.label(resumed)
 }
 
+fn hand_out(words: &mut Words, slot: u32, count: u32) -> Answer<()>
+    ensures { OnOk result (written words.new ≡ yielded_onto slot count (written words.old)) }
+{
+    match count {
+        0 => Ok(()),
+        _ => slot_address(words, Travelling, slot),
+    }
+}
+
 /// Takes off the record below the top that is in the slot, and goes on in its iterator.
-pub(crate) fn resume(words: &mut Words, slot: u32) -> Result<(), SelectError> {
+pub(crate) fn resume(words: &mut Words, slot: u32) -> Answer<()>
+    ensures { OnOk result (written words.new ≡ resume_onto slot (written words.old)) }
+{
     load_slot(words, First, slot)?;
     words.addi(Top, First, -RECORD)?;
     words.ld(Second, Top, 0)?;

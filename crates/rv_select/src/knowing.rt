@@ -1,5 +1,6 @@
 //! What is known of expressions before they are evaluated.
 
+use crate::combining::small;
 use crate::operand::{Operand, Scope};
 use clu_wir::{WExpr, WOp};
 
@@ -8,7 +9,7 @@ pub(crate) fn known_of(expression: &WExpr, scope: Scope) -> Option<u64> {
     match expression {
         WExpr::Word(word) => Some(*word),
         WExpr::Bound(number) => match scope.bound(*number) {
-            Ok(Operand::Known(word)) => Some(word),
+            Some(Operand::Known(word)) => Some(word),
             _ => None,
         },
         WExpr::Binary(op, left, right) => {
@@ -22,29 +23,23 @@ pub(crate) fn known_of(expression: &WExpr, scope: Scope) -> Option<u64> {
 /// The most words of a condition and of the choice after it that one branch reaches over: an immediate of it reaches 1,023.
 const REACH: u64 = 1000;
 
-/// A side of a choice that is known, or in a register already.
-#[derive(Clone, Copy)]
-pub(crate) enum Side {
-    Then(Operand),
-    Other(Operand),
-    Neither,
-}
-
-/// The side of a choice that is there already, if one branch reaches over the condition and the other side.
-pub(crate) fn ready_side(condition: &WExpr, then: &WExpr, other: &WExpr, scope: Scope) -> Side {
-    if condition
-        .words()
-        .saturating_add(then.words())
-        .saturating_add(other.words())
-        > REACH
-    {
-        return Side::Neither;
+/// The side of a choice that is known or in a register already, if one branch reaches over the condition and the other
+/// side, and whether it is the first.
+pub(crate) fn ready_side(
+    condition: &WExpr,
+    then: &WExpr,
+    other: &WExpr,
+    scope: Scope,
+) -> Option<(Operand, bool)> {
+    let sides = then.words().saturating_add(other.words());
+    if condition.words().saturating_add(sides) > REACH {
+        return None;
     }
     match ready(then, scope) {
-        Some(word) => Side::Then(word),
+        Some(word) => Some((word, true)),
         None => match ready(other, scope) {
-            Some(word) => Side::Other(word),
-            None => Side::Neither,
+            Some(word) => Some((word, false)),
+            None => None,
         },
     }
 }
@@ -52,7 +47,7 @@ pub(crate) fn ready_side(condition: &WExpr, then: &WExpr, other: &WExpr, scope: 
 fn ready(side: &WExpr, scope: Scope) -> Option<Operand> {
     match side {
         WExpr::Word(word) => Some(Operand::Known(*word)),
-        WExpr::Bound(number) => scope.bound(*number).ok(),
+        WExpr::Bound(number) => scope.bound(*number),
         _ => None,
     }
 }
@@ -60,24 +55,16 @@ fn ready(side: &WExpr, scope: Scope) -> Option<Operand> {
 /// The word of a comparison of two words.
 fn compared(op: WOp, left: u64, right: u64) -> Option<u64> {
     match op {
-        WOp::Slt => Some(truth(left.cast_signed() < right.cast_signed())),
-        WOp::Sltu => Some(truth(left < right)),
-        WOp::Equal => Some(truth(left == right)),
+        WOp::Slt => Some(u64::from(left.cast_signed() < right.cast_signed())),
+        WOp::Sltu => Some(u64::from(left < right)),
+        WOp::Equal => Some(u64::from(left == right)),
         _ => None,
     }
-}
-
-fn truth(is_so: bool) -> u64 {
-    if is_so { 1 } else { 0 }
 }
 
 /// The word of an expression, if it is known and an immediate holds it.
 pub(crate) fn small_of(expression: &WExpr, scope: Scope) -> Option<i32> {
-    let number = known_of(expression, scope)?.cast_signed();
-    match i32::try_from(number) {
-        Ok(number) if -2048 <= number && number < 2048 => Some(number),
-        _ => None,
-    }
+    small(known_of(expression, scope)?.cast_signed())
 }
 
 /// Whether the word of an expression is known to be this one.

@@ -4,6 +4,7 @@
 //! of the tables in which one of them searches.
 #![tactic(auto)]
 
+mod assembler;
 mod binding;
 mod calls;
 mod combining;

@@ -1,12 +1,20 @@
 //! Numbers that are known, in registers.
 
-use crate::error::SelectError;
+ghost use Rattle.std.specs.Prelude.{◌≡◌, IfOk, OnOk};
+ghost use Rattle.rv_select.specs.Operands.{short_onto};
+ghost use Rattle.rv_select.specs.Slots.{above_lowest, lowest as lowest_of};
+ghost use Rattle.rv_select.specs.Written.{written};
+
+use crate::error::{Answer, SelectError};
 use crate::register::Register;
 use crate::words::Words;
 use rv_isa::Op;
 
 /// A number as the sum of what LUI and what an immediate of 12 bits gives.
-pub(crate) fn halves(number: i32) -> Result<(i32, i32), SelectError> {
+pub(crate) fn halves(number: i32) -> Answer<(i32, i32)>
+    ensures upper { IfOk result (λ halves. halves.0 ≡ above_lowest number) }
+    ensures lower { IfOk result (λ halves. halves.1 ≡ lowest_of number) }
+{
     if number > i32::MAX - 2048 {
         return Err(SelectError::NotYet);
     }
@@ -15,21 +23,31 @@ pub(crate) fn halves(number: i32) -> Result<(i32, i32), SelectError> {
 }
 
 /// The low 12 bits of a number, with the upmost of them as its sign.
-fn lowest(number: i32) -> i32 {
+fn lowest(number: i32) -> i32
+    ensures { result ≡ lowest_of number }
+{
     (number << 20) >> 20
 }
 
-/// Gives a register a word.
-pub(crate) fn known(words: &mut Words, to: Register, word: u64) -> Result<(), SelectError> {
+/// Gives a register a word: one of 32 bits, or its upper half and its lower half with a sign, which the upper one makes up
+/// for.
+pub(crate) fn known(words: &mut Words, to: Register, word: u64) -> Answer<()> {
     let number = word.cast_signed();
-    match i32::try_from(number) {
-        Ok(number) => short(words, to, number),
-        Err(_) => long(words, to, number),
+    let lower = (number << 32) >> 32;
+    if lower == number {
+        return short(words, to, number);
     }
+    short(words, to, number.wrapping_sub(lower) >> 32)?;
+    words.imm(Op::Slli, to, to, 32)?;
+    short(words, Register::Far, lower)?;
+    words.three(Op::Add, to, to, Register::Far)
 }
 
 /// A number of 32 bits: ADDIW wraps where the nearest that LUI gives is 2^31.
-fn short(words: &mut Words, to: Register, number: i32) -> Result<(), SelectError> {
+fn short(words: &mut Words, to: Register, number: i64) -> Answer<()>
+    ensures { OnOk result (written words.new ≡ short_onto to number (written words.old)) }
+{
+    let number = i32::try_from(number)?;
     let lower = lowest(number);
     let upper = number.wrapping_sub(lower);
     if upper == 0 {
@@ -37,19 +55,4 @@ fn short(words: &mut Words, to: Register, number: i32) -> Result<(), SelectError
     }
     words.upper(Op::Lui, to, upper)?;
     words.imm(Op::Addiw, to, to, lower)
-}
-
-/// A number of 64 bits: its upper half, and its lower half with a sign, which the upper one makes up for.
-fn long(words: &mut Words, to: Register, number: i64) -> Result<(), SelectError> {
-    let lower = (number << 32) >> 32;
-    let upper = (number.wrapping_sub(lower)) >> 32;
-    match (i32::try_from(upper), i32::try_from(lower)) {
-        (Ok(upper), Ok(lower)) => {
-            short(words, to, upper)?;
-            words.imm(Op::Slli, to, to, 32)?;
-            short(words, Register::Far, lower)?;
-            words.three(Op::Add, to, to, Register::Far)
-        }
-        _ => Err(SelectError::NotYet),
-    }
 }

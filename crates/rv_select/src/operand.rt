@@ -1,6 +1,9 @@
 //! Where the words of expressions are.
 
-use crate::error::SelectError;
+ghost use Rattle.std.specs.Prelude.{◌≡◌, IfOk, OnOk, bit_or, slice_get, slice_set};
+ghost use Rattle.rv_select.specs.Operands.{bit as bit_at, bit_of as bits_of, free as free_in, free_among, free_of, keeping as keeping_in, register_of};
+
+use crate::error::{Answer, SelectError};
 use crate::number::known;
 use crate::register::{Register, WORK};
 use crate::words::Words;
@@ -14,11 +17,15 @@ pub(crate) enum Operand {
 
 impl Operand {
     /// A register that holds the word: `to`, where it is in none yet.
-    pub fn register(self, words: &mut Words, to: Register) -> Result<Register, SelectError> {
+    pub fn register(self, words: &mut Words, to: Register) -> Answer<Register>
+        ensures { IfOk result (λ register. register ≡ register_of self to) }
+    {
         match self {
             Operand::At(register) => Ok(register),
-            Operand::Known(0) => Ok(Register::Zero),
             Operand::Known(word) => {
+                if word == 0 {
+                    return Ok(Register::Zero);
+                }
                 known(words, to, word)?;
                 Ok(to)
             }
@@ -26,10 +33,14 @@ impl Operand {
     }
 
     /// Gives a register the word.
-    pub fn put(self, words: &mut Words, to: Register) -> Result<(), SelectError> {
+    pub fn put(self, words: &mut Words, to: Register) -> Answer<()> {
         match self {
-            Operand::At(register) if register == to => Ok(()),
-            Operand::At(register) => words.copy(to, register),
+            Operand::At(register) => {
+                if register.number() == to.number() {
+                    return Ok(());
+                }
+                words.copy(to, register)
+            }
             Operand::Known(word) => known(words, to, word),
         }
     }
@@ -59,17 +70,16 @@ impl Scope {
     }
 
     /// The first register of work that may change.
-    pub fn free(&self) -> Result<Register, SelectError> {
+    pub fn free(&self) -> Answer<Register>
+        ensures { IfOk result (λ register. register ≡ free_in self.now) }
+    {
         first_free(self.kept)
     }
 
     /// The same, where the register of a word is to be left too.
-    pub fn free_beside(&self, operand: Operand) -> Result<Register, SelectError> {
-        first_free(self.kept | bit_of(operand))
-    }
-
-    /// The same, where the register of a word is to be left too.
-    pub fn keeping(self, operand: Operand) -> Scope {
+    pub fn keeping(self, operand: Operand) -> Scope
+        ensures { result ≡ keeping_in operand self }
+    {
         Scope {
             kept: self.kept | bit_of(operand),
             ..self
@@ -77,49 +87,63 @@ impl Scope {
     }
 
     /// The word that is bound by this number.
-    pub fn bound(&self, number: u32) -> Result<Operand, SelectError> {
-        match self.bound.get(number as usize) {
-            Some(operand) => Ok(*operand),
-            None => Err(SelectError::NotYet),
-        }
+    pub fn bound(&self, number: u32) -> Option<Operand>
+        ensures { result ≡ slice_get self.now.bound number }
+    {
+        self.bound.get(number as usize).copied()
     }
 
     /// The same, with the bound words of another.
-    pub fn with_bound(self, others: Scope) -> Scope {
+    pub fn with_bound(self, others: Scope) -> Scope
+        ensures { result ≡ record self { bound = others.bound } }
+    {
         let bound = others.bound;
         Scope { bound, ..self }
     }
 
     /// Binds a word by this number.
-    pub fn bind(&mut self, number: usize, operand: Operand) -> Result<(), SelectError> {
-        match self.bound.get_mut(number) {
-            Some(place) => {
-                *place = operand;
-                Ok(())
-            }
-            None => Err(SelectError::NotYet),
+    pub fn bind(&mut self, number: usize, operand: Operand) -> Answer<()>
+        ensures { OnOk result (self.new ≡ record self.old { bound = slice_set self.old.bound number operand }) }
+    {
+        if MOST_BOUND <= number {
+            return Err(SelectError::NotYet);
         }
+        self.bound[number] = operand;
+        Ok(())
     }
 }
 
 /// The first register of work whose bit is not in the set.
-fn first_free(kept: u32) -> Result<Register, SelectError> {
-    for register in WORK {
-        if kept & bit(register) == 0 {
-            return Ok(register);
+#[tactic(auto, unfolding(crate::specs::Operands::free_of))]
+fn first_free(kept: u32) -> Answer<Register>
+    ensures { IfOk result (λ register. register ≡ free_of kept) }
+{
+    first_among(&WORK, kept)
+}
+
+fn first_among(registers: &[Register], kept: u32) -> Answer<Register>
+    ensures { IfOk result (λ register. register ≡ free_among kept registers.now) }
+{
+    for register in registers {
+        if kept & bit(*register) == 0 {
+            return Ok(*register);
         }
     }
     Err(SelectError::NotYet)
 }
 
 /// The bit of the register that holds a word, if one does.
-fn bit_of(operand: Operand) -> u32 {
+fn bit_of(operand: Operand) -> u32
+    ensures { result ≡ bits_of operand }
+{
     match operand {
         Operand::At(register) => bit(register),
         Operand::Known(_) => 0,
     }
 }
 
-fn bit(register: Register) -> u32 {
+fn bit(register: Register) -> u32
+    ensures { result ≡ bit_at register }
+{
     1u32.wrapping_shl(u32::from(register.number()))
 }

@@ -6,14 +6,14 @@
 
 ghost use Rattle.std.specs.Prelude.{◌≡◌, IfOk, codes};
 ghost use Rattle.rv_select.specs.Parts.{part_number};
-ghost use Rattle.rv_select.specs.Selected.{IsPart};
+ghost use Rattle.rv_select.specs.Selected.{IsBare, IsPart};
 
-use crate::error::SelectError;
+use crate::error::{Answer, SelectError};
 use crate::register::Register::{
     Back, Caller, First, Frame, Second, Table, Top, Value, Words as Objects, Zero,
 };
 use crate::words::{Finished, Words};
-use clu_base::{Bytes, Sequence};
+use clu_base::{Bytes, ObjConst, Sequence};
 use clu_object::ObjRoutine;
 use clu_wir::{HoleKind, TRAPS, Trap};
 use rv_isa::Op;
@@ -68,7 +68,7 @@ pub fn start_part(alloc: Global) -> Result<ObjRoutine, SelectError>
     make_part(alloc, b"start", words)
 }
 
-fn start(words: &mut Words) -> Result<(), SelectError> {
+fn start(words: &mut Words) -> Answer<()> {
     words.copy(Frame, Zero)?;
     words.hole(First, HoleKind::Regions, 0)?;
     words.ld(First, First, START)?;
@@ -90,7 +90,7 @@ pub fn trap_part(alloc: Global) -> Result<ObjRoutine, SelectError>
     make_part(alloc, b"trap", words)
 }
 
-fn traps(words: &mut Words) -> Result<(), SelectError> {
+fn traps(words: &mut Words) -> Answer<()> {
     let raise = words.fresh()?;
     for trap in TRAPS {
         words.addi(First, Zero, place_of(trap, TRAP_ROWS, TRAP_ROW)?)?;
@@ -106,15 +106,13 @@ fn traps(words: &mut Words) -> Result<(), SelectError> {
 }
 
 /// How many bytes the item of a trap is from where the first one is so many, each of so many bytes.
-fn place_of(trap: Trap, first: i32, each: i32) -> Result<i32, SelectError> {
-    match i32::try_from(trap.number()) {
-        Ok(number) => Ok(each.saturating_mul(number).saturating_add(first)),
-        Err(_) => Err(SelectError::NotYet),
-    }
+fn place_of(trap: Trap, first: i32, each: i32) -> Answer<i32> {
+    let number = i32::try_from(trap.number())?;
+    Ok(each.saturating_mul(number).saturating_add(first))
 }
 
 /// Raises a trap here. A routine without a frame gives it to its caller, with the caller's link table.
-pub(crate) fn raise_trap(words: &mut Words, trap: Trap, is_leaf: bool) -> Result<(), SelectError> {
+pub(crate) fn raise_trap(words: &mut Words, trap: Trap, is_leaf: bool) -> Answer<()> {
     if is_leaf {
         words.copy(Table, Caller)?;
     }
@@ -124,23 +122,36 @@ pub(crate) fn raise_trap(words: &mut Words, trap: Trap, is_leaf: bool) -> Result
 }
 
 /// The routine of a part's words. It has no nodes, and names nothing.
-pub(crate) fn make_part(alloc: Global, name: &[u8], words: Words) -> Result<ObjRoutine, SelectError>
+pub(crate) fn make_part(alloc: Global, name: &[u8], words: Words) -> Answer<ObjRoutine>
     ensures { IfOk result (IsPart name.now) }
 {
     let name = Bytes::from_slice(alloc, name)?;
+    let constants = Sequence::from_vec(Vec::new(alloc));
+    make_bare(alloc, name, constants, words)
+}
+
+/// A routine of these words alone, with constants that its holes name.
+pub(crate) fn make_bare(
+    alloc: Global,
+    name: Bytes,
+    constants: Sequence<ObjConst>,
+    words: Words,
+) -> Answer<ObjRoutine>
+    ensures { IfOk result (IsBare name constants) }
+{
     let Finished { code, holes } = words.finish()?;
-    let part = ObjRoutine {
+    let made = ObjRoutine {
         name,
         nodes: 0,
         code: Sequence::from_vec(code),
         holes: Sequence::from_vec(holes),
         uses: Sequence::from_vec(Vec::new(alloc)),
-        constants: Sequence::from_vec(Vec::new(alloc)),
+        constants,
         types: Sequence::from_vec(Vec::new(alloc)),
         regions: Sequence::from_vec(Vec::new(alloc)),
     };
-    if !part.has_holes() {
+    if !made.has_holes() {
         return Err(SelectError::NotYet);
     }
-    Ok(part)
+    Ok(made)
 }

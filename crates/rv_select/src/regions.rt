@@ -1,6 +1,6 @@
 //! Regions of steps as regions of words.
 
-use crate::error::SelectError;
+use crate::error::{Answer, SelectError};
 use clu_base::Sequence;
 use clu_handlers::{Region as StepRegion, Regions};
 use clu_object::{Region, copy_arm};
@@ -20,7 +20,7 @@ pub(crate) fn map_regions(
     alloc: Global,
     regions: &Regions,
     starts: &[u32],
-) -> Result<Sequence<Region>, SelectError> {
+) -> Answer<Sequence<Region>> {
     let mut mapped = Mapped {
         regions: Vec::new(alloc),
         numbers: Vec::new(alloc),
@@ -37,12 +37,7 @@ pub(crate) fn map_regions(
 
 impl Mapped {
     /// Adds a region of steps; the answer is its number among those of words.
-    fn add(
-        &mut self,
-        alloc: Global,
-        region: &StepRegion,
-        starts: &[u32],
-    ) -> Result<Option<u32>, SelectError> {
+    fn add(&mut self, alloc: Global, region: &StepRegion, starts: &[u32]) -> Answer<Option<u32>> {
         let first = start(starts, region.first)?;
         let behind = start(starts, region.last.saturating_add(1))?;
         if first >= behind {
@@ -59,15 +54,12 @@ impl Mapped {
         Ok(Some(number))
     }
 
-    fn count(&self) -> Result<u32, SelectError> {
-        match u32::try_from(self.regions.len()) {
-            Ok(number) => Ok(number),
-            Err(_) => Err(SelectError::NotYet),
-        }
+    fn count(&self) -> Answer<u32> {
+        Ok(u32::try_from(self.regions.len())?)
     }
 
     /// The number of a parent among the regions of words.
-    fn parent(&self, parent: Option<u32>) -> Result<Option<u32>, SelectError> {
+    fn parent(&self, parent: Option<u32>) -> Answer<Option<u32>> {
         let Some(parent) = parent else {
             return Ok(None);
         };
@@ -79,7 +71,7 @@ impl Mapped {
 }
 
 /// The first word of a step.
-fn start(starts: &[u32], step: u32) -> Result<u32, SelectError> {
+fn start(starts: &[u32], step: u32) -> Answer<u32> {
     match starts.get(step as usize) {
         Some(word) => Ok(*word),
         None => Err(SelectError::NotYet),
@@ -87,7 +79,7 @@ fn start(starts: &[u32], step: u32) -> Result<u32, SelectError> {
 }
 
 /// Arms whose targets are words.
-fn arms(alloc: Global, arms: &[Arm], starts: &[u32]) -> Result<Sequence<Arm>, SelectError> {
+fn arms(alloc: Global, arms: &[Arm], starts: &[u32]) -> Answer<Sequence<Arm>> {
     let mut mapped = Vec::new(alloc);
     for arm in arms {
         let mut copied = copy_arm(alloc, arm)?;

@@ -1,12 +1,16 @@
 //! The registers of the code by what they hold.
 
-ghost use Rattle.std.specs.Prelude.{◌<◌};
+ghost use Rattle.std.specs.Prelude.{◌≡◌, ◌<◌};
+ghost use Rattle.rv_select.specs.Registers.{register_number};
 
+use self::Register::{
+    A2, A3, A4, A5, A6, First, S3, S4, S5, S6, S7, S8, S9, S10, S11, Second, T3, T4, T5,
+};
 use rv_isa::Reg;
 
 /// A register. From one flat step to the next the first group keeps what it holds, the two words that travel go with a
 /// jump from one routine to another, and the others hold nothing.
-#[derive(Clone, Copy, PartialEq, Eq)]
+#[derive(Clone, Copy)]
 pub(crate) enum Register {
     Zero = 0,
     /// The top of the stack, which grows up.
@@ -59,35 +63,20 @@ pub(crate) enum Register {
 
 /// The registers in which expressions are evaluated.
 pub(crate) const WORK: [Register; 19] = [
-    Register::First,
-    Register::Second,
-    Register::T3,
-    Register::T4,
-    Register::T5,
-    Register::A2,
-    Register::A3,
-    Register::A4,
-    Register::A5,
-    Register::A6,
-    Register::S3,
-    Register::S4,
-    Register::S5,
-    Register::S6,
-    Register::S7,
-    Register::S8,
-    Register::S9,
-    Register::S10,
-    Register::S11,
+    First, Second, T3, T4, T5, A2, A3, A4, A5, A6, S3, S4, S5, S6, S7, S8, S9, S10, S11,
 ];
 
 impl Register {
     /// The register of the machine.
-    pub fn reg(self) -> Reg {
+    pub fn reg(self) -> Reg
+        ensures { result ≡ register_number self }
+    {
         Reg::new(self.number()).unwrap()
     }
 
     pub fn number(self) -> u8
-        ensures { result < 32 }
+        ensures number { result ≡ register_number self }
+        ensures below { result < 32 }
     {
         self as u8
     }

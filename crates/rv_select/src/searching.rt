@@ -10,7 +10,7 @@ ghost use Rattle.std.specs.Prelude.{IfOk, codes};
 ghost use Rattle.rv_select.specs.Selected.{IsPart};
 
 use crate::calls::{STORE_FULL, caller_frame};
-use crate::error::SelectError;
+use crate::error::{Answer, SelectError};
 use crate::parts::{FAILURE, UNHANDLED, make_part};
 use crate::register::Register;
 use crate::register::Register::{
@@ -72,7 +72,7 @@ pub fn search_part(alloc: Global) -> Result<ObjRoutine, SelectError>
 }
 
 /// From the return address to the region in which it was raised.
-fn bisect(words: &mut Words) -> Result<(), SelectError> {
+fn bisect(words: &mut Words) -> Answer<()> {
     // The word where the part is entered is one that nothing inside jumps to, so that each raise is seen there.
     words.copy(Zero, Zero)?;
     // The place is in First, the address of the cut below it in Second, how many cuts are left in T3.
@@ -91,7 +91,7 @@ fn bisect(words: &mut Words) -> Result<(), SelectError> {
 }
 
 /// Half of the cuts that are left.
-fn halve(words: &mut Words) -> Result<(), SelectError> {
+fn halve(words: &mut Words) -> Answer<()> {
     words.imm(Op::Srli, T4, T3, 1)?;
     words.imm(Op::Slli, T5, T4, 4)?;
     words.three(Op::Add, T5, T5, Second)?;
@@ -106,7 +106,7 @@ fn halve(words: &mut Words) -> Result<(), SelectError> {
 }
 
 /// From region to region outward; the row of the region, or 0, is in Second.
-fn regions(words: &mut Words) -> Result<(), SelectError> {
+fn regions(words: &mut Words) -> Answer<()> {
     words.label(Goal::Region as u32)?;
     words.go_unless(Op::Bne, Second, Zero, Goal::Outward as u32)?;
     words.ld(First, Second, 8)?;
@@ -124,7 +124,7 @@ fn regions(words: &mut Words) -> Result<(), SelectError> {
 }
 
 /// The arm whose row is at First takes it.
-fn take(words: &mut Words) -> Result<(), SelectError> {
+fn take(words: &mut Words) -> Answer<()> {
     words.label(Goal::Take as u32)?;
     words.ld(Second, First, 8)?;
     words.ld(T3, First, 16)?;
@@ -135,7 +135,7 @@ fn take(words: &mut Words) -> Result<(), SelectError> {
 
 /// No arm of the routine takes it: out of the frame. The place of the frame holds the object of a failure that is made
 /// here, since nothing on the stack above it is wanted any more.
-fn outward(words: &mut Words) -> Result<(), SelectError> {
+fn outward(words: &mut Words) -> Answer<()> {
     words.label(Goal::Outward as u32)?;
     load_failure(words)?;
     words.go_unless(Op::Bne, Value, Second, Goal::Leave as u32)?;
@@ -153,7 +153,7 @@ fn outward(words: &mut Words) -> Result<(), SelectError> {
 
 /// Outside all routines: the run ends with the text of failure. A text that is made here goes to the start of the stack,
 /// which nothing needs any more, and costs no store.
-fn bottom(words: &mut Words) -> Result<(), SelectError> {
+fn bottom(words: &mut Words) -> Answer<()> {
     words.label(Goal::Bottom as u32)?;
     load_failure(words)?;
     words.go_unless(Op::Beq, Value, Second, Goal::Unhandled as u32)?;
@@ -170,14 +170,14 @@ fn bottom(words: &mut Words) -> Result<(), SelectError> {
 }
 
 /// The runtime's table to First, and the name of failure to Second.
-fn load_failure(words: &mut Words) -> Result<(), SelectError> {
+fn load_failure(words: &mut Words) -> Answer<()> {
     words.hole(First, HoleKind::Regions, 0)?;
     words.ld(Second, First, FAILURE)
 }
 
 /// Called with the link in T5: to A2 the address of the text of a failure that is made of the exception, and the name of
 /// failure in place of the exception's.
-fn text(words: &mut Words) -> Result<(), SelectError> {
+fn text(words: &mut Words) -> Answer<()> {
     words.label(Goal::Text as u32)?;
     words.ld(First, First, UNHANDLED)?;
     words.ld(T3, First, 0)?;
@@ -193,7 +193,7 @@ fn text(words: &mut Words) -> Result<(), SelectError> {
 }
 
 /// To A2 the address of a string of A3 bytes in the store.
-fn take_store(words: &mut Words) -> Result<(), SelectError> {
+fn take_store(words: &mut Words) -> Answer<()> {
     words.addi(A4, A3, 15)?;
     words.imm(Op::Andi, A4, A4, -8)?;
     words.three(Op::Sub, A5, StoreEnd, Store)?;
@@ -209,13 +209,13 @@ fn copy_bytes(
     count: Register,
     next: Goal,
     done: Goal,
-) -> Result<(), SelectError> {
+) -> Answer<()> {
     words.addi(string, string, 8)?;
     words.three(Op::Add, count, count, string)?;
     words.label(next as u32)?;
     words.go_unless(Op::Bne, string, count, done as u32)?;
-    words.lbu(A5, string, 0)?;
-    words.sb(A5, A4, 0)?;
+    words.load(Op::Lbu, A5, string, 0)?;
+    words.save(Op::Sb, A5, A4, 0)?;
     words.addi(string, string, 1)?;
     words.addi(A4, A4, 1)?;
     words.go(next as u32)?;

@@ -5,7 +5,7 @@ ghost use Rattle.clu_frames.specs.Labels.{IsFlat};
 ghost use Rattle.rv_select.specs.Instructions.{AreInstructions};
 ghost use Rattle.rv_select.specs.Selected.{HandsOn, IsSelected};
 
-use crate::error::SelectError;
+use crate::error::{Answer, SelectError};
 use crate::regions::map_regions;
 use crate::step::select_step;
 use crate::words::{Finished, Words};
@@ -67,7 +67,7 @@ fn make_routine(
     })
 }
 
-fn select_steps(alloc: Global, steps: &[Flat], frame: u32) -> Result<Selected, SelectError> {
+fn select_steps(alloc: Global, steps: &[Flat], frame: u32) -> Answer<Selected> {
     // Each label is a step, and labels are numbered from 0: those of flat code are below the number of steps.
     let mut words = Words::new(alloc, steps.len())?;
     let mut starts = Vec::new(alloc);

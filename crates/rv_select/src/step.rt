@@ -1,11 +1,15 @@
 //! The words of each step of flat code.
 
+ghost use Rattle.std.specs.Prelude.{OnOk};
+ghost use Rattle.rv_select.specs.Steps.{Becomes};
+ghost use Rattle.rv_select.specs.Written.{written};
+
 use crate::binding::bind;
-use crate::calls::{enter, invoke, leave, result};
+use crate::calls::{enter, invoke, leave, result, take};
 use crate::conditions::Target;
-use crate::error::SelectError;
-use crate::evaluating::{branch, value};
-use crate::exceptions::{cut, pass, raise, signal, take};
+use crate::error::Answer;
+use crate::evaluating::{branch, in_register};
+use crate::exceptions::{cut, pass, raise, signal};
 use crate::iterators::{resume, yield_words};
 use crate::operand::{Operand, Scope};
 use crate::primitives::primitive;
@@ -15,7 +19,9 @@ use clu_frames::Flat;
 use clu_wir::WExpr;
 
 /// The words of a step of a routine whose frame has so many slots.
-pub(crate) fn select_step(words: &mut Words, step: &Flat, frame: u32) -> Result<(), SelectError> {
+pub(crate) fn select_step(words: &mut Words, step: &Flat, frame: u32) -> Answer<()>
+    ensures { OnOk result (Becomes frame step.now (written words.old) (written words.new)) }
+{
     let scope = Scope::new(false);
     match step {
         Flat::Set(to, word) => set(words, *to, word, scope),
@@ -41,9 +47,8 @@ pub(crate) fn select_step(words: &mut Words, step: &Flat, frame: u32) -> Result<
     }
 }
 
-fn set(words: &mut Words, to: u32, word: &WExpr, scope: Scope) -> Result<(), SelectError> {
-    let word = value(words, word, scope)?;
-    let register = word.register(words, scope.free()?)?;
+fn set(words: &mut Words, to: u32, word: &WExpr, scope: Scope) -> Answer<()> {
+    let register = in_register(words, word, scope)?;
     save_slot(words, register, to)
 }
 
@@ -54,11 +59,8 @@ pub(crate) fn put(
     distance: i32,
     word: &WExpr,
     scope: Scope,
-) -> Result<(), SelectError> {
-    let word = value(words, word, scope)?;
-    let register = word.register(words, scope.free()?)?;
-    let kept = scope.keeping(Operand::At(register));
-    let address = value(words, address, kept)?;
-    let base = address.register(words, kept.free()?)?;
+) -> Answer<()> {
+    let register = in_register(words, word, scope)?;
+    let base = in_register(words, address, scope.keeping(Operand::At(register)))?;
     save_at(words, register, base, distance)
 }

@@ -3,7 +3,7 @@
 ghost use Rattle.std.specs.Prelude.{◌≡◌, IfOk, OnOk, length};
 ghost use Rattle.rv_select.specs.Tables.{AreCutsOf, IsTable, SameRanges, added, arm_row, arms_behind, behind, code_address as address_of_code, cut_row as row_of_cut, cuts_behind, is_others as has_all, named_behind, others_behind, own_behind, region_address as address_of_region, region_row as row_of_region, regions_behind, row_address, table_words};
 
-use crate::error::SelectError;
+use crate::error::{Answer, SelectError};
 use clu_base::Memory;
 use clu_handlers::{Cut, NO_REGION, Region as Ranged, Regions};
 use clu_object::Region;
@@ -67,7 +67,7 @@ fn table(
     regions: &[Region],
     places: Places,
     names: &[u64],
-) -> Result<Vec<u64>, SelectError>
+) -> Answer<Vec<u64>>
     ensures { IfOk result (λ words. words.items ≡ table_words cuts.now regions.now places.code places.rows names.now) }
 {
     let mut words = vec![in alloc; cuts.len() as u64]?;
@@ -136,12 +136,7 @@ impl Places {
         Ok(())
     }
 
-    fn add_arms(
-        self,
-        words: &mut Vec<u64>,
-        regions: &[Region],
-        names: &[u64],
-    ) -> Result<(), SelectError>
+    fn add_arms(self, words: &mut Vec<u64>, regions: &[Region], names: &[u64]) -> Answer<()>
         ensures { OnOk result (words.new.items ≡ arms_behind self.code words.old.items regions.now names.now) }
     {
         let mut names = names;
@@ -225,7 +220,7 @@ fn is_others(arm: &Arm) -> bool
 }
 
 /// The cuts of a routine's regions.
-fn cuts(alloc: Global, regions: &[Region]) -> Result<Vec<Cut>, SelectError>
+fn cuts(alloc: Global, regions: &[Region]) -> Answer<Vec<Cut>>
     ensures { IfOk result (λ cuts. AreCutsOf regions.now cuts.items) }
 {
     let ranged = ranges(alloc, regions)?;
@@ -233,7 +228,7 @@ fn cuts(alloc: Global, regions: &[Region]) -> Result<Vec<Cut>, SelectError>
 }
 
 /// The regions by their ranges alone, without arms.
-fn ranges(alloc: Global, regions: &[Region]) -> Result<Regions, SelectError>
+fn ranges(alloc: Global, regions: &[Region]) -> Answer<Regions>
     ensures { IfOk result (λ ranges. SameRanges ranges regions.now) }
 {
     let mut ranges = Regions::new(alloc);
