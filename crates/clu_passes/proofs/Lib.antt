@@ -1,8 +1,11 @@
+pub mod Actuals
 pub mod Asking
 pub mod AtNodes
 pub mod BadEquates
 pub mod ByNodes
 pub mod ByNotes
+pub mod ConstantNodes
+pub mod Constants
 pub mod Counted
 pub mod Elsewhere
 pub mod FileNames
@@ -30,3 +33,4 @@ pub mod Subtrees
 pub mod Surrounding
 pub mod Tables
 pub mod Unknown
+pub mod Words

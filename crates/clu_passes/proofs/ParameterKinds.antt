@@ -27,7 +27,7 @@ use Rattle.clu_passes.specs.ParameterKinds.{kind_known, kind_by, kinds_at, IsKno
 use Rattle.clu_passes.proofs.Seen.{type_told}
 
 -- the first of the children, if it is a type
-first_type : (nodes : List Node) (n : ℕ) (cs : List ℕ) (c : ℕ) → All (λ d. d < n) cs → type_of nodes cs ≡ Some c → (c < n) × (is_type (kind_at nodes c) ≡ true)
+pub first_type : (nodes : List Node) (n : ℕ) (cs : List ℕ) (c : ℕ) → All (λ d. d < n) cs → type_of nodes cs ≡ Some c → (c < n) × (is_type (kind_at nodes c) ≡ true)
 first_type nodes n [] c below e = absurd (none-some c e)
 first_type nodes n (d ∷ ds) c below e = by (is_type (kind_at nodes d)) refl e
   where

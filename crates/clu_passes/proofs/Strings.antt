@@ -26,7 +26,7 @@ use Rattle.clu_name_rules.specs.NameRules.{is_nothing}
 use Rattle.clu_passes.specs.Tables.{TellStrings, AreFoundStrings}
 use Rattle.clu_passes.proofs.Literals.{literal_is}
 
-value_same : (values : List Value) (n : ℕ) → get_or values n value.Lost ≡ value_of values n
+pub value_same : (values : List Value) (n : ℕ) → get_or values n value.Lost ≡ value_of values n
 value_same [] n = refl
 value_same (v ∷ values) zero = refl
 value_same (v ∷ values) (suc n) = value_same values n

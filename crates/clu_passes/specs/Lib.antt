@@ -1,4 +1,5 @@
 pub mod Bad
+pub mod ConstantTables
 pub mod Counted
 pub mod Marks
 pub mod Notes

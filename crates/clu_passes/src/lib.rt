@@ -4,6 +4,7 @@
 
 mod asking;
 mod circles;
+mod constant_rules;
 mod heads;
 mod module_rules;
 mod name_rules;
@@ -14,6 +15,7 @@ mod types;
 
 pub use asking::{bad_settled, least_asked};
 pub use circles::{circle_by_mark, circular_by_nodes, circular_found, v7_by_marks};
+pub use constant_rules::{v8_by_tables, v9_by_tables, v10_by_tables, v19_by_tables, v31_by_tables};
 pub use heads::{demands_listed, routines_headed, routines_listed};
 pub use module_rules::{v34_by_nodes, v35_by_nodes};
 pub use name_rules::{

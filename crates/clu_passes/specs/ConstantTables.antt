@@ -1,0 +1,135 @@
+-- The tables that the rules on constants and types read.
+use Rattle.std.specs.Prelude.{◌≡◌, ◌<◌, ◌&&◌, ℕ, Bool, true, false, List, [], length, slice_get, is_some, if◌then◌else◌, codes, Option, Some, None}
+use Rattle.std.specs.List.{AllByRecursion}
+use Rattle.clu_specs.specs.Texts.{type_text}
+use Rattle.clu_specs.specs.Constants.{constant_text}
+use Rattle.clu_tree.specs.declared.node.Node.{Node}
+use Rattle.clu_tree.specs.declared.node.NodeKind.TheVariants as kind
+use Rattle.clu_types.specs.declared.term.TypeId.{TypeId}
+use Rattle.clu_types.specs.Arena.{types_of, type_at, IsArena}
+use Rattle.clu_syntax.specs.declared.words.SimpleType.TheVariants as simple
+use Rattle.clu_syntax.specs.Kinds.{is_type, kind_at}
+use Rattle.clu_syntax.specs.Nodes.{item_at}
+use Rattle.clu_syntax.specs.Syntax.{Identifier, TypeExpression}
+use Rattle.clu_names.specs.Denotes.{found}
+use Rattle.clu_meaning.specs.Scoping as means
+use Rattle.clu_meaning.specs.Scoping.{Scope}
+use Rattle.clu_meaning.specs.Settling.{value_of_constant, settled}
+use Rattle.clu_checking.specs.Specifications.{Specification}
+use Rattle.clu_checking.specs.Files.{File, item, is_kind, parent, children, meaning, is_of_module, equate_named}
+use Rattle.clu_checking.specs.Equates.{is_set_name}
+use Rattle.clu_checking.specs.Headings as headings
+use Rattle.clu_checking.specs.Headings.{specification}
+use Rattle.clu_checking.specs.Typing as typing
+use Rattle.clu_checking.specs.Wanted as wants
+use Rattle.clu_checking.specs.Wanted.{Wanted, an_object, some_objects, a_loop_call, a_constant, a_type, a_name_with_actuals, nothing, first_name_at, place_in, kinds_of}
+use Rattle.clu_checking.specs.ConstantRules.{is_module_routine, is_right_side, is_long_text, is_word}
+use Rattle.clu_settle.specs.declared.value.Value.TheVariants as value
+use Rattle.clu_settle.specs.Values.{constant_at}
+use Rattle.clu_settle.specs.Settled.{AreSettled}
+use Rattle.clu_settle.specs.Names.{is_constant}
+use Rattle.clu_head.specs.Refused.{is_set}
+use Rattle.clu_bindings.specs.declared.file.File.{File as Read}
+use Rattle.clu_bindings.specs.declared.meaning.Meaning.{Meaning}
+use Rattle.clu_bindings.specs.declared.meaning.Meaning.TheVariants as meant
+use Rattle.clu_bindings.specs.declared.wanted.Wanted.{Wanted as WantedThere}
+use Rattle.clu_bindings.specs.declared.wanted.Wanted.TheVariants as wanted
+use Rattle.clu_bindings.specs.Readers as read
+use Rattle.clu_bindings.specs.Readers.{value_in, wanted_in, meaning_in, module_in, kinds_in, is_routine, set_at, children_in, declared_parameter}
+use Rattle.clu_name_rules.specs.declared.tables.Tables.{Tables}
+use Rattle.clu_passes.specs.Marks.{AreMarks}
+use Rattle.clu_passes.specs.Tables.{AreNames}
+
+-- the file whose nodes and surroundings are read
+abbrev pub file_with : Read → Scope → List Specification → List ℕ → File
+file_with r scope library refused = record { nodes = r.syntax.now; rounds = r.rounds.now; scope = scope; library = library; refused = refused }
+
+-- ---- what a name means
+
+-- an equate is given by the node of its right side, a variable by that of its type
+abbrev pub Means : List Node → Meaning → means.Meaning → Type 0
+Means nodes (meant.Equate c) m = (is_constant nodes c ≡ true) × (m ≡ means.is_equate (item_at nodes c).constant)
+Means nodes meant.TypeSet m = m ≡ means.is_type_set
+Means nodes (meant.TypeParameter k) m = m ≡ means.is_type_parameter k
+Means nodes (meant.ConstantParameter k) m = m ≡ means.is_constant_parameter k
+Means nodes (meant.Local t) m = m ≡ means.is_local (item_at nodes t).type
+Means nodes (meant.OwnOfRoutine t) m = m ≡ means.is_own_of_routine (item_at nodes t).type
+Means nodes (meant.OwnOfCluster t) m = m ≡ means.is_own_of_cluster (item_at nodes t).type
+Means nodes meant.RoutineOfCluster m = m ≡ means.is_routine_of_cluster
+Means nodes (meant.Module its) m = m ≡ means.is_module
+
+-- the table has what this name means at the node, and if it is a module, of which kinds its parameters are and whether it is
+-- a routine
+pub record IsMeant (f : File) (r : Read) (n : ℕ) (name : Identifier) : Type 0 where
+  pub means : Means f.nodes (meaning_in r n) (meaning f n name)
+  pub kinds : kinds_in r (module_in r n) ≡ (if is_of_module f n name then kinds_of (specification f name) else [])
+  pub routine : is_routine r (module_in r n) ≡ is_module_routine f n name
+
+-- an equate, of a type set too
+abbrev pub is_equated : means.Meaning → Bool
+is_equated (means.is_equate c) = true
+is_equated means.is_type_set = true
+is_equated _ = false
+
+-- ---- what is wanted
+
+abbrev pub wanted_told : WantedThere → Wanted
+wanted_told wanted.Object = an_object
+wanted_told wanted.Objects = some_objects
+wanted_told wanted.LoopCall = a_loop_call
+wanted_told wanted.Constant = a_constant
+wanted_told wanted.Type = a_type
+wanted_told wanted.NameWithActuals = a_name_with_actuals
+wanted_told wanted.Nothing = nothing
+
+-- ---- types of parameters
+
+abbrev pub IsTypeOf : List Node → Option ℕ → Option TypeExpression → Type 0
+IsTypeOf nodes (Some c) (Some t) = (is_type (kind_at nodes c) ≡ true) × ((item_at nodes c).type ≡ t)
+IsTypeOf nodes None None = Unit {0}
+IsTypeOf nodes _ _ = ⊥
+
+-- ---- what is lost violates no rule by itself
+
+abbrev pub IsKnown : Read → ℕ → Type 0
+IsKnown r n = value_in r n ≡ value.Lost → ⊥
+
+abbrev pub IsEquateKnown : Read → Meaning → Type 0
+IsEquateKnown r (meant.Equate c) = IsKnown r c
+IsEquateKnown r _ = Unit {0}
+
+-- ---- the tables
+
+pub record AreTables (f : File) (t : Tables) : Type 0 where
+  pub names : AreNames f t.file.names.now
+  pub marks : AreMarks f t.circular.now
+  pub arena : IsArena t.types.now
+  -- what is known of a value is so; as many steps of unfolding are enough as there are declarations
+  pub values : AreSettled f.nodes f.scope t.types.now t.file.constants.now t.file.values.now
+  pub steps : (n : ℕ) → is_constant f.nodes n ≡ true → IsKnown t.file n → value_of_constant f.scope (settled f.scope) (item f n).constant ≡ settled f.scope (item f n).constant
+  -- the first name of a Name, of a type by its name and of a Restrict, and the word `rep`
+  pub named : (n : ℕ) → kind_at f.nodes n ≡ kind.Name → IsMeant f t.file n (first_name_at f n)
+  pub named_types : (n : ℕ) → kind_at f.nodes n ≡ kind.NameT → IsMeant f t.file n (first_name_at f n)
+  pub restricted : (n : ℕ) → kind_at f.nodes n ≡ kind.Restrict → IsMeant f t.file n (first_name_at f n)
+  pub reps : (n : ℕ) → kind_at f.nodes n ≡ kind.Simple → is_word simple.Rep (item f n).type ≡ true → IsMeant f t.file n (codes "rep")
+  pub equates : (n : ℕ) (name : Identifier) → is_some (equate_named f n name) ≡ is_equated (meaning f n name)
+  pub sets : (n : ℕ) (name : Identifier) → is_some (set_at t.file (found f.scope.declarations name n)) ≡ is_set_name f n name
+  pub takers : (n : ℕ) → read.takes_actuals t.file n ≡ (is_kind f kind.Name n && typing.takes_actuals f n (first_name_at f n))
+  pub wanted : (n : ℕ) → wanted_told (wanted_in t.file n) ≡ wants.wanted f n
+  pub places : (n p : ℕ) → parent f n ≡ Some p → read.place_in t.file n ≡ place_in f (children f p) n
+  pub parameters : (n k : ℕ) → IsTypeOf f.nodes (declared_parameter t.file n k) (headings.declared_parameter f n k)
+  -- what stands on the right side of an equate is a constant or a type set
+  pub sides : (n : ℕ) → is_right_side f n ≡ true → is_constant f.nodes n ≡ true
+  pub long_types : (id : TypeId) → id.0 < length t.types.now → is_set (slice_get t.long_types.now id.0) ≡ is_long_text (type_text (type_at (types_of t.types.now) id))
+  pub long_constants : (k : ℕ) → k < length t.file.constants.now → is_set (slice_get t.long_constants.now k) ≡ is_long_text (constant_text (constant_at t.file.constants.now k))
+
+-- the bits of bad equates
+abbrev pub AreBad : File → List Bool → (ℕ → Bool) → Type 0
+AreBad f bits bad = (e : ℕ) → is_kind f kind.Equate e ≡ true → is_set (slice_get bits e) ≡ bad e
+
+-- the values of the children, and the types of the parameters of modules
+abbrev pub AreChildrenKnown : Read → ℕ → Type 0
+AreChildrenKnown r n = AllByRecursion (IsKnown r) (children_in r n)
+
+abbrev pub AreParametersKnown : Read → Type 0
+AreParametersKnown r = (n k c : ℕ) → declared_parameter r n k ≡ Some c → IsKnown r c
