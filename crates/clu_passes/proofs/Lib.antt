@@ -8,6 +8,7 @@ pub mod ConstantNodes
 pub mod Constants
 pub mod Counted
 pub mod Elsewhere
+pub mod Exports
 pub mod FileNames
 pub mod InEquates
 pub mod Known

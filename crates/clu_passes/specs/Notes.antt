@@ -1,11 +1,11 @@
 -- The names that stand twice, as they are noted of a file; and what its tree has.
-use Rattle.std.specs.Prelude.{◌≡◌, ◌&&◌, ◌==◌, not, Bool, true, false, ℕ, List, [], ◌∷◌, length, slice_get, Option, Some, None}
+use Rattle.std.specs.Prelude.{◌≡◌, ◌&&◌, ◌==◌, not, Bool, true, false, ℕ, List, [], ◌∷◌, length, map, filter, slice_get, Option, Some, None}
 use Rattle.std.specs.List.{list_any}
 use Rattle.clu_tree.specs.declared.node.NodeKind.{NodeKind}
 use Rattle.clu_tree.specs.declared.node.NodeKind.TheVariants as kind
 use Rattle.clu_names.specs.declared.scopes.Declared.{Declared}
 use Rattle.clu_names.specs.Latest.{is_local}
-use Rattle.clu_checking.specs.Files.{File, kind_in, parent, children}
+use Rattle.clu_checking.specs.Files.{File, item, kind_in, is_kind, parent, children}
 use Rattle.clu_name_rules.specs.Closed.{is_definition}
 use Rattle.clu_name_rules.specs.Words.{words_to}
 use Rattle.clu_name_rules.specs.Repeated.{list_of, repeated_in, notes_of}
@@ -24,6 +24,10 @@ pub record HaveParents (f : File) : Type 0 where
   pub below : (m n : ℕ) → parent f n ≡ Some m → has n (children f m) ≡ true
   pub once : (m : ℕ) → each_once (children f m) ≡ true
   pub items : (n : ℕ) → parent f n ≡ None → list_of (kind_in f n) ≡ None
+
+-- the routines of a cluster are its children that are routines, as the grammar has it
+abbrev pub HaveRoutines : File → Type 0
+HaveRoutines f = (n : ℕ) → kind_in f n ≡ kind.Cluster → map (λ c. (item f c).routine) (filter (is_kind f kind.Routine) (children f n)) ≡ (item f n).cluster.routines
 
 -- what is declared outside of every module is a module
 abbrev pub DeclareModules : File → Type 0

@@ -17,7 +17,7 @@ pub use asking::{bad_settled, least_asked};
 pub use circles::{circle_by_mark, circular_by_nodes, circular_found, v7_by_marks};
 pub use constant_rules::{v8_by_tables, v9_by_tables, v10_by_tables, v19_by_tables, v31_by_tables};
 pub use heads::{demands_listed, routines_headed, routines_listed};
-pub use module_rules::{v34_by_nodes, v35_by_nodes};
+pub use module_rules::{v33_by_tables, v34_by_nodes, v35_by_nodes};
 pub use name_rules::{
     names_of_node, own_is_first, redefined_by_binding, strings_told, v4_by_tables, v5_by_tables,
     v7_by_tables, v37_by_tables,
