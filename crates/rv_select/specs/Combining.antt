@@ -1,5 +1,5 @@
 -- Operations on words that are in registers or known.
-use Rattle.std.specs.Prelude.{ℕ, ℤ, pos, negsuc, Bool, true, false, ◌&&◌, if◌then◌else◌, List, [], ◌∷◌, Option, Some, None, int_lt, int_le}
+use Rattle.std.specs.Prelude.{ℤ, pos, negsuc, ◌&&◌, if◌then◌else◌, [], ◌∷◌, Option, Some, None, int_lt, int_le}
 use Rattle.std.specs.Int.{w64, cast_signed, int_bit_and, int_wrapping_neg}
 use Rattle.std.specs.Ordering.{int_eq}
 use Rattle.clu_wir.specs.declared.expression.WOp.{WOp}

@@ -1,5 +1,5 @@
 -- Where the words of expressions are, and the registers that are free.
-use Rattle.std.specs.Prelude.{ℕ, ◌+◌, ◌*◌, ◌^◌, ◌%◌, ◌==◌, ℤ, pos, if◌then◌else◌, List, [], ◌∷◌, bit_and, bit_or}
+use Rattle.std.specs.Prelude.{ℕ, ◌*◌, ◌^◌, ◌%◌, ◌==◌, ℤ, pos, if◌then◌else◌, List, [], ◌∷◌, bit_and, bit_or}
 use Rattle.std.specs.Ordering.{int_eq}
 use Rattle.rv_isa.specs.declared.op.Op.TheVariants as op
 use Rattle.rv_select.specs.declared.operand.Operand.{Operand}

@@ -1,12 +1,12 @@
 -- Words at any distance from a register, and those of a frame.
-use Rattle.std.specs.Prelude.{ℕ, ◌+◌, ◌-◌, ◌*◌, ◌^◌, min, ℤ, pos, Bool, List, [], ◌∷◌, if◌then◌else◌}
+use Rattle.std.specs.Prelude.{ℕ, ◌+◌, ◌-◌, ◌*◌, ◌^◌, min, ℤ, pos, Bool, [], ◌∷◌, if◌then◌else◌}
 use Rattle.std.specs.Int.{w32, int_shl, int_shr, int_wrapping_sub}
 use Rattle.std.specs.Ordering.{int_eq}
 use Rattle.clu_frames.specs.declared.flat.TheConstants.{FOOT}
 use Rattle.rv_isa.specs.declared.op.Op.TheVariants as op
 use Rattle.rv_select.specs.declared.register.Register.{Register}
 use Rattle.rv_select.specs.declared.register.Register.TheVariants.{Far, Frame}
-use Rattle.rv_select.specs.Written.{Onto, Written, addi_onto, in_turn, ld_onto, sd_onto, three_onto, upper_onto}
+use Rattle.rv_select.specs.Written.{Onto, addi_onto, in_turn, ld_onto, sd_onto, three_onto, upper_onto}
 
 -- the low 12 bits of a number, with the upmost of them as its sign, and what is left of it
 abbrev pub lowest : ℤ → ℤ

@@ -1,5 +1,5 @@
 -- What each step of flat code becomes, but for those of expressions.
-use Rattle.std.specs.Prelude.{◌≡◌, slice_get, ℕ, suc, ℤ, pos, negsuc, List, [], ◌∷◌, length, Option, Some, None, zero}
+use Rattle.std.specs.Prelude.{◌≡◌, slice_get, ℕ, suc, ℤ, pos, negsuc, [], ◌∷◌, length, Option, Some, None, zero}
 use Rattle.clu_wir.specs.declared.hole.HoleKind.TheVariants as kind
 use Rattle.clu_wir.specs.declared.primitive.Primitive.{Primitive}
 use Rattle.clu_wir.specs.declared.primitive.Primitive.TheVariants as primitive

@@ -1,5 +1,5 @@
 -- What is written of a routine so far, and what each method of the assembler adds.
-use Rattle.std.specs.Prelude.{ℕ, ◌+◌, ℤ, pos, List, [], ◌∷◌, ◌++◌, length, slice_set, Option, Some, None}
+use Rattle.std.specs.Prelude.{ℕ, ℤ, pos, List, [], ◌∷◌, ◌++◌, length, slice_set, Option, Some, None}
 use Rattle.clu_wir.specs.declared.hole.HoleKind.{HoleKind}
 use Rattle.clu_wir.specs.Numbers.{kind_number}
 use Rattle.clu_object.specs.declared.object.Hole.{Hole}
