@@ -1,6 +1,7 @@
 //! What is kept of a module beside its specification: the text, the names of other modules in it, and the object.
 
-ghost use Rattle.std.specs.Prelude.{◌≡◌, ◌-◌, IfErr, IfOk, IsTrue, Some, drop, map, take};
+ghost use Rattle.std.specs.Prelude.{◌≡◌, ◌-◌, IfErr, IfOk, IsTrue, Some, drop, length, map, take};
+ghost use Rattle.clu_syntax.specs.Parts.{IsOf};
 ghost use Rattle.clu_frames.specs.Labels.{IsFlat};
 ghost use Rattle.clu_frames.specs.Regions.{AreRegions};
 ghost use Rattle.clu_wir.specs.Formed.{is_formed};
@@ -18,6 +19,7 @@ use clu_lower_ctl::lower;
 use clu_lower_expr::Declarations;
 use clu_object::{ObjRoutine, Object, copy_texts};
 use clu_peep::{Peeped, peep};
+use clu_tree::NodeKind;
 use clu_wir::WRoutine;
 use rv_select::select;
 use std::alloc::Global;
@@ -40,6 +42,7 @@ pub fn body_of(
     source: &[u8],
     peep: bool,
 ) -> Result<Body, BuildError>
+    requires module_there { IsOf c.now.syntax NodeKind.Module (length c.now.syntax) «module» }
     ensures text { IfOk result (λ body. body.text ≡ source.now) }
     ensures refused { IfErr result IsInner }
 {
@@ -87,6 +90,7 @@ fn object_of(
     name: &Bytes,
     peep: bool,
 ) -> Result<Object, BuildError>
+    requires module_there { IsOf c.now.syntax NodeKind.Module (length c.now.syntax) «module» }
     ensures refused { IfErr result IsInner }
 {
     Ok(Object {
@@ -103,6 +107,7 @@ fn routines_of(
     module: u32,
     peep: bool,
 ) -> Result<Vec<ObjRoutine>, BuildError>
+    requires module_there { IsOf c.now.syntax NodeKind.Module (length c.now.syntax) «module» }
     ensures refused { IfErr result IsInner }
 {
     let mut routines = Vec::new(alloc);

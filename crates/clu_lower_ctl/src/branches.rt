@@ -1,13 +1,13 @@
 //! Branches: what is done where a condition is true. Each further one stands in the second list of the one before, as the
 //! clauses of an If do (CLU Reference Manual, section 11.6).
 
-use crate::nodes::{is_behind_else, is_item};
-use crate::walk::{body, condition};
-use clu_core::{Checked, node_at};
+ghost use Rattle.std.specs.Prelude.{◌<◌, length};
+ghost use Rattle.clu_syntax.specs.Parts.{AreBefore, otherwise_parts};
+
+use crate::walk::{condition, otherwise, statements};
 use clu_lower_expr::{Fixed, Lowering, Result};
-use clu_tree::Node;
+use clu_syntax::{Body, Clauses};
 use clu_wir::{WExpr, WStmt};
-use std::alloc::Global;
 
 /// A condition with the list before it, and what is done where it is true.
 #[derive(Drop)]
@@ -55,60 +55,28 @@ fn close_branch(out: &mut Lowering, branch: Branch) -> Result<()> {
     out.push(WStmt::If(condition, body, last))
 }
 
-/// An If as its clauses and what stands after `else`.
-#[derive(Drop)]
-struct Choice {
-    clauses: Vec<Clause>,
-    otherwise: Vec<u32>,
-}
-
-/// A condition and what stands after it.
-#[derive(Drop)]
-struct Clause {
-    condition: u32,
-    items: Vec<u32>,
-}
-
-fn choice_of(alloc: Global, c: &Checked, node: &Node) -> Result<Choice> {
-    let mut choice = Choice {
-        clauses: Vec::new(alloc),
-        otherwise: Vec::new(alloc),
-    };
-    for n in node.children.as_slice() {
-        let child = node_at(c.syntax.tree(), *n)?;
-        if is_behind_else(node, child) {
-            choice.otherwise.push(*n)?;
-        } else if is_item(child.kind) {
-            add_item(&mut choice.clauses, *n)?;
-        } else {
-            choice.clauses.push(Clause {
-                condition: *n,
-                items: Vec::new(alloc),
-            })?;
-        }
-    }
-    Ok(choice)
-}
-
-/// Adds an item to the last clause.
-fn add_item(clauses: &mut Vec<Clause>, n: u32) -> Result<()> {
-    if let Some(clause) = clauses.last_mut() {
-        clause.items.push(n)?;
-    }
-    Ok(())
-}
-
 /// `if condition then body elseif condition then body else body end`
 #[cycle(statements)]
-pub fn if_statement(out: &mut Lowering, fixed: &Fixed, node: &Node, depth: u32) -> Result<()> {
-    let choice = choice_of(out.alloc, fixed.c, node)?;
+pub fn if_statement(
+    out: &mut Lowering,
+    fixed: &Fixed,
+    n: u32,
+    clauses: Clauses<'_>,
+    last: Option<Body<'_>>,
+) -> Result<()>
+    requires inside { n < length fixed.now.syntax.now }
+    requires clauses { AreBefore n clauses.rest.now }
+    requires last { otherwise_parts fixed.now.syntax.now n last }
+{
     let mut branches = Vec::new(out.alloc);
-    for clause in choice.clauses.as_slice() {
+    let mut next = fixed.syntax.clause(n, clauses);
+    while let Some((clause, more)) = next {
         let condition = condition(out, fixed, clause.condition)?;
         open_branch(out, condition, &mut branches)?;
-        body(out, fixed, clause.items.as_slice(), depth)?;
+        statements(out, fixed, n, clause.body.statements)?;
         end_branch(out, &mut branches);
+        next = fixed.syntax.clause(n, more);
     }
-    body(out, fixed, choice.otherwise.as_slice(), depth)?;
+    otherwise(out, fixed, n, last)?;
     close_branches(out, branches)
 }

@@ -1,12 +1,13 @@
 //! Declarations of variables: Declare and Init (CLU Reference Manual, section 8).
 
+ghost use Rattle.std.specs.Prelude.{◌<◌, length};
+ghost use Rattle.clu_syntax.specs.Parts.{AreOf, IsOf};
+
 use crate::assigning::{assign_call, call_results};
-use clu_core::{node_at, only_child};
 use clu_lower_expr::{
-    Fixed, LowerError, Lowering, Result, Variable, bind, denotes_any, lower_expr, results_of,
-    type_of,
+    Fixed, Lowering, Result, Variable, bind, denotes_any, is_call, lower_expr, results_of, type_of,
 };
-use clu_tree::{Node, NodeKind};
+use clu_tree::NodeKind;
 use clu_wir::WExpr;
 
 /// The place of a declaration of a variable, and whether its type is any.
@@ -17,29 +18,32 @@ pub struct Declared {
 }
 
 /// The first variable that a node declares, by the node of its type.
-pub fn declared_by(fixed: &Fixed, n: u32, of: u32) -> Result<Declared> {
+pub fn declared_by(fixed: &Fixed, n: u32, of: u32) -> Result<Declared>
+    requires { of < length fixed.now.syntax.now }
+{
     let place = fixed.declarations.made(n)?;
     let is_any = denotes_any(fixed, of)?;
     Ok(Declared { place, is_any })
 }
 
-/// The variables that the Decls among these nodes declare.
-pub fn decls_in(fixed: &Fixed, nodes: &[u32]) -> Result<Vec<Declared>> {
+/// The variables that these Decls of the node n declare.
+pub fn variables_of(fixed: &Fixed, n: u32, declarations: &[u32]) -> Result<Vec<Declared>>
+    requires inside { n < length fixed.now.syntax.now }
+    requires declarations { AreOf fixed.now.syntax.now NodeKind.Decl n declarations.now }
+{
     let mut listed = Vec::new(fixed.alloc);
-    for n in nodes {
-        let decl = node_at(fixed.c.syntax.tree(), *n)?;
-        if decl.kind == NodeKind::Decl {
-            let first = declared_by(fixed, *n, only_child(decl)?)?;
-            add_names(decl, first, &mut listed)?;
-        }
+    for declaration in declarations {
+        let typed = fixed.syntax.declaration(*declaration);
+        let first = declared_by(fixed, *declaration, typed.declared)?;
+        add_names(typed.names.len(), first, &mut listed)?;
     }
     Ok(listed)
 }
 
-/// The variables of one Decl, of which this is the first.
-fn add_names(decl: &Node, first: Declared, listed: &mut Vec<Declared>) -> Result<()> {
+/// The variables of one Decl with so many names, of which this is the first.
+fn add_names(names: usize, first: Declared, listed: &mut Vec<Declared>) -> Result<()> {
     let mut place = first.place;
-    for _ in decl.names.as_slice() {
+    for _ in 0..names {
         listed.push(Declared { place, ..first })?;
         place = place.saturating_add(1);
     }
@@ -58,8 +62,11 @@ fn new_variable(out: &mut Lowering, is_any: bool, bare: bool) -> Result<Variable
 }
 
 /// `a, b: t`
-pub fn declare(out: &mut Lowering, fixed: &Fixed, node: &Node) -> Result<()> {
-    let listed = decls_in(fixed, node.children.as_slice())?;
+pub fn declare(out: &mut Lowering, fixed: &Fixed, n: u32, declaration: u32) -> Result<()>
+    requires inside { n < length fixed.now.syntax.now }
+    requires declaration { IsOf fixed.now.syntax.now NodeKind.Decl n declaration }
+{
+    let listed = variables_of(fixed, n, &[declaration])?;
     for declared in listed.as_slice() {
         let variable = new_variable(out, declared.is_any, true)?;
         out.declare(declared.place, variable)?;
@@ -67,9 +74,12 @@ pub fn declare(out: &mut Lowering, fixed: &Fixed, node: &Node) -> Result<()> {
     Ok(())
 }
 
-/// The formal arguments of a routine, in the first slots, and how many they are.
-pub fn formals(out: &mut Lowering, fixed: &Fixed, routine: &Node) -> Result<u32> {
-    let listed = decls_in(fixed, routine.children.as_slice())?;
+/// The formal arguments of the routine n, in the first slots, and how many they are.
+pub fn formals(out: &mut Lowering, fixed: &Fixed, n: u32, declarations: &[u32]) -> Result<u32>
+    requires inside { n < length fixed.now.syntax.now }
+    requires declarations { AreOf fixed.now.syntax.now NodeKind.Decl n declarations.now }
+{
+    let listed = variables_of(fixed, n, declarations)?;
     let _slots = declare_formals(out, listed.as_slice())?;
     Ok(out.taken())
 }
@@ -90,37 +100,23 @@ pub fn declare_formal(out: &mut Lowering, declared: Declared) -> Result<u32> {
     Ok(variable.slot)
 }
 
-/// `a: t := e` and `a: t, b: u := f()`. The variables are in scope after the statement. Where arms round it may see them
-/// before they name their objects, they are `bare`.
+/// `a: t := e`. The variable is in scope after the statement. Where arms round it may see it before it names its object,
+/// it is `bare`.
 pub fn initialize(
     out: &mut Lowering,
     fixed: &Fixed,
     n: u32,
-    node: &Node,
-    bare: bool,
-) -> Result<()> {
-    match (node.names.as_slice(), node.children.as_slice()) {
-        ([_], [of, value]) => {
-            let declared = declared_by(fixed, n, *of)?;
-            initialize_one(out, fixed, declared, *value, bare)
-        }
-        (_, children) => match children.last() {
-            Some(call) => initialize_several(out, fixed, children, *call, bare),
-            None => Err(LowerError::NotYet),
-        },
-    }
-}
-
-fn initialize_one(
-    out: &mut Lowering,
-    fixed: &Fixed,
-    declared: Declared,
+    of: u32,
     value: u32,
     bare: bool,
-) -> Result<()> {
+) -> Result<()>
+    requires of { of < length fixed.now.syntax.now }
+    requires value { value < length fixed.now.syntax.now }
+{
+    let declared = declared_by(fixed, n, of)?;
     let variable = new_variable(out, declared.is_any, bare)?;
     let taken = out.taken();
-    if !variable.is_any && node_at(fixed.c.syntax.tree(), value)?.kind == NodeKind::Call {
+    if !variable.is_any && is_call(fixed.syntax, value) {
         assign_call(out, fixed, variable, value)?;
     } else {
         let given = type_of(fixed.c, value)?;
@@ -133,15 +129,20 @@ fn initialize_one(
     out.declare(declared.place, variable)
 }
 
-/// The results of the call go into the variables of the Decls among these nodes.
-fn initialize_several(
+/// `a: t, b: u := f()`
+pub fn initialize_by_call(
     out: &mut Lowering,
     fixed: &Fixed,
-    nodes: &[u32],
+    n: u32,
+    declarations: &[u32],
     call: u32,
     bare: bool,
-) -> Result<()> {
-    let listed = decls_in(fixed, nodes)?;
+) -> Result<()>
+    requires inside { n < length fixed.now.syntax.now }
+    requires declarations { AreOf fixed.now.syntax.now NodeKind.Decl n declarations.now }
+    requires call { call < n }
+{
+    let listed = variables_of(fixed, n, declarations)?;
     let variables = new_variables(out, listed.as_slice(), bare)?;
     let taken = out.taken();
     give_results(out, fixed, variables.as_slice(), call)?;
@@ -161,15 +162,12 @@ fn new_variables(out: &mut Lowering, listed: &[Declared], bare: bool) -> Result<
 }
 
 /// Lets variables name the results of a call.
-fn give_results(
-    out: &mut Lowering,
-    fixed: &Fixed,
-    variables: &[Variable],
-    call: u32,
-) -> Result<()> {
+fn give_results(out: &mut Lowering, fixed: &Fixed, variables: &[Variable], call: u32) -> Result<()>
+    requires { call < length fixed.now.syntax.now }
+{
     let free = out.taken();
     let slots = call_results(out, fixed, call)?;
-    let types = results_of(fixed.c, node_at(fixed.c.syntax.tree(), call)?)?;
+    let types = results_of(fixed, call)?;
     for ((variable, slot), of) in variables.iter().zip(slots.as_slice()).zip(types) {
         let object = WExpr::Slot(*slot);
         let object = bind(out, &fixed.c.types, object, *of, variable.is_any, free)?;

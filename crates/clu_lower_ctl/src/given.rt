@@ -1,41 +1,54 @@
 //! What the where clauses round the body of a routine give of type parameters (CLU Reference Manual, section 12.4).
 
-use crate::nodes::child_of;
+ghost use Rattle.std.specs.Prelude.{◌≡◌, ◌<◌, IfOk, length};
+ghost use Rattle.clu_syntax.specs.Parts.{AreOf, IsOf, equated_parts};
+
 use clu_base::Bytes;
-use clu_core::{Checked, first_name, intern, node_at, only_child};
+use clu_core::intern;
 use clu_lower_expr::{Fixed, LowerError, Result, denoted_type};
-use clu_tree::{Node, NodeKind};
-use clu_types::{Actual, Demand, Form, OpSpec, ParamKind, Spec, Term, TypeArena};
+use clu_syntax::{Equated, Restriction, Syntax};
+use clu_tree::NodeKind;
+use clu_types::{Actual, Demand, Form, OpSpec, ParamKind, Spec, Term, TypeArena, TypeId};
 use std::alloc::Global;
 
 /// Adds what the where clause of a cluster gives.
-pub fn give_cluster(fixed: &mut Fixed, spec: &Spec) -> Result<()> {
+pub fn give_cluster(fixed: &mut Fixed, spec: &Spec) -> Result<()>
+    ensures { fixed.new.syntax ≡ fixed.old.syntax }
+{
     match &spec.form {
         Form::Cluster(demands, _) => fixed.give(&spec.types, demands.as_slice(), &[]),
         Form::Routine(_) => Err(LowerError::NotYet),
     }
 }
 
-/// A routine of a cluster, and the nodes round it.
+/// A routine of a cluster, and what stands round it.
 #[derive(Clone, Copy)]
 pub struct Member<'a> {
-    pub cluster: &'a Node,
-    pub routine: &'a Node,
+    /// The node of the cluster, and its parameters, each a Parm.
+    pub cluster: u32,
+    pub parameters: &'a [u32],
+    /// The node of the routine.
+    pub routine: u32,
     /// The specification of the cluster.
     pub spec: &'a Spec,
 }
 
 /// Adds what the where clause of a routine of a cluster gives. One that is exported has it in the specification; of any
 /// other its text is read.
-pub fn give_member(fixed: &mut Fixed, member: Member<'_>) -> Result<()> {
-    let c = fixed.c;
-    if let Some(op) = exported(member.spec, first_name(member.routine)?) {
+pub fn give_member(fixed: &mut Fixed, member: Member<'_>) -> Result<()>
+    requires routine { IsOf fixed.old.syntax.now NodeKind.Routine (length fixed.old.syntax.now) member.routine }
+    requires cluster { member.cluster < length fixed.old.syntax.now }
+    requires parameters { AreOf fixed.old.syntax.now NodeKind.Parm member.cluster member.parameters.now }
+    ensures { fixed.new.syntax ≡ fixed.old.syntax }
+{
+    let routine = fixed.syntax.routine(member.routine);
+    if let Some(op) = exported(member.spec, routine.name) {
         return fixed.give(&member.spec.types, op.demands.as_slice(), &[]);
     }
-    match child_of(c, member.routine, NodeKind::Where)? {
-        Some(n) => give_written(fixed, member, node_at(c.syntax.tree(), n)?),
-        None => Ok(()),
+    for restriction in routine.restrictions {
+        give_restriction(fixed, member, *restriction)?;
     }
+    Ok(())
 }
 
 /// The operation of this name that a cluster exports, whose names ascend.
@@ -52,28 +65,44 @@ fn operation_named<'a>(ops: &'a [OpSpec], name: &Bytes) -> Option<&'a OpSpec> {
     if op.name == *name { Some(op) } else { None }
 }
 
-fn give_written(fixed: &mut Fixed, member: Member<'_>, clause: &Node) -> Result<()> {
-    let c = fixed.c;
-    for child in clause.children.as_slice() {
-        give_restrict(fixed, member, *child, node_at(c.syntax.tree(), *child)?)?;
+fn give_restriction(fixed: &mut Fixed, member: Member<'_>, n: u32) -> Result<()>
+    requires restriction { IsOf fixed.old.syntax.now NodeKind.Restrict (length fixed.old.syntax.now) n }
+    requires cluster { member.cluster < length fixed.old.syntax.now }
+    requires parameters { AreOf fixed.old.syntax.now NodeKind.Parm member.cluster member.parameters.now }
+    ensures { fixed.new.syntax ≡ fixed.old.syntax }
+{
+    match fixed.syntax.restriction(n) {
+        Restriction::Has { name, operations } => {
+            let param = parameter_named(fixed.syntax, member, name)?;
+            give_operations(fixed, n, operations, param, &[])
+        }
+        Restriction::In { name, .. } => {
+            let param = parameter_named(fixed.syntax, member, name)?;
+            let set = set_named(fixed, n, 1)?;
+            give_set(fixed, member.spec, set, param)
+        }
+        Restriction::InSet { name, set } => {
+            let param = parameter_named(fixed.syntax, member, name)?;
+            give_set(fixed, member.spec, set, param)
+        }
     }
-    Ok(())
 }
 
-fn give_restrict(fixed: &mut Fixed, member: Member<'_>, n: u32, restrict: &Node) -> Result<()> {
-    let param = parameter_named(fixed.c, member.cluster, first_name(restrict)?)?;
-    match set_of(fixed, n, restrict)? {
-        Some(set) => {
-            let actuals = actuals_of_set(fixed, member.spec, param)?;
-            give_opers(fixed, set, param, actuals.as_slice())
-        }
-        None => give_opers(fixed, restrict, param, &[]),
-    }
+/// Adds what a TypeSet asks of a parameter that is in it.
+fn give_set(fixed: &mut Fixed, spec: &Spec, n: u32, param: u32) -> Result<()>
+    requires { IsOf fixed.old.syntax.now NodeKind.TypeSet (length fixed.old.syntax.now) n }
+    ensures { fixed.new.syntax ≡ fixed.old.syntax }
+{
+    let actuals = actuals_of_set(fixed, spec, param)?;
+    let set = fixed.syntax.type_set(n);
+    give_operations(fixed, n, set.operations, param, actuals.as_slice())
 }
 
 /// The types in a set name its variable as a parameter after those of the module, which stay as they are. Its actual
 /// is the parameter that is in the set.
-fn actuals_of_set(fixed: &mut Fixed, spec: &Spec, param: u32) -> Result<Vec<Actual>> {
+fn actuals_of_set(fixed: &mut Fixed, spec: &Spec, param: u32) -> Result<Vec<Actual>>
+    ensures { fixed.new.syntax ≡ fixed.old.syntax }
+{
     let types = &mut fixed.given_types;
     let mut actuals = own_actuals(fixed.alloc, types, spec.kinds.as_slice())?;
     actuals.push(Actual::Of(intern(types, Term::Param(param))?))?;
@@ -98,22 +127,38 @@ pub fn own_actuals(
     Ok(actuals)
 }
 
-/// Adds what the Opers in a Restrict or a type set ask of a parameter.
-fn give_opers(fixed: &mut Fixed, node: &Node, param: u32, actuals: &[Actual]) -> Result<()> {
-    let c = fixed.c;
-    for child in node.children.as_slice() {
-        let oper = node_at(c.syntax.tree(), *child)?;
-        if oper.kind == NodeKind::Oper {
-            give_oper(fixed, oper, param, actuals)?;
-        }
+/// Adds what these Opers of the node n ask of a parameter.
+fn give_operations(
+    fixed: &mut Fixed,
+    n: u32,
+    operations: &[u32],
+    param: u32,
+    actuals: &[Actual],
+) -> Result<()>
+    requires inside { n < length fixed.old.syntax.now }
+    requires operations { AreOf fixed.old.syntax.now NodeKind.Oper n operations.now }
+    ensures { fixed.new.syntax ≡ fixed.old.syntax }
+{
+    for operation in operations {
+        let typed = fixed.syntax.operation(*operation);
+        let wanted = denoted_type(fixed, typed.declared)?;
+        give_names(fixed, typed.names, wanted, param, actuals)?;
     }
     Ok(())
 }
 
-fn give_oper(fixed: &mut Fixed, oper: &Node, param: u32, actuals: &[Actual]) -> Result<()> {
-    let wanted = denoted_type(fixed, only_child(oper)?)?;
+/// Adds that a parameter has operations of these names and this type.
+fn give_names(
+    fixed: &mut Fixed,
+    names: &[Bytes],
+    wanted: TypeId,
+    param: u32,
+    actuals: &[Actual],
+) -> Result<()>
+    ensures { fixed.new.syntax ≡ fixed.old.syntax }
+{
     let mut demands = Vec::new(fixed.alloc);
-    for name in oper.names.as_slice() {
+    for name in names {
         demands.push(Demand {
             param,
             op: name.copy(fixed.alloc)?,
@@ -124,49 +169,46 @@ fn give_oper(fixed: &mut Fixed, oper: &Node, param: u32, actuals: &[Actual]) -> 
     fixed.give(&c.types, demands.as_slice(), actuals)
 }
 
-/// The type set that a Restrict has or names.
-fn set_of<'a>(fixed: &Fixed<'a>, n: u32, restrict: &Node) -> Result<Option<&'a Node>> {
-    let c = fixed.c;
-    let Some(child) = restrict.children.as_slice().first() else {
-        return Ok(Some(set_named(fixed, n, 1)?));
-    };
-    let child = node_at(c.syntax.tree(), *child)?;
-    Ok(if child.kind == NodeKind::TypeSet {
-        Some(child)
-    } else {
-        None
-    })
-}
-
-/// The type set that the k-th name of a node comes to, through no more equates than there are nodes.
-fn set_named<'a>(fixed: &Fixed<'a>, n: u32, k: usize) -> Result<&'a Node> {
-    let c = fixed.c;
+/// The TypeSet that the k-th name of a node comes to, through no more equates than there are nodes.
+fn set_named(fixed: &Fixed, n: u32, k: usize) -> Result<u32>
+    ensures { IfOk result (IsOf fixed.now.syntax.now NodeKind.TypeSet (length fixed.now.syntax.now)) }
+{
     let mut place = fixed.declarations.denoted(n, k)?;
-    for _ in 0..c.syntax.tree().len() {
-        let equate = node_at(c.syntax.tree(), fixed.declarations.node(place)?)?;
-        let right = only_child(equate)?;
-        let node = node_at(c.syntax.tree(), right)?;
-        match node.kind {
-            NodeKind::TypeSet => return Ok(node),
-            NodeKind::Name => place = fixed.declarations.denoted(right, 0)?,
-            _ => return Err(LowerError::NotYet),
+    for _ in 0..fixed.syntax.tree().len() {
+        match equated(fixed, place)? {
+            Equated::Set(set) => return Ok(set),
+            Equated::Constant(right) => place = fixed.declarations.denoted(right, 0)?,
         }
     }
     Err(LowerError::NotYet)
 }
 
-/// The number of the parameter of this name of a cluster.
-fn parameter_named(c: &Checked, cluster: &Node, name: &Bytes) -> Result<u32> {
-    let mut before = 0u32;
-    for child in cluster.children.as_slice() {
-        let parm = node_at(c.syntax.tree(), *child)?;
-        if parm.kind == NodeKind::Parm {
-            let names = parm.names.as_slice();
-            if let Some(place) = names.iter().position(|known| known == name) {
-                return Ok(before.saturating_add(number(place)).saturating_add(1));
-            }
-            before = before.saturating_add(number(names.len()));
+/// The right side of the equate that a declaration is.
+fn equated(fixed: &Fixed, place: usize) -> Result<Equated>
+    ensures { IfOk result (equated_parts fixed.now.syntax.now (length fixed.now.syntax.now)) }
+{
+    let n = fixed.declarations.node(place)?;
+    let tree = fixed.syntax.tree();
+    if n < tree.len() {
+        if let NodeKind::Equate = tree.node(n).kind {
+            return Ok(fixed.syntax.equate(n).value);
         }
+    }
+    Err(LowerError::NotYet)
+}
+
+/// The number of the parameter of this name of the cluster round a routine.
+fn parameter_named(syntax: &Syntax, member: Member<'_>, name: &Bytes) -> Result<u32>
+    requires cluster { member.cluster < length syntax.now }
+    requires parameters { AreOf syntax.now NodeKind.Parm member.cluster member.parameters.now }
+{
+    let mut before = 0u32;
+    for parameter in member.parameters {
+        let names = syntax.parameter(*parameter).names;
+        if let Some(place) = names.iter().position(|known| known == name) {
+            return Ok(before.saturating_add(number(place)).saturating_add(1));
+        }
+        before = before.saturating_add(number(names.len()));
     }
     Err(LowerError::NotYet)
 }

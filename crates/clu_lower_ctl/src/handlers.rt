@@ -1,12 +1,16 @@
 //! Except and Resignal (CLU Reference Manual, sections 12.2 to 12.4): a guard round the statement, whose arms stand
 //! outside it.
 
-use crate::declaring::{Declared, declare_formal, declare_formals, declared_by, decls_in};
-use crate::walk::{body, statement};
+ghost use Rattle.std.specs.Prelude.{◌<◌, length};
+ghost use Rattle.clu_syntax.specs.Parts.{AreOf, IsOf, option_parts, taken_parts, variable_parts};
+
+use crate::declaring::{Declared, declare_formal, declare_formals, declared_by, variables_of};
+use crate::walk::{statement, statements};
 use clu_base::Bytes;
-use clu_core::{intern, node_at, only_child};
+use clu_core::intern;
 use clu_lower_expr::{Fixed, LowerError, Lowering, OpenArm, Result, bind, copied_names};
-use clu_tree::{Node, NodeKind};
+use clu_syntax::{Taken, Variable};
+use clu_tree::NodeKind;
 use clu_types::{Term, TypeArena};
 use clu_wir::{WArm, WExpr, WStmt};
 use std::alloc::Global;
@@ -21,11 +25,13 @@ const WORD: u32 = 8;
 /// `statement resignal name, ..`: what the statement raises by these names is signalled on, with its objects and the types
 /// that came with them.
 #[cycle(statements)]
-pub fn resignal(out: &mut Lowering, fixed: &Fixed, node: &Node, depth: u32) -> Result<()> {
+pub fn resignal(out: &mut Lowering, fixed: &Fixed, inner: u32, names: &[Bytes]) -> Result<()>
+    requires { inner < length fixed.now.syntax.now }
+{
     let outer = out.open();
-    statement(out, fixed, only_child(node)?, true, depth)?;
+    statement(out, fixed, inner, true)?;
     let body = out.close(outer);
-    push_resignal(out, body, node.names.as_slice())
+    push_resignal(out, body, names)
 }
 
 fn push_resignal(out: &mut Lowering, body: Vec<WStmt>, names: &[Bytes]) -> Result<()> {
@@ -35,19 +41,28 @@ fn push_resignal(out: &mut Lowering, body: Vec<WStmt>, names: &[Bytes]) -> Resul
     out.push(WStmt::Resignal(body, copied_names(out.alloc, names)?))
 }
 
-/// `statement except arm .. end`
+/// `statement except arm .. others end`
 #[cycle(statements)]
-pub fn except(out: &mut Lowering, fixed: &Fixed, node: &Node, depth: u32) -> Result<()> {
-    let Some((n, arms)) = node.children.as_slice().split_first() else {
-        return Err(LowerError::NotYet);
-    };
+pub fn except(
+    out: &mut Lowering,
+    fixed: &Fixed,
+    n: u32,
+    inner: u32,
+    arms: &[u32],
+    others: Option<u32>,
+) -> Result<()>
+    requires inside { n < length fixed.now.syntax.now }
+    requires inner { inner < n }
+    requires arms { AreOf fixed.now.syntax.now NodeKind.When n arms.now }
+    requires others { option_parts fixed.now.syntax.now NodeKind.Others n others }
+{
     let outside = out.guards.len();
-    let failure_arm = open_arms(out, fixed, arms)?;
+    let failure_arm = open_arms(out, fixed, n, arms, others.is_some())?;
     let outer = out.open();
-    statement(out, fixed, *n, true, depth)?;
+    statement(out, fixed, inner, true)?;
     let body = out.close(outer);
     let body = close_arms(out, body, outside, failure_arm)?;
-    let arms = handlers(out, fixed, arms, depth)?;
+    let arms = handlers(out, fixed, n, arms, others)?;
     out.push(WStmt::Guard(body, arms))
 }
 
@@ -67,10 +82,22 @@ fn close_arms(
 }
 
 /// The arms of an Except stand round its statement. Gives the number of that which binds failures to type any.
-fn open_arms(out: &mut Lowering, fixed: &Fixed, nodes: &[u32]) -> Result<Option<u32>> {
+fn open_arms(
+    out: &mut Lowering,
+    fixed: &Fixed,
+    n: u32,
+    nodes: &[u32],
+    has_others: bool,
+) -> Result<Option<u32>>
+    requires inside { n < length fixed.now.syntax.now }
+    requires arms { AreOf fixed.now.syntax.now NodeKind.When n nodes.now }
+{
     let mut arms = Vec::new(out.alloc);
-    for n in nodes {
-        arms.push(open_arm(fixed, node_at(fixed.c.syntax.tree(), *n)?)?)?;
+    for arm in nodes {
+        arms.push(open_arm(fixed, *arm)?)?;
+    }
+    if has_others {
+        arms.push(nameless_arm(out.alloc))?;
     }
     let failure_arm = binding_failures(arms.as_slice());
     out.guards.push(arms)?;
@@ -81,15 +108,21 @@ fn open_arms(out: &mut Lowering, fixed: &Fixed, nodes: &[u32]) -> Result<Option<
     Ok(failure_arm)
 }
 
-fn open_arm(fixed: &Fixed, arm: &Node) -> Result<OpenArm> {
-    if arm.kind != NodeKind::When {
-        return Ok(nameless_arm(fixed.alloc));
-    }
-    let listed = decls_in(fixed, arm.children.as_slice())?;
+fn open_arm(fixed: &Fixed, n: u32) -> Result<OpenArm>
+    requires { IsOf fixed.now.syntax.now NodeKind.When (length fixed.now.syntax.now) n }
+{
+    let arm = fixed.syntax.when(n);
+    let (drops, binds) = match arm.taken {
+        Taken::Any => (true, false),
+        Taken::Objects(declarations) => {
+            let listed = variables_of(fixed, n, declarations)?;
+            (false, binds_any(listed.as_slice()))
+        }
+    };
     Ok(OpenArm {
-        names: copied_names(fixed.alloc, arm.names.as_slice())?,
-        drops: arm.value_token.is_some(),
-        binds: binds_any(listed.as_slice()),
+        names: copied_names(fixed.alloc, arm.names)?,
+        drops,
+        binds,
     })
 }
 
@@ -159,45 +192,80 @@ fn failure_arm(out: &Lowering, slot: u32, body: Vec<WStmt>) -> Result<WArm> {
     })
 }
 
-/// `when name, .. (declaration, ..): body` and `others (name: type): body`
+/// The arms of an Except.
 #[cycle(statements)]
-fn handlers(out: &mut Lowering, fixed: &Fixed, nodes: &[u32], depth: u32) -> Result<Vec<WArm>> {
+fn handlers(
+    out: &mut Lowering,
+    fixed: &Fixed,
+    n: u32,
+    nodes: &[u32],
+    others: Option<u32>,
+) -> Result<Vec<WArm>>
+    requires inside { n < length fixed.now.syntax.now }
+    requires arms { AreOf fixed.now.syntax.now NodeKind.When n nodes.now }
+    requires others { option_parts fixed.now.syntax.now NodeKind.Others n others }
+{
     let mut arms = Vec::new(out.alloc);
-    for n in nodes {
-        let node = node_at(fixed.c.syntax.tree(), *n)?;
-        let taken = out.taken();
-        let outer = out.open();
-        arms.push(begun_arm(out, fixed, *n, node)?)?;
-        body(out, fixed, node.children.as_slice(), depth)?;
-        let done = out.close(outer);
-        if let Some(arm) = arms.last_mut() {
-            arm.body = done;
-        }
-        out.release(taken);
+    for arm in nodes {
+        arms.push(named_handler(out, fixed, *arm)?)?;
+    }
+    if let Some(arm) = others {
+        arms.push(other_handler(out, fixed, arm)?)?;
     }
     Ok(arms)
 }
 
-/// An arm without its body. The variables that it declares name what comes with the exception.
-fn begun_arm(out: &mut Lowering, fixed: &Fixed, n: u32, arm: &Node) -> Result<WArm> {
-    let others = arm.kind == NodeKind::Others;
-    let names: &[Bytes] = if others { &[] } else { arm.names.as_slice() };
+/// `when name, .. (declaration, ..): body`. The variables that it declares name what comes with the exception.
+#[cycle(statements)]
+fn named_handler(out: &mut Lowering, fixed: &Fixed, n: u32) -> Result<WArm>
+    requires { IsOf fixed.now.syntax.now NodeKind.When (length fixed.now.syntax.now) n }
+{
+    let arm = fixed.syntax.when(n);
+    let names = copied_names(out.alloc, arm.names)?;
+    let taken = out.taken();
+    let outer = out.open();
+    let slots = take_objects(out, fixed, n, arm.taken)?;
+    statements(out, fixed, n, arm.body.statements)?;
+    let body = out.close(outer);
+    out.release(taken);
     Ok(WArm {
-        names: copied_names(out.alloc, names)?,
-        others,
-        slots: if others {
-            take_name(out, fixed, n, arm)?
-        } else {
-            take_objects(out, fixed, arm)?
-        },
-        body: Vec::new(out.alloc),
+        names,
+        others: false,
+        slots,
+        body,
+    })
+}
+
+/// `others (name: type): body`
+#[cycle(statements)]
+fn other_handler(out: &mut Lowering, fixed: &Fixed, n: u32) -> Result<WArm>
+    requires { IsOf fixed.now.syntax.now NodeKind.Others (length fixed.now.syntax.now) n }
+{
+    let arm = fixed.syntax.others(n);
+    let taken = out.taken();
+    let outer = out.open();
+    let slots = take_name(out, fixed, n, arm.variable)?;
+    statements(out, fixed, n, arm.body.statements)?;
+    let body = out.close(outer);
+    out.release(taken);
+    Ok(WArm {
+        names: Vec::new(out.alloc),
+        others: true,
+        slots,
+        body,
     })
 }
 
 /// The variables of a When name the objects that come; the answer is their slots. Those of type any are bound with the
 /// types that come after them.
-fn take_objects(out: &mut Lowering, fixed: &Fixed, arm: &Node) -> Result<Vec<u32>> {
-    let listed = decls_in(fixed, arm.children.as_slice())?;
+fn take_objects(out: &mut Lowering, fixed: &Fixed, n: u32, taken: Taken<'_>) -> Result<Vec<u32>>
+    requires inside { n < length fixed.now.syntax.now }
+    requires taken { taken_parts fixed.now.syntax.now n taken }
+{
+    let Taken::Objects(declarations) = taken else {
+        return Ok(Vec::new(out.alloc));
+    };
+    let listed = variables_of(fixed, n, declarations)?;
     let mut slots = declare_formals(out, listed.as_slice())?;
     if binds_any(listed.as_slice()) {
         bind_objects(out, listed.as_slice(), &mut slots)?;
@@ -232,18 +300,24 @@ fn bind_object(out: &mut Lowering, slot: u32, types: u32, distance: u32) -> Resu
 }
 
 /// The variable of an Others, if it has one, names a string, the name of the exception; the answer is its slot.
-fn take_name(out: &mut Lowering, fixed: &Fixed, n: u32, arm: &Node) -> Result<Vec<u32>> {
-    match (arm.names.as_slice(), arm.children.as_slice()) {
-        ([_], [of, ..]) => {
-            let declared = declared_by(fixed, n, *of)?;
-            let slot = declare_formal(out, declared)?;
-            if declared.is_any {
-                bind_string(out, slot)?;
-            }
-            Ok(vec![in out.alloc; slot]?)
-        }
-        _ => Ok(Vec::new(out.alloc)),
+fn take_name(
+    out: &mut Lowering,
+    fixed: &Fixed,
+    n: u32,
+    variable: Option<Variable<'_>>,
+) -> Result<Vec<u32>>
+    requires inside { n < length fixed.now.syntax.now }
+    requires variable { variable_parts n variable }
+{
+    let Some(variable) = variable else {
+        return Ok(Vec::new(out.alloc));
+    };
+    let declared = declared_by(fixed, n, variable.declared)?;
+    let slot = declare_formal(out, declared)?;
+    if declared.is_any {
+        bind_string(out, slot)?;
     }
+    Ok(vec![in out.alloc; slot]?)
 }
 
 /// Binds the string in a slot to type any.

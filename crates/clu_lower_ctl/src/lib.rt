@@ -10,7 +10,6 @@ mod handlers;
 mod headings;
 mod leaving;
 mod looping;
-mod nodes;
 mod own_type;
 mod own_variables;
 mod routines;

@@ -1,53 +1,73 @@
 //! Loops (CLU Reference Manual, sections 11.4 and 11.5): while a condition is true, and over the objects that an iterator
 //! yields.
 
+ghost use Rattle.std.specs.Prelude.{◌<◌, length};
+ghost use Rattle.clu_syntax.specs.Parts.{AreOf, body_parts};
+
 use crate::assigning::{assign_slots, denoted_by};
-use crate::declaring::{Declared, declare_formal, decls_in};
-use crate::nodes::child_of;
-use crate::walk::{body, condition};
-use clu_core::node_at;
-use clu_lower_expr::{
-    Fixed, LowerError, Lowering, Result, begin_iteration, bind, end_iteration, results_of,
-};
-use clu_tree::{Node, NodeKind};
+use crate::declaring::{declare_formal, variables_of};
+use crate::walk::{condition, statements};
+use clu_base::Bytes;
+use clu_lower_expr::{Fixed, Invoked, Lowering, Result, bind, lower_callee, results_of};
+use clu_syntax::Body;
+use clu_tree::NodeKind;
 use clu_types::TypeId;
 use clu_wir::{WExpr, WStmt};
 
 /// `while condition do body end`
 #[cycle(statements)]
-pub fn while_loop(out: &mut Lowering, fixed: &Fixed, node: &Node, depth: u32) -> Result<()> {
-    let Some((condition, items)) = node.children.as_slice().split_first() else {
-        return Err(LowerError::NotYet);
-    };
+pub fn while_loop(
+    out: &mut Lowering,
+    fixed: &Fixed,
+    n: u32,
+    condition: u32,
+    body: Body<'_>,
+) -> Result<()>
+    requires inside { n < length fixed.now.syntax.now }
+    requires condition { condition < n }
+    requires body { body_parts fixed.now.syntax.now n body }
+{
     let outer = out.open();
-    leave_unless(out, fixed, *condition)?;
-    body(out, fixed, items, depth)?;
+    leave_unless(out, fixed, condition)?;
+    statements(out, fixed, n, body.statements)?;
     let turn = out.close(outer);
     out.push(WStmt::Loop(turn))
 }
 
 /// Leaves the loop where the condition is false.
-fn leave_unless(out: &mut Lowering, fixed: &Fixed, n: u32) -> Result<()> {
+fn leave_unless(out: &mut Lowering, fixed: &Fixed, n: u32) -> Result<()>
+    requires { n < length fixed.now.syntax.now }
+{
     let condition = condition(out, fixed, n)?;
     let leaving = vec![in out.alloc; WStmt::Break]?;
     out.push(WStmt::If(condition, Vec::new(out.alloc), leaving))
 }
 
-/// `for .. in call do body end`. The slots of the arguments are free in the body.
+/// `for .. in call do body end`, with variables of its own or those of these names. The slots of the arguments are free in
+/// the body.
 #[cycle(statements)]
-pub fn for_loop(out: &mut Lowering, fixed: &Fixed, n: u32, node: &Node, depth: u32) -> Result<()> {
+pub fn for_loop(
+    out: &mut Lowering,
+    fixed: &Fixed,
+    n: u32,
+    declarations: &[u32],
+    names: &[Bytes],
+    call: u32,
+    body: Body<'_>,
+) -> Result<()>
+    requires inside { n < length fixed.now.syntax.now }
+    requires declarations { AreOf fixed.now.syntax.now NodeKind.Decl n declarations.now }
+    requires call { call < n }
+    requires body { body_parts fixed.now.syntax.now n body }
+{
     let taken = out.taken();
-    let Some(call) = child_of(fixed.c, node, NodeKind::Call)? else {
-        return Err(LowerError::NotYet);
-    };
-    let begun = begin_iteration(out, fixed, call)?;
+    let Invoked { routine, args } = lower_callee(out, fixed, call)?;
     out.release(taken);
     let outer = out.open();
-    let given = results_of(fixed.c, node_at(fixed.c.syntax.tree(), call)?)?;
-    let items = items(out, fixed, n, node, given)?;
-    body(out, fixed, node.children.as_slice(), depth)?;
+    let items = items(out, fixed, n, declarations, names, results_of(fixed, call)?)?;
+    statements(out, fixed, n, body.statements)?;
     let turn = out.close(outer);
-    end_iteration(out, begun, items, turn)
+    out.push(WStmt::Iterate(routine, args, items, turn))
 }
 
 /// The slots to which the words of a yield go, of these types. After this the loop's variables name their objects.
@@ -55,14 +75,17 @@ fn items(
     out: &mut Lowering,
     fixed: &Fixed,
     n: u32,
-    node: &Node,
+    declarations: &[u32],
+    names: &[Bytes],
     given: &[TypeId],
-) -> Result<Vec<u32>> {
-    if node.names.as_slice().is_empty() {
-        let listed = decls_in(fixed, node.children.as_slice())?;
-        declare_items(out, fixed, listed.as_slice(), given)
+) -> Result<Vec<u32>>
+    requires inside { n < length fixed.now.syntax.now }
+    requires declarations { AreOf fixed.now.syntax.now NodeKind.Decl n declarations.now }
+{
+    if names.is_empty() {
+        declare_items(out, fixed, n, declarations, given)
     } else {
-        let places = denoted_by(fixed, n, node)?;
+        let places = denoted_by(fixed, n, names.len())?;
         assign_items(out, fixed, places.as_slice(), given)
     }
 }
@@ -71,20 +94,19 @@ fn items(
 fn declare_items(
     out: &mut Lowering,
     fixed: &Fixed,
-    listed: &[Declared],
+    n: u32,
+    declarations: &[u32],
     given: &[TypeId],
-) -> Result<Vec<u32>> {
+) -> Result<Vec<u32>>
+    requires inside { n < length fixed.now.syntax.now }
+    requires declarations { AreOf fixed.now.syntax.now NodeKind.Decl n declarations.now }
+{
+    let listed = variables_of(fixed, n, declarations)?;
     let mut items = Vec::new(out.alloc);
-    for (declared, of) in listed.iter().zip(given) {
+    for (declared, of) in listed.as_slice().iter().zip(given) {
         let slot = declare_formal(out, *declared)?;
-        let _word = bind(
-            out,
-            &fixed.c.types,
-            WExpr::Slot(slot),
-            *of,
-            declared.is_any,
-            slot,
-        )?;
+        let word = WExpr::Slot(slot);
+        let _word = bind(out, &fixed.c.types, word, *of, declared.is_any, slot)?;
         items.push(slot)?;
     }
     Ok(items)

@@ -1,5 +1,7 @@
 //! The types of a routine's heading as callers see it: its own type, and those of its exceptions' objects.
 
+ghost use Rattle.std.specs.Prelude.{◌≡◌};
+
 use clu_core::{intern, term};
 use clu_lower_expr::{Fixed, LowerError, Lowering, Result, Seen, carried, text_of, texts_of};
 use clu_types::{Exception, Heading, OpSpec, Term, TypeArena, TypeId};
@@ -11,7 +13,9 @@ pub fn note_operation(
     fixed: &mut Fixed,
     from: &TypeArena,
     op: &OpSpec,
-) -> Result<()> {
+) -> Result<()>
+    ensures { fixed.new.syntax ≡ fixed.old.syntax }
+{
     let mut types = Box::new(out.alloc, TypeArena::new(out.alloc))?;
     let heading = carried(out.alloc, &mut types, from, &op.heading, &[])?;
     let heading = Box::new(out.alloc, heading)?;
@@ -19,7 +23,9 @@ pub fn note_operation(
 }
 
 /// Notes the types of a routine with this heading.
-pub fn note_types(out: &mut Lowering, fixed: &mut Fixed, seen: Seen, iter: bool) -> Result<()> {
+pub fn note_types(out: &mut Lowering, fixed: &mut Fixed, seen: Seen, iter: bool) -> Result<()>
+    ensures { fixed.new.syntax ≡ fixed.old.syntax }
+{
     let Seen { mut types, heading } = seen;
     let own = intern(&mut types, routine_term(Box::into_inner(heading), iter))?;
     note_type(out, fixed, &types, own)
@@ -34,7 +40,9 @@ fn routine_term(heading: Heading, iter: bool) -> Term {
 }
 
 /// The routine's own type is the first of its table.
-fn note_type(out: &mut Lowering, fixed: &mut Fixed, types: &TypeArena, own: TypeId) -> Result<()> {
+fn note_type(out: &mut Lowering, fixed: &mut Fixed, types: &TypeArena, own: TypeId) -> Result<()>
+    ensures { fixed.new.syntax ≡ fixed.old.syntax }
+{
     let text = text_of(out.alloc, types, own)?;
     let _own = out.add_type(text)?;
     match term(types, own)? {
@@ -50,7 +58,9 @@ fn note_objects(
     fixed: &mut Fixed,
     types: &TypeArena,
     signals: &[Exception],
-) -> Result<()> {
+) -> Result<()>
+    ensures { fixed.new.syntax ≡ fixed.old.syntax }
+{
     for signal in signals {
         if !signal.objects.as_slice().is_empty() {
             let texts = texts_of(out.alloc, types, signal.objects.as_slice())?;

@@ -1,19 +1,20 @@
 //! The routines of a module as word code.
 
-ghost use Rattle.std.specs.Prelude.{All, IfOk};
+ghost use Rattle.std.specs.Prelude.{◌≡◌, ◌<◌, All, IfOk, length};
+ghost use Rattle.clu_syntax.specs.Parts.{IsOf, RoutineParts};
 ghost use Rattle.clu_lower_expr.specs.Bounds.{IsBounded};
 
 use crate::clusters::cluster_routines;
 use crate::declaring::formals;
 use crate::headings::note_heading;
-use crate::nodes::children_of;
 use crate::own_type::note_operation;
 use crate::own_variables::{declare_owns, set_up_once};
 use crate::walk::statements;
 use clu_base::Bytes;
-use clu_core::{Checked, first_name, node_at};
+use clu_core::Checked;
 use clu_lower_expr::{Declarations, Fixed, LowerError, Lowering, Result};
-use clu_tree::{Node, NodeKind};
+use clu_syntax::{Definition, Routine, RoutineKind};
+use clu_tree::NodeKind;
 use clu_types::{Form, Spec};
 use clu_wir::{HoleKind, WRoutine, WStmt};
 use std::alloc::Global;
@@ -28,25 +29,13 @@ pub fn lower(
     declarations: &Declarations,
     module: u32,
 ) -> Result<Vec<WRoutine>>
+    requires { IsOf c.now.syntax NodeKind.Module (length c.now.syntax) «module» }
     ensures { IfOk result (λ routines. All IsBounded routines.items) }
 {
-    let module = node_at(c.syntax.tree(), module)?;
-    let Some(definition) = module.children.as_slice().last() else {
-        return Err(LowerError::NotYet);
-    };
-    let node = node_at(c.syntax.tree(), *definition)?;
-    match node.kind {
-        NodeKind::Cluster => cluster_routines(alloc, c, declarations, node),
-        NodeKind::Routine => Ok(vec![in alloc;
-            routine(alloc, c, declarations, *definition, node)?,
-        ]?),
-        _ => Err(LowerError::NotYet),
+    match c.syntax.module(module).definition {
+        Definition::Cluster(n) => cluster_routines(alloc, c, declarations, n),
+        Definition::Routine(n) => Ok(vec![in alloc; routine(alloc, c, declarations, n)?]?),
     }
-}
-
-/// Whether a routine is a procedure, and no iterator.
-pub fn is_procedure(routine: &Node) -> bool {
-    routine.value.as_slice() == b"proc".as_slice()
 }
 
 /// A routine without statements.
@@ -59,43 +48,38 @@ pub fn nothing_fixed<'a>(
     alloc: Global,
     c: &'a Checked,
     declarations: &'a Declarations,
-) -> Result<Box<Fixed<'a>>> {
+) -> Result<Box<Fixed<'a>>>
+    ensures { IfOk result (λ fixed. fixed.value.syntax.now ≡ c.entry.now.syntax) }
+{
     Ok(Box::new(alloc, Fixed::new(alloc, c, declarations))?)
 }
 
-fn routine(
-    alloc: Global,
-    c: &Checked,
-    declarations: &Declarations,
-    definition: u32,
-    node: &Node,
-) -> Result<WRoutine>
+fn routine(alloc: Global, c: &Checked, declarations: &Declarations, n: u32) -> Result<WRoutine>
+    requires { IsOf c.now.syntax NodeKind.Routine (length c.now.syntax) n }
     ensures { IfOk result IsBounded }
 {
-    let name = own_name(alloc, node)?;
+    let routine = c.syntax.routine(n);
+    let name = routine.name.copy(alloc)?;
     let mut out = begun(alloc)?;
     let mut fixed = nothing_fixed(alloc, c, declarations)?;
-    let args = fill(&mut out, &mut fixed, node)?;
-    out.finish(name, args, count(c, definition))
+    let args = fill(&mut out, &mut fixed, n, routine)?;
+    out.finish(name, args, c.syntax.tree().nodes(n))
 }
 
-/// A copy of the name of a routine.
-pub fn own_name(alloc: Global, node: &Node) -> Result<Bytes> {
-    Ok(first_name(node)?.copy(alloc)?)
-}
-
-/// Adds all that stands in a routine; the answer is how many arguments it takes.
-fn fill(out: &mut Lowering, fixed: &mut Fixed, node: &Node) -> Result<u32> {
-    let c = fixed.c;
-    let spec = specification(c, first_name(node)?)?;
+/// Adds all that stands in the routine n; the answer is how many arguments it takes.
+fn fill(out: &mut Lowering, fixed: &mut Fixed, n: u32, routine: Routine<'_>) -> Result<u32>
+    requires inside { n < length fixed.old.syntax.now }
+    requires parts { RoutineParts fixed.old.syntax.now n routine }
+{
+    let spec = specification(fixed.c, routine.name)?;
     let Form::Routine(op) = &spec.form else {
         return Err(LowerError::NotYet);
     };
     fixed.give(&spec.types, op.demands.as_slice(), &[])?;
     note_operation(out, fixed, &spec.types, op)?;
-    note_heading(fixed, node)?;
-    let args = formals(out, fixed, node)?;
-    body(out, fixed, node)?;
+    note_heading(fixed, n, routine.results, routine.exceptions)?;
+    let args = formals(out, fixed, n, routine.arguments)?;
+    body(out, fixed, n, routine)?;
     Ok(args)
 }
 
@@ -109,27 +93,20 @@ pub fn specification<'a>(c: &'a Checked, name: &Bytes) -> Result<&'a Spec> {
     Err(LowerError::NotYet)
 }
 
-/// The count of a node.
-pub fn count(c: &Checked, n: u32) -> u32 {
-    if n < c.syntax.tree().len() {
-        c.syntax.tree().nodes(n)
-    } else {
-        0
-    }
-}
-
 /// The setting up of own variables, the statements, and the end: a procedure with results that reaches it fails.
-pub fn body(out: &mut Lowering, fixed: &mut Fixed, node: &Node) -> Result<()> {
-    let owns = children_of(fixed.alloc, fixed.c, node, NodeKind::Own)?;
-    if !owns.is_empty() {
-        declare_owns(fixed, owns.as_slice(), HoleKind::RoutineOwn)?;
-        set_up_once(out, fixed, owns.as_slice(), HoleKind::RoutineOwn)?;
+pub fn body(out: &mut Lowering, fixed: &mut Fixed, n: u32, routine: Routine<'_>) -> Result<()>
+    requires inside { n < length fixed.old.syntax.now }
+    requires parts { RoutineParts fixed.old.syntax.now n routine }
+{
+    if !routine.owns.is_empty() {
+        declare_owns(fixed, n, routine.owns, HoleKind::RoutineOwn)?;
+        set_up_once(out, fixed, n, routine.owns, HoleKind::RoutineOwn)?;
     }
-    statements(out, fixed, node)?;
-    if is_procedure(node) && !fixed.results.is_empty() {
-        out.signal_failure(b"no return values")
-    } else {
-        let values = Vec::new(out.alloc);
-        out.push(WStmt::Return(values))
+    statements(out, fixed, n, routine.statements)?;
+    match routine.kind {
+        RoutineKind::Procedure if !routine.results.is_empty() => {
+            out.signal_failure(b"no return values")
+        }
+        _ => out.push(WStmt::Return(Vec::new(out.alloc))),
     }
 }

@@ -1,16 +1,19 @@
 //! Tagcase (CLU Reference Manual, section 11.6): tag and object are kept aside when the expression was evaluated, and the
 //! arms are branches on the tag.
 
+ghost use Rattle.std.specs.Prelude.{◌<◌, length};
+ghost use Rattle.clu_syntax.specs.Parts.{AreOf, otherwise_parts, variable_parts};
+
 use crate::branches::{Branch, close_branches, end_branch, open_branch};
 use crate::declaring::{Declared, declare_formal, declared_by};
-use crate::nodes::is_item;
-use crate::walk::body;
+use crate::walk::{otherwise, statements};
 use clu_base::Bytes;
-use clu_core::{Checked, node_at, term};
+use clu_core::{Checked, term};
 use clu_lower_expr::{
     Fixed, LowerError, Lowering, Result, again, binary, bind, lower_expr, place_of, type_of,
 };
-use clu_tree::{Node, NodeKind};
+use clu_syntax::{Body, TagArm};
+use clu_tree::NodeKind;
 use clu_types::{Field, Term};
 use clu_wir::{WExpr, WOp, WStmt};
 use std::boxed::Box;
@@ -28,28 +31,37 @@ struct Selected<'a> {
 
 /// `tagcase of arm .. others: body end`
 #[cycle(statements)]
-pub fn tagcase(out: &mut Lowering, fixed: &Fixed, node: &Node, depth: u32) -> Result<()> {
-    let Some((of, parts)) = node.children.as_slice().split_first() else {
-        return Err(LowerError::NotYet);
-    };
-    let selected = select(out, fixed, *of)?;
+pub fn tagcase(
+    out: &mut Lowering,
+    fixed: &Fixed,
+    n: u32,
+    of: u32,
+    arms: &[u32],
+    last: Option<Body<'_>>,
+) -> Result<()>
+    requires inside { n < length fixed.now.syntax.now }
+    requires of { of < n }
+    requires arms { AreOf fixed.now.syntax.now NodeKind.TagArm n arms.now }
+    requires last { otherwise_parts fixed.now.syntax.now n last }
+{
+    let selected = select(out, fixed, of)?;
     let mut branches = Vec::new(out.alloc);
-    for n in parts {
-        let arm = node_at(fixed.c.syntax.tree(), *n)?;
-        if arm.kind == NodeKind::TagArm {
-            let taken = out.taken();
-            open_arm(out, fixed, *n, arm, selected, &mut branches)?;
-            body(out, fixed, arm.children.as_slice(), depth)?;
-            out.release(taken);
-            end_branch(out, &mut branches);
-        }
+    for arm in arms {
+        let parts = fixed.syntax.tag_arm(*arm);
+        let taken = out.taken();
+        open_arm(out, fixed, *arm, parts, selected, &mut branches)?;
+        statements(out, fixed, *arm, parts.body.statements)?;
+        out.release(taken);
+        end_branch(out, &mut branches);
     }
-    body(out, fixed, parts, depth)?;
+    otherwise(out, fixed, n, last)?;
     close_branches(out, branches)
 }
 
 /// Evaluates the expression on whose tag is selected.
-fn select<'a>(out: &mut Lowering, fixed: &Fixed<'a>, n: u32) -> Result<Selected<'a>> {
+fn select<'a>(out: &mut Lowering, fixed: &Fixed<'a>, n: u32) -> Result<Selected<'a>>
+    requires { n < length fixed.now.syntax.now }
+{
     let tags = tags_of(fixed.c, n)?;
     let tag = out.take()?;
     let object = out.take()?;
@@ -72,52 +84,27 @@ fn tags_of(c: &Checked, n: u32) -> Result<&[Field]> {
     }
 }
 
-/// The tags of an arm, and its variable.
-#[derive(Clone, Copy)]
-struct Parts<'a> {
-    tags: &'a [Bytes],
-    variable: Option<Declared>,
-}
-
-/// The variable is the last of the names, and its type the first child, if that is none of the body.
-fn parts_of<'a>(fixed: &Fixed, n: u32, arm: &'a Node) -> Result<Parts<'a>> {
-    let names = arm.names.as_slice();
-    let (Some(of), Some((_, tags))) = (declared_type(fixed.c, arm)?, names.split_last()) else {
-        return Ok(Parts {
-            tags: names,
-            variable: None,
-        });
-    };
-    Ok(Parts {
-        tags,
-        variable: Some(declared_by(fixed, n, of)?),
-    })
-}
-
-fn declared_type(c: &Checked, arm: &Node) -> Result<Option<u32>> {
-    let Some(n) = arm.children.as_slice().first() else {
-        return Ok(None);
-    };
-    Ok(if is_item(node_at(c.syntax.tree(), *n)?.kind) {
-        None
-    } else {
-        Some(*n)
-    })
-}
-
 /// Begins the branch of an arm.
 fn open_arm(
     out: &mut Lowering,
     fixed: &Fixed,
     n: u32,
-    arm: &Node,
+    arm: TagArm<'_>,
     selected: Selected<'_>,
     branches: &mut Vec<Branch>,
-) -> Result<()> {
-    let parts = parts_of(fixed, n, arm)?;
-    let condition = has_tag(out, selected, parts.tags)?;
+) -> Result<()>
+    requires inside { n < length fixed.now.syntax.now }
+    requires variable { variable_parts n arm.variable }
+{
+    let condition = has_tag(out, selected, arm.tags)?;
     open_branch(out, condition, branches)?;
-    name_object(out, fixed, selected, parts)
+    match arm.variable {
+        Some(variable) => {
+            let declared = declared_by(fixed, n, variable.declared)?;
+            name_object(out, fixed, selected, arm.tags, declared)
+        }
+        None => Ok(()),
+    }
 }
 
 /// Whether the tag is one of these.
@@ -144,20 +131,19 @@ fn is_tag(out: &Lowering, selected: Selected<'_>, name: &Bytes) -> Result<WExpr>
     )
 }
 
-/// Lets the variable of an arm name the object. For a variable of type any the type of the object is that of its tag.
+/// Lets the variable of an arm with these tags name the object. For a variable of type any the type of the object is that
+/// of its tag.
 fn name_object(
     out: &mut Lowering,
     fixed: &Fixed,
     selected: Selected<'_>,
-    parts: Parts<'_>,
+    tags: &[Bytes],
+    declared: Declared,
 ) -> Result<()> {
-    let Some(declared) = parts.variable else {
-        return Ok(());
-    };
     let slot = declare_formal(out, declared)?;
     out.push(WStmt::Set(slot, WExpr::Slot(selected.object)))?;
     if declared.is_any {
-        for name in parts.tags {
+        for name in tags {
             bind_tagged(out, fixed, selected, name, slot)?;
         }
     }

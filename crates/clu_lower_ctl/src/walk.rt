@@ -1,88 +1,147 @@
-//! The walk over the statements of a routine: one function for each kind. Those that hold other statements are given how
-//! many levels of nodes may stand below them.
+//! The walk over the statements of a routine: one function for each kind, which follows the tree, whose nodes come after
+//! their parts.
+
+ghost use Rattle.std.specs.Prelude.{◌<◌, All, length};
+ghost use Rattle.clu_syntax.specs.Parts.{otherwise_parts, statement_parts};
 
 use crate::assigning::assign;
 use crate::branches::if_statement;
-use crate::declaring::{declare, initialize};
+use crate::declaring::{declare, initialize, initialize_by_call};
 use crate::handlers::{except, resignal};
 use crate::leaving::{exit, return_values, signal, yield_values};
 use crate::looping::{for_loop, while_loop};
-use crate::nodes::is_statement;
 use crate::tagging::tagcase;
-use clu_core::{node_at, only_child};
-use clu_lower_expr::{
-    Fixed, LowerError, Lowering, Result, lower_call, lower_expr, sugar_statement,
-};
-use clu_tree::{Node, NodeKind};
+use clu_lower_expr::{Fixed, Lowering, Result, lower_call, lower_expr, sugar_statement};
+use clu_syntax::{Body, Statement};
 use clu_wir::{WExpr, WStmt};
 
-/// How many levels of nodes are walked: no node of a tree is deeper than 200.
-const DEPTH: u32 = 201;
-
-/// Adds the code of the statements among the children of a routine. Memory where it was refused, and NotYet at a statement
-/// for which no code is made.
-pub fn statements(out: &mut Lowering, fixed: &Fixed, routine: &Node) -> Result<()> {
-    body(out, fixed, routine.children.as_slice(), DEPTH)
-}
-
-/// The statements among these nodes. The slots that they took are given back.
+/// Adds the code of statements of the node n. The slots that they took are given back. Memory where it was refused, and
+/// NotYet at a statement for which no code is made.
 #[cycle(statements)]
-pub fn body(out: &mut Lowering, fixed: &Fixed, nodes: &[u32], depth: u32) -> Result<()> {
+pub fn statements(out: &mut Lowering, fixed: &Fixed, n: u32, listed: &[u32]) -> Result<()>
+    requires inside { n < length fixed.now.syntax.now }
+    requires below { All (λ c. c < n) listed.now }
+{
     let taken = out.taken();
-    for n in nodes {
-        if is_statement(node_at(fixed.c.syntax.tree(), *n)?.kind) {
-            statement(out, fixed, *n, false, depth)?;
-        }
+    for s in listed {
+        statement(out, fixed, *s, false)?;
     }
     out.release(taken);
     Ok(())
+}
+
+/// The statements after `else` or `others` of the node n.
+#[cycle(statements)]
+pub fn otherwise(out: &mut Lowering, fixed: &Fixed, n: u32, body: Option<Body<'_>>) -> Result<()>
+    requires inside { n < length fixed.now.syntax.now }
+    requires below { otherwise_parts fixed.now.syntax.now n body }
+{
+    match body {
+        Some(body) => statements(out, fixed, n, body.statements),
+        None => Ok(()),
+    }
 }
 
 /// One statement. What it declares stays in scope. If arms stand round it directly, they may see a variable that it
 /// declares before that names its object: it is `bare` then.
 #[cycle(statements)]
-pub fn statement(out: &mut Lowering, fixed: &Fixed, n: u32, bare: bool, depth: u32) -> Result<()> {
-    let Some(depth) = depth.checked_sub(1) else {
-        return Err(LowerError::NotYet);
-    };
-    let node = node_at(fixed.c.syntax.tree(), n)?;
-    match node.kind {
-        NodeKind::Declare => return declare(out, fixed, node),
-        NodeKind::Init => return initialize(out, fixed, n, node, bare),
-        NodeKind::Resignal => return resignal(out, fixed, node, depth),
-        NodeKind::Except => return except(out, fixed, node, depth),
-        _ => {}
-    }
+pub fn statement(out: &mut Lowering, fixed: &Fixed, n: u32, bare: bool) -> Result<()>
+    requires { n < length fixed.now.syntax.now }
+{
     let taken = out.taken();
-    closed(out, fixed, n, node, depth)?;
-    out.release(taken);
+    let view = fixed.syntax.statement(n);
+    lower(out, fixed, n, view, bare)?;
+    if !may_declare(view) {
+        out.release(taken);
+    }
     Ok(())
 }
 
-/// A statement that declares nothing for those after it.
+/// Whether a statement may declare variables for those after it.
+fn may_declare(view: Statement<'_>) -> bool {
+    matches!(
+        view,
+        Statement::Declare { .. }
+            | Statement::Init { .. }
+            | Statement::InitByCall { .. }
+            | Statement::Resignal { .. }
+            | Statement::Except { .. }
+    )
+}
+
+/// The statement n, which is made of these parts.
 #[cycle(statements)]
-fn closed(out: &mut Lowering, fixed: &Fixed, n: u32, node: &Node, depth: u32) -> Result<()> {
-    match node.kind {
-        NodeKind::Assign => assign(out, fixed, n, node),
-        NodeKind::SetField | NodeKind::SetIndex => sugar_statement(out, fixed, n),
-        NodeKind::CallS => lower_call(out, fixed, only_child(node)?, Vec::new(out.alloc)),
-        NodeKind::While => while_loop(out, fixed, node, depth),
-        NodeKind::For => for_loop(out, fixed, n, node, depth),
-        NodeKind::If => if_statement(out, fixed, node, depth),
-        NodeKind::Tagcase => tagcase(out, fixed, node, depth),
-        NodeKind::Begin => body(out, fixed, node.children.as_slice(), depth),
-        NodeKind::Return => return_values(out, fixed, node),
-        NodeKind::Yield => yield_values(out, fixed, node),
-        NodeKind::Signal => signal(out, fixed, node),
-        NodeKind::Exit => exit(out, fixed, node),
-        NodeKind::Break => out.push(WStmt::Break),
-        NodeKind::Continue => out.push(WStmt::Continue),
-        _ => Err(LowerError::NotYet),
+fn lower(out: &mut Lowering, fixed: &Fixed, n: u32, view: Statement<'_>, bare: bool) -> Result<()>
+    requires inside { n < length fixed.now.syntax.now }
+    requires parts { statement_parts fixed.now.syntax.now n view }
+{
+    match view {
+        Statement::While { condition, body } => while_loop(out, fixed, n, condition, body),
+        Statement::For {
+            declarations,
+            call,
+            body,
+        } => for_loop(out, fixed, n, declarations, &[], call, body),
+        Statement::ForNames { names, call, body } => {
+            for_loop(out, fixed, n, &[], names, call, body)
+        }
+        Statement::If { clauses, otherwise } => if_statement(out, fixed, n, clauses, otherwise),
+        Statement::Tagcase {
+            of,
+            arms,
+            otherwise,
+        } => tagcase(out, fixed, n, of, arms, otherwise),
+        Statement::Begin { body } => statements(out, fixed, n, body.statements),
+        Statement::Resignal { statement, names } => resignal(out, fixed, statement, names),
+        Statement::Except {
+            statement,
+            arms,
+            others,
+        } => except(out, fixed, n, statement, arms, others),
+        _ => lower_alone(out, fixed, n, view, bare),
+    }
+}
+
+/// The same of a statement that holds no others.
+fn lower_alone(
+    out: &mut Lowering,
+    fixed: &Fixed,
+    n: u32,
+    view: Statement<'_>,
+    bare: bool,
+) -> Result<()>
+    requires inside { n < length fixed.now.syntax.now }
+    requires parts { statement_parts fixed.now.syntax.now n view }
+{
+    match view {
+        Statement::Declare { declaration } => declare(out, fixed, n, declaration),
+        Statement::Init {
+            declared,
+            value,
+            ..
+        } => { initialize(out, fixed, n, declared, value, bare) }
+        Statement::InitByCall { declarations, call } => {
+            initialize_by_call(out, fixed, n, declarations, call, bare)
+        }
+        Statement::Assign { names, values } => assign(out, fixed, n, names.len(), values),
+        Statement::SetField { of, value, .. } => sugar_statement(out, fixed, n, &[of, value]),
+        Statement::SetIndex { of, index, value } => {
+            sugar_statement(out, fixed, n, &[of, index, value])
+        }
+        Statement::Call { call } => lower_call(out, fixed, call, Vec::new(out.alloc)),
+        Statement::Return { values } => return_values(out, fixed, n, values),
+        Statement::Yield { values } => yield_values(out, fixed, n, values),
+        Statement::Signal { name, values } => signal(out, fixed, n, name, values),
+        Statement::Exit { name, values } => exit(out, fixed, n, name, values),
+        Statement::Continue => out.push(WStmt::Continue),
+        _ => out.push(WStmt::Break),
     }
 }
 
 /// The value of a condition, which is used at once: its slots are free after this.
-pub fn condition(out: &mut Lowering, fixed: &Fixed, n: u32) -> Result<WExpr> {
+pub fn condition(out: &mut Lowering, fixed: &Fixed, n: u32) -> Result<WExpr>
+    requires { n < length fixed.now.syntax.now }
+{
     let free = out.taken();
     let value = lower_expr(out, fixed, n)?;
     let value = out.taken_back(value, free);

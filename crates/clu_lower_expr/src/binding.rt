@@ -1,16 +1,25 @@
 //! Binding of objects to names, results, components and objects of exceptions: where the declared type is any, an object
 //! of another type goes into a pair with the number of its type.
 
+ghost use Rattle.std.specs.Prelude.{◌<◌, length};
+
 use crate::errors::{LowerError, Result};
 use crate::fixed::Fixed;
 use crate::lowering::Lowering;
 use clu_base::Bytes;
-use clu_core::{Checked, node_at, term};
+use clu_core::{Checked, term};
 use clu_specs::type_text;
-use clu_tree::{Node, NodeKind};
+use clu_syntax::{SimpleType, Syntax, TypeExpression};
 use clu_types::{Term, TypeArena, TypeId};
 use clu_wir::{WExpr, WStmt};
 use std::alloc::Global;
+
+/// The value of an expression, with its node.
+#[derive(Drop)]
+pub struct Operand {
+    pub word: WExpr,
+    pub node: u32,
+}
 
 /// Whether a type is any.
 pub fn is_any(types: &TypeArena, of: TypeId) -> bool {
@@ -26,23 +35,32 @@ pub fn type_of(c: &Checked, n: u32) -> Result<TypeId> {
 }
 
 /// The type that a type's node denotes; `cvt` is the representation of the cluster round it.
-pub fn denoted_type(fixed: &Fixed, n: u32) -> Result<TypeId> {
+pub fn denoted_type(fixed: &Fixed, n: u32) -> Result<TypeId>
+    requires { n < length fixed.now.syntax.now }
+{
     match fixed.c.denoted.get(n as usize) {
         Some(Some(of)) => Ok(*of),
         _ => match fixed.rep {
-            Some(rep) if is_cvt(node_at(fixed.c.syntax.tree(), n)?) => Ok(rep),
+            Some(rep) if is_cvt(fixed.syntax, n) => Ok(rep),
             _ => Err(LowerError::NotYet),
         },
     }
 }
 
-/// Whether the node of a type is the word `cvt`.
-pub fn is_cvt(node: &Node) -> bool {
-    node.kind == NodeKind::Simple && node.value.as_slice() == b"cvt".as_slice()
+/// Whether the type at a node is the word `cvt`.
+pub fn is_cvt(syntax: &Syntax, n: u32) -> bool
+    requires { n < length syntax.now }
+{
+    matches!(
+        syntax.type_expression(n),
+        TypeExpression::Simple(SimpleType::Cvt)
+    )
 }
 
 /// Whether a type's node denotes any.
-pub fn denotes_any(fixed: &Fixed, n: u32) -> Result<bool> {
+pub fn denotes_any(fixed: &Fixed, n: u32) -> Result<bool>
+    requires { n < length fixed.now.syntax.now }
+{
     Ok(is_any(&fixed.c.types, denoted_type(fixed, n)?))
 }
 
@@ -73,27 +91,33 @@ pub fn bind(
 pub fn bind_all(
     out: &mut Lowering,
     c: &Checked,
-    values: Vec<WExpr>,
-    expressions: &[u32],
+    operands: Vec<Operand>,
     any: &[bool],
     free: u32,
 ) -> Result<Vec<WExpr>> {
     let mut bound = Vec::new(out.alloc);
     let mut place = 0usize;
-    for value in values {
+    for operand in operands {
         let to_any = any.get(place).copied().unwrap_or(false);
-        if to_any {
-            let of = match expressions.get(place) {
-                Some(n) => type_of(c, *n)?,
-                None => return Err(LowerError::NotYet),
-            };
-            bound.push(bind(out, &c.types, value, of, true, free)?)?;
-        } else {
-            bound.push(value)?;
-        }
+        bound.push(bind_operand(out, c, operand, to_any, free)?)?;
         place = place.saturating_add(1);
     }
     Ok(bound)
+}
+
+fn bind_operand(
+    out: &mut Lowering,
+    c: &Checked,
+    operand: Operand,
+    to_any: bool,
+    free: u32,
+) -> Result<WExpr> {
+    let Operand { word, node } = operand;
+    if to_any {
+        bind(out, &c.types, word, type_of(c, node)?, true, free)
+    } else {
+        Ok(word)
+    }
 }
 
 /// The number of a type in the program.

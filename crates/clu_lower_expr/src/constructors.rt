@@ -1,12 +1,16 @@
 //! Constructors of records, structs, arrays and sequences (CLU Reference Manual, section 10.8). The layouts are those of
 //! the operations of these types.
 
-use crate::binding::{bind, is_any, type_of};
+ghost use Rattle.std.specs.Prelude.{◌<◌, length};
+ghost use Rattle.clu_syntax.specs.Parts.{AreOf};
+
+use crate::binding::{Operand, bind, is_any, type_of};
 use crate::errors::{LowerError, Result};
+use crate::fixed::Fixed;
 use crate::lowering::Lowering;
 use clu_base::Bytes;
-use clu_core::{Checked, node_at, only_child, term};
-use clu_tree::Node;
+use clu_core::{Checked, term};
+use clu_tree::NodeKind;
 use clu_types::{Field, Term, TypeId};
 use clu_wir::{Primitive, WExpr, WOp, WStmt};
 use std::alloc::Global;
@@ -18,56 +22,64 @@ const HEADER: u64 = 6;
 /// The greatest int: what is added to a low bound so that the least one comes to all ones.
 const GREATEST: u64 = 0x7FFF_FFFF_FFFF_FFFF;
 
-/// The object of a constructor by selectors, in a slot, from the values of its parts.
-pub fn fields(
+/// The object of a constructor by selectors, in a slot, from the values of its components.
+pub fn fill_record(
     out: &mut Lowering,
-    c: &Checked,
+    fixed: &Fixed,
     n: u32,
-    node: &Node,
-    values: Vec<WExpr>,
+    components: &[u32],
+    operands: &[Operand],
     slot: u32,
-) -> Result<WExpr> {
-    let components = match term(&c.types, type_of(c, n)?)? {
+) -> Result<()>
+    requires inside { n < length fixed.now.syntax.now }
+    requires components { AreOf fixed.now.syntax.now NodeKind.FieldE n components.now }
+{
+    let c = fixed.c;
+    let fields = match term(&c.types, type_of(c, n)?)? {
         Term::Record(fields) => fields.as_slice(),
         Term::Struct(fields) => fields.as_slice(),
         _ => return Err(LowerError::NotYet),
     };
-    allocate(out, slot, (components.len() as u64).saturating_add(1))?;
-    let parts = node.children.as_slice().iter().skip(1);
-    for (part, value) in parts.zip(values.as_slice()) {
-        field(
-            out,
-            c,
-            node_at(c.syntax.tree(), *part)?,
-            value,
-            components,
-            slot,
-        )?;
+    allocate(out, slot, (fields.len() as u64).saturating_add(1))?;
+    for (component, operand) in components.iter().zip(operands) {
+        let selectors = fixed.syntax.component(*component).selectors;
+        fill_component(out, c, selectors, operand, fields, slot)?;
     }
     out.release(slot.saturating_add(1));
-    Ok(WExpr::Slot(slot))
+    Ok(())
 }
 
-/// Puts the value of a part at each of its selectors.
-fn field(
+/// Puts a value at each of these selectors.
+fn fill_component(
     out: &mut Lowering,
     c: &Checked,
-    part: &Node,
-    value: &WExpr,
-    components: &[Field],
+    selectors: &[Bytes],
+    operand: &Operand,
+    fields: &[Field],
     slot: u32,
 ) -> Result<()> {
-    let of = type_of(c, only_child(part)?)?;
-    for name in part.names.as_slice() {
-        let place = place_of(components, name)?;
-        let to_any = match components.get(place) {
-            Some(component) => is_any(&c.types, component.of),
+    for selector in selectors {
+        let place = place_of(fields, selector)?;
+        let to_any = match fields.get(place) {
+            Some(field) => is_any(&c.types, field.of),
             None => return Err(LowerError::NotYet),
         };
-        let bound = bind(out, &c.types, again(value)?, of, to_any, u32::MAX)?;
+        let bound = bind_again(out, c, operand, to_any, u32::MAX)?;
         put_word(out, slot, place.saturating_add(1), bound)?;
     }
     Ok(())
+}
+
+/// The word of an operand, which stays as it is, bound to any if `to_any`.
+fn bind_again(
+    out: &mut Lowering,
+    c: &Checked,
+    operand: &Operand,
+    to_any: bool,
+    free: u32,
+) -> Result<WExpr> {
+    let of = type_of(c, operand.node)?;
+    bind(out, &c.types, again(&operand.word)?, of, to_any, free)
 }
 
 /// The place of a selector.
@@ -90,51 +102,44 @@ pub fn again(value: &WExpr) -> Result<WExpr> {
     }
 }
 
-/// The object of a constructor by elements, in a slot, from the values of its parts.
-pub fn elements(
+/// The object of a constructor by elements, in a slot, from their values and that of the low bound.
+pub fn fill_array(
     out: &mut Lowering,
-    c: &Checked,
+    fixed: &Fixed,
     n: u32,
-    node: &Node,
-    values: Vec<WExpr>,
+    low: Option<&Operand>,
+    elements: &[Operand],
     slot: u32,
-) -> Result<WExpr> {
-    let has_low = !node.value.as_slice().is_empty();
-    let low = if has_low { 1usize } else { 0 };
-    let (element, first) = header(out, c, type_of(c, n)?, values.as_slice(), has_low, slot)?;
+) -> Result<()> {
+    let c = fixed.c;
+    let count = elements.len() as u64;
+    let (element, first) = header(out, c, type_of(c, n)?, low, count, slot)?;
     let to_any = is_any(&c.types, element);
     let free = slot.saturating_add(1);
-    let parts = node.children.as_slice().iter().skip(1);
     let mut place = first;
-    for (part, value) in parts.zip(values.as_slice()).skip(low) {
-        let of = type_of(c, *part)?;
-        let bound = bind(out, &c.types, again(value)?, of, to_any, free)?;
+    for operand in elements {
+        let bound = bind_again(out, c, operand, to_any, free)?;
         put_word(out, slot, place, bound)?;
         place = place.saturating_add(1);
     }
     out.release(free);
-    Ok(WExpr::Slot(slot))
+    Ok(())
 }
 
-/// The words of an array or a sequence of these parts but for its elements. Gives the type of the elements and the number
-/// of the word that is the first of them.
+/// The words of an array or a sequence of so many elements but for these. Gives their type and the number of the word that
+/// is the first of them.
 fn header(
     out: &mut Lowering,
     c: &Checked,
     of: TypeId,
-    values: &[WExpr],
-    has_low: bool,
+    low: Option<&Operand>,
+    count: u64,
     slot: u32,
 ) -> Result<(TypeId, usize)> {
-    let count = values.len() as u64;
     match term(&c.types, of)? {
         Term::Array(element) => {
-            match values.first() {
-                Some(low) if has_low => {
-                    array(out, slot, again(low)?, true, count.saturating_sub(1))?
-                }
-                _ => array(out, slot, WExpr::Word(1), false, count)?,
-            }
+            let low = low_bound(out, low, count)?;
+            array(out, slot, low, count)?;
             Ok((*element, HEADER as usize))
         }
         Term::Sequence(element) => {
@@ -145,11 +150,19 @@ fn header(
     }
 }
 
-/// The words of an array before its elements.
-fn array(out: &mut Lowering, slot: u32, low: WExpr, has_low: bool, count: u64) -> Result<()> {
-    if has_low {
-        test_low(out, again(&low)?, count)?;
+/// The low bound of an array, 1 if none is given.
+fn low_bound(out: &mut Lowering, low: Option<&Operand>, count: u64) -> Result<WExpr> {
+    match low {
+        Some(low) => {
+            test_low(out, again(&low.word)?, count)?;
+            again(&low.word)
+        }
+        None => Ok(WExpr::Word(1)),
     }
+}
+
+/// The words of an array before its elements.
+fn array(out: &mut Lowering, slot: u32, low: WExpr, count: u64) -> Result<()> {
     allocate(out, slot, HEADER.saturating_add(count))?;
     put_word(out, slot, 0, low)?;
     if count > 0 {

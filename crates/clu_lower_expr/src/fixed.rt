@@ -1,10 +1,13 @@
 //! What is fixed while the statements of a routine are lowered: the checked file, the routine's heading as its body sees
 //! it, what is given of type parameters, and own variables.
 
+ghost use Rattle.std.specs.Prelude.{◌≡◌};
+
 use crate::declarations::Declarations;
 use crate::errors::Result;
 use clu_base::{Bytes, Memory};
 use clu_core::{Checked, carry};
+use clu_syntax::Syntax;
 use clu_types::{Actual, Demand, TypeArena, TypeId};
 use clu_wir::HoleKind;
 use indexmap::IndexMap;
@@ -24,6 +27,7 @@ pub struct OwnVariable {
 pub struct Fixed<'a> {
     pub alloc: Global,
     pub c: &'a Checked,
+    pub syntax: &'a Syntax,
     pub declarations: &'a Declarations,
     /// The representation of the cluster round the routine.
     pub rep: Option<TypeId>,
@@ -44,10 +48,13 @@ pub struct Fixed<'a> {
 
 impl<'a> Fixed<'a> {
     /// Nothing is known yet but the file.
-    pub fn new(alloc: Global, c: &'a Checked, declarations: &'a Declarations) -> Fixed<'a> {
+    pub fn new(alloc: Global, c: &'a Checked, declarations: &'a Declarations) -> Fixed<'a>
+        ensures { result.syntax.now ≡ c.entry.now.syntax }
+    {
         Fixed {
             alloc,
             c,
+            syntax: &c.syntax,
             declarations,
             rep: None,
             given: Vec::new(alloc),
@@ -61,7 +68,9 @@ impl<'a> Fixed<'a> {
 
     /// Adds what a where clause gives, after what others give, with these actuals put in, which are of the arena of
     /// what is given. Without actuals the parameters stay.
-    pub fn give(&mut self, from: &TypeArena, demands: &[Demand], actuals: &[Actual]) -> Result<()> {
+    pub fn give(&mut self, from: &TypeArena, demands: &[Demand], actuals: &[Actual]) -> Result<()>
+        ensures { self.new.syntax ≡ self.old.syntax }
+    {
         for demand in demands {
             let types = &mut self.given_types;
             let wanted = carry(self.alloc, types, from, demand.wanted, actuals)?;

@@ -1,21 +1,22 @@
 //! The headings of what is invoked, and which of its formals are of type any.
 
+ghost use Rattle.std.specs.Prelude.{◌<◌, IfOk, length};
+ghost use Rattle.clu_syntax.specs.Parts.{AreOf, IsOf};
+
 use crate::binding::{is_any, type_of, which_are_any};
 use crate::errors::{LowerError, Result};
 use crate::seen::Seen;
 use crate::uses::operation_of;
 use clu_base::{Bytes, Sequence};
-use clu_core::{Checked, OpRef, first_name, node_at, term};
-use clu_tree::{Node, NodeKind};
+use clu_core::{Checked, OpRef, term};
+use clu_syntax::Definition;
+use clu_tree::NodeKind;
 use clu_types::{Field, Form, Heading, OpSpec, Spec, Term, TypeArena, TypeId};
 use std::alloc::Global;
 
-/// The heading of the routine that a call invokes.
-pub fn heading_of<'a>(c: &'a Checked, call: &Node) -> Result<&'a Heading> {
-    let Some(callee) = call.children.as_slice().first() else {
-        return Err(LowerError::NotYet);
-    };
-    match term(&c.types, type_of(c, *callee)?)? {
+/// The heading of the routine that an expression is.
+pub fn heading_of(c: &Checked, routine: u32) -> Result<&Heading> {
+    match term(&c.types, type_of(c, routine)?)? {
         Term::Proc(heading) => Ok(heading),
         Term::Iter(heading) => Ok(heading),
         _ => Err(LowerError::NotYet),
@@ -103,28 +104,30 @@ fn heading_named<'a>(ops: &'a [OpSpec], name: &Bytes) -> Option<&'a Heading> {
     None
 }
 
-/// The Routine node of this name in the text of a cluster.
-pub fn routine_of<'a>(c: &'a Checked, cluster: &Bytes, name: &Bytes) -> Result<&'a Node> {
-    for module in c.syntax.tree().modules() {
-        if let Some(definition) = node_at(c.syntax.tree(), *module)?
-            .children
-            .as_slice()
-            .last()
-        {
-            let definition = node_at(c.syntax.tree(), *definition)?;
-            if definition.kind == NodeKind::Cluster && first_name(definition)? == cluster {
-                return routine_named(c, definition, name);
+/// The Routine of this name in the text of a cluster, by its node.
+pub fn routine_of(c: &Checked, cluster: &Bytes, name: &Bytes) -> Result<u32>
+    ensures { IfOk result (IsOf c.now.syntax NodeKind.Routine (length c.now.syntax)) }
+{
+    for module in c.syntax.modules() {
+        if let Definition::Cluster(n) = c.syntax.module(*module).definition {
+            let found = c.syntax.cluster(n);
+            if found.name == cluster {
+                return routine_named(c, n, found.routines, name);
             }
         }
     }
     Err(LowerError::NotYet)
 }
 
-fn routine_named<'a>(c: &'a Checked, cluster: &Node, name: &Bytes) -> Result<&'a Node> {
-    for child in cluster.children.as_slice() {
-        let child = node_at(c.syntax.tree(), *child)?;
-        if child.kind == NodeKind::Routine && first_name(child)? == name {
-            return Ok(child);
+/// The first of these routines of the cluster n that has this name.
+fn routine_named(c: &Checked, n: u32, routines: &[u32], name: &Bytes) -> Result<u32>
+    requires inside { n < length c.now.syntax }
+    requires routines { AreOf c.now.syntax NodeKind.Routine n routines.now }
+    ensures { IfOk result (IsOf c.now.syntax NodeKind.Routine (length c.now.syntax)) }
+{
+    for routine in routines {
+        if c.syntax.routine(*routine).name == name {
+            return Ok(*routine);
         }
     }
     Err(LowerError::NotYet)

@@ -1,32 +1,67 @@
-//! Invocations: what is invoked, and the arguments bound to the formals.
+//! Invocations: what is invoked, and its arguments bound to the formals.
 
-use crate::binding::{bind_all, which_are_any};
-use crate::calls::split_call;
+ghost use Rattle.std.specs.Prelude.{◌<◌, All, IfOk, length};
+
+use crate::binding::{Operand, bind_all};
 use crate::errors::{LowerError, Result};
+use crate::fixed::Fixed;
 use crate::headings::{any_formals, heading_of};
 use crate::in_place::{apply, apply_to, perform};
 use crate::lowering::Lowering;
 use crate::seen::Seen;
 use crate::uses::operation_of;
-use clu_core::{Checked, OpRef, node_at};
-use clu_tree::{Node, NodeKind};
+use crate::walk::invoked;
+use clu_core::OpRef;
+use clu_syntax::{Expression, Syntax};
 use clu_types::TypeId;
 use clu_wir::{WExpr, WStmt};
 
-/// The call of a node whose parts have these values; its results go into the slots. A slot from `free` on may change.
-pub fn invoke(
-    out: &mut Lowering,
-    c: &Checked,
-    node: &Node,
-    values: Vec<WExpr>,
-    results: Vec<u32>,
-    free: u32,
-) -> Result<()> {
-    let (routine, args) = bound_call(out, c, node, values, free)?;
-    let op = invoked(c, node)?;
+/// The parts of a call.
+#[derive(Clone, Copy)]
+pub struct Call<'a> {
+    pub routine: u32,
+    pub arguments: &'a [u32],
+}
+
+/// What is invoked, and its arguments.
+#[derive(Drop)]
+pub struct Invoked {
+    pub routine: WExpr,
+    pub args: Vec<WExpr>,
+}
+
+/// The call at a node. By the grammar one stands where a statement invokes something, but no contract says so yet.
+fn call_at(syntax: &Syntax, n: u32) -> Result<Call<'_>>
+    requires { n < length syntax.now }
+    ensures routine { IfOk result (λ call. call.routine < n) }
+    ensures arguments { IfOk result (λ call. All (λ c. c < n) call.arguments.now) }
+{
+    match syntax.expression(n) {
+        Expression::Call { routine, arguments } => Ok(Call { routine, arguments }),
+        _ => Err(LowerError::NotYet),
+    }
+}
+
+/// What a call invokes, and its arguments bound to the formals, evaluated.
+pub fn lower_callee(out: &mut Lowering, fixed: &Fixed, n: u32) -> Result<Invoked>
+    requires { n < length fixed.now.syntax.now }
+{
+    let call = call_at(fixed.syntax, n)?;
+    let free = out.taken();
+    invoked(out, fixed, n, call, free)
+}
+
+/// Adds the code of a call whose results, if it has any, go into these slots.
+pub fn lower_call(out: &mut Lowering, fixed: &Fixed, n: u32, results: Vec<u32>) -> Result<()>
+    requires { n < length fixed.now.syntax.now }
+{
+    let call = call_at(fixed.syntax, n)?;
+    let free = out.taken();
+    let Invoked { routine, args } = invoked(out, fixed, n, call, free)?;
+    let op = named_operation(fixed, call.routine);
     match results.as_slice() {
-        [] => perform(out, c, op, routine, args, free),
-        [slot] => apply_to(out, c, op, routine, args, *slot, free),
+        [] => perform(out, fixed.c, op, routine, args, free),
+        [slot] => apply_to(out, fixed.c, op, routine, args, *slot, free),
         _ => {
             let args = out.taken_back_all(args, free)?;
             out.push(WStmt::Call(routine, args, results))
@@ -34,70 +69,55 @@ pub fn invoke(
     }
 }
 
-/// The operation of a type that a call invokes by its name.
-fn invoked<'a>(c: &'a Checked, call: &Node) -> Result<Option<&'a OpRef>> {
-    match call.children.as_slice().first() {
-        Some(n) if node_at(c.syntax.tree(), *n)?.kind == NodeKind::OperOf => Ok(operation_of(
-            c, *n,
-        )),
-        _ => Ok(None),
+/// The operation of a type that is invoked by its name.
+fn named_operation<'a>(fixed: &Fixed<'a>, routine: u32) -> Option<&'a OpRef>
+    requires { routine < length fixed.now.syntax.now }
+{
+    match fixed.syntax.expression(routine) {
+        Expression::Operation { .. } => operation_of(fixed.c, routine),
+        _ => None,
     }
 }
 
-/// What is invoked at a node whose parts have these values, and its arguments bound to the formals.
-pub fn bound_call(
+/// The only result of what is invoked goes into the first slot from `free` on; slots after that are given back.
+pub fn apply_invoked(
     out: &mut Lowering,
-    c: &Checked,
-    node: &Node,
-    values: Vec<WExpr>,
+    fixed: &Fixed,
+    call: Call<'_>,
+    invoked: Invoked,
     free: u32,
-) -> Result<(WExpr, Vec<WExpr>)> {
-    let (routine, args) = split_call(values)?;
-    let heading = heading_of(c, node)?;
-    let any = which_are_any(out.alloc, &c.types, heading.args.as_slice())?;
-    match node.children.as_slice().split_first() {
-        Some((_, actuals)) => {
-            let args = bind_all(out, c, args, actuals, any.as_slice(), free)?;
-            Ok((routine, args))
-        }
-        None => Err(LowerError::NotYet),
-    }
-}
-
-/// The same for one result, which goes into the first slot from `free` on; slots after that are given back.
-pub fn invoke_for_one(
-    out: &mut Lowering,
-    c: &Checked,
-    node: &Node,
-    values: Vec<WExpr>,
-    free: u32,
-) -> Result<WExpr> {
-    let (routine, args) = bound_call(out, c, node, values, free)?;
-    apply(out, c, invoked(c, node)?, routine, args, free)
+) -> Result<WExpr>
+    requires { call.routine < length fixed.now.syntax.now }
+{
+    let Invoked { routine, args } = invoked;
+    let op = named_operation(fixed, call.routine);
+    apply(out, fixed.c, op, routine, args, free)
 }
 
 /// The operands of the sugar at a node, bound to the formals of its operation, whose heading is `seen`.
 pub fn bind_operands(
     out: &mut Lowering,
-    c: &Checked,
+    fixed: &Fixed,
     n: u32,
-    node: &Node,
     seen: Option<&Seen>,
-    operands: Vec<WExpr>,
+    operands: Vec<Operand>,
     free: u32,
 ) -> Result<Vec<WExpr>> {
-    let any = any_formals(out.alloc, c, n, seen)?;
-    bind_all(
-        out,
-        c,
-        operands,
-        node.children.as_slice(),
-        any.as_slice(),
-        free,
-    )
+    let any = any_formals(out.alloc, fixed.c, n, seen)?;
+    bind_all(out, fixed.c, operands, any.as_slice(), free)
 }
 
 /// The types of the results of a call.
-pub fn results_of<'a>(c: &'a Checked, call: &Node) -> Result<&'a [TypeId]> {
-    Ok(heading_of(c, call)?.results.as_slice())
+pub fn results_of<'a>(fixed: &Fixed<'a>, n: u32) -> Result<&'a [TypeId]>
+    requires { n < length fixed.now.syntax.now }
+{
+    let call = call_at(fixed.syntax, n)?;
+    Ok(heading_of(fixed.c, call.routine)?.results.as_slice())
+}
+
+/// Whether the expression at a node is a call.
+pub fn is_call(syntax: &Syntax, n: u32) -> bool
+    requires { n < length syntax.now }
+{
+    matches!(syntax.expression(n), Expression::Call { .. })
 }

@@ -5,23 +5,25 @@ use crate::lowering::Lowering;
 use clu_base::{Const, ObjConst};
 use clu_core::Checked;
 use clu_literal::{char_byte, string_bytes};
+use clu_syntax::Literal;
 use clu_wir::{HoleKind, WExpr};
 
-/// The word of the literal of this spelling.
-pub fn literal(out: &mut Lowering, spelling: &[u8]) -> Result<WExpr> {
-    match spelling {
-        [b'"', ..] => match string_bytes(out.alloc, spelling)? {
-            Some(bytes) => out.string(bytes.as_slice()),
-            None => Err(LowerError::NotYet),
-        },
-        [b'\'', ..] => match char_byte(spelling) {
+/// The word of a literal.
+pub fn literal(out: &mut Lowering, literal: Literal<'_>) -> Result<WExpr> {
+    match literal {
+        Literal::Nil => Ok(WExpr::Word(0)),
+        Literal::True => Ok(WExpr::Word(1)),
+        Literal::False => Ok(WExpr::Word(0)),
+        Literal::Integer(digits) => int_literal(digits),
+        Literal::Real(_) => Err(LowerError::NotYet),
+        Literal::Character(spelling) => match char_byte(spelling) {
             Some(byte) => Ok(WExpr::Word(byte as u64)),
             None => Err(LowerError::NotYet),
         },
-        [b'n' | b'N', ..] => Ok(WExpr::Word(0)),
-        [b't' | b'T', ..] => Ok(WExpr::Word(1)),
-        [b'f' | b'F', ..] => Ok(WExpr::Word(0)),
-        _ => int_literal(spelling),
+        Literal::String(spelling) => match string_bytes(out.alloc, spelling)? {
+            Some(bytes) => out.string(bytes.as_slice()),
+            None => Err(LowerError::NotYet),
+        },
     }
 }
 

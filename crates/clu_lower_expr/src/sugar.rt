@@ -1,7 +1,8 @@
 //! Sugar: operators, selections and fetches, each of which invokes an operation (CLU Reference Manual, section 10.13).
 
-use crate::binding::{bind, is_any, type_of};
-use crate::calls::call_for_one;
+ghost use Rattle.std.specs.Prelude.{◌<◌, All, length};
+
+use crate::binding::{Operand, bind, is_any, type_of};
 use crate::constructors::binary;
 use crate::errors::{LowerError, Result};
 use crate::fixed::Fixed;
@@ -12,46 +13,18 @@ use crate::seen::{Seen, seen_at, seen_of};
 use crate::uses::{node_operation, operation_of, type_operation};
 use crate::walk::lower_all;
 use clu_base::Bytes;
-use clu_core::node_at;
-use clu_tree::{Node, NodeKind};
 use clu_types::TypeId;
-use clu_wir::{WExpr, WOp};
+use clu_wir::{WExpr, WOp, WStmt};
 
-/// Whether an infix operator evaluates its right side only where it is needed.
-pub fn is_condition(node: &Node) -> bool {
-    let operator = node.value.as_slice();
-    node.kind == NodeKind::Infix
-        && (operator == b"cand".as_slice() || operator == b"cor".as_slice())
-}
-
-/// Before the k-th operand: notes the uses of an operator, which stand in the order of the places in the text.
-pub fn note_operator(
-    out: &mut Lowering,
-    fixed: &Fixed,
-    n: u32,
-    node: &Node,
-    k: usize,
-) -> Result<()> {
-    let is_place = match node.kind {
-        NodeKind::Infix => k == 1 && !is_condition(node),
-        NodeKind::Index => k == 1,
-        NodeKind::Prefix => k == 0,
-        _ => false,
-    };
-    if !is_place {
-        return Ok(());
-    }
-    note_operation(out, fixed, n)?;
-    if is_negated(node) {
+/// Notes the uses of an operator, which stand in the order of the places in the text: that of its operation, and that of
+/// `not` if it is negated.
+pub fn note_operator(out: &mut Lowering, fixed: &Fixed, n: u32, negated: bool) -> Result<()> {
+    let _operation = node_operation(out, fixed.c, n)?;
+    if negated {
         note_negation(out, fixed, n)
     } else {
         Ok(())
     }
-}
-
-fn note_operation(out: &mut Lowering, fixed: &Fixed, n: u32) -> Result<()> {
-    let _operation = node_operation(out, fixed.c, n)?;
-    Ok(())
 }
 
 /// Notes the use of `not` by an operator that negates a comparison.
@@ -61,18 +34,18 @@ fn note_negation(out: &mut Lowering, fixed: &Fixed, n: u32) -> Result<()> {
     Ok(())
 }
 
-/// The result of the operation that sugar stands for.
+/// The result of the operation that sugar stands for, or the opposite if it is negated.
 pub fn sugar(
     out: &mut Lowering,
     fixed: &Fixed,
     n: u32,
-    node: &Node,
-    operands: Vec<WExpr>,
+    operands: Vec<Operand>,
+    is_negated: bool,
     taken: u32,
 ) -> Result<WExpr> {
     let seen = seen_at(fixed, n)?;
-    let given = invoked(out, fixed, n, node, seen.as_ref(), operands, taken)?;
-    if !is_negated(node) {
+    let given = invoked(out, fixed, n, seen.as_ref(), operands, taken)?;
+    if !is_negated {
         return Ok(given);
     }
     match seen {
@@ -86,13 +59,12 @@ fn invoked(
     out: &mut Lowering,
     fixed: &Fixed,
     n: u32,
-    node: &Node,
     seen: Option<&Seen>,
-    operands: Vec<WExpr>,
+    operands: Vec<Operand>,
     taken: u32,
 ) -> Result<WExpr> {
     let operation = node_operation(out, fixed.c, n)?;
-    let operands = bind_operands(out, fixed.c, n, node, seen, operands, taken)?;
+    let operands = bind_operands(out, fixed, n, seen, operands, taken)?;
     apply(
         out,
         fixed.c,
@@ -101,14 +73,6 @@ fn invoked(
         operands,
         taken,
     )
-}
-
-/// Whether an operator negates the result of a comparison.
-fn is_negated(node: &Node) -> bool {
-    match node.value.as_slice() {
-        [b'~', _, ..] => node.kind == NodeKind::Infix,
-        _ => false,
-    }
 }
 
 /// The negation of the result of a built-in comparison.
@@ -155,6 +119,16 @@ fn negation(
     call_for_one(out, operation, operands, taken)
 }
 
+/// Calls a routine with arguments; its only result goes into the slot after the first `taken`, and slots after that
+/// are given back.
+fn call_for_one(out: &mut Lowering, routine: WExpr, args: Vec<WExpr>, taken: u32) -> Result<WExpr> {
+    out.release(taken);
+    let slot = out.take()?;
+    let results = vec![in out.alloc; slot]?;
+    out.push(WStmt::Call(routine, args, results))?;
+    Ok(WExpr::Slot(slot))
+}
+
 /// The operation that negates.
 const NOT: &[u8] = b"not";
 
@@ -186,31 +160,30 @@ fn not_operation(out: &mut Lowering, fixed: &Fixed, n: u32, seen: Option<&Seen>)
     }
 }
 
-/// `r.s := e` and `a[i] := e`: the operation of the statement's node over its children.
-pub fn sugar_statement(out: &mut Lowering, fixed: &Fixed, n: u32) -> Result<()> {
+/// `r.s := e` and `a[i] := e`: the operation of the statement n over its parts.
+pub fn sugar_statement(out: &mut Lowering, fixed: &Fixed, n: u32, parts: &[u32]) -> Result<()>
+    requires inside { n < length fixed.now.syntax.now }
+    requires below { All (λ c. c < n) parts.now }
+{
     let operation = node_operation(out, fixed.c, n)?;
     let free = out.taken();
-    let node = node_at(fixed.c.syntax.tree(), n)?;
-    let operands = bound_children(out, fixed, n, node, free)?;
-    perform(
-        out,
-        fixed.c,
-        operation_of(fixed.c, n),
-        operation,
-        operands,
-        free,
-    )
+    let operands = bound_parts(out, fixed, n, parts, free)?;
+    let op = operation_of(fixed.c, n);
+    perform(out, fixed.c, op, operation, operands, free)
 }
 
-/// The values of a node's children, bound to the formals of its operation.
-fn bound_children(
+/// The values of parts of a node, bound to the formals of its operation.
+fn bound_parts(
     out: &mut Lowering,
     fixed: &Fixed,
     n: u32,
-    node: &Node,
+    parts: &[u32],
     free: u32,
-) -> Result<Vec<WExpr>> {
-    let operands = lower_all(out, fixed, node.children.as_slice())?;
+) -> Result<Vec<WExpr>>
+    requires inside { n < length fixed.now.syntax.now }
+    requires below { All (λ c. c < n) parts.now }
+{
+    let operands = lower_all(out, fixed, n, parts)?;
     let seen = seen_at(fixed, n)?;
-    bind_operands(out, fixed.c, n, node, seen.as_ref(), operands, free)
+    bind_operands(out, fixed, n, seen.as_ref(), operands, free)
 }

@@ -1,12 +1,15 @@
 //! Headings of a cluster's routines as they are written in its text, seen as callers see them: `cvt` is the cluster's
 //! type. They stand in an arena of their own, with actual parameters put in.
 
+ghost use Rattle.std.specs.Prelude.{◌<◌, All, length};
+ghost use Rattle.clu_syntax.specs.Parts.{AreOf, IsOf};
+
 use crate::binding::is_cvt;
 use crate::errors::{LowerError, Result};
 use crate::seen::{Sealed, Seen};
 use clu_base::{Bytes, Sequence};
-use clu_core::{Checked, carry, first_name, node_at};
-use clu_tree::{Node, NodeKind};
+use clu_core::{Checked, carry};
+use clu_tree::NodeKind;
 use clu_types::{Exception, Heading, TypeId};
 use indexmap::IndexMap;
 use std::alloc::Global;
@@ -15,32 +18,32 @@ use std::boxed::Box;
 /// The name of the exception that belongs to every routine.
 const FAILURE: &[u8] = b"failure";
 
-/// The heading of a Routine node of a cluster of this type, with the actuals of the type put in. Without actuals the
+/// The heading of a routine of a cluster of this type, with the actuals of the type put in. Without actuals the
 /// parameters stay.
-pub fn written_heading(alloc: Global, c: &Checked, routine: &Node, sealed: Sealed) -> Result<Seen> {
-    let mut reading = Reading { alloc, c, sealed };
-    let heading = Box::new(alloc, reading.heading(routine)?)?;
-    let Reading { sealed, .. } = reading;
+pub fn written_heading(alloc: Global, c: &Checked, n: u32, mut sealed: Sealed) -> Result<Seen>
+    requires { IsOf c.now.syntax NodeKind.Routine (length c.now.syntax) n }
+{
+    let text = Text { alloc, c };
+    let heading = Box::new(alloc, text.heading(&mut sealed, n)?)?;
     let Sealed { types, .. } = sealed;
     Ok(Seen { types, heading })
 }
 
-/// A heading that is read from its text.
-#[derive(Drop)]
-struct Reading<'a> {
+/// The text from which a heading is read. What it says goes into the arena of the type for which `cvt` stands.
+#[derive(Clone, Copy)]
+struct Text<'a> {
     alloc: Global,
     c: &'a Checked,
-    /// The type for which `cvt` stands, in the arena of the heading.
-    sealed: Sealed,
 }
 
-impl Reading<'_> {
-    fn heading(&mut self, node: &Node) -> Result<Heading> {
-        let mut args = Vec::new(self.alloc);
-        let mut results = Vec::new(self.alloc);
-        let mut signals = IndexMap::new(self.alloc);
-        self.add_parts(node, &mut args, &mut results, &mut signals)?;
-        let signals = ascending(self.alloc, signals)?;
+impl Text<'_> {
+    fn heading(&self, sealed: &mut Sealed, n: u32) -> Result<Heading>
+        requires { IsOf self.now.c.now.syntax NodeKind.Routine (length self.now.c.now.syntax) n }
+    {
+        let routine = self.c.syntax.routine(n);
+        let args = self.args(sealed, n, routine.arguments)?;
+        let results = self.types(sealed, n, routine.results)?;
+        let signals = self.signals(sealed, n, routine.exceptions)?;
         Ok(Heading {
             args: Sequence::from_vec(args),
             results: Sequence::from_vec(results),
@@ -48,82 +51,61 @@ impl Reading<'_> {
         })
     }
 
-    fn add_parts(
-        &mut self,
-        node: &Node,
-        args: &mut Vec<TypeId>,
-        results: &mut Vec<TypeId>,
-        signals: &mut IndexMap<Bytes, Vec<TypeId>>,
-    ) -> Result<()> {
-        for child in node.children.as_slice() {
-            let child = node_at(self.c.syntax.tree(), *child)?;
-            match child.kind {
-                NodeKind::Decl => self.add_args(child, args)?,
-                NodeKind::Results => self.add_types(child, results)?,
-                NodeKind::Signals => self.add_signals(child, signals)?,
-                _ => {}
+    fn args(&self, sealed: &mut Sealed, n: u32, declarations: &[u32]) -> Result<Vec<TypeId>>
+        requires inside { n < length self.now.c.now.syntax }
+        requires declarations { AreOf self.now.c.now.syntax NodeKind.Decl n declarations.now }
+    {
+        let mut args = Vec::new(self.alloc);
+        for declaration in declarations {
+            let typed = self.c.syntax.declaration(*declaration);
+            let of = self.seen(sealed, typed.declared)?;
+            for _ in typed.names {
+                args.push(of)?;
             }
         }
-        Ok(())
+        Ok(args)
     }
 
-    fn add_args(&mut self, decl: &Node, args: &mut Vec<TypeId>) -> Result<()> {
-        let [of] = decl.children.as_slice() else {
-            return Err(LowerError::NotYet);
-        };
-        let of = self.seen(*of)?;
-        for _ in decl.names.as_slice() {
-            args.push(of)?;
+    fn types(&self, sealed: &mut Sealed, n: u32, nodes: &[u32]) -> Result<Vec<TypeId>>
+        requires inside { n < length self.now.c.now.syntax }
+        requires below { All (λ c. c < n) nodes.now }
+    {
+        let mut listed = Vec::new(self.alloc);
+        for of in nodes {
+            listed.push(self.seen(sealed, *of)?)?;
         }
-        Ok(())
-    }
-
-    fn add_types(&mut self, node: &Node, listed: &mut Vec<TypeId>) -> Result<()> {
-        for of in node.children.as_slice() {
-            listed.push(self.seen(*of)?)?;
-        }
-        Ok(())
-    }
-
-    fn add_signals(
-        &mut self,
-        node: &Node,
-        signals: &mut IndexMap<Bytes, Vec<TypeId>>,
-    ) -> Result<()> {
-        for child in node.children.as_slice() {
-            let exception = node_at(self.c.syntax.tree(), *child)?;
-            self.add_signal(exception, signals)?;
-        }
-        Ok(())
+        Ok(listed)
     }
 
     /// `failure` is no exception of a type.
-    fn add_signal(
-        &mut self,
-        exception: &Node,
-        signals: &mut IndexMap<Bytes, Vec<TypeId>>,
-    ) -> Result<()> {
-        let name = first_name(exception)?;
-        if name.as_slice() == FAILURE {
-            return Ok(());
+    fn signals(&self, sealed: &mut Sealed, n: u32, exceptions: &[u32]) -> Result<Vec<Exception>>
+        requires inside { n < length self.now.c.now.syntax }
+        requires exceptions { AreOf self.now.c.now.syntax NodeKind.Exc n exceptions.now }
+    {
+        let mut signals = IndexMap::new(self.alloc);
+        for exception in exceptions {
+            let written = self.c.syntax.exception(*exception);
+            if written.name.as_slice() != FAILURE {
+                let objects = self.types(sealed, *exception, written.types)?;
+                signals.insert(written.name.copy(self.alloc)?, objects)?;
+            }
         }
-        let mut objects = Vec::new(self.alloc);
-        self.add_types(exception, &mut objects)?;
-        signals.insert(name.copy(self.alloc)?, objects)?;
-        Ok(())
+        ascending(self.alloc, signals)
     }
 
     /// The type that a node of the heading denotes.
-    fn seen(&mut self, n: u32) -> Result<TypeId> {
+    fn seen(&self, sealed: &mut Sealed, n: u32) -> Result<TypeId>
+        requires { n < length self.now.c.now.syntax }
+    {
         match self.c.denoted.get(n as usize) {
             Some(Some(of)) => Ok(carry(
                 self.alloc,
-                &mut self.sealed.types,
+                &mut sealed.types,
                 &self.c.types,
                 *of,
-                self.sealed.actuals.as_slice(),
+                sealed.actuals.as_slice(),
             )?),
-            _ if is_cvt(node_at(self.c.syntax.tree(), n)?) => Ok(self.sealed.of),
+            _ if is_cvt(&self.c.syntax, n) => Ok(sealed.of),
             _ => Err(LowerError::NotYet),
         }
     }

@@ -1,21 +1,48 @@
--- A part of an expression is one level deeper; what its kind asks stands between.
+-- A part of an expression has a lower number than its node; what its form asks stands between.
 use Rattle.std.specs.Prelude.{◌+◌, ◌*◌}
 use Rattle.clu_lower_expr.proofs.walk.+expressions.Given as goal
 
-abbrev pub decreases-walk : goal.decreases-walk
-decreases-walk l = 4 * l.depth
+abbrev pub decreases-lower_expr : goal.decreases-lower_expr
+decreases-lower_expr l = 8 * l.n + 7
 
-abbrev pub decreases-values : goal.decreases-values
-decreases-values l = 4 * l.depth + 1
+abbrev pub decreases-operand : goal.decreases-operand
+decreases-operand l = 8 * l.n + 8
+
+abbrev pub decreases-add_operands : goal.decreases-add_operands
+decreases-add_operands l = 8 * l.n + 1
+
+abbrev pub decreases-lower_all : goal.decreases-lower_all
+decreases-lower_all l = 8 * l.n + 2
 
 abbrev pub decreases-set : goal.decreases-set
-decreases-set l = 4 * l.depth + 1
+decreases-set l = 8 * l.n + 8
+
+abbrev pub decreases-prefix : goal.decreases-prefix
+decreases-prefix l = 8 * l.n + 3
+
+abbrev pub decreases-get : goal.decreases-get
+decreases-get l = 8 * l.n + 3
+
+abbrev pub decreases-index : goal.decreases-index
+decreases-index l = 8 * l.n + 3
 
 abbrev pub decreases-operation : goal.decreases-operation
-decreases-operation l = 4 * l.depth + 2
-
-abbrev pub decreases-constructor : goal.decreases-constructor
-decreases-constructor l = 4 * l.depth + 2
+decreases-operation l = 8 * l.n + 3
 
 abbrev pub decreases-condition : goal.decreases-condition
-decreases-condition l = 4 * l.depth + 2
+decreases-condition l = 8 * l.n + 3
+
+abbrev pub decreases-record : goal.decreases-record
+decreases-record l = 8 * l.n + 3
+
+abbrev pub decreases-array : goal.decreases-array
+decreases-array l = 8 * l.n + 3
+
+abbrev pub decreases-invoked : goal.decreases-invoked
+decreases-invoked l = 8 * l.n + 3
+
+abbrev pub decreases-infix : goal.decreases-infix
+decreases-infix l = 8 * l.n + 4
+
+abbrev pub decreases-call_for_value : goal.decreases-call_for_value
+decreases-call_for_value l = 8 * l.n + 4
