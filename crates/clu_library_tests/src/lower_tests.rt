@@ -85,9 +85,9 @@ fn spec(alloc: Global) -> Result<Box<Spec>, Fail> {
 /// The routines of the file.
 fn routines(alloc: Global, checked: &Checked) -> Result<Vec<WRoutine>, Fail> {
     let declarations = declarations_of(alloc, checked.syntax.tree())?;
-    match checked.syntax.tree().modules().first() {
-        Some(module) => Ok(lower(alloc, checked, &declarations, *module)?),
-        None => Err("no module")?,
+    match checked.syntax.modules() {
+        [module, ..] => Ok(lower(alloc, checked, &declarations, *module)?),
+        [] => Err("no module")?,
     }
 }
 

@@ -1,6 +1,7 @@
 //! Assignments to variables (CLU Reference Manual, section 9).
 
-ghost use Rattle.std.specs.Prelude.{◌<◌, All, length};
+ghost use Rattle.std.specs.Prelude.{◌<◌, length};
+ghost use Rattle.clu_syntax.specs.Parts.{AreBefore};
 
 use clu_lower_expr::{
     Fixed, Lowering, Result, Variable, assign_named, is_call, lower_call, lower_expr, results_of,
@@ -11,14 +12,13 @@ use clu_wir::{WExpr, WStmt};
 
 /// `a := e`, `a, b := e, f` and `a, b := f()`, by how many names there are.
 pub fn assign(out: &mut Lowering, fixed: &Fixed, n: u32, names: usize, values: &[u32]) -> Result<()>
-    requires inside { n < length fixed.now.syntax.now }
-    requires below { All (λ c. c < n) values.now }
+    requires { AreBefore (length fixed.now.syntax.now) values.now }
 {
     let places = denoted_by(fixed, n, names)?;
     match (places.as_slice(), values) {
         ([place], [value]) => assign_one(out, fixed, *place, *value),
         (places, [call]) => assign_results(out, fixed, places, *call),
-        (places, values) => assign_values(out, fixed, n, places, values),
+        (places, values) => assign_values(out, fixed, places, values),
     }
 }
 
@@ -31,18 +31,25 @@ pub fn denoted_by(fixed: &Fixed, n: u32, names: usize) -> Result<Vec<usize>> {
     Ok(places)
 }
 
-/// Lets the variable of this declaration, own or not, name the object of an expression.
+/// Lets the variable of this declaration, own or not, name the object of an expression, whose slots are given back. The
+/// only result of a call goes right into the slot of a variable that takes it.
 pub fn assign_one(out: &mut Lowering, fixed: &Fixed, place: usize, value: u32) -> Result<()>
     requires { value < length fixed.now.syntax.now }
 {
-    if is_call(fixed.syntax, value) {
-        if let Some(variable) = taker(out, fixed, place) {
-            return assign_call(out, fixed, variable, value);
+    let free = out.taken();
+    match taker(out, fixed, place) {
+        Some(variable) if is_call(fixed.syntax, value) => {
+            let results = vec![in out.alloc; variable.slot]?;
+            lower_call(out, fixed, value, results)?;
+            out.note_named(variable)?;
+        }
+        _ => {
+            let object = lower_expr(out, fixed, value)?;
+            assign_named(out, fixed, place, object, type_of(fixed.c, value)?, free)?;
         }
     }
-    let free = out.taken();
-    let object = lower_expr(out, fixed, value)?;
-    assign_named(out, fixed, place, object, type_of(fixed.c, value)?, free)
+    out.release(free);
+    Ok(())
 }
 
 /// The variable of this declaration, if it isn't own and takes objects as they are.
@@ -56,26 +63,27 @@ fn taker(out: &Lowering, fixed: &Fixed, place: usize) -> Option<Variable> {
     }
 }
 
-/// The only result of a call goes into the slot of a variable.
-pub fn assign_call(out: &mut Lowering, fixed: &Fixed, variable: Variable, call: u32) -> Result<()>
-    requires { call < length fixed.now.syntax.now }
-{
-    let results = vec![in out.alloc; variable.slot]?;
-    lower_call(out, fixed, call, results)?;
-    out.note_named(variable)
-}
-
-/// The results of a call go into the variables.
+/// The results of a call go into the variables; slots that were taken are given back.
 pub fn assign_results(out: &mut Lowering, fixed: &Fixed, places: &[usize], call: u32) -> Result<()>
     requires { call < length fixed.now.syntax.now }
 {
     let free = out.taken();
-    let slots = call_results(out, fixed, call)?;
     let types = results_of(fixed, call)?;
+    let slots = take_slots(out, types.len())?;
+    lower_call(out, fixed, call, slots.as_slice().to_vec(out.alloc)?)?;
     assign_slots(out, fixed, places, slots.as_slice(), types, free)
 }
 
-/// The objects in slots, of these types, go to the variables, from left to right.
+/// So many slots.
+pub fn take_slots(out: &mut Lowering, count: usize) -> Result<Vec<u32>> {
+    let mut slots = Vec::new(out.alloc);
+    for _ in 0..count {
+        slots.push(out.take()?)?;
+    }
+    Ok(slots)
+}
+
+/// The objects in slots, of these types, go to the variables, from left to right. All slots from `free` on are given back.
 pub fn assign_slots(
     out: &mut Lowering,
     fixed: &Fixed,
@@ -87,19 +95,13 @@ pub fn assign_slots(
     for ((place, slot), of) in places.iter().zip(slots).zip(types) {
         assign_named(out, fixed, *place, WExpr::Slot(*slot), *of, free)?;
     }
+    out.release(free);
     Ok(())
 }
 
 /// All values are kept aside before a variable changes, since they may be words of the variables.
-fn assign_values(
-    out: &mut Lowering,
-    fixed: &Fixed,
-    n: u32,
-    places: &[usize],
-    values: &[u32],
-) -> Result<()>
-    requires inside { n < length fixed.now.syntax.now }
-    requires below { All (λ c. c < n) values.now }
+fn assign_values(out: &mut Lowering, fixed: &Fixed, places: &[usize], values: &[u32]) -> Result<()>
+    requires { AreBefore (length fixed.now.syntax.now) values.now }
 {
     let free = out.taken();
     let mut slots = Vec::new(out.alloc);
@@ -121,16 +123,4 @@ fn kept_value(out: &mut Lowering, fixed: &Fixed, value: u32) -> Result<u32>
     let slot = out.take()?;
     out.push(WStmt::Set(slot, value))?;
     Ok(slot)
-}
-
-/// Calls a routine; the answer is the slots of its results, which were free.
-pub fn call_results(out: &mut Lowering, fixed: &Fixed, call: u32) -> Result<Vec<u32>>
-    requires { call < length fixed.now.syntax.now }
-{
-    let mut slots = Vec::new(out.alloc);
-    for _ in results_of(fixed, call)? {
-        slots.push(out.take()?)?;
-    }
-    lower_call(out, fixed, call, slots.as_slice().to_vec(out.alloc)?)?;
-    Ok(slots)
 }

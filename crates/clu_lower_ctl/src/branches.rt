@@ -38,21 +38,19 @@ pub fn end_branch(out: &mut Lowering, branches: &mut Vec<Branch>) {
 /// Ends what is done where no condition is true: that of the last branch first.
 pub fn close_branches(out: &mut Lowering, mut branches: Vec<Branch>) -> Result<()> {
     for _ in 0..branches.len() {
-        if let Some(branch) = branches.pop() {
-            close_branch(out, branch)?;
+        if let Some(
+            Branch {
+                condition,
+                outer,
+                body,
+            },
+        ) = branches.pop()
+        {
+            let last = out.close(outer);
+            out.push(WStmt::If(condition, body, last))?;
         }
     }
     Ok(())
-}
-
-fn close_branch(out: &mut Lowering, branch: Branch) -> Result<()> {
-    let Branch {
-        condition,
-        outer,
-        body,
-    } = branch;
-    let last = out.close(outer);
-    out.push(WStmt::If(condition, body, last))
 }
 
 /// `if condition then body elseif condition then body else body end`

@@ -1,16 +1,16 @@
 //! Clusters (CLU Reference Manual, section 13.3): their routines, and the setting up of their own variables, which is a
 //! routine of its own. Sealing and opening an object leave its word as it is.
 
-ghost use Rattle.std.specs.Prelude.{◌≡◌, ◌<◌, All, IfOk, length};
-ghost use Rattle.clu_syntax.specs.Parts.{AreOf, ClusterParts, IsOf, RoutineParts};
+ghost use Rattle.std.specs.Prelude.{◌≡◌, All, IfOk};
 ghost use Rattle.clu_lower_expr.specs.Bounds.{IsBounded};
+ghost use Rattle.clu_lower_ctl.specs.Inside.{AreNodes, IsNode};
 
 use crate::declaring::formals;
-use crate::given::{Member, give_cluster, give_member, own_actuals};
+use crate::given::{give_cluster, give_member, own_actuals};
 use crate::headings::note_heading;
 use crate::own_type::note_types;
 use crate::own_variables::{declare_owns, set_up};
-use crate::routines::{begun, body, nothing_fixed, specification};
+use crate::routines::{body, nothing_fixed, specification};
 use clu_base::{Bytes, Sequence};
 use clu_core::{Checked, intern};
 use clu_lower_expr::{
@@ -18,7 +18,7 @@ use clu_lower_expr::{
     written_heading,
 };
 use clu_specs::{Target, use_text};
-use clu_syntax::{Cluster, Equated, Routine, RoutineKind};
+use clu_syntax::{Equated, RoutineKind};
 use clu_tree::NodeKind;
 use clu_types::{Spec, Term, TypeArena, TypeId};
 use clu_wir::{HoleKind, WRoutine, WStmt};
@@ -33,7 +33,6 @@ const SET_UP: &[u8] = b"own";
 struct Making<'a> {
     declarations: &'a Declarations,
     n: u32,
-    parts: Cluster<'a>,
     spec: &'a Spec,
     /// The type that its `rep` denotes.
     rep: Option<TypeId>,
@@ -46,24 +45,22 @@ pub fn cluster_routines(
     declarations: &Declarations,
     n: u32,
 ) -> Result<Vec<WRoutine>>
-    requires { IsOf c.now.syntax NodeKind.Cluster (length c.now.syntax) n }
+    requires { IsNode c.now.syntax NodeKind.Cluster n }
     ensures { IfOk result (λ routines. All IsBounded routines.items) }
 {
     let parts = c.syntax.cluster(n);
     let making = Making {
         declarations,
         n,
-        parts,
         spec: specification(c, parts.name)?,
-        rep: representation(c, n, parts.equates),
+        rep: representation(c, parts.equates),
     };
     making.all_routines(alloc, c)
 }
 
-/// The type that the equate of `rep` denotes, which is the one without a name among these Equates of the node n.
-fn representation(c: &Checked, n: u32, equates: &[u32]) -> Option<TypeId>
-    requires inside { n < length c.now.syntax }
-    requires equates { AreOf c.now.syntax NodeKind.Equate n equates.now }
+/// The type that the equate of `rep` denotes, which is the one without a name among these Equates.
+fn representation(c: &Checked, equates: &[u32]) -> Option<TypeId>
+    requires { AreNodes c.now.syntax NodeKind.Equate equates.now }
 {
     for equate in equates {
         let parts = c.syntax.equate(*equate);
@@ -80,23 +77,25 @@ fn representation(c: &Checked, n: u32, equates: &[u32]) -> Option<TypeId>
 impl Making<'_> {
     /// Notes the cluster's representation, its own variables and what its where clause gives.
     fn note(&self, fixed: &mut Fixed) -> Result<()>
-        requires inside { self.now.n < length fixed.old.syntax.now }
-        requires parts { ClusterParts fixed.old.syntax.now self.now.n self.now.parts }
+        requires { IsNode fixed.old.syntax.now NodeKind.Cluster self.now.n }
         ensures { fixed.new.syntax ≡ fixed.old.syntax }
     {
         fixed.rep = self.rep;
-        give_cluster(fixed, self.spec)?;
-        declare_owns(fixed, self.n, self.parts.owns, HoleKind::ClusterOwn)
+        declare_owns(
+            fixed,
+            fixed.syntax.cluster(self.n).owns,
+            HoleKind::ClusterOwn,
+        )?;
+        give_cluster(fixed, self.spec)
     }
 
     /// The routines, after that which sets up the own variables.
     fn all_routines(&self, alloc: Global, c: &Checked) -> Result<Vec<WRoutine>>
-        requires inside { self.now.n < length c.now.syntax }
-        requires parts { ClusterParts c.now.syntax self.now.n self.now.parts }
+        requires { IsNode c.now.syntax NodeKind.Cluster self.now.n }
         ensures { IfOk result (λ routines. All IsBounded routines.items) }
     {
         let mut routines = self.set_ups(alloc, c)?;
-        for n in self.parts.routines {
+        for n in c.syntax.cluster(self.n).routines {
             routines.push(self.routine(alloc, c, *n)?)?;
         }
         Ok(routines)
@@ -104,95 +103,71 @@ impl Making<'_> {
 
     /// The routine that sets up the own variables, if there are any.
     fn set_ups(&self, alloc: Global, c: &Checked) -> Result<Vec<WRoutine>>
-        requires inside { self.now.n < length c.now.syntax }
-        requires parts { ClusterParts c.now.syntax self.now.n self.now.parts }
+        requires { IsNode c.now.syntax NodeKind.Cluster self.now.n }
         ensures { IfOk result (λ routines. All IsBounded routines.items) }
     {
-        if self.parts.owns.is_empty() {
-            return Ok(Vec::new(alloc));
+        match c.syntax.cluster(self.n).owns {
+            [] => Ok(Vec::new(alloc)),
+            owns => Ok(vec![in alloc; self.set_up(alloc, c, owns)?]?),
         }
-        Ok(vec![in alloc; self.set_up(alloc, c)?]?)
     }
 
     /// The routine that sets up the own variables. Its nodes are those of their declarations.
-    fn set_up(&self, alloc: Global, c: &Checked) -> Result<WRoutine>
-        requires inside { self.now.n < length c.now.syntax }
-        requires parts { ClusterParts c.now.syntax self.now.n self.now.parts }
+    fn set_up(&self, alloc: Global, c: &Checked, owns: &[u32]) -> Result<WRoutine>
+        requires cluster { IsNode c.now.syntax NodeKind.Cluster self.now.n }
+        requires owns { AreNodes c.now.syntax NodeKind.Own owns.now }
         ensures { IfOk result IsBounded }
     {
         let name = Bytes::from_slice(alloc, SET_UP)?;
-        let mut out = begun(alloc)?;
+        let mut out = Box::new(alloc, Lowering::new(alloc))?;
         let mut fixed = nothing_fixed(alloc, c, self.declarations)?;
-        self.fill_set_up(&mut out, &mut fixed)?;
-        out.finish(name, 0, self.own_nodes(c))
-    }
-
-    fn fill_set_up(&self, out: &mut Lowering, fixed: &mut Fixed) -> Result<()>
-        requires inside { self.now.n < length fixed.old.syntax.now }
-        requires parts { ClusterParts fixed.old.syntax.now self.now.n self.now.parts }
-    {
-        self.note(fixed)?;
-        let _own = out.add_type(Bytes::from_slice(out.alloc, b"proctype()")?)?;
-        set_up(out, fixed, self.n, self.parts.owns, HoleKind::ClusterOwn)?;
-        out.push(WStmt::Return(Vec::new(out.alloc)))
-    }
-
-    /// The nodes of the declarations of own variables.
-    fn own_nodes(&self, c: &Checked) -> u32
-        requires inside { self.now.n < length c.now.syntax }
-        requires parts { ClusterParts c.now.syntax self.now.n self.now.parts }
-    {
-        let mut nodes = 0u32;
-        for own in self.parts.owns {
-            nodes = nodes.saturating_add(c.syntax.tree().nodes(*own));
-        }
-        nodes
+        self.note(&mut fixed)?;
+        let _own = out.add_type(Bytes::from_slice(alloc, b"proctype()")?)?;
+        set_up(&mut out, &fixed, owns, HoleKind::ClusterOwn)?;
+        out.push(WStmt::Return(Vec::new(alloc)))?;
+        out.finish(name, 0, own_nodes(c, owns))
     }
 
     fn routine(&self, alloc: Global, c: &Checked, n: u32) -> Result<WRoutine>
-        requires inside { self.now.n < length c.now.syntax }
-        requires parts { ClusterParts c.now.syntax self.now.n self.now.parts }
-        requires routine { IsOf c.now.syntax NodeKind.Routine (length c.now.syntax) n }
+        requires cluster { IsNode c.now.syntax NodeKind.Cluster self.now.n }
+        requires routine { IsNode c.now.syntax NodeKind.Routine n }
         ensures { IfOk result IsBounded }
     {
-        let routine = c.syntax.routine(n);
-        let name = routine.name.copy(alloc)?;
-        let mut out = begun(alloc)?;
+        let name = c.syntax.routine(n).name.copy(alloc)?;
+        let mut out = Box::new(alloc, Lowering::new(alloc))?;
         let mut fixed = nothing_fixed(alloc, c, self.declarations)?;
-        let args = self.fill(&mut out, &mut fixed, n, routine)?;
+        self.note_member(&mut fixed, n)?;
+        let args = self.fill(&mut out, &mut fixed, c, n)?;
         out.finish(name, args, c.syntax.tree().nodes(n))
     }
 
-    /// Adds all that stands in the routine n; the answer is how many arguments it takes.
-    fn fill(
-        &self,
-        out: &mut Lowering,
-        fixed: &mut Fixed,
-        n: u32,
-        routine: Routine<'_>,
-    ) -> Result<u32>
-        requires inside { self.now.n < length fixed.old.syntax.now }
-        requires cluster { ClusterParts fixed.old.syntax.now self.now.n self.now.parts }
-        requires routine { IsOf fixed.old.syntax.now NodeKind.Routine (length fixed.old.syntax.now) n }
-        requires parts { RoutineParts fixed.old.syntax.now n routine }
+    /// Notes what stands round the statements of the routine n.
+    fn note_member(&self, fixed: &mut Fixed, n: u32) -> Result<()>
+        requires cluster { IsNode fixed.old.syntax.now NodeKind.Cluster self.now.n }
+        requires routine { IsNode fixed.old.syntax.now NodeKind.Routine n }
+        ensures { fixed.new.syntax ≡ fixed.old.syntax }
     {
-        let member = Member {
-            cluster: self.n,
-            parameters: self.parts.parameters,
-            routine: n,
-            spec: self.spec,
-        };
-        give_member(fixed, member)?;
+        give_member(fixed, n, fixed.syntax.cluster(self.n).parameters, self.spec)?;
         self.note(fixed)?;
-        let seen = self.seen(out.alloc, fixed.c, n)?;
-        note_types(out, fixed, seen, is_iterator(routine.kind))?;
-        note_heading(fixed, n, routine.results, routine.exceptions)?;
-        let args = formals(out, fixed, n, routine.arguments)?;
-        if !self.parts.owns.is_empty() {
+        note_heading(fixed, n)
+    }
+
+    /// Adds all that stands in the routine n; the answer is how many arguments it takes.
+    fn fill(&self, out: &mut Lowering, fixed: &mut Fixed, c: &Checked, n: u32) -> Result<u32>
+        requires cluster { IsNode fixed.old.syntax.now NodeKind.Cluster self.now.n }
+        requires routine { IsNode fixed.old.syntax.now NodeKind.Routine n }
+        requires checked { IsNode c.now.syntax NodeKind.Routine n }
+    {
+        let routine = fixed.syntax.routine(n);
+        let is_iterator = matches!(routine.kind, RoutineKind::Iterator);
+        let seen = self.seen(out.alloc, c, n)?;
+        note_types(out, &mut fixed.object_types, seen, is_iterator)?;
+        let args = formals(out, fixed, routine.arguments)?;
+        if !fixed.syntax.cluster(self.n).owns.is_empty() {
             let text = self.set_up_text(out.alloc)?;
             lower_own_set_up(out, text)?;
         }
-        body(out, fixed, n, routine)?;
+        body(out, fixed, n)?;
         Ok(args)
     }
 
@@ -215,7 +190,7 @@ impl Making<'_> {
 
     /// The heading of the routine n as callers see it.
     fn seen(&self, alloc: Global, c: &Checked, n: u32) -> Result<Seen>
-        requires { IsOf c.now.syntax NodeKind.Routine (length c.now.syntax) n }
+        requires { IsNode c.now.syntax NodeKind.Routine n }
     {
         let mut types = Box::new(alloc, TypeArena::new(alloc))?;
         let of = self.cluster_type(alloc, &mut types)?;
@@ -229,9 +204,13 @@ impl Making<'_> {
     }
 }
 
-fn is_iterator(kind: RoutineKind) -> bool {
-    match kind {
-        RoutineKind::Procedure => false,
-        RoutineKind::Iterator => true,
+/// The nodes of these declarations of own variables.
+fn own_nodes(c: &Checked, owns: &[u32]) -> u32
+    requires { AreNodes c.now.syntax NodeKind.Own owns.now }
+{
+    let mut nodes = 0u32;
+    for own in owns {
+        nodes = nodes.saturating_add(c.syntax.tree().nodes(*own));
     }
+    nodes
 }

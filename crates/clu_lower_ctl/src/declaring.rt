@@ -1,14 +1,11 @@
 //! Declarations of variables: Declare and Init (CLU Reference Manual, section 8).
 
 ghost use Rattle.std.specs.Prelude.{◌<◌, length};
-ghost use Rattle.clu_syntax.specs.Parts.{AreOf, IsOf};
+ghost use Rattle.clu_lower_ctl.specs.Inside.{AreNodes, IsNode};
 
-use crate::assigning::{assign_call, call_results};
-use clu_lower_expr::{
-    Fixed, Lowering, Result, Variable, bind, denotes_any, is_call, lower_expr, results_of, type_of,
-};
+use crate::assigning::{assign_one, assign_results};
+use clu_lower_expr::{Fixed, Lowering, Result, denotes_any};
 use clu_tree::NodeKind;
-use clu_wir::WExpr;
 
 /// The place of a declaration of a variable, and whether its type is any.
 #[derive(Clone, Copy)]
@@ -26,10 +23,9 @@ pub fn declared_by(fixed: &Fixed, n: u32, of: u32) -> Result<Declared>
     Ok(Declared { place, is_any })
 }
 
-/// The variables that these Decls of the node n declare.
-pub fn variables_of(fixed: &Fixed, n: u32, declarations: &[u32]) -> Result<Vec<Declared>>
-    requires inside { n < length fixed.now.syntax.now }
-    requires declarations { AreOf fixed.now.syntax.now NodeKind.Decl n declarations.now }
+/// The variables that these Decls declare.
+pub fn variables_of(fixed: &Fixed, declarations: &[u32]) -> Result<Vec<Declared>>
+    requires { AreNodes fixed.now.syntax.now NodeKind.Decl declarations.now }
 {
     let mut listed = Vec::new(fixed.alloc);
     for declaration in declarations {
@@ -50,58 +46,48 @@ fn add_names(names: usize, first: Declared, listed: &mut Vec<Declared>) -> Resul
     Ok(())
 }
 
-/// A new variable, which names no object yet if it is `bare`.
-fn new_variable(out: &mut Lowering, is_any: bool, bare: bool) -> Result<Variable> {
+/// Makes a variable, which names no object yet if it is `bare`; else one comes with a call, a yield, an exception or a
+/// tag. Gives its slot.
+pub fn declare_one(out: &mut Lowering, declared: Declared, bare: bool) -> Result<u32> {
     let mut variable = if bare {
         out.bare_variable()?
     } else {
         out.named_variable()?
     };
-    variable.is_any = is_any;
-    Ok(variable)
-}
-
-/// `a, b: t`
-pub fn declare(out: &mut Lowering, fixed: &Fixed, n: u32, declaration: u32) -> Result<()>
-    requires inside { n < length fixed.now.syntax.now }
-    requires declaration { IsOf fixed.now.syntax.now NodeKind.Decl n declaration }
-{
-    let listed = variables_of(fixed, n, &[declaration])?;
-    for declared in listed.as_slice() {
-        let variable = new_variable(out, declared.is_any, true)?;
-        out.declare(declared.place, variable)?;
-    }
-    Ok(())
-}
-
-/// The formal arguments of the routine n, in the first slots, and how many they are.
-pub fn formals(out: &mut Lowering, fixed: &Fixed, n: u32, declarations: &[u32]) -> Result<u32>
-    requires inside { n < length fixed.now.syntax.now }
-    requires declarations { AreOf fixed.now.syntax.now NodeKind.Decl n declarations.now }
-{
-    let listed = variables_of(fixed, n, declarations)?;
-    let _slots = declare_formals(out, listed.as_slice())?;
-    Ok(out.taken())
-}
-
-/// Variables whose objects come with a call or an exception. Gives their slots.
-pub fn declare_formals(out: &mut Lowering, listed: &[Declared]) -> Result<Vec<u32>> {
-    let mut slots = Vec::new(out.alloc);
-    for declared in listed {
-        slots.push(declare_formal(out, *declared)?)?;
-    }
-    Ok(slots)
-}
-
-/// A variable whose object comes with a call, a yield, an exception or a tag. Gives its slot.
-pub fn declare_formal(out: &mut Lowering, declared: Declared) -> Result<u32> {
-    let variable = new_variable(out, declared.is_any, false)?;
+    variable.is_any = declared.is_any;
     out.declare(declared.place, variable)?;
     Ok(variable.slot)
 }
 
-/// `a: t := e`. The variable is in scope after the statement. Where arms round it may see it before it names its object,
-/// it is `bare`.
+/// The same of several variables.
+pub fn declare_all(out: &mut Lowering, listed: &[Declared], bare: bool) -> Result<Vec<u32>> {
+    let mut slots = Vec::new(out.alloc);
+    for declared in listed {
+        slots.push(declare_one(out, *declared, bare)?)?;
+    }
+    Ok(slots)
+}
+
+/// `a, b: t`
+pub fn declare(out: &mut Lowering, fixed: &Fixed, declaration: u32) -> Result<()>
+    requires { IsNode fixed.now.syntax.now NodeKind.Decl declaration }
+{
+    let listed = variables_of(fixed, &[declaration])?;
+    let _slots = declare_all(out, listed.as_slice(), true)?;
+    Ok(())
+}
+
+/// The formal arguments of a routine, in the first slots, and how many they are.
+pub fn formals(out: &mut Lowering, fixed: &Fixed, declarations: &[u32]) -> Result<u32>
+    requires { AreNodes fixed.now.syntax.now NodeKind.Decl declarations.now }
+{
+    let listed = variables_of(fixed, declarations)?;
+    let _slots = declare_all(out, listed.as_slice(), false)?;
+    Ok(out.taken())
+}
+
+/// `a: t := e` at the node n. Names in the expression denote other declarations. Where arms round it may see the variable
+/// before it names its object, it is `bare`.
 pub fn initialize(
     out: &mut Lowering,
     fixed: &Fixed,
@@ -114,64 +100,33 @@ pub fn initialize(
     requires value { value < length fixed.now.syntax.now }
 {
     let declared = declared_by(fixed, n, of)?;
-    let variable = new_variable(out, declared.is_any, bare)?;
-    let taken = out.taken();
-    if !variable.is_any && is_call(fixed.syntax, value) {
-        assign_call(out, fixed, variable, value)?;
-    } else {
-        let given = type_of(fixed.c, value)?;
-        let object = lower_expr(out, fixed, value)?;
-        let object = out.taken_back(object, taken);
-        let object = bind(out, &fixed.c.types, object, given, variable.is_any, taken)?;
-        out.assign(variable, object)?;
-    }
-    out.release(taken);
-    out.declare(declared.place, variable)
+    let _slot = declare_one(out, declared, bare)?;
+    assign_one(out, fixed, declared.place, value)
 }
 
 /// `a: t, b: u := f()`
 pub fn initialize_by_call(
     out: &mut Lowering,
     fixed: &Fixed,
-    n: u32,
     declarations: &[u32],
     call: u32,
     bare: bool,
 ) -> Result<()>
-    requires inside { n < length fixed.now.syntax.now }
-    requires declarations { AreOf fixed.now.syntax.now NodeKind.Decl n declarations.now }
-    requires call { call < n }
+    requires declarations { AreNodes fixed.now.syntax.now NodeKind.Decl declarations.now }
+    requires call { call < length fixed.now.syntax.now }
 {
-    let listed = variables_of(fixed, n, declarations)?;
-    let variables = new_variables(out, listed.as_slice(), bare)?;
-    let taken = out.taken();
-    give_results(out, fixed, variables.as_slice(), call)?;
-    out.release(taken);
-    for (declared, variable) in listed.as_slice().iter().zip(variables.as_slice()) {
-        out.declare(declared.place, *variable)?;
-    }
-    Ok(())
-}
-
-fn new_variables(out: &mut Lowering, listed: &[Declared], bare: bool) -> Result<Vec<Variable>> {
-    let mut variables = Vec::new(out.alloc);
-    for declared in listed {
-        variables.push(new_variable(out, declared.is_any, bare)?)?;
-    }
-    Ok(variables)
+    let listed = variables_of(fixed, declarations)?;
+    let _slots = declare_all(out, listed.as_slice(), bare)?;
+    give_results(out, fixed, listed.as_slice(), call)
 }
 
 /// Lets variables name the results of a call.
-fn give_results(out: &mut Lowering, fixed: &Fixed, variables: &[Variable], call: u32) -> Result<()>
+pub fn give_results(out: &mut Lowering, fixed: &Fixed, listed: &[Declared], call: u32) -> Result<()>
     requires { call < length fixed.now.syntax.now }
 {
-    let free = out.taken();
-    let slots = call_results(out, fixed, call)?;
-    let types = results_of(fixed, call)?;
-    for ((variable, slot), of) in variables.iter().zip(slots.as_slice()).zip(types) {
-        let object = WExpr::Slot(*slot);
-        let object = bind(out, &fixed.c.types, object, *of, variable.is_any, free)?;
-        out.assign(*variable, object)?;
+    let mut places = Vec::new(out.alloc);
+    for declared in listed {
+        places.push(declared.place)?;
     }
-    Ok(())
+    assign_results(out, fixed, places.as_slice(), call)
 }

@@ -1,7 +1,8 @@
 //! What the where clauses round the body of a routine give of type parameters (CLU Reference Manual, section 12.4).
 
-ghost use Rattle.std.specs.Prelude.{◌≡◌, ◌<◌, IfOk, length};
-ghost use Rattle.clu_syntax.specs.Parts.{AreOf, IsOf, equated_parts};
+ghost use Rattle.std.specs.Prelude.{◌≡◌, IfOk, length};
+ghost use Rattle.clu_syntax.specs.Parts.{equated_parts};
+ghost use Rattle.clu_lower_ctl.specs.Inside.{AreNodes, IsNode};
 
 use clu_base::Bytes;
 use clu_core::intern;
@@ -21,32 +22,19 @@ pub fn give_cluster(fixed: &mut Fixed, spec: &Spec) -> Result<()>
     }
 }
 
-/// A routine of a cluster, and what stands round it.
-#[derive(Clone, Copy)]
-pub struct Member<'a> {
-    /// The node of the cluster, and its parameters, each a Parm.
-    pub cluster: u32,
-    pub parameters: &'a [u32],
-    /// The node of the routine.
-    pub routine: u32,
-    /// The specification of the cluster.
-    pub spec: &'a Spec,
-}
-
-/// Adds what the where clause of a routine of a cluster gives. One that is exported has it in the specification; of any
-/// other its text is read.
-pub fn give_member(fixed: &mut Fixed, member: Member<'_>) -> Result<()>
-    requires routine { IsOf fixed.old.syntax.now NodeKind.Routine (length fixed.old.syntax.now) member.routine }
-    requires cluster { member.cluster < length fixed.old.syntax.now }
-    requires parameters { AreOf fixed.old.syntax.now NodeKind.Parm member.cluster member.parameters.now }
+/// Adds what the where clause of the routine n gives, which stands in a cluster with these parameters and this
+/// specification. One that is exported has it there; of any other its text is read.
+pub fn give_member(fixed: &mut Fixed, n: u32, parameters: &[u32], spec: &Spec) -> Result<()>
+    requires routine { IsNode fixed.old.syntax.now NodeKind.Routine n }
+    requires parameters { AreNodes fixed.old.syntax.now NodeKind.Parm parameters.now }
     ensures { fixed.new.syntax ≡ fixed.old.syntax }
 {
-    let routine = fixed.syntax.routine(member.routine);
-    if let Some(op) = exported(member.spec, routine.name) {
-        return fixed.give(&member.spec.types, op.demands.as_slice(), &[]);
+    let routine = fixed.syntax.routine(n);
+    if let Some(op) = exported(spec, routine.name) {
+        return fixed.give(&spec.types, op.demands.as_slice(), &[]);
     }
     for restriction in routine.restrictions {
-        give_restriction(fixed, member, *restriction)?;
+        give_restriction(fixed, *restriction, parameters, spec)?;
     }
     Ok(())
 }
@@ -65,48 +53,42 @@ fn operation_named<'a>(ops: &'a [OpSpec], name: &Bytes) -> Option<&'a OpSpec> {
     if op.name == *name { Some(op) } else { None }
 }
 
-fn give_restriction(fixed: &mut Fixed, member: Member<'_>, n: u32) -> Result<()>
-    requires restriction { IsOf fixed.old.syntax.now NodeKind.Restrict (length fixed.old.syntax.now) n }
-    requires cluster { member.cluster < length fixed.old.syntax.now }
-    requires parameters { AreOf fixed.old.syntax.now NodeKind.Parm member.cluster member.parameters.now }
+fn give_restriction(fixed: &mut Fixed, n: u32, parameters: &[u32], spec: &Spec) -> Result<()>
+    requires restriction { IsNode fixed.old.syntax.now NodeKind.Restrict n }
+    requires parameters { AreNodes fixed.old.syntax.now NodeKind.Parm parameters.now }
     ensures { fixed.new.syntax ≡ fixed.old.syntax }
 {
     match fixed.syntax.restriction(n) {
         Restriction::Has { name, operations } => {
-            let param = parameter_named(fixed.syntax, member, name)?;
-            give_operations(fixed, n, operations, param, &[])
+            let param = parameter_named(fixed.syntax, parameters, name)?;
+            give_operations(fixed, operations, param, &[])
         }
         Restriction::In { name, .. } => {
-            let param = parameter_named(fixed.syntax, member, name)?;
-            let set = set_named(fixed, n, 1)?;
-            give_set(fixed, member.spec, set, param)
+            let param = parameter_named(fixed.syntax, parameters, name)?;
+            give_set(fixed, set_named(fixed, n, 1)?, spec, param)
         }
         Restriction::InSet { name, set } => {
-            let param = parameter_named(fixed.syntax, member, name)?;
-            give_set(fixed, member.spec, set, param)
+            let param = parameter_named(fixed.syntax, parameters, name)?;
+            give_set(fixed, set, spec, param)
         }
     }
 }
 
-/// Adds what a TypeSet asks of a parameter that is in it.
-fn give_set(fixed: &mut Fixed, spec: &Spec, n: u32, param: u32) -> Result<()>
-    requires { IsOf fixed.old.syntax.now NodeKind.TypeSet (length fixed.old.syntax.now) n }
-    ensures { fixed.new.syntax ≡ fixed.old.syntax }
-{
-    let actuals = actuals_of_set(fixed, spec, param)?;
-    let set = fixed.syntax.type_set(n);
-    give_operations(fixed, n, set.operations, param, actuals.as_slice())
-}
-
-/// The types in a set name its variable as a parameter after those of the module, which stay as they are. Its actual
-/// is the parameter that is in the set.
-fn actuals_of_set(fixed: &mut Fixed, spec: &Spec, param: u32) -> Result<Vec<Actual>>
+/// Adds what a TypeSet asks of a parameter that is in it. The types in the set name its variable as a parameter after those
+/// of the module, which stay as they are; its actual is the parameter that is in the set.
+fn give_set(fixed: &mut Fixed, n: u32, spec: &Spec, param: u32) -> Result<()>
+    requires { IsNode fixed.old.syntax.now NodeKind.TypeSet n }
     ensures { fixed.new.syntax ≡ fixed.old.syntax }
 {
     let types = &mut fixed.given_types;
     let mut actuals = own_actuals(fixed.alloc, types, spec.kinds.as_slice())?;
     actuals.push(Actual::Of(intern(types, Term::Param(param))?))?;
-    Ok(actuals)
+    give_operations(
+        fixed,
+        fixed.syntax.type_set(n).operations,
+        param,
+        actuals.as_slice(),
+    )
 }
 
 /// The parameters of a module as actuals of their own.
@@ -127,16 +109,14 @@ pub fn own_actuals(
     Ok(actuals)
 }
 
-/// Adds what these Opers of the node n ask of a parameter.
+/// Adds what these Opers ask of a parameter.
 fn give_operations(
     fixed: &mut Fixed,
-    n: u32,
     operations: &[u32],
     param: u32,
     actuals: &[Actual],
 ) -> Result<()>
-    requires inside { n < length fixed.old.syntax.now }
-    requires operations { AreOf fixed.old.syntax.now NodeKind.Oper n operations.now }
+    requires { AreNodes fixed.old.syntax.now NodeKind.Oper operations.now }
     ensures { fixed.new.syntax ≡ fixed.old.syntax }
 {
     for operation in operations {
@@ -171,7 +151,7 @@ fn give_names(
 
 /// The TypeSet that the k-th name of a node comes to, through no more equates than there are nodes.
 fn set_named(fixed: &Fixed, n: u32, k: usize) -> Result<u32>
-    ensures { IfOk result (IsOf fixed.now.syntax.now NodeKind.TypeSet (length fixed.now.syntax.now)) }
+    ensures { IfOk result (IsNode fixed.now.syntax.now NodeKind.TypeSet) }
 {
     let mut place = fixed.declarations.denoted(n, k)?;
     for _ in 0..fixed.syntax.tree().len() {
@@ -197,13 +177,12 @@ fn equated(fixed: &Fixed, place: usize) -> Result<Equated>
     Err(LowerError::NotYet)
 }
 
-/// The number of the parameter of this name of the cluster round a routine.
-fn parameter_named(syntax: &Syntax, member: Member<'_>, name: &Bytes) -> Result<u32>
-    requires cluster { member.cluster < length syntax.now }
-    requires parameters { AreOf syntax.now NodeKind.Parm member.cluster member.parameters.now }
+/// The number of the parameter of this name among those of a cluster.
+fn parameter_named(syntax: &Syntax, parameters: &[u32], name: &Bytes) -> Result<u32>
+    requires { AreNodes syntax.now NodeKind.Parm parameters.now }
 {
     let mut before = 0u32;
-    for parameter in member.parameters {
+    for parameter in parameters {
         let names = syntax.parameter(*parameter).names;
         if let Some(place) = names.iter().position(|known| known == name) {
             return Ok(before.saturating_add(number(place)).saturating_add(1));

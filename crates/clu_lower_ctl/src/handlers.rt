@@ -2,22 +2,24 @@
 //! outside it.
 
 ghost use Rattle.std.specs.Prelude.{◌<◌, length};
-ghost use Rattle.clu_syntax.specs.Parts.{AreOf, IsOf, option_parts, taken_parts, variable_parts};
+ghost use Rattle.clu_syntax.specs.Parts.{AreOf, option_parts};
+ghost use Rattle.clu_lower_ctl.specs.Inside.{AreNodes, IsNode};
 
-use crate::declaring::{Declared, declare_formal, declare_formals, declared_by, variables_of};
+use crate::declaring::{Declared, declare_all, declare_one, declared_by, variables_of};
 use crate::walk::{statement, statements};
 use clu_base::Bytes;
-use clu_core::intern;
-use clu_lower_expr::{Fixed, LowerError, Lowering, OpenArm, Result, bind, copied_names};
-use clu_syntax::{Taken, Variable};
+use clu_lower_expr::{Fixed, Lowering, OpenArm, Result, copied_names};
+use clu_syntax::Taken;
 use clu_tree::NodeKind;
-use clu_types::{Term, TypeArena};
 use clu_wir::{WArm, WExpr, WStmt};
 use std::alloc::Global;
 use std::boxed::Box;
 
 /// The name of the exception that every routine may signal.
 const FAILURE: &[u8] = b"failure";
+
+/// The text of the type of strings.
+const STRING: &[u8] = b"string";
 
 /// The bytes of a word.
 const WORD: u32 = 8;
@@ -57,7 +59,7 @@ pub fn except(
     requires others { option_parts fixed.now.syntax.now NodeKind.Others n others }
 {
     let outside = out.guards.len();
-    let failure_arm = open_arms(out, fixed, n, arms, others.is_some())?;
+    let failure_arm = open_arms(out, fixed, arms, others.is_some())?;
     let outer = out.open();
     statement(out, fixed, inner, true)?;
     let body = out.close(outer);
@@ -85,12 +87,10 @@ fn close_arms(
 fn open_arms(
     out: &mut Lowering,
     fixed: &Fixed,
-    n: u32,
     nodes: &[u32],
     has_others: bool,
 ) -> Result<Option<u32>>
-    requires inside { n < length fixed.now.syntax.now }
-    requires arms { AreOf fixed.now.syntax.now NodeKind.When n nodes.now }
+    requires { AreNodes fixed.now.syntax.now NodeKind.When nodes.now }
 {
     let mut arms = Vec::new(out.alloc);
     for arm in nodes {
@@ -109,21 +109,25 @@ fn open_arms(
 }
 
 fn open_arm(fixed: &Fixed, n: u32) -> Result<OpenArm>
-    requires { IsOf fixed.now.syntax.now NodeKind.When (length fixed.now.syntax.now) n }
+    requires { IsNode fixed.now.syntax.now NodeKind.When n }
 {
     let arm = fixed.syntax.when(n);
-    let (drops, binds) = match arm.taken {
-        Taken::Any => (true, false),
-        Taken::Objects(declarations) => {
-            let listed = variables_of(fixed, n, declarations)?;
-            (false, binds_any(listed.as_slice()))
-        }
-    };
+    let listed = objects_of(fixed, n)?;
     Ok(OpenArm {
         names: copied_names(fixed.alloc, arm.names)?,
-        drops,
-        binds,
+        drops: matches!(arm.taken, Taken::Any),
+        binds: binds_any(listed.as_slice()),
     })
+}
+
+/// The variables of a When, none if it drops the objects.
+fn objects_of(fixed: &Fixed, n: u32) -> Result<Vec<Declared>>
+    requires { IsNode fixed.now.syntax.now NodeKind.When n }
+{
+    match fixed.syntax.when(n).taken {
+        Taken::Objects(declarations) => variables_of(fixed, declarations),
+        Taken::Any => Ok(Vec::new(fixed.alloc)),
+    }
 }
 
 /// An arm to which no exit goes.
@@ -173,23 +177,17 @@ fn type_failures(out: &mut Lowering, body: Vec<WStmt>, arm: u32) -> Result<Vec<W
     let taken = out.taken();
     let slot = out.take()?;
     out.release(taken);
-    let string = vec![in out.alloc; Bytes::from_slice(out.alloc, b"string")?]?;
+    let string = vec![in out.alloc; Bytes::from_slice(out.alloc, STRING)?]?;
     let types = out.type_cells(string)?;
     let words = vec![in out.alloc; WExpr::Slot(slot), types]?;
-    let exit = vec![in out.alloc; WStmt::Exit(0, arm, words)]?;
-    let arms = vec![in out.alloc; failure_arm(out, slot, exit)?]?;
-    Ok(vec![in out.alloc; WStmt::Guard(body, arms)]?)
-}
-
-/// An arm that takes failures, whose string goes into the slot.
-fn failure_arm(out: &Lowering, slot: u32, body: Vec<WStmt>) -> Result<WArm> {
-    let name = Bytes::from_slice(out.alloc, FAILURE)?;
-    Ok(WArm {
-        names: vec![in out.alloc; name]?,
+    let typing = WArm {
+        names: vec![in out.alloc; Bytes::from_slice(out.alloc, FAILURE)?]?,
         others: false,
         slots: vec![in out.alloc; slot]?,
-        body,
-    })
+        body: vec![in out.alloc; WStmt::Exit(0, arm, words)]?,
+    };
+    let arms = vec![in out.alloc; typing]?;
+    Ok(vec![in out.alloc; WStmt::Guard(body, arms)]?)
 }
 
 /// The arms of an Except.
@@ -218,13 +216,13 @@ fn handlers(
 /// `when name, .. (declaration, ..): body`. The variables that it declares name what comes with the exception.
 #[cycle(statements)]
 fn named_handler(out: &mut Lowering, fixed: &Fixed, n: u32) -> Result<WArm>
-    requires { IsOf fixed.now.syntax.now NodeKind.When (length fixed.now.syntax.now) n }
+    requires { IsNode fixed.now.syntax.now NodeKind.When n }
 {
     let arm = fixed.syntax.when(n);
     let names = copied_names(out.alloc, arm.names)?;
     let taken = out.taken();
     let outer = out.open();
-    let slots = take_objects(out, fixed, n, arm.taken)?;
+    let slots = take_objects(out, fixed, n)?;
     statements(out, fixed, n, arm.body.statements)?;
     let body = out.close(outer);
     out.release(taken);
@@ -239,13 +237,12 @@ fn named_handler(out: &mut Lowering, fixed: &Fixed, n: u32) -> Result<WArm>
 /// `others (name: type): body`
 #[cycle(statements)]
 fn other_handler(out: &mut Lowering, fixed: &Fixed, n: u32) -> Result<WArm>
-    requires { IsOf fixed.now.syntax.now NodeKind.Others (length fixed.now.syntax.now) n }
+    requires { IsNode fixed.now.syntax.now NodeKind.Others n }
 {
-    let arm = fixed.syntax.others(n);
     let taken = out.taken();
     let outer = out.open();
-    let slots = take_name(out, fixed, n, arm.variable)?;
-    statements(out, fixed, n, arm.body.statements)?;
+    let slots = take_name(out, fixed, n)?;
+    statements(out, fixed, n, fixed.syntax.others(n).body.statements)?;
     let body = out.close(outer);
     out.release(taken);
     Ok(WArm {
@@ -258,15 +255,11 @@ fn other_handler(out: &mut Lowering, fixed: &Fixed, n: u32) -> Result<WArm>
 
 /// The variables of a When name the objects that come; the answer is their slots. Those of type any are bound with the
 /// types that come after them.
-fn take_objects(out: &mut Lowering, fixed: &Fixed, n: u32, taken: Taken<'_>) -> Result<Vec<u32>>
-    requires inside { n < length fixed.now.syntax.now }
-    requires taken { taken_parts fixed.now.syntax.now n taken }
+fn take_objects(out: &mut Lowering, fixed: &Fixed, n: u32) -> Result<Vec<u32>>
+    requires { IsNode fixed.now.syntax.now NodeKind.When n }
 {
-    let Taken::Objects(declarations) = taken else {
-        return Ok(Vec::new(out.alloc));
-    };
-    let listed = variables_of(fixed, n, declarations)?;
-    let mut slots = declare_formals(out, listed.as_slice())?;
+    let listed = objects_of(fixed, n)?;
+    let mut slots = declare_all(out, listed.as_slice(), false)?;
     if binds_any(listed.as_slice()) {
         bind_objects(out, listed.as_slice(), &mut slots)?;
     }
@@ -283,10 +276,7 @@ fn bind_objects(out: &mut Lowering, listed: &[Declared], slots: &mut Vec<u32>) -
         if declared.is_any {
             bind_object(out, *slot, types, distance)?;
         }
-        distance = match distance.checked_add(WORD) {
-            Some(after) => after,
-            None => return Err(LowerError::NotYet),
-        };
+        distance = distance.saturating_add(WORD);
     }
     slots.push(types)?;
     Ok(())
@@ -300,20 +290,14 @@ fn bind_object(out: &mut Lowering, slot: u32, types: u32, distance: u32) -> Resu
 }
 
 /// The variable of an Others, if it has one, names a string, the name of the exception; the answer is its slot.
-fn take_name(
-    out: &mut Lowering,
-    fixed: &Fixed,
-    n: u32,
-    variable: Option<Variable<'_>>,
-) -> Result<Vec<u32>>
-    requires inside { n < length fixed.now.syntax.now }
-    requires variable { variable_parts n variable }
+fn take_name(out: &mut Lowering, fixed: &Fixed, n: u32) -> Result<Vec<u32>>
+    requires { IsNode fixed.now.syntax.now NodeKind.Others n }
 {
-    let Some(variable) = variable else {
+    let Some(variable) = fixed.syntax.others(n).variable else {
         return Ok(Vec::new(out.alloc));
     };
     let declared = declared_by(fixed, n, variable.declared)?;
-    let slot = declare_formal(out, declared)?;
+    let slot = declare_one(out, declared, false)?;
     if declared.is_any {
         bind_string(out, slot)?;
     }
@@ -322,8 +306,6 @@ fn take_name(
 
 /// Binds the string in a slot to type any.
 fn bind_string(out: &mut Lowering, slot: u32) -> Result<()> {
-    let mut types = Box::new(out.alloc, TypeArena::new(out.alloc))?;
-    let string = intern(&mut types, Term::Str)?;
-    let _word = bind(out, &types, WExpr::Slot(slot), string, true, slot)?;
-    Ok(())
+    let number = out.type_number(Bytes::from_slice(out.alloc, STRING)?)?;
+    out.push(WStmt::Bind(number, WExpr::Slot(slot), slot))
 }

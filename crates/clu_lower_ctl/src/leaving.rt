@@ -1,7 +1,8 @@
 //! The statements that leave a routine, for a time or for good, or go to an arm: Yield, Return, Signal and Exit (CLU
 //! Reference Manual, sections 11.3, 11.4 and 12.3).
 
-ghost use Rattle.std.specs.Prelude.{◌<◌, All, length};
+ghost use Rattle.std.specs.Prelude.{◌<◌, length};
+ghost use Rattle.clu_syntax.specs.Parts.{AreBefore};
 
 use clu_base::Bytes;
 use clu_lower_expr::{
@@ -18,7 +19,7 @@ fn bound_values(
     any: &[bool],
 ) -> Result<Vec<WExpr>>
     requires inside { n < length fixed.now.syntax.now }
-    requires below { All (λ c. c < n) values.now }
+    requires below { AreBefore n values.now }
 {
     let free = out.taken();
     let operands = lower_all(out, fixed, n, values)?;
@@ -26,49 +27,43 @@ fn bound_values(
     out.taken_back_all(words, free)
 }
 
-/// `yield (a, b)`
-pub fn yield_values(out: &mut Lowering, fixed: &Fixed, n: u32, values: &[u32]) -> Result<()>
+/// `return (a, b)`, or `yield (a, b)` after which the routine goes on.
+pub fn give_results(
+    out: &mut Lowering,
+    fixed: &Fixed,
+    n: u32,
+    values: &[u32],
+    goes_on: bool,
+) -> Result<()>
     requires inside { n < length fixed.now.syntax.now }
-    requires below { All (λ c. c < n) values.now }
+    requires below { AreBefore n values.now }
 {
     let words = bound_values(out, fixed, n, values, fixed.results.as_slice())?;
-    out.push(WStmt::Yield(words))
+    out.push(if goes_on {
+        WStmt::Yield(words)
+    } else {
+        WStmt::Return(words)
+    })
 }
 
-/// `return (a, b)`
-pub fn return_values(out: &mut Lowering, fixed: &Fixed, n: u32, values: &[u32]) -> Result<()>
-    requires inside { n < length fixed.now.syntax.now }
-    requires below { All (λ c. c < n) values.now }
-{
-    let words = bound_values(out, fixed, n, values, fixed.results.as_slice())?;
-    out.push(WStmt::Return(words))
-}
-
-/// `signal e (a, b)`
+/// `signal e (a, b)`. After the objects of an exception of the heading stands the address of the numbers of their types. A
+/// failure, which may come from anywhere, has its string alone.
 pub fn signal(out: &mut Lowering, fixed: &Fixed, n: u32, name: &Bytes, values: &[u32]) -> Result<()>
     requires inside { n < length fixed.now.syntax.now }
-    requires below { All (λ c. c < n) values.now }
+    requires below { AreBefore n values.now }
 {
-    let objects = bound_values(out, fixed, n, values, fixed.signal(name))?;
-    let objects = with_types(fixed, name, objects)?;
+    let mut objects = bound_values(out, fixed, n, values, fixed.signal(name))?;
+    if let Some(first) = fixed.object_types.get(name) {
+        objects.push(WExpr::Hole(HoleKind::TypeCell, *first))?;
+    }
     out.exception(name)?;
     out.push(WStmt::Signal(name.copy(out.alloc)?, objects))
-}
-
-/// The objects of an exception of the heading, and after them the address of the numbers of their types. A failure, which
-/// may come from anywhere, has its string alone.
-fn with_types(fixed: &Fixed, name: &Bytes, mut objects: Vec<WExpr>) -> Result<Vec<WExpr>> {
-    match fixed.object_types.get(name) {
-        Some(first) => objects.push(WExpr::Hole(HoleKind::TypeCell, *first))?,
-        None => {}
-    }
-    Ok(objects)
 }
 
 /// `exit e (a, b)`
 pub fn exit(out: &mut Lowering, fixed: &Fixed, n: u32, name: &Bytes, values: &[u32]) -> Result<()>
     requires inside { n < length fixed.now.syntax.now }
-    requires below { All (λ c. c < n) values.now }
+    requires below { AreBefore n values.now }
 {
     let place = out.exit_target(name)?;
     let (drops, binds) = match out.arm(place) {

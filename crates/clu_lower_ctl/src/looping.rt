@@ -2,10 +2,11 @@
 //! yields.
 
 ghost use Rattle.std.specs.Prelude.{◌<◌, length};
-ghost use Rattle.clu_syntax.specs.Parts.{AreOf, body_parts};
+ghost use Rattle.clu_syntax.specs.Parts.{body_parts};
+ghost use Rattle.clu_lower_ctl.specs.Inside.{AreNodes};
 
-use crate::assigning::{assign_slots, denoted_by};
-use crate::declaring::{declare_formal, variables_of};
+use crate::assigning::{assign_slots, denoted_by, take_slots};
+use crate::declaring::{Declared, declare_all, variables_of};
 use crate::walk::{condition, statements};
 use clu_base::Bytes;
 use clu_lower_expr::{Fixed, Invoked, Lowering, Result, bind, lower_callee, results_of};
@@ -56,7 +57,7 @@ pub fn for_loop(
     body: Body<'_>,
 ) -> Result<()>
     requires inside { n < length fixed.now.syntax.now }
-    requires declarations { AreOf fixed.now.syntax.now NodeKind.Decl n declarations.now }
+    requires declarations { AreNodes fixed.now.syntax.now NodeKind.Decl declarations.now }
     requires call { call < n }
     requires body { body_parts fixed.now.syntax.now n body }
 {
@@ -70,7 +71,8 @@ pub fn for_loop(
     out.push(WStmt::Iterate(routine, args, items, turn))
 }
 
-/// The slots to which the words of a yield go, of these types. After this the loop's variables name their objects.
+/// The slots to which the words of a yield go, of these types. After this the loop's variables name their objects. Slots
+/// from which objects go to variables that are there are free in the body.
 fn items(
     out: &mut Lowering,
     fixed: &Fixed,
@@ -79,52 +81,37 @@ fn items(
     names: &[Bytes],
     given: &[TypeId],
 ) -> Result<Vec<u32>>
-    requires inside { n < length fixed.now.syntax.now }
-    requires declarations { AreOf fixed.now.syntax.now NodeKind.Decl n declarations.now }
+    requires { AreNodes fixed.now.syntax.now NodeKind.Decl declarations.now }
 {
     if names.is_empty() {
-        declare_items(out, fixed, n, declarations, given)
-    } else {
-        let places = denoted_by(fixed, n, names.len())?;
-        assign_items(out, fixed, places.as_slice(), given)
+        let listed = variables_of(fixed, declarations)?;
+        return declare_items(out, fixed, listed.as_slice(), given);
     }
+    let taken = out.taken();
+    let places = denoted_by(fixed, n, names.len())?;
+    let slots = take_slots(out, names.len())?;
+    assign_slots(
+        out,
+        fixed,
+        places.as_slice(),
+        slots.as_slice(),
+        given,
+        taken,
+    )?;
+    Ok(slots)
 }
 
 /// The variables of the loop's own, to which objects of these types come.
 fn declare_items(
     out: &mut Lowering,
     fixed: &Fixed,
-    n: u32,
-    declarations: &[u32],
-    given: &[TypeId],
-) -> Result<Vec<u32>>
-    requires inside { n < length fixed.now.syntax.now }
-    requires declarations { AreOf fixed.now.syntax.now NodeKind.Decl n declarations.now }
-{
-    let listed = variables_of(fixed, n, declarations)?;
-    let mut items = Vec::new(out.alloc);
-    for (declared, of) in listed.as_slice().iter().zip(given) {
-        let slot = declare_formal(out, *declared)?;
-        let word = WExpr::Slot(slot);
-        let _word = bind(out, &fixed.c.types, word, *of, declared.is_any, slot)?;
-        items.push(slot)?;
-    }
-    Ok(items)
-}
-
-/// Slots from which objects of these types go to variables that are there; they are free in the body.
-fn assign_items(
-    out: &mut Lowering,
-    fixed: &Fixed,
-    places: &[usize],
+    listed: &[Declared],
     given: &[TypeId],
 ) -> Result<Vec<u32>> {
-    let taken = out.taken();
-    let mut items = Vec::new(out.alloc);
-    for _ in places {
-        items.push(out.take()?)?;
+    let slots = declare_all(out, listed, false)?;
+    for ((declared, slot), of) in listed.iter().zip(slots.as_slice()).zip(given) {
+        let word = WExpr::Slot(*slot);
+        let _word = bind(out, &fixed.c.types, word, *of, declared.is_any, *slot)?;
     }
-    assign_slots(out, fixed, places, items.as_slice(), given, taken)?;
-    out.release(taken);
-    Ok(items)
+    Ok(slots)
 }

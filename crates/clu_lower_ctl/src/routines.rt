@@ -1,19 +1,19 @@
 //! The routines of a module as word code.
 
-ghost use Rattle.std.specs.Prelude.{◌≡◌, ◌<◌, All, IfOk, length};
-ghost use Rattle.clu_syntax.specs.Parts.{IsOf, RoutineParts};
+ghost use Rattle.std.specs.Prelude.{◌≡◌, All, IfOk};
 ghost use Rattle.clu_lower_expr.specs.Bounds.{IsBounded};
+ghost use Rattle.clu_lower_ctl.specs.Inside.{IsNode};
 
 use crate::clusters::cluster_routines;
 use crate::declaring::formals;
 use crate::headings::note_heading;
 use crate::own_type::note_operation;
-use crate::own_variables::{declare_owns, set_up_once};
+use crate::own_variables::set_up_once;
 use crate::walk::statements;
 use clu_base::Bytes;
 use clu_core::Checked;
 use clu_lower_expr::{Declarations, Fixed, LowerError, Lowering, Result};
-use clu_syntax::{Definition, Routine, RoutineKind};
+use clu_syntax::{Definition, RoutineKind};
 use clu_tree::NodeKind;
 use clu_types::{Form, Spec};
 use clu_wir::{HoleKind, WRoutine, WStmt};
@@ -29,18 +29,13 @@ pub fn lower(
     declarations: &Declarations,
     module: u32,
 ) -> Result<Vec<WRoutine>>
-    requires { IsOf c.now.syntax NodeKind.Module (length c.now.syntax) «module» }
+    requires { IsNode c.now.syntax NodeKind.Module «module» }
     ensures { IfOk result (λ routines. All IsBounded routines.items) }
 {
     match c.syntax.module(module).definition {
         Definition::Cluster(n) => cluster_routines(alloc, c, declarations, n),
         Definition::Routine(n) => Ok(vec![in alloc; routine(alloc, c, declarations, n)?]?),
     }
-}
-
-/// A routine without statements.
-pub fn begun(alloc: Global) -> Result<Box<Lowering>> {
-    Ok(Box::new(alloc, Lowering::new(alloc))?)
 }
 
 /// What is fixed of a routine of which nothing is known yet.
@@ -55,32 +50,30 @@ pub fn nothing_fixed<'a>(
 }
 
 fn routine(alloc: Global, c: &Checked, declarations: &Declarations, n: u32) -> Result<WRoutine>
-    requires { IsOf c.now.syntax NodeKind.Routine (length c.now.syntax) n }
+    requires { IsNode c.now.syntax NodeKind.Routine n }
     ensures { IfOk result IsBounded }
 {
-    let routine = c.syntax.routine(n);
-    let name = routine.name.copy(alloc)?;
-    let mut out = begun(alloc)?;
+    let name = c.syntax.routine(n).name.copy(alloc)?;
+    let mut out = Box::new(alloc, Lowering::new(alloc))?;
     let mut fixed = nothing_fixed(alloc, c, declarations)?;
-    let args = fill(&mut out, &mut fixed, n, routine)?;
+    note_alone(&mut out, &mut fixed, n)?;
+    let args = formals(&mut out, &fixed, c.syntax.routine(n).arguments)?;
+    body(&mut out, &fixed, n)?;
     out.finish(name, args, c.syntax.tree().nodes(n))
 }
 
-/// Adds all that stands in the routine n; the answer is how many arguments it takes.
-fn fill(out: &mut Lowering, fixed: &mut Fixed, n: u32, routine: Routine<'_>) -> Result<u32>
-    requires inside { n < length fixed.old.syntax.now }
-    requires parts { RoutineParts fixed.old.syntax.now n routine }
+/// Notes what stands round the statements of the routine n, which is a module.
+fn note_alone(out: &mut Lowering, fixed: &mut Fixed, n: u32) -> Result<()>
+    requires { IsNode fixed.old.syntax.now NodeKind.Routine n }
+    ensures { fixed.new.syntax ≡ fixed.old.syntax }
 {
-    let spec = specification(fixed.c, routine.name)?;
+    let spec = specification(fixed.c, fixed.syntax.routine(n).name)?;
     let Form::Routine(op) = &spec.form else {
         return Err(LowerError::NotYet);
     };
     fixed.give(&spec.types, op.demands.as_slice(), &[])?;
-    note_operation(out, fixed, &spec.types, op)?;
-    note_heading(fixed, n, routine.results, routine.exceptions)?;
-    let args = formals(out, fixed, n, routine.arguments)?;
-    body(out, fixed, n, routine)?;
-    Ok(args)
+    note_operation(out, &mut fixed.object_types, &spec.types, op)?;
+    note_heading(fixed, n)
 }
 
 /// The specification of this module of the file.
@@ -94,13 +87,12 @@ pub fn specification<'a>(c: &'a Checked, name: &Bytes) -> Result<&'a Spec> {
 }
 
 /// The setting up of own variables, the statements, and the end: a procedure with results that reaches it fails.
-pub fn body(out: &mut Lowering, fixed: &mut Fixed, n: u32, routine: Routine<'_>) -> Result<()>
-    requires inside { n < length fixed.old.syntax.now }
-    requires parts { RoutineParts fixed.old.syntax.now n routine }
+pub fn body(out: &mut Lowering, fixed: &Fixed, n: u32) -> Result<()>
+    requires { IsNode fixed.now.syntax.now NodeKind.Routine n }
 {
+    let routine = fixed.syntax.routine(n);
     if !routine.owns.is_empty() {
-        declare_owns(fixed, n, routine.owns, HoleKind::RoutineOwn)?;
-        set_up_once(out, fixed, n, routine.owns, HoleKind::RoutineOwn)?;
+        set_up_once(out, fixed, routine.owns, HoleKind::RoutineOwn)?;
     }
     statements(out, fixed, n, routine.statements)?;
     match routine.kind {

@@ -2,17 +2,18 @@
 //! arms are branches on the tag.
 
 ghost use Rattle.std.specs.Prelude.{◌<◌, length};
-ghost use Rattle.clu_syntax.specs.Parts.{AreOf, otherwise_parts, variable_parts};
+ghost use Rattle.clu_syntax.specs.Parts.{AreOf, otherwise_parts};
+ghost use Rattle.clu_lower_ctl.specs.Inside.{IsNode};
 
 use crate::branches::{Branch, close_branches, end_branch, open_branch};
-use crate::declaring::{Declared, declare_formal, declared_by};
+use crate::declaring::{declare_one, declared_by};
 use crate::walk::{otherwise, statements};
 use clu_base::Bytes;
 use clu_core::{Checked, term};
 use clu_lower_expr::{
     Fixed, LowerError, Lowering, Result, again, binary, bind, lower_expr, place_of, type_of,
 };
-use clu_syntax::{Body, TagArm};
+use clu_syntax::Body;
 use clu_tree::NodeKind;
 use clu_types::{Field, Term};
 use clu_wir::{WExpr, WOp, WStmt};
@@ -47,10 +48,9 @@ pub fn tagcase(
     let selected = select(out, fixed, of)?;
     let mut branches = Vec::new(out.alloc);
     for arm in arms {
-        let parts = fixed.syntax.tag_arm(*arm);
         let taken = out.taken();
-        open_arm(out, fixed, *arm, parts, selected, &mut branches)?;
-        statements(out, fixed, *arm, parts.body.statements)?;
+        open_arm(out, fixed, *arm, selected, &mut branches)?;
+        statements(out, fixed, *arm, fixed.syntax.tag_arm(*arm).body.statements)?;
         out.release(taken);
         end_branch(out, &mut branches);
     }
@@ -84,27 +84,32 @@ fn tags_of(c: &Checked, n: u32) -> Result<&[Field]> {
     }
 }
 
-/// Begins the branch of an arm.
+/// Begins the branch of an arm, whose variable names the object. For a variable of type any the type of the object is that
+/// of its tag.
 fn open_arm(
     out: &mut Lowering,
     fixed: &Fixed,
     n: u32,
-    arm: TagArm<'_>,
     selected: Selected<'_>,
     branches: &mut Vec<Branch>,
 ) -> Result<()>
-    requires inside { n < length fixed.now.syntax.now }
-    requires variable { variable_parts n arm.variable }
+    requires { IsNode fixed.now.syntax.now NodeKind.TagArm n }
 {
+    let arm = fixed.syntax.tag_arm(n);
     let condition = has_tag(out, selected, arm.tags)?;
     open_branch(out, condition, branches)?;
-    match arm.variable {
-        Some(variable) => {
-            let declared = declared_by(fixed, n, variable.declared)?;
-            name_object(out, fixed, selected, arm.tags, declared)
+    let Some(variable) = arm.variable else {
+        return Ok(());
+    };
+    let declared = declared_by(fixed, n, variable.declared)?;
+    let slot = declare_one(out, declared, false)?;
+    out.push(WStmt::Set(slot, WExpr::Slot(selected.object)))?;
+    if declared.is_any {
+        for name in arm.tags {
+            bind_tagged(out, fixed, selected, name, slot)?;
         }
-        None => Ok(()),
     }
+    Ok(())
 }
 
 /// Whether the tag is one of these.
@@ -129,25 +134,6 @@ fn is_tag(out: &Lowering, selected: Selected<'_>, name: &Bytes) -> Result<WExpr>
         WExpr::Slot(selected.tag),
         WExpr::Word(place as u64),
     )
-}
-
-/// Lets the variable of an arm with these tags name the object. For a variable of type any the type of the object is that
-/// of its tag.
-fn name_object(
-    out: &mut Lowering,
-    fixed: &Fixed,
-    selected: Selected<'_>,
-    tags: &[Bytes],
-    declared: Declared,
-) -> Result<()> {
-    let slot = declare_formal(out, declared)?;
-    out.push(WStmt::Set(slot, WExpr::Slot(selected.object)))?;
-    if declared.is_any {
-        for name in tags {
-            bind_tagged(out, fixed, selected, name, slot)?;
-        }
-    }
-    Ok(())
 }
 
 /// Binds the object in a slot to type any where this is its tag.

@@ -1,14 +1,14 @@
 //! The walk over the statements of a routine: one function for each kind, which follows the tree, whose nodes come after
 //! their parts.
 
-ghost use Rattle.std.specs.Prelude.{◌<◌, All, length};
-ghost use Rattle.clu_syntax.specs.Parts.{otherwise_parts, statement_parts};
+ghost use Rattle.std.specs.Prelude.{◌<◌, length};
+ghost use Rattle.clu_syntax.specs.Parts.{AreBefore, otherwise_parts, statement_parts};
 
 use crate::assigning::assign;
 use crate::branches::if_statement;
 use crate::declaring::{declare, initialize, initialize_by_call};
 use crate::handlers::{except, resignal};
-use crate::leaving::{exit, return_values, signal, yield_values};
+use crate::leaving::{exit, give_results, signal};
 use crate::looping::{for_loop, while_loop};
 use crate::tagging::tagcase;
 use clu_lower_expr::{Fixed, Lowering, Result, lower_call, lower_expr, sugar_statement};
@@ -20,7 +20,7 @@ use clu_wir::{WExpr, WStmt};
 #[cycle(statements)]
 pub fn statements(out: &mut Lowering, fixed: &Fixed, n: u32, listed: &[u32]) -> Result<()>
     requires inside { n < length fixed.now.syntax.now }
-    requires below { All (λ c. c < n) listed.now }
+    requires below { AreBefore n listed.now }
 {
     let taken = out.taken();
     for s in listed {
@@ -114,14 +114,14 @@ fn lower_alone(
     requires parts { statement_parts fixed.now.syntax.now n view }
 {
     match view {
-        Statement::Declare { declaration } => declare(out, fixed, n, declaration),
+        Statement::Declare { declaration } => declare(out, fixed, declaration),
         Statement::Init {
             declared,
             value,
             ..
         } => { initialize(out, fixed, n, declared, value, bare) }
         Statement::InitByCall { declarations, call } => {
-            initialize_by_call(out, fixed, n, declarations, call, bare)
+            initialize_by_call(out, fixed, declarations, call, bare)
         }
         Statement::Assign { names, values } => assign(out, fixed, n, names.len(), values),
         Statement::SetField { of, value, .. } => sugar_statement(out, fixed, n, &[of, value]),
@@ -129,8 +129,8 @@ fn lower_alone(
             sugar_statement(out, fixed, n, &[of, index, value])
         }
         Statement::Call { call } => lower_call(out, fixed, call, Vec::new(out.alloc)),
-        Statement::Return { values } => return_values(out, fixed, n, values),
-        Statement::Yield { values } => yield_values(out, fixed, n, values),
+        Statement::Return { values } => give_results(out, fixed, n, values, false),
+        Statement::Yield { values } => give_results(out, fixed, n, values, true),
         Statement::Signal { name, values } => signal(out, fixed, n, name, values),
         Statement::Exit { name, values } => exit(out, fixed, n, name, values),
         Statement::Continue => out.push(WStmt::Continue),

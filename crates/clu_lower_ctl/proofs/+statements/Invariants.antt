@@ -1,5 +1,8 @@
 -- A statement inside another has a lower number; what its kind asks stands between.
-use Rattle.std.specs.Prelude.{◌+◌, ◌*◌}
+use Rattle.std.specs.Prelude.{◌+◌, ◌*◌, ℕ, suc, length, Option, Some, None}
+use Rattle.clu_syntax.specs.declared.statements.Clause.{Clause}
+use Rattle.clu_syntax.specs.declared.statements.Clauses.{Clauses}
+use Rattle.clu_syntax.specs.Parts.{clause_parts}
 use Rattle.clu_lower_ctl.proofs.+statements.Given as goal
 
 abbrev pub decreases-walk::statement : goal.decreases-walk::statement
@@ -40,3 +43,14 @@ decreases-handlers::named_handler l = 8 * l.n + 2
 
 abbrev pub decreases-handlers::other_handler : goal.decreases-handlers::other_handler
 decreases-handlers::other_handler l = 8 * l.n + 2
+
+-- the clauses of an If that are left
+abbrev left : Option (Clause × Clauses) → ℕ
+left None = 0
+left (Some both) = suc (length both.1.rest.now)
+
+abbrev pub invariant-branches::if_statement-loop-next : goal.invariant-branches::if_statement-loop-next
+invariant-branches::if_statement-loop-next l = clause_parts l.fn.fixed.syntax.now l.fn.n l.next
+
+abbrev pub decreases-branches::if_statement-loop-next : goal.decreases-branches::if_statement-loop-next
+decreases-branches::if_statement-loop-next l = left l.next

@@ -1,5 +1,5 @@
 use Rattle.std.proofs.Common.{◌≡◌}
-use Rattle.clu_lower_ctl.proofs.headings.note_heading.Given as goal
+use Rattle.clu_lower_ctl.proofs.headings.note_signals.Given as goal
 
 -- the syntax stays
 abbrev pub invariant-loop-exception : goal.invariant-loop-exception

@@ -1,0 +1,2 @@
+-- What is asked of nodes that are lowered.
+pub mod Inside
