@@ -138,9 +138,9 @@ module _ (f : File) (b c : ℕ → Bool) (leads : ℕ → Bool) (known : (e : �
   names_same : (n : ℕ) (its : List Identifier) → list_any (leads_on f leads) (equates_at f n its) ≡ false → AllByRecursion (λ (name : Identifier). is_bad_name f b n name ≡ is_bad_name f c n name) its
   names_same n [] e = tt
   names_same n (name ∷ its) e = (
-      named_same (declared_by f n name) (or_left (leads_on f leads (equate_named f n name)) (list_any (leads_on f leads) (equates_at f n its)) e),
-      names_same n its (or_right (leads_on f leads (equate_named f n name)) (list_any (leads_on f leads) (equates_at f n its)) e),
-    )
+    named_same (declared_by f n name) (or_left (leads_on f leads (equate_named f n name)) (list_any (leads_on f leads) (equates_at f n its)) e),
+    names_same n its (or_right (leads_on f leads (equate_named f n name)) (list_any (leads_on f leads) (equates_at f n its)) e),
+  )
 
 -- ---- the table
 
@@ -158,18 +158,18 @@ module _ (f : File) (of : IsFileOfTree f) (rules : List Rule) (bad : ℕ → Boo
   fault_same : (s t : ℕ) → IsSolved s → s ≤ t → (n : ℕ) → is_of_constant (kind_in f n) ≡ true → leads_in s n ≡ false → fault bad n ≡ fault (is_bad_by f rules t) n
   fault_same s t had le n const none =
       ap is_some (least_same (violates f bad n) (violates f (is_bad_by f rules t) n)
-        (violates_same f of bad (is_bad_by f rules t) n const
-          (names_same f bad (is_bad_by f rules t) (leads_far f s) (λ e equate far circle. had e equate circle far t le) n (names_unfolded f (kind_in f n) n) none))
-        rules)
+      (violates_same f of bad (is_bad_by f rules t) n const
+      (names_same f bad (is_bad_by f rules t) (leads_far f s) (λ e equate far circle. had e equate circle far t le) n (names_unfolded f (kind_in f n) n) none))
+      rules)
 
   step : (s t : ℕ) → IsSolved s → s ≤ t → (e : ℕ) (its : Node) → slice_get f.nodes e ≡ Some its → its.kind ≡ kind.Equate → list_any (leads_in s) (below f e) ≡ false →
       list_any (fault bad) (right_side f e) ≡ list_any (fault (is_bad_by f rules t)) (right_side f e)
   step s t had le e its at is none =
       any_same (fault bad) (fault (is_bad_by f rules t)) (round f e).first (e - (round f e).first) (λ n l m.
-        let inside : n < e = omega (arith, l, m) in
-        fault_same s t had le n
-          (in_constants f.nodes f.rounds of.shaped of.ordered of.tree of.surrounded e its at (ap is_of_constant is) n l inside)
-          (none_in (leads_in s) (round f e).first (suc e - (round f e).first) none n l (omega (arith, inside, l))))
+      let inside : n < e = omega (arith, l, m) in
+      fault_same s t had le n
+      (in_constants f.nodes f.rounds of.shaped of.ordered of.tree of.surrounded e its at (ap is_of_constant is) n l inside)
+      (none_in (leads_in s) (round f e).first (suc e - (round f e).first) none n l (omega (arith, inside, l))))
 
   solved : (s : ℕ) → IsSolved s
   unfolding leads_far is_bad_by

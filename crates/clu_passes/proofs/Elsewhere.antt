@@ -335,10 +335,10 @@ module _ (f : File) (bad : ℕ → Bool) (n : ℕ) where
 
     -- V8: neither a whole constant, nor a name, nor too long
     v8_of : (k : NodeKind) → is_no_constant f k n ≡ false → has_bad_constant f bad k n ≡ false → is_too_long f is_long_constant n ≡ false → (by_neither k (not (wants_type f n)) || has_bad_constant f bad k n || is_too_long f is_long_constant n) ≡ false
-    v8_of k none its long = 
+    v8_of k none its long =
         or_no (by_neither k (not (wants_type f n)) || has_bad_constant f bad k n) (is_too_long f is_long_constant n)
-          (or_no (by_neither k (not (wants_type f n))) (has_bad_constant f bad k n) (ap (λ (b : Bool). b && not (wants_type f n)) (neither_not k none)) its)
-          long
+        (or_no (by_neither k (not (wants_type f n))) (has_bad_constant f bad k n) (ap (λ (b : Bool). b && not (wants_type f n)) (neither_not k none)) its)
+        long
 
     abbrev wrong_rep : NodeKind → Bool
     wrong_rep k = by_neither k (wants_type f n) || (is_rep_equate f (parent f n) && is_no_type_side f k n)
@@ -348,14 +348,14 @@ module _ (f : File) (bad : ℕ → Bool) (n : ℕ) where
         (by_neither k (wants_type f n) || (is_rep_equate f (parent f n) && is_no_type_side f k n) || is_no_type f k n || has_bad_type f bad k n || is_too_long f is_long_type n) ≡ false
     v9_of k none type its side =
         or_no (wrong_rep k || is_no_type f k n || has_bad_type f bad k n) (is_too_long f is_long_type n)
-          (or_no (wrong_rep k || is_no_type f k n) (has_bad_type f bad k n)
-            (or_no (wrong_rep k) (is_no_type f k n)
-              (or_no (by_neither k (wants_type f n)) (is_rep_equate f (parent f n) && is_no_type_side f k n)
-                (ap (λ (b : Bool). b && wants_type f n) (neither_not k none))
-                (ap (λ (b : Bool). b && is_no_type_side f k n) (rep_not (parent f n) side)))
-              type)
-            its)
-          (too_long_not is_long_type side)
+        (or_no (wrong_rep k || is_no_type f k n) (has_bad_type f bad k n)
+        (or_no (wrong_rep k) (is_no_type f k n)
+        (or_no (by_neither k (wants_type f n)) (is_rep_equate f (parent f n) && is_no_type_side f k n)
+        (ap (λ (b : Bool). b && wants_type f n) (neither_not k none))
+        (ap (λ (b : Bool). b && is_no_type_side f k n) (rep_not (parent f n) side)))
+        type)
+        its)
+        (too_long_not is_long_type side)
 
     type_long : is_type (kind_in f n) ≡ true → is_too_long f is_long_constant n ≡ false
     type_long e = and_no (stands_in f kind.Equate n && not (is_kind f kind.TypeSet n)) (is_long_constant (settled f.scope (item f n).constant))

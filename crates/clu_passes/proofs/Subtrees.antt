@@ -40,7 +40,7 @@ module _ (nodes : List Node) (rounds : List Round) (is_tree : IsTree nodes) (are
   firsts_of n node at =
       let inside : n < length nodes = slice_get_within nodes n node at in
       firsts_in nodes rounds n node (first_part nodes node (round_at rounds n).first) (round_at rounds n).first node.children
-        (further n (length nodes) node.children (omega (arith, inside)) (children_before nodes is_tree n node at)) (are.children_are n node at)
+      (further n (length nodes) node.children (omega (arith, inside)) (children_before nodes is_tree n node at)) (are.children_are n node at)
 
   of_forest : (from to : ℕ) (roots : List ℕ) → IsForest nodes from roots to → AreFirst rounds from roots → (n : ℕ) (node : Node) → slice_get nodes n ≡ Some node → from ≤ n → n < to → IsForest nodes (round_at rounds n).first node.children n
   of_forest from to _ (none _) firsts n node at l m = absurd (omega (arith, l, m))
