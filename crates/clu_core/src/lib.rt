@@ -1,4 +1,4 @@
-//! Checked files, references to operations, and what lowering and link look up in trees and arenas.
+//! Checked files, references to operations, and what lowering and link look up in arenas.
 #![tactic(auto)]
 
 mod checked;
@@ -7,5 +7,5 @@ mod op_ref;
 mod tables;
 
 pub use crate::checked::Checked;
-pub use crate::lookups::{LookupError, carry, first_name, intern, node_at, only_child, term};
+pub use crate::lookups::{LookupError, carry, intern, term};
 pub use crate::op_ref::OpRef;

@@ -1,12 +1,10 @@
-//! What is looked up of nodes and types by callers that keep no count of them: a number that is none of the tree or of the
-//! arena, and a child that isn't there, is `NotYet`.
+//! What is looked up of types by callers that keep no count of them: a number that is none of the arena is `NotYet`.
 
-ghost use Rattle.std.specs.Prelude.{◌≡◌, ◌≤◌, [], ◌∷◌, IfOk, OnErr, Some, length, slice_get, take};
+ghost use Rattle.std.specs.Prelude.{◌≡◌, ◌≤◌, IfOk, OnErr, Some, length, slice_get};
 ghost use Rattle.clu_types.specs.Arena.{actuals_at, type_at, types_of, Grows};
 ghost use Rattle.clu_types.specs.Substituted.{substituted};
 
-use clu_base::{Bytes, Memory};
-use clu_tree::{Node, Tree};
+use clu_base::Memory;
 use clu_types::{Actual, Term, TypeArena, TypeId};
 use std::alloc::{AllocError, Global};
 
@@ -38,39 +36,6 @@ impl From<AllocError> for LookupError {
 
     fn from(_error: AllocError) -> LookupError {
         LookupError::Memory
-    }
-}
-
-/// The node of this number.
-pub fn node_at(tree: &Tree, n: u32) -> Result<&Node, LookupError>
-    ensures found { IfOk result (λ node. slice_get tree.now n ≡ Some node.now) }
-    ensures none { OnErr result (length tree.now ≤ n) }
-{
-    if n < tree.len() {
-        Ok(tree.node(n))
-    } else {
-        Err(LookupError::NotYet)
-    }
-}
-
-/// The only child of a node.
-pub fn only_child(node: &Node) -> Result<u32, LookupError>
-    ensures { IfOk result (λ child. node.now.children ≡ child ∷ []) }
-{
-    match node.children.as_slice() {
-        [child] => Ok(*child),
-        _ => Err(LookupError::NotYet),
-    }
-}
-
-/// The first name that stands directly in a node.
-pub fn first_name(node: &Node) -> Result<&Bytes, LookupError>
-    ensures found { IfOk result (λ name. take 1 node.now.names ≡ name.now ∷ []) }
-    ensures none { OnErr result (node.now.names ≡ []) }
-{
-    match node.names.as_slice() {
-        [name, ..] => Ok(name),
-        [] => Err(LookupError::NotYet),
     }
 }
 
