@@ -24,19 +24,10 @@ use Rattle.clu_settle.specs.Parameters.{is_parameter, is_unit, counted}
 use Rattle.clu_declares.specs.Declares.{IsParsed, numbered}
 use Rattle.clu_declares.proofs.Below.{same_kind, before_is, item_there}
 use Rattle.clu_declares.proofs.Facts.{There, there}
-use Rattle.clu_declares.proofs.Owned.{parameter_node}
+use Rattle.clu_declares.proofs.Owned.{numbered_first, numbered_later, parameter_node}
 use Rattle.clu_declares.proofs.Parents.{IsIn}
 use Rattle.clu_declares.proofs.Amounts.{and_left, and_right, amount, amount_at, at_node, up_to, weight, weights, amounts, counted_is, all_counted}
 use Rattle.clu_declares.proofs.Modules.{Ascends, above, HasParameters, has_parameters}
-
-numbered_first : (k : ℕ) (p : Parameter) (ps : List Parameter) (x : ℕ) → p.node ≡ x → numbered k (p ∷ ps) x ≡ k
-numbered_first k p ps x e = ap (λ (b : Bool). if b then k else numbered (k + length p.names) ps x) (eq-eqb p.node x e)
-
-numbered_later : (k : ℕ) (p : Parameter) (ps : List Parameter) (x : ℕ) → (p.node ≡ x → ⊥) → numbered k (p ∷ ps) x ≡ numbered (k + length p.names) ps x
-numbered_later k p ps x e = elim (cases_Bool (p.node == x)) [
-  | inl same ↦ absurd (e (eqb-true p.node x same))
-  | inr other ↦ ap (λ (b : Bool). if b then k else numbered (k + length p.names) ps x) other
-]
 
 take_all : {X : Type 0} (xs : List X) → take (length xs) xs ≡ xs
 take_all [] = refl

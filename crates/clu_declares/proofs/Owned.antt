@@ -1,5 +1,6 @@
 -- What a node declares is bound at this node.
-use Rattle.std.proofs.Common.{◌≡◌, ◌∙◌, ℕ, suc, Bool, true, false, List, [], ◌∷◌, ◌++◌, map, Option, Some, None, slice_get, refl, ap, sym, subst}
+use Rattle.std.proofs.Common.{◌≡◌, ◌∙◌, ℕ, suc, ◌+◌, ◌==◌, if◌then◌else◌, Bool, true, false, List, [], ◌∷◌, ◌++◌, length, map, Option, Some, None, slice_get, inl, inr, refl, ap, sym, subst, eq-eqb, eqb-true}
+use Rattle.std.proofs.lemmas.Bool.{cases_Bool}
 use Rattle.clu_tree.specs.declared.node.Node.{Node}
 use Rattle.clu_tree.specs.declared.node.NodeKind.{NodeKind}
 use Rattle.clu_tree.specs.declared.node.NodeKind.TheVariants as kind
@@ -16,6 +17,19 @@ use Rattle.clu_settle.specs.Parameters.{is_parameter}
 use Rattle.clu_declares.specs.Declares.{own_variable, variable_in, outer_kind, numbered, of_parm, of_initial, of_own_initial, of_arm, of_set_variable, declared_in, declared_by}
 use Rattle.clu_declares.proofs.Firsts.{AreAt}
 use Rattle.clu_declares.proofs.Below.{item_there}
+
+-- ---- the number of a parameter among those of its module
+
+pub numbered_first : (k : ℕ) (p : Parameter) (ps : List Parameter) (x : ℕ) → p.node ≡ x → numbered k (p ∷ ps) x ≡ k
+numbered_first k p ps x e = ap (λ (b : Bool). if b then k else numbered (k + length p.names) ps x) (eq-eqb p.node x e)
+
+pub numbered_later : (k : ℕ) (p : Parameter) (ps : List Parameter) (x : ℕ) → (p.node ≡ x → ⊥) → numbered k (p ∷ ps) x ≡ numbered (k + length p.names) ps x
+numbered_later k p ps x e = elim (cases_Bool (p.node == x)) [
+  | inl same ↦ absurd (e (eqb-true p.node x same))
+  | inr other ↦ ap (λ (b : Bool). if b then k else numbered (k + length p.names) ps x) other
+]
+
+-- ---- of a node
 
 names_at : (n : ℕ) (t : Option TypeExpression) (k : ℕ) (names : List Identifier) → AreAt n (of_names n t k names)
 names_at n t k [] = tt

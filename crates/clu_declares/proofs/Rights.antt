@@ -23,7 +23,7 @@ use Rattle.clu_declares.specs.Declares.{IsParsed, numbered, of_parameter, of_par
 use Rattle.clu_declares.proofs.Around.{IsAround}
 use Rattle.clu_declares.proofs.Firsts.{AreAt, IsRight, right_none, right_both, right_own}
 use Rattle.clu_declares.proofs.Below.{binds, same_kind, before_is, item_there, all_at, all_in, all_nil, all_more, none_at}
-use Rattle.clu_declares.proofs.Owned.{declared_at_node, parameter_node}
+use Rattle.clu_declares.proofs.Owned.{declared_at_node, numbered_first, numbered_later, parameter_node}
 use Rattle.clu_declares.proofs.Tops.{cluster_routines}
 use Rattle.clu_declares.proofs.Facts.{There, there, all_take, AreApart, apart_take, are_apart, top, whole_at, around_at, outer_of, RoutineIs, routine_at, ClusterIs, cluster_at, set_bound, ModuleIs, module_at, root_parts, no_routine, run_kinds, around_routines}
 
@@ -75,15 +75,6 @@ module _ (t : Text) (nodes : List Node) (rounds : List Round) (parsed : IsParsed
 
   abbrev AreOf : List Parameter → List ℕ → Type 0
   AreOf all cs = AllByRecursion (λ (x : ℕ). parameters_round nodes (round_at rounds x).unit ≡ all) cs
-
-  numbered_first : (k : ℕ) (p : Parameter) (ps : List Parameter) (x : ℕ) → p.node ≡ x → numbered k (p ∷ ps) x ≡ k
-  numbered_first k p ps x e = ap (λ (b : Bool). if b then k else numbered (k + length p.names) ps x) (eq-eqb p.node x e)
-
-  numbered_later : (k : ℕ) (p : Parameter) (ps : List Parameter) (x : ℕ) → (p.node ≡ x → ⊥) → numbered k (p ∷ ps) x ≡ numbered (k + length p.names) ps x
-  numbered_later k p ps x e = elim (cases_Bool (p.node == x)) [
-    | inl same ↦ absurd (e (eqb-true p.node x same))
-    | inr other ↦ ap (λ (b : Bool). if b then k else numbered (k + length p.names) ps x) other
-  ]
 
   numbered_tail : (d : ℕ) (all : List Parameter) (k : ℕ) (p : Parameter) (c : ℕ) (cs xs : List ℕ) → p.node ≡ c → AllByRecursion (λ (y : ℕ). c ≡ y → ⊥) xs →
       AllByRecursion (λ (x : ℕ). numbered 1 all x ≡ numbered k (p ∷ params d cs) x) xs → AllByRecursion (λ (x : ℕ). numbered 1 all x ≡ numbered (k + length p.names) (params d cs) x) xs

@@ -54,11 +54,14 @@ use Rattle.clu_bindings.specs.declared.wanted.Wanted.TheVariants as wanted
 use Rattle.clu_bindings.specs.Readers as read
 use Rattle.clu_bindings.specs.Readers.{value_in, wanted_in, meaning_in, children_in, declared_parameter}
 use Rattle.clu_bindings.specs.Named as named
+use Rattle.clu_bindings.specs.Wanted.{is_object_wanted}
 use Rattle.clu_name_rules.specs.declared.tables.Tables.{Tables}
 use Rattle.clu_name_rules.specs.ConstantRules as of_tables
 use Rattle.clu_passes.specs.ConstantTables.{file_with, Means, IsMeant, wanted_told, IsTypeOf, AreTables, IsKnown, AreParametersKnown}
+use Rattle.clu_declares.proofs.Below.{same_kind}
+use Rattle.clu_declares.proofs.Facts.{there}
 use Rattle.clu_passes.proofs.ConstantNodes as so
-use Rattle.clu_passes.proofs.ConstantNodes.{its_node, its_item, kind_same, is_name}
+use Rattle.clu_passes.proofs.ConstantNodes.{its_item, is_name}
 use Rattle.clu_passes.proofs.ParameterKinds.{first_type}
 use Rattle.clu_passes.proofs.Strings.{value_same}
 
@@ -163,11 +166,11 @@ module _ (t : Tables) (scope : Scope) (library : List Specification) (refused : 
     parameter_by (Some c) None is known = absurd is
     parameter_by (Some c) (Some u) is known =
         let k = type_known c is.0 (known c refl) in
-        let there : kind_of_type (type_settled scope (item f c).type) ≡ head.kind_of_type types (Some k.id) = ap kind_of_type k.type ∙ type_kind types are.arena k.id k.less in
-        let both = legal_both (type_settled scope (item f c).type) k.id (head.kind_of_type types (Some k.id)) there refl in
+        let is_so : kind_of_type (type_settled scope (item f c).type) ≡ head.kind_of_type types (Some k.id) = ap kind_of_type k.type ∙ type_kind types are.arena k.id k.less in
+        let both = legal_both (type_settled scope (item f c).type) k.id (head.kind_of_type types (Some k.id)) is_so refl in
         subst (λ (u : TypeExpression). IsSame (Some u) (Some c)) is.1
         (subst (λ (o : Option TypeId). (option_and_then kind_of_type (headings.legal_type (type_settled scope (item f c).type) (kind_of_type (type_settled scope (item f c).type))) ≡ head.kind_of_type types (named.legal_type o (head.kind_of_type types o))) × (is_none (headings.legal_type (type_settled scope (item f c).type) (kind_of_type (type_settled scope (item f c).type))) ≡ is_none (named.legal_type o (head.kind_of_type types o)))) (sym k.value)
-        (subst (λ (kd : Option ParamKind). (option_and_then kind_of_type (headings.legal_type (type_settled scope (item f c).type) kd) ≡ head.kind_of_type types (named.legal_type (Some k.id) (head.kind_of_type types (Some k.id)))) × (is_none (headings.legal_type (type_settled scope (item f c).type) kd) ≡ is_none (named.legal_type (Some k.id) (head.kind_of_type types (Some k.id))))) (sym there) both))
+        (subst (λ (kd : Option ParamKind). (option_and_then kind_of_type (headings.legal_type (type_settled scope (item f c).type) kd) ≡ head.kind_of_type types (named.legal_type (Some k.id) (head.kind_of_type types (Some k.id)))) × (is_none (headings.legal_type (type_settled scope (item f c).type) kd) ≡ is_none (named.legal_type (Some k.id) (head.kind_of_type types (Some k.id))))) (sym is_so) both))
 
     parameter_same : (n k : ℕ) → ((c : ℕ) → declared_parameter r n k ≡ Some c → IsKnown r c) → IsSame (headings.declared_parameter f n k) (declared_parameter r n k)
     parameter_same n k known = parameter_by (declared_parameter r n k) (headings.declared_parameter f n k) (are.parameters n k) known
@@ -245,7 +248,7 @@ module _ (t : Tables) (scope : Scope) (library : List Specification) (refused : 
           by : (b : Bool) → Fits (if b then record { node = c; name = first_name_at f c; constants = constants_at (before n (item_at nodes)) cs } ∷ [] else []) (if b then Some (c, cs) else None)
           by true =
               or_false (rules_of.has_bad_actuals f (record { node = c; name = first_name_at f c; constants = constants_at (before n (item_at nodes)) cs }))
-              ∙ misfit c n (first_name_at f c) cs (are.named c (kind_same kind.Name (kind_at nodes c) x.is)) parts known
+              ∙ misfit c n (first_name_at f c) cs (are.named c (same_kind kind.Name (kind_at nodes c) x.is)) parts known
           by false = refl
       bracketed n c cs parts known (inr x) =
           ap (list_any (rules_of.has_bad_actuals f)) (no_named n (item f c).expression (constants_at (before n (item_at nodes)) cs) x.expression)
@@ -253,7 +256,7 @@ module _ (t : Tables) (scope : Scope) (library : List Specification) (refused : 
 
       index_by : (n : ℕ) → kind_at nodes n ≡ kind.Index → AllByRecursion (IsKnown r) (children_in r n) → Fits (wants.named_by f (item f n).expression) (named.named_before r (children_in r n))
       index_by n is known =
-          let x = its_node nodes n kind.Index refl is in
+          let x = there nodes n kind.Index refl is in
           let first = first_part nodes tree shaped is_expression (any is_constant_kind ∷ []) n x.node x.at (ap slots x.is) in
           let c : ℕ = child 0 x.node in
           let cs : List ℕ = drop 1 x.node.children in
@@ -267,7 +270,7 @@ module _ (t : Tables) (scope : Scope) (library : List Specification) (refused : 
 
       type_by : (n : ℕ) → kind_at nodes n ≡ kind.NameT → AllByRecursion (IsKnown r) (children_in r n) → Fits (wants.named_by_type f (item f n).type) (Some (n, children_in r n))
       type_by n is known =
-          let x = its_node nodes n kind.NameT refl is in
+          let x = there nodes n kind.NameT refl is in
           let cs : List ℕ = x.node.children in
           let whole : children_in r n ≡ cs = ap children_of x.at in
           let named_so : first_name_at f n ≡ first_name x.node.names = ap (λ (its : Option Node). first_name (node_names f its)) x.at in
@@ -305,14 +308,14 @@ module _ (t : Tables) (scope : Scope) (library : List Specification) (refused : 
 
       declared : (n : ℕ) → kind_at nodes n ≡ kind.Parm → AllByRecursion (IsKnown r) (children_in r n) → is_none (kind_of_parameter f (item f n).parameter.type) ≡ of_tables.is_illegal_type t (splits.type_of nodes (children_in r n))
       declared n is known =
-          let x = its_node nodes n kind.Parm refl is in
+          let x = there nodes n kind.Parm refl is in
           let whole : children_in r n ≡ x.node.children = ap children_of x.at in
           ap (λ (i : Item). is_none (kind_of_parameter f i.parameter.type)) (its_item nodes n kind.Parm x)
           ∙ ap (λ (k : NodeKind). is_none (kind_of_parameter f (parameter_of (before n (item_at nodes)) nodes n x.node k).type)) x.is
           ∙ declared_by n x.node.children (tree.below n x.node x.at) (subst (AllByRecursion (IsKnown r)) whole known)
           ∙ ap (λ (xs : List ℕ). of_tables.is_illegal_type t (splits.type_of nodes xs)) (sym whole)
 
-      object_wanted : (w : WantedThere) → invocations.is_object_wanted (wanted_told w) ≡ read.is_object_wanted w
+      object_wanted : (w : WantedThere) → invocations.is_object_wanted (wanted_told w) ≡ is_object_wanted w
       object_wanted wanted.Object = refl
       object_wanted wanted.Objects = refl
       object_wanted wanted.LoopCall = refl
@@ -336,7 +339,7 @@ module _ (t : Tables) (scope : Scope) (library : List Specification) (refused : 
       illegal n known kind.Parm is = declared n is known
       illegal n known kind.Name is =
           ap (λ (b : Bool). b && rules_of.is_illegal_use f n (meaning f n (first_name_at f n))) (sym (ap invocations.is_object_wanted (are.wanted n)) ∙ object_wanted (wanted_in r n))
-          ∙ ap (λ (b : Bool). read.is_object_wanted (wanted_in r n) && b) (use_same n (meaning_in r n) (meaning f n (first_name_at f n)) (are.named n is).means)
+          ∙ ap (λ (b : Bool). is_object_wanted (wanted_in r n) && b) (use_same n (meaning_in r n) (meaning f n (first_name_at f n)) (are.named n is).means)
       illegal n known _ is = refl
 
     pub v19_is : (n : ℕ) → AllByRecursion (IsKnown r) (children_in r n) → AreParametersKnown r → rules_of.v19 f n ≡ of_tables.v19 t n

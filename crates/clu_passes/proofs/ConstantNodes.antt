@@ -57,31 +57,15 @@ use Rattle.clu_name_rules.specs.ConstantRules as of_tables
 use Rattle.clu_passes.specs.ConstantTables.{file_with, IsMeant, wanted_told, AreTables, AreBad, IsKnown}
 use Rattle.clu_passes.proofs.Marked.{circle_is}
 use Rattle.clu_passes.proofs.OwnPlaces.{there_is}
+use Rattle.clu_declares.proofs.Below.{same_kind}
+use Rattle.clu_declares.proofs.Facts.{There, there}
 use Rattle.clu_passes.proofs.Strings.{value_same}
 use Rattle.clu_passes.proofs.Tables.{bound_is}
 
 -- ---- nodes of a kind
 
-pub record Its (nodes : List Node) (n : ℕ) (k : NodeKind) : Type 0 where
-  pub node : Node
-  pub at : slice_get nodes n ≡ Some node
-  pub is : node.kind ≡ k
-
-pub its_node : (nodes : List Node) (n : ℕ) (k : NodeKind) → is_of k kind.File ≡ false → kind_at nodes n ≡ k → Its nodes n k
-its_node nodes n k other is = by (slice_get nodes n) refl
-  where
-    by : (its : Option Node) → slice_get nodes n ≡ its → Its nodes n k
-    by None at =
-        let file : kind.File ≡ k = sym (ap kind_of at) ∙ is in
-        let same : true ≡ is_of k kind.File = ap (λ (x : NodeKind). is_of x kind.File) file in
-        absurd (true≢false (same ∙ other))
-    by (Some node) at = record { node = node; at = at; is = sym (ap kind_of at) ∙ is }
-
-pub kind_same : (k other : NodeKind) → is_of k other ≡ true → other ≡ k
-kind_same k other h = same_true the_type (search rules) other k h
-
 -- what a node of a kind is, by what the nodes before it are
-pub its_item : (nodes : List Node) (n : ℕ) (k : NodeKind) (x : Its nodes n k) → item_at nodes n ≡ item_with (before n (item_at nodes)) nodes n (Some x.node)
+pub its_item : (nodes : List Node) (n : ℕ) (k : NodeKind) (x : There nodes n k) → item_at nodes n ≡ item_with (before n (item_at nodes)) nodes n (Some x.node)
 its_item nodes n k x = item_there nodes n x.node x.at
 
 pub and_true : (b : Bool) → (b && true) ≡ b
@@ -158,7 +142,7 @@ module _ (t : Tables) (scope : Scope) (library : List Specification) (refused : 
 
   pub a_name_at : (c : ℕ) → kind_at nodes c ≡ kind.Name → (item f c).expression ≡ a_name c (first_name_at f c)
   a_name_at c is =
-      let x = its_node nodes c kind.Name refl is in
+      let x = there nodes c kind.Name refl is in
       ap (λ (i : Item). i.expression) (its_item nodes c kind.Name x)
       ∙ ap (expression_of (before c (item_at nodes)) nodes c x.node) x.is
       ∙ ap (λ (its : Option Node). a_name c (first_name (node_names f its))) (sym x.at)
@@ -179,7 +163,7 @@ module _ (t : Tables) (scope : Scope) (library : List Specification) (refused : 
           }
 
       by : (b : Bool) → is_of kind.Name (kind_at nodes c) ≡ b → AName c ⊎ NoName c
-      by true is = inl (record { is = is; expression = a_name_at c (kind_same kind.Name (kind_at nodes c) is) })
+      by true is = inl (record { is = is; expression = a_name_at c (same_kind kind.Name (kind_at nodes c) is) })
       by false is = inr (none is)
 
   module _ (shaped : HaveForms nodes) (tree : IsTree nodes) (are : AreTables f t) where
@@ -245,7 +229,7 @@ module _ (t : Tables) (scope : Scope) (library : List Specification) (refused : 
         let first = behind_first c cs n h in
         let place : read.place_in r n ≡ (if c == n then 0 else suc (place_in f cs n)) = are.places n p round ∙ ap (λ (xs : List ℕ). place_in f xs n) is in
         let next : read.place_in r n ≡ suc (place_in f cs n) = place ∙ ap (λ (b : Bool). if b then 0 else suc (place_in f cs n)) first.1 in
-        takes_same cs c n (read.place_in r n - 1) (are.named c (kind_same kind.Name (kind_at nodes c) first.0)) (omega (arith, next))
+        takes_same cs c n (read.place_in r n - 1) (are.named c (same_kind kind.Name (kind_at nodes c) first.0)) (omega (arith, next))
 
     wants_in : (n p : ℕ) → parent f n ≡ Some p → rules_of.is_constant_wanted (wants.wanted f n) ≡ true → (k : NodeKind) → kind_at nodes p ≡ k → wants.wants_type_in f k p (children f p) n ≡ named.wants_type_in r k p n
     wants_in n p round h kind.Equate is = ap has_no_name (names_same (slice_get nodes p))
@@ -313,7 +297,7 @@ module _ (t : Tables) (scope : Scope) (library : List Specification) (refused : 
 
       pub bad_first : (n : ℕ) (k : NodeKind) → least_names k ≡ 1 → ((node : Node) → names_in k node ≡ node.names) → is_of k kind.File ≡ false → kind_at nodes n ≡ k → equates.is_bad_name f bad n (first_name_at f n) ≡ of_tables.is_bad_first t bits n
       bad_first n k least used other is =
-          let x = its_node nodes n k other is in
+          let x = there nodes n k other is in
           let bound : declaration_in r.names.now n ≡ found ds (first_name x.node.names) n =
           ap (λ (xs : List (Option ℕ)). optional (slice_get xs 0)) (bound_is f r.names.now are.names n)
           ∙ ap (λ (its : Option Node). optional (slice_get (bound_at ds n its) 0)) x.at

@@ -61,8 +61,10 @@ use Rattle.clu_name_rules.specs.ConstantRules as of_tables
 use Rattle.clu_passes.specs.ConstantTables.{file_with, Means, is_equated, wanted_told, AreTables, AreBad, IsKnown, IsEquateKnown}
 use Rattle.clu_passes.proofs.ByNodes.{any_mapped}
 use Rattle.clu_passes.proofs.ByNodes as by_nodes
+use Rattle.clu_declares.proofs.Below.{same_kind}
+use Rattle.clu_declares.proofs.Facts.{there}
 use Rattle.clu_passes.proofs.ConstantNodes as so
-use Rattle.clu_passes.proofs.ConstantNodes.{its_node, its_item, kind_same, is_name}
+use Rattle.clu_passes.proofs.ConstantNodes.{its_item, is_name}
 use Rattle.clu_passes.proofs.OwnPlaces.{there_is}
 use Rattle.clu_passes.proofs.Tables.{bound_is}
 
@@ -114,7 +116,7 @@ word_same w _ = refl
 
 pub word_is : (items : ℕ → Item) (nodes : List Node) (n : ℕ) → kind_at nodes n ≡ kind.Simple → (w : SimpleType) → rules_of.is_word w (item_at nodes n).type ≡ of_tables.is_word w (item_with items nodes n (slice_get nodes n)).type
 word_is items nodes n is w =
-    let x = its_node nodes n kind.Simple refl is in
+    let x = there nodes n kind.Simple refl is in
     ap (λ (i : Item). rules_of.is_word w i.type) (its_item nodes n kind.Simple x)
     ∙ ap (λ (k : NodeKind). rules_of.is_word w (type_expression_of (before n (item_at nodes)) nodes n x.node k)) x.is
     ∙ ap (λ (k : NodeKind). of_tables.is_word w (type_expression_of items nodes n x.node k)) (sym x.is)
@@ -189,7 +191,7 @@ module _ (t : Tables) (scope : Scope) (library : List Specification) (refused : 
         let takes : read.takes_actuals r c ≡ typing.takes_actuals f c (first_name_at f c) = are.takers c ∙ ap (λ (b : Bool). b && typing.takes_actuals f c (first_name_at f c)) x.is in
         ap (λ (e : Expression). rules_of.is_no_constant_index f (an_index n e cs)) x.expression
         ∙ ap (λ (b : Bool). if b then rules_of.is_no_constant_name f c (first_name_at f c) else true) (sym takes)
-        ∙ ap (λ (b : Bool). if read.takes_actuals r c then b else true) (named_object c (kind_same kind.Name (kind_at nodes c) x.is))
+        ∙ ap (λ (b : Bool). if read.takes_actuals r c then b else true) (named_object c (same_kind kind.Name (kind_at nodes c) x.is))
     bracketed n c cs (inr x) =
         let takes : read.takes_actuals r c ≡ false = are.takers c ∙ ap (λ (b : Bool). b && typing.takes_actuals f c (first_name_at f c)) x.is in
         no_name_index n (item f c).expression cs x.expression
@@ -197,7 +199,7 @@ module _ (t : Tables) (scope : Scope) (library : List Specification) (refused : 
 
     index_is : (n : ℕ) → kind_at nodes n ≡ kind.Index → rules_of.is_no_constant_index f (item f n).expression ≡ of_tables.is_no_constant_index r (children_in r n)
     index_is n is =
-        let x = its_node nodes n kind.Index refl is in
+        let x = there nodes n kind.Index refl is in
         let first = first_part nodes tree shaped is_expression (any is_constant_kind ∷ []) n x.node x.at (ap slots x.is) in
         let c : ℕ = child 0 x.node in
         let cs : Constants = constants_at (before n (item_at nodes)) (drop 1 x.node.children) in
@@ -279,9 +281,9 @@ module _ (t : Tables) (scope : Scope) (library : List Specification) (refused : 
     rep_stands (Some e) h = (and_parts (is_kind f kind.Equate e) (has_no_name (names f e)) h).0
 
     side_known : (items : ℕ → Item) (n : ℕ) → IsKnown r n → (k : NodeKind) → kind_at nodes n ≡ k → (is_of kind.TypeSet k ≡ false → is_constant nodes n ≡ true) → rules_of.is_no_type_side f k n ≡ of_tables.is_no_type_side r items k n
-    side_known items n known kind.TypeSet is there = refl
-    side_known items n known _ is there =
-        ap (λ (b : Bool). not b && not (rules_of.is_real_literal (item f n).expression)) (type_value types_there r.constants.now (value_in r n) (settled scope (item f n).constant) known (so.value_agrees t scope library refused shaped tree are n known (there refl)))
+    side_known items n known kind.TypeSet is is_so = refl
+    side_known items n known _ is is_so =
+        ap (λ (b : Bool). not b && not (rules_of.is_real_literal (item f n).expression)) (type_value types_there r.constants.now (value_in r n) (settled scope (item f n).constant) known (so.value_agrees t scope library refused shaped tree are n known (is_so refl)))
         ∙ ap (λ (b : Bool). not (of_tables.is_type_value (value_in r n)) && not b) (real_is items nodes n)
 
     bad_rep : (items : ℕ → Item) (n : ℕ) → IsKnown r n → rules_of.is_bad_rep f n ≡ of_tables.is_bad_rep r items n
@@ -292,7 +294,7 @@ module _ (t : Tables) (scope : Scope) (library : List Specification) (refused : 
     -- ---- names of types
 
     equated_value : (c : ℕ) → IsKnown r c → is_constant nodes c ≡ true → typing.is_type_value (settled scope (item f c).constant) ≡ of_tables.is_type_value (value_in r c)
-    equated_value c known there = type_value types_there r.constants.now (value_in r c) (settled scope (item f c).constant) known (so.value_agrees t scope library refused shaped tree are c known there)
+    equated_value c known is_so = type_value types_there r.constants.now (value_in r c) (settled scope (item f c).constant) known (so.value_agrees t scope library refused shaped tree are c known is_so)
 
     no_type_same : (n : ℕ) (name : Identifier) (meant : Meaning) (m : means.Meaning) → IsEquateKnown r meant → Means nodes meant m → is_routine r (module_of meant) ≡ rules_of.is_module_routine f n name → rules_of.names_no_type f n name m ≡ of_tables.names_no_type r meant
     no_type_same n name (meant.Equate c) m known is routine = ap (rules_of.names_no_type f n name) is.1 ∙ ap not (equated_value c known is.0)
@@ -362,19 +364,19 @@ module _ (t : Tables) (scope : Scope) (library : List Specification) (refused : 
 
     no_set : (items : ℕ → Item) (n : ℕ) → kind_at nodes n ≡ kind.Restrict → rules_of.has_no_set f (item f n).restriction ≡ of_tables.has_no_set r items n
     no_set items n is =
-        let x = its_node nodes n kind.Restrict refl is in
-        let there : is_there kind.Restrict (slice_get nodes n) ≡ true = ap (is_there kind.Restrict) x.at ∙ ap (is_of kind.Restrict) x.is in
+        let x = there nodes n kind.Restrict refl is in
+        let is_so : is_there kind.Restrict (slice_get nodes n) ≡ true = ap (is_there kind.Restrict) x.at ∙ ap (is_of kind.Restrict) x.is in
         ap (λ (i : Item). rules_of.has_no_set f i.restriction) (its_item nodes n kind.Restrict x)
         ∙ ap (λ (k : NodeKind). rules_of.has_no_set f (restriction_of (before n (item_at nodes)) nodes n x.node k)) x.is
         ∙ set_same (before n (item_at nodes)) items n x.node.names (one_of nodes kind.TypeSet x.node.children) (run nodes kind.Oper x.node.children)
         ∙ ap (λ (k : NodeKind). of_tables.names_set (restriction_of items nodes n x.node k) && is_none (set_at r (of_tables.second_bound (denoted n (names_in k x.node))))) (sym x.is)
         ∙ ap (λ (its : Option Node). of_tables.names_set (item_with items nodes n its).restriction && is_none (set_at r (of_tables.second_bound (bound_at ds n its)))) (sym x.at)
         ∙ ap (λ (bounds : List (Option ℕ)). of_tables.names_set (of_tables.item_in r items n).restriction && is_none (set_at r (of_tables.second_bound bounds))) (sym (bound_is f r.names.now are.names n))
-        ∙ ap (λ (b : Bool). b && (of_tables.names_set (of_tables.item_in r items n).restriction && is_none (set_at r (of_tables.second_bound (bound_in r.names.now n))))) (sym there)
+        ∙ ap (λ (b : Bool). b && (of_tables.names_set (of_tables.item_in r items n).restriction && is_none (set_at r (of_tables.second_bound (bound_in r.names.now n))))) (sym is_so)
 
     other_variable : (n : ℕ) → kind_at nodes n ≡ kind.TypeSet → rules_of.is_other_variable f (item f n).type_set ≡ of_tables.is_second_other (names_of (slice_get nodes n))
     other_variable n is =
-        let x = its_node nodes n kind.TypeSet refl is in
+        let x = there nodes n kind.TypeSet refl is in
         let least : least_names x.node.kind ≡ 2 = ap least_names x.is in
         let size : least_names x.node.kind ≤ length x.node.names = (enough nodes shaped n x.node x.at).names in
         ap (λ (i : Item). rules_of.is_other_variable f i.type_set) (its_item nodes n kind.TypeSet x)
@@ -436,7 +438,7 @@ module _ (t : Tables) (scope : Scope) (library : List Specification) (refused : 
 
       restricted_bad : (n : ℕ) → kind_at nodes n ≡ kind.Restrict → list_any (equates.is_bad_name f bad n) (names f n) ≡ list_any (of_tables.is_bad t bits) (bound_in r.names.now n)
       restricted_bad n is =
-          let x = its_node nodes n kind.Restrict refl is in
+          let x = there nodes n kind.Restrict refl is in
           ap (λ (its : Option Node). list_any (equates.is_bad_name f bad n) (node_names f its)) x.at
           ∙ any_bad n x.node.names
           ∙ sym (any_mapped (of_tables.is_bad t bits) (λ name. found ds name n) x.node.names)
@@ -450,7 +452,7 @@ module _ (t : Tables) (scope : Scope) (library : List Specification) (refused : 
 
       rep_bad : (n : ℕ) → kind_at nodes n ≡ kind.Simple → (rules_of.is_word simple.Rep (item f n).type && equates.is_bad_name f bad n rep) ≡ of_tables.is_bad_first t bits n
       rep_bad n is =
-          let x = its_node nodes n kind.Simple refl is in
+          let x = there nodes n kind.Simple refl is in
           let its : (item f n).type ≡ a_simple_type n (simple_type (symbol_in x.node.value)) =
           ap (λ (i : Item). i.type) (its_item nodes n kind.Simple x) ∙ ap (type_expression_of (before n (item_at nodes)) nodes n x.node) x.is in
           ap (λ (u : TypeExpression). rules_of.is_word simple.Rep u && equates.is_bad_name f bad n rep) its

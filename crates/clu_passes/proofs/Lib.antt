@@ -1,7 +1,7 @@
 pub mod Actuals
-pub mod Asking
 pub mod AtNodes
 pub mod BadEquates
+pub mod ByKinds
 pub mod ByNodes
 pub mod ByNotes
 pub mod ConstantNodes

@@ -31,7 +31,9 @@ use Rattle.clu_bindings.specs.declared.file.File.{File as Read}
 use Rattle.clu_bindings.specs.Files.{is_there_at}
 use Rattle.clu_name_rules.specs.ConstantRules as of_tables
 use Rattle.clu_passes.specs.ConstantTables.{file_with}
-use Rattle.clu_passes.proofs.ConstantNodes.{its_node, its_item, kind_same}
+use Rattle.clu_declares.proofs.Below.{same_kind}
+use Rattle.clu_declares.proofs.Facts.{there}
+use Rattle.clu_passes.proofs.ConstantNodes.{its_item}
 use Rattle.clu_passes.proofs.Constants.{real_is, word_is}
 use Rattle.clu_passes.proofs.OwnPlaces.{there_is}
 
@@ -93,7 +95,7 @@ module _ (r : Read) where
   other_kind : (k : NodeKind) → is_of kind.Equate k ≡ false → (e : ℕ) → is_of k (kind_at nodes e) ≡ true → of_tables.is_rep r e ≡ false
   other_kind k other e is =
       ap (λ (b : Bool). b && has_no_name (names_of (slice_get nodes e)))
-      (sym (there_is kind.Equate refl (slice_get nodes e)) ∙ ap (is_of kind.Equate) (kind_same k (kind_at nodes e) is) ∙ other)
+      (sym (there_is kind.Equate refl (slice_get nodes e)) ∙ ap (is_of kind.Equate) (same_kind k (kind_at nodes e) is) ∙ other)
 
   none_of : (k : NodeKind) → is_of kind.Equate k ≡ false → (n : ℕ) (es : List ℕ) → AreParts nodes (is_of k) n es → HasNone es
   none_of k other n [] all = tt
@@ -111,7 +113,7 @@ module _ (r : Read) where
 
   rep_is : (n e : ℕ) → IsPart nodes (is_of kind.Equate) n e → rules_of.is_rep (before n (item_at nodes) e).equate ≡ of_tables.is_rep r e
   rep_is n e part =
-      let x = its_node nodes e kind.Equate refl (kind_same kind.Equate (kind_at nodes e) part.1) in
+      let x = there nodes e kind.Equate refl (same_kind kind.Equate (kind_at nodes e) part.1) in
       ap (λ (i : Item). rules_of.is_rep i.equate) (before_is nodes n e part.0 ∙ its_item nodes e kind.Equate x)
       ∙ ap (λ (k : NodeKind). rules_of.is_rep (equate_of (before e (item_at nodes)) nodes e x.node k)) x.is
       ∙ equated_rep (before e (item_at nodes)) nodes e (equate_name x.node.names) (kind_at nodes (child 0 x.node)) (child 0 x.node)
@@ -156,7 +158,7 @@ module _ (r : Read) where
   module _ (shaped : HaveForms nodes) (tree : IsTree nodes) where
     one_rep : (n : ℕ) → kind_at nodes n ≡ kind.Cluster → (rules_of.rep_number (item_at nodes n).cluster.equates == 1) ≡ of_tables.has_one_rep r false (children_of (slice_get nodes n))
     one_rep n is =
-        let x = its_node nodes n kind.Cluster refl is in
+        let x = there nodes n kind.Cluster refl is in
         let cs : List ℕ = x.node.children in
         let first : List ℕ = after_run nodes kind.Parm cs in
         let later : List ℕ = after_one nodes kind.Where first in

@@ -1,4 +1,4 @@
-use Rattle.clu_passes.proofs.Asking.{not_elsewhere, least_at, least_of_headings, least_of_rest}
+use Rattle.clu_passes.proofs.ByKinds.{not_elsewhere, least_at, least_of_headings, least_of_rest}
 use Rattle.clu_passes.proofs.asking.least_asked.Goals as goal
 
 pub returns-clause-elsewhere : goal.returns-clause-elsewhere
