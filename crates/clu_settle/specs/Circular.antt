@@ -1,5 +1,5 @@
 -- The equates whose unfolding goes on for as many steps as there are declarations, and so meets itself.
-use Rattle.std.specs.Prelude.{ℕ, zero, suc, ◌-◌, if◌then◌else◌, Bool, true, false, List, [], ◌∷◌, ◌++◌, length, slice_get, Option, Some, None}
+use Rattle.std.specs.Prelude.{ℕ, zero, suc, ◌-◌, if◌then◌else◌, Bool, true, false, List, [], ◌∷◌, ◌++◌, length, map, slice_get, Option, Some, None}
 use Rattle.std.specs.List.{list_any, range_with_len}
 use Rattle.clu_tree.specs.declared.node.Node.{Node}
 use Rattle.clu_syntax.specs.declared.round.Round.{Round}
@@ -47,3 +47,7 @@ span_if _ all starts e _ = record { from = 0; to = 0 }
 
 abbrev pub span_in : List Node → List Round → ℕ → List ℕ → Declared → Span
 span_in nodes rounds all starts d = span_if (is_equate_at nodes d.node) all starts d.node (slice_get rounds d.node)
+
+-- for each declaration the names in it, if it is an equate
+abbrev pub spans_to : List Node → List Round → List Declared → List Span
+spans_to nodes rounds ds = map (span_in nodes rounds (length (unfolded_to nodes ds (length nodes))) (unfolded_starts nodes ds (length nodes))) ds

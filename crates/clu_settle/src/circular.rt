@@ -1,9 +1,10 @@
 //! The equates whose unfolding meets itself, whatever they are equated to: constants, types and type sets.
 
 ghost use Rattle.std.specs.Prelude.{◌≡◌, ◌<◌, ◌++◌, ◌↔◌, ℕ, true, [], OnOk, IfOk, Some, length, map, slice_get, vec_len};
+ghost use Rattle.clu_circles.specs.Circles.{AreCircles};
 ghost use Rattle.clu_names.specs.Denotes.{bound_to, starts_to};
 ghost use Rattle.clu_settle.specs.Graph.{is_equate_at, equate_of, unfolded_at, unfolded_to};
-ghost use Rattle.clu_settle.specs.Circular.{is_circular, unfolded_starts, start_in, span_in};
+ghost use Rattle.clu_settle.specs.Circular.{is_circular, unfolded_starts, start_in, span_in, spans_to};
 
 use clu_base::Memory;
 use clu_circles::{Circles, Span, find_circles};
@@ -170,7 +171,8 @@ pub fn equate_circles(
 ) -> Result<Circles, Memory>
     requires bound { names.now.bound.items ≡ bound_to tree.now names.now.declared.items (length tree.now) }
     requires starts { names.now.starts.items ≡ starts_to tree.now names.now.declared.items (length tree.now) }
-    ensures { IfOk result (λ circles. length rounds.now ≡ length tree.now → (k : ℕ) → k < length names.now.declared.items → (slice_get circles.circular.items k ≡ Some true) ↔ (is_circular tree.now rounds.now names.now.declared.items k ≡ true)) }
+    ensures order { IfOk result (λ circles. AreCircles (unfolded_to tree.now names.now.declared.items (length tree.now)) (spans_to tree.now rounds.now names.now.declared.items) circles.order.items circles.circular.items) }
+    ensures circular { IfOk result (λ circles. length rounds.now ≡ length tree.now → (k : ℕ) → k < length names.now.declared.items → (slice_get circles.circular.items k ≡ Some true) ↔ (is_circular tree.now rounds.now names.now.declared.items k ≡ true)) }
 {
     let unfolded = unfolded_names(alloc, tree, names)?;
     let declared = names.declared.as_slice();
