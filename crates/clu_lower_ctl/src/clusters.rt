@@ -32,8 +32,11 @@ const SET_UP: &[u8] = b"own";
 #[derive(Clone, Copy)]
 struct Making<'a> {
     declarations: &'a Declarations,
-    n: u32,
     spec: &'a Spec,
+    /// The nodes of its Parms.
+    parameters: &'a [u32],
+    /// The nodes of its Owns.
+    owns: &'a [u32],
     /// The type that its `rep` denotes.
     rep: Option<TypeId>,
 }
@@ -51,11 +54,12 @@ pub fn cluster_routines(
     let parts = c.syntax.cluster(n);
     let making = Making {
         declarations,
-        n,
         spec: specification(c, parts.name)?,
+        parameters: parts.parameters,
+        owns: parts.owns,
         rep: representation(c, parts.equates),
     };
-    making.all_routines(alloc, c)
+    making.all_routines(alloc, c, parts.routines)
 }
 
 /// The type that the equate of `rep` denotes, which is the one without a name among these Equates.
@@ -77,25 +81,23 @@ fn representation(c: &Checked, equates: &[u32]) -> Option<TypeId>
 impl Making<'_> {
     /// Notes the cluster's representation, its own variables and what its where clause gives.
     fn note(&self, fixed: &mut Fixed) -> Result<()>
-        requires { IsNode fixed.old.syntax.now NodeKind.Cluster self.now.n }
+        requires { AreNodes fixed.old.syntax.now NodeKind.Own self.now.owns.now }
         ensures { fixed.new.syntax ≡ fixed.old.syntax }
     {
         fixed.rep = self.rep;
-        declare_owns(
-            fixed,
-            fixed.syntax.cluster(self.n).owns,
-            HoleKind::ClusterOwn,
-        )?;
+        declare_owns(fixed, self.owns, HoleKind::ClusterOwn)?;
         give_cluster(fixed, self.spec)
     }
 
-    /// The routines, after that which sets up the own variables.
-    fn all_routines(&self, alloc: Global, c: &Checked) -> Result<Vec<WRoutine>>
-        requires { IsNode c.now.syntax NodeKind.Cluster self.now.n }
+    /// The routines of these nodes, after that which sets up the own variables.
+    fn all_routines(&self, alloc: Global, c: &Checked, nodes: &[u32]) -> Result<Vec<WRoutine>>
+        requires parameters { AreNodes c.now.syntax NodeKind.Parm self.now.parameters.now }
+        requires owns { AreNodes c.now.syntax NodeKind.Own self.now.owns.now }
+        requires nodes { AreNodes c.now.syntax NodeKind.Routine nodes.now }
         ensures { IfOk result (λ routines. All IsBounded routines.items) }
     {
         let mut routines = self.set_ups(alloc, c)?;
-        for n in c.syntax.cluster(self.n).routines {
+        for n in nodes {
             routines.push(self.routine(alloc, c, *n)?)?;
         }
         Ok(routines)
@@ -103,19 +105,18 @@ impl Making<'_> {
 
     /// The routine that sets up the own variables, if there are any.
     fn set_ups(&self, alloc: Global, c: &Checked) -> Result<Vec<WRoutine>>
-        requires { IsNode c.now.syntax NodeKind.Cluster self.now.n }
+        requires { AreNodes c.now.syntax NodeKind.Own self.now.owns.now }
         ensures { IfOk result (λ routines. All IsBounded routines.items) }
     {
-        match c.syntax.cluster(self.n).owns {
-            [] => Ok(Vec::new(alloc)),
-            owns => Ok(vec![in alloc; self.set_up(alloc, c, owns)?]?),
+        if self.owns.is_empty() {
+            return Ok(Vec::new(alloc));
         }
+        Ok(vec![in alloc; self.set_up(alloc, c)?]?)
     }
 
     /// The routine that sets up the own variables. Its nodes are those of their declarations.
-    fn set_up(&self, alloc: Global, c: &Checked, owns: &[u32]) -> Result<WRoutine>
-        requires cluster { IsNode c.now.syntax NodeKind.Cluster self.now.n }
-        requires owns { AreNodes c.now.syntax NodeKind.Own owns.now }
+    fn set_up(&self, alloc: Global, c: &Checked) -> Result<WRoutine>
+        requires { AreNodes c.now.syntax NodeKind.Own self.now.owns.now }
         ensures { IfOk result IsBounded }
     {
         let name = Bytes::from_slice(alloc, SET_UP)?;
@@ -123,13 +124,14 @@ impl Making<'_> {
         let mut fixed = nothing_fixed(alloc, c, self.declarations)?;
         self.note(&mut fixed)?;
         let _own = out.add_type(Bytes::from_slice(alloc, b"proctype()")?)?;
-        set_up(&mut out, &fixed, owns, HoleKind::ClusterOwn)?;
+        set_up(&mut out, &fixed, self.owns, HoleKind::ClusterOwn)?;
         out.push(WStmt::Return(Vec::new(alloc)))?;
-        out.finish(name, 0, own_nodes(c, owns))
+        out.finish(name, 0, own_nodes(c, self.owns))
     }
 
     fn routine(&self, alloc: Global, c: &Checked, n: u32) -> Result<WRoutine>
-        requires cluster { IsNode c.now.syntax NodeKind.Cluster self.now.n }
+        requires parameters { AreNodes c.now.syntax NodeKind.Parm self.now.parameters.now }
+        requires owns { AreNodes c.now.syntax NodeKind.Own self.now.owns.now }
         requires routine { IsNode c.now.syntax NodeKind.Routine n }
         ensures { IfOk result IsBounded }
     {
@@ -143,18 +145,18 @@ impl Making<'_> {
 
     /// Notes what stands round the statements of the routine n.
     fn note_member(&self, fixed: &mut Fixed, n: u32) -> Result<()>
-        requires cluster { IsNode fixed.old.syntax.now NodeKind.Cluster self.now.n }
+        requires parameters { AreNodes fixed.old.syntax.now NodeKind.Parm self.now.parameters.now }
+        requires owns { AreNodes fixed.old.syntax.now NodeKind.Own self.now.owns.now }
         requires routine { IsNode fixed.old.syntax.now NodeKind.Routine n }
         ensures { fixed.new.syntax ≡ fixed.old.syntax }
     {
-        give_member(fixed, n, fixed.syntax.cluster(self.n).parameters, self.spec)?;
+        give_member(fixed, n, self.parameters, self.spec)?;
         self.note(fixed)?;
         note_heading(fixed, n)
     }
 
     /// Adds all that stands in the routine n; the answer is how many arguments it takes.
     fn fill(&self, out: &mut Lowering, fixed: &mut Fixed, c: &Checked, n: u32) -> Result<u32>
-        requires cluster { IsNode fixed.old.syntax.now NodeKind.Cluster self.now.n }
         requires routine { IsNode fixed.old.syntax.now NodeKind.Routine n }
         requires checked { IsNode c.now.syntax NodeKind.Routine n }
     {
@@ -163,7 +165,7 @@ impl Making<'_> {
         let seen = self.seen(out.alloc, c, n)?;
         note_types(out, &mut fixed.object_types, seen, is_iterator)?;
         let args = formals(out, fixed, routine.arguments)?;
-        if !fixed.syntax.cluster(self.n).owns.is_empty() {
+        if !self.owns.is_empty() {
             let text = self.set_up_text(out.alloc)?;
             lower_own_set_up(out, text)?;
         }
