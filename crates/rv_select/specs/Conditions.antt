@@ -1,12 +1,15 @@
 -- Jumps that depend on a comparison.
-use Rattle.std.specs.Prelude.{ℕ, Bool, true, false, not, if◌then◌else◌}
+use Rattle.std.specs.Prelude.{ℕ, Bool, true, false, not, if◌then◌else◌, [], ◌∷◌}
 use Rattle.clu_wir.specs.declared.expression.WOp.{WOp}
 use Rattle.clu_wir.specs.declared.expression.WOp.TheVariants as operation
 use Rattle.rv_isa.specs.declared.op.Op.{Op}
 use Rattle.rv_isa.specs.declared.op.Op.TheVariants as op
+use Rattle.rv_select.specs.declared.conditions.Comparison.{Comparison}
 use Rattle.rv_select.specs.declared.conditions.Target.{Target}
+use Rattle.rv_select.specs.declared.operand.Scope.{Scope}
 use Rattle.rv_select.specs.declared.register.Register.{Register}
-use Rattle.rv_select.specs.Written.{Onto, branch_onto, go_onto, go_unless_onto}
+use Rattle.rv_select.specs.Combining.{left_at, registers_onto, right_at}
+use Rattle.rv_select.specs.Written.{Onto, branch_onto, go_onto, go_unless_onto, in_turn}
 
 abbrev pub near : ℕ → Target
 near label = record { label = label; is_near = true }
@@ -29,3 +32,8 @@ branching _ false = op.Bne
 abbrev pub jump_onto : WOp → Register → Register → Bool → Target → Onto
 jump_onto o left right sense t w =
     if t.is_near then branch_onto (branching o sense) left right t.label w else go_unless_onto (branching o (not sense)) left right t.label w
+
+-- goes on at the target where the comparison holds, if so, else where it doesn't hold
+unfoldable pub compared_onto : Comparison → Bool → Target → Scope → Onto
+compared_onto c sense t s =
+    in_turn (registers_onto c.left c.right s ∷ jump_onto c.op (left_at c.left c.right s) (right_at c.left c.right s) sense t ∷ [])

@@ -1,7 +1,7 @@
 //! Operations on words that are in registers or known.
 
 ghost use Rattle.std.specs.Prelude.{◌≡◌, IfOk, OnOk};
-ghost use Rattle.rv_select.specs.Combining.{by_number_onto, combined_at, equal_number_onto, known_number as number_known, left_at, numbered, right_at, small as small_number, told_onto, with_number as number_with};
+ghost use Rattle.rv_select.specs.Combining.{by_number_onto, by_registers_onto, combined_at, combined_onto, equal_number_onto, known_number as number_known, left_at, numbered, registers_onto, right_at, small as small_number, told_onto, with_number as number_with};
 ghost use Rattle.rv_select.specs.Written.{written};
 
 use crate::error::Answer;
@@ -13,6 +13,7 @@ use clu_wir::WOp;
 use rv_isa::Op;
 
 /// The word of an operation on two words. It may take the place of either.
+#[tactic(auto, unfolding(crate::specs::Combining::combined_onto))]
 pub(crate) fn combine(
     words: &mut Words,
     op: WOp,
@@ -20,7 +21,8 @@ pub(crate) fn combine(
     right: Operand,
     scope: Scope,
 ) -> Answer<Operand>
-    ensures { IfOk result (λ operand. operand ≡ combined_at scope) }
+    ensures operand { IfOk result (λ operand. operand ≡ combined_at scope) }
+    ensures written { OnOk result (written words.new ≡ combined_onto op left right scope (written words.old)) }
 {
     let to = scope.free()?;
     match known_number(op, right) {
@@ -40,7 +42,9 @@ fn by_registers(
     left: Operand,
     right: Operand,
     scope: Scope,
-) -> Answer<()> {
+) -> Answer<()>
+    ensures { OnOk result (written words.new ≡ by_registers_onto op left right scope (written words.old)) }
+{
     let (left, right) = registers(words, left, right, scope)?;
     let to = scope.free()?;
     words.three(instruction(op), to, left, right)?;
@@ -56,6 +60,7 @@ pub(crate) fn registers(
 ) -> Answer<(Register, Register)>
     ensures left { IfOk result (λ both. both.0 ≡ left_at left right scope) }
     ensures right { IfOk result (λ both. both.1 ≡ right_at left right scope) }
+    ensures written { OnOk result (written words.new ≡ registers_onto left right scope (written words.old)) }
 {
     let first = left.register(words, scope.keeping(right).free()?)?;
     let second = right.register(words, scope.keeping(Operand::At(first)).free()?)?;

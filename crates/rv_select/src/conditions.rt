@@ -1,7 +1,7 @@
 //! Jumps that depend on a comparison.
 
 ghost use Rattle.std.specs.Prelude.{◌≡◌, OnOk};
-ghost use Rattle.rv_select.specs.Conditions.{always_onto, branching as branching_of, far, jump_onto, near};
+ghost use Rattle.rv_select.specs.Conditions.{always_onto, branching as branching_of, compared_onto, far, jump_onto, near};
 ghost use Rattle.rv_select.specs.Written.{written};
 
 use crate::combining::registers;
@@ -75,7 +75,10 @@ pub(crate) struct Comparison {
 
 impl Comparison {
     /// Goes on at the target where it holds, if `sense` is true, else where it doesn't hold. The words go into registers.
-    pub fn go(self, words: &mut Words, sense: bool, target: Target, scope: Scope) -> Answer<()> {
+    #[tactic(auto, unfolding(crate::specs::Conditions::compared_onto))]
+    pub fn go(self, words: &mut Words, sense: bool, target: Target, scope: Scope) -> Answer<()>
+        ensures { OnOk result (written words.new ≡ compared_onto self sense target scope (written words.old)) }
+    {
         let (left, right) = registers(words, self.left, self.right, scope)?;
         target.go(words, self.op, left, right, sense)
     }

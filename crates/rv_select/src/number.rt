@@ -1,7 +1,7 @@
 //! Numbers that are known, in registers.
 
 ghost use Rattle.std.specs.Prelude.{◌≡◌, IfOk, OnOk};
-ghost use Rattle.rv_select.specs.Operands.{short_onto};
+ghost use Rattle.rv_select.specs.Operands.{known_onto, lower_half as lower_half_of, number_onto, short_onto};
 ghost use Rattle.rv_select.specs.Slots.{above_lowest, lowest as lowest_of};
 ghost use Rattle.rv_select.specs.Written.{written};
 
@@ -29,11 +29,19 @@ fn lowest(number: i32) -> i32
     (number << 20) >> 20
 }
 
-/// Gives a register a word: one of 32 bits, or its upper half and its lower half with a sign, which the upper one makes up
-/// for.
-pub(crate) fn known(words: &mut Words, to: Register, word: u64) -> Answer<()> {
-    let number = word.cast_signed();
-    let lower = (number << 32) >> 32;
+/// Gives a register a word.
+pub(crate) fn known(words: &mut Words, to: Register, word: u64) -> Answer<()>
+    ensures { OnOk result (written words.new ≡ known_onto to word (written words.old)) }
+{
+    known_number(words, to, word.cast_signed())
+}
+
+/// A number of 32 bits, or its upper half and its lower half with a sign, which the upper one makes up for.
+#[tactic(auto, unfolding(crate::specs::Operands::number_onto))]
+fn known_number(words: &mut Words, to: Register, number: i64) -> Answer<()>
+    ensures { OnOk result (written words.new ≡ number_onto to number (written words.old)) }
+{
+    let lower = lower_half(number);
     if lower == number {
         return short(words, to, number);
     }
@@ -43,7 +51,16 @@ pub(crate) fn known(words: &mut Words, to: Register, word: u64) -> Answer<()> {
     words.three(Op::Add, to, to, Register::Far)
 }
 
+/// The low 32 bits of a number, with the upmost of them as its sign.
+#[tactic(auto, unfolding(crate::specs::Operands::lower_half))]
+fn lower_half(number: i64) -> i64
+    ensures { result ≡ lower_half_of number }
+{
+    (number << 32) >> 32
+}
+
 /// A number of 32 bits: ADDIW wraps where the nearest that LUI gives is 2^31.
+#[tactic(auto, unfolding(crate::specs::Operands::short_onto))]
 fn short(words: &mut Words, to: Register, number: i64) -> Answer<()>
     ensures { OnOk result (written words.new ≡ short_onto to number (written words.old)) }
 {

@@ -1,7 +1,8 @@
 //! Where the words of expressions are.
 
 ghost use Rattle.std.specs.Prelude.{◌≡◌, IfOk, OnOk, bit_or, slice_get, slice_set};
-ghost use Rattle.rv_select.specs.Operands.{bit as bit_at, bit_of as bits_of, free as free_in, free_among, free_of, keeping as keeping_in, register_of};
+ghost use Rattle.rv_select.specs.Operands.{bit as bit_at, bit_of as bits_of, free as free_in, free_among, free_of, keeping as keeping_in, put_onto, register_of, register_onto, unbound};
+ghost use Rattle.rv_select.specs.Written.{written};
 
 use crate::error::{Answer, SelectError};
 use crate::number::known;
@@ -17,8 +18,10 @@ pub(crate) enum Operand {
 
 impl Operand {
     /// A register that holds the word: `to`, where it is in none yet.
+    #[tactic(auto, unfolding(crate::specs::Operands::register_onto))]
     pub fn register(self, words: &mut Words, to: Register) -> Answer<Register>
-        ensures { IfOk result (λ register. register ≡ register_of self to) }
+        ensures register { IfOk result (λ register. register ≡ register_of self to) }
+        ensures written { OnOk result (written words.new ≡ register_onto self to (written words.old)) }
     {
         match self {
             Operand::At(register) => Ok(register),
@@ -33,7 +36,10 @@ impl Operand {
     }
 
     /// Gives a register the word.
-    pub fn put(self, words: &mut Words, to: Register) -> Answer<()> {
+    #[tactic(auto, unfolding(crate::specs::Operands::put_onto))]
+    pub fn put(self, words: &mut Words, to: Register) -> Answer<()>
+        ensures { OnOk result (written words.new ≡ put_onto self to (written words.old)) }
+    {
         match self {
             Operand::At(register) => {
                 if register.number() == to.number() {
@@ -61,7 +67,9 @@ pub(crate) struct Scope {
 
 impl Scope {
     /// At the start of a step.
-    pub fn new(is_leaf: bool) -> Scope {
+    pub fn new(is_leaf: bool) -> Scope
+        ensures { result ≡ unbound is_leaf }
+    {
         Scope {
             is_leaf,
             kept: 0,
