@@ -1,2 +1,5 @@
 pub mod Instructions
 pub mod Cutting
+pub mod Adding
+pub mod Sizes
+pub mod Ways

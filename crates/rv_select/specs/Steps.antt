@@ -1,11 +1,8 @@
 -- What each step of flat code becomes, but for those of expressions.
-use Rattle.std.specs.Prelude.{◌≡◌, slice_get, ℕ, suc, ℤ, pos, negsuc, [], ◌∷◌, length, Option, Some, None, zero}
+use Rattle.std.specs.Prelude.{ℕ, suc, ℤ, pos, negsuc, [], ◌∷◌, length, Option, Some, None, zero}
 use Rattle.clu_wir.specs.declared.hole.HoleKind.TheVariants as kind
 use Rattle.clu_wir.specs.declared.primitive.Primitive.{Primitive}
 use Rattle.clu_wir.specs.declared.primitive.Primitive.TheVariants as primitive
-use Rattle.clu_wir.specs.Numbers.{primitives}
-use Rattle.clu_frames.specs.declared.flat.Flat.{Flat}
-use Rattle.clu_frames.specs.declared.flat.Flat.TheVariants as flat
 use Rattle.rv_isa.specs.declared.op.Op.TheVariants as op
 use Rattle.rv_select.specs.declared.parts.Part.{Part}
 use Rattle.rv_select.specs.declared.parts.Part.TheVariants as part
@@ -13,7 +10,7 @@ use Rattle.rv_select.specs.declared.register.Register.{Register}
 use Rattle.rv_select.specs.declared.register.Register.TheVariants.{Back, Caller, First, Frame, Second, StackEnd, Store, StoreEnd, Table, Top, Value, Words, Zero}
 use Rattle.rv_select.specs.Parts.{part_number}
 use Rattle.rv_select.specs.Slots.{address_at_onto, load_at_onto, load_slot_onto, next_slot, save_slot_onto, slot_address_onto, slot_distance, word_distance}
-use Rattle.rv_select.specs.Written.{Onto, Written, addi_onto, address_onto, copy_onto, fresh, go_onto, hole_onto, imm_onto, in_turn, jalr_onto, ld_onto, placed, save_onto, sd_onto, service_onto, service_unless_onto, three_onto}
+use Rattle.rv_select.specs.Written.{Onto, addi_onto, address_onto, copy_onto, fresh, hole_onto, imm_onto, in_turn, jalr_onto, ld_onto, placed, save_onto, sd_onto, service_onto, service_unless_onto, three_onto}
 
 -- the address of a part of the runtime
 abbrev pub part_onto : Register → Part → Onto
@@ -115,20 +112,3 @@ primitive_onto primitive.SaveByte slot = in_turn (load_slot_onto First slot ∷ 
 abbrev pub numbered_onto : Option Primitive → ℕ → Onto
 numbered_onto None slot w = w
 numbered_onto (Some p) slot w = primitive_onto p slot w
-
--- What is written after a step, of a routine whose frame has so many slots. Of steps with expressions nothing is said here.
-abbrev pub Becomes : ℕ → Flat → Written → Written → Type 0
-Becomes frame (flat.Label label) before after = after ≡ placed label before
-Becomes frame (flat.Jump label) before after = after ≡ go_onto label before
-Becomes frame (flat.Enter arguments) before after = after ≡ enter_onto arguments frame before
-Becomes frame (flat.Yield slot count) before after = after ≡ yield_onto slot count before
-Becomes frame (flat.Resume slot) before after = after ≡ resume_onto slot before
-Becomes frame (flat.Take to) before after = after ≡ take_onto to before
-Becomes frame (flat.Result to number) before after = after ≡ result_onto to number before
-Becomes frame (flat.Cut mark) before after = after ≡ cut_onto mark before
-Becomes frame (flat.Leave slot count) before after = after ≡ leave_onto slot count before
-Becomes frame (flat.Raise slot) before after = after ≡ raise_onto slot before
-Becomes frame (flat.Signal slot) before after = after ≡ signal_onto slot before
-Becomes frame flat.Pass before after = after ≡ pass_onto before
-Becomes frame (flat.Prim number slot) before after = after ≡ numbered_onto (slice_get primitives number) slot before
-Becomes frame _ before after = Unit {0}

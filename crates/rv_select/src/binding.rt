@@ -3,12 +3,16 @@
 //! The number of type any is 0, and the number of a routine type is odd: an object of type any is one already, and the
 //! own type of a routine object is in its descriptor, since its static type may list more exceptions.
 
-ghost use Rattle.std.specs.Prelude.{IfOk, codes};
+ghost use Rattle.std.specs.Prelude.{◌≡◌, IfOk, OnOk, codes};
+ghost use Rattle.rv_select.specs.Evaluation.{part_of};
+ghost use Rattle.rv_select.specs.Selection.{bind_onto};
 ghost use Rattle.rv_select.specs.Selected.{IsPart};
+ghost use Rattle.rv_select.specs.Written.{written};
 
 use crate::calls::STORE_FULL;
 use crate::error::{Answer, SelectError};
 use crate::evaluating::value;
+use crate::exceptions::part_address;
 use crate::operand::Scope;
 use crate::parts::{Part, make_part};
 use crate::register::Register::{
@@ -17,7 +21,7 @@ use crate::register::Register::{
 use crate::slots::save_slot;
 use crate::words::Words;
 use clu_object::ObjRoutine;
-use clu_wir::{HoleKind, WExpr};
+use clu_wir::WExpr;
 use rv_isa::Op;
 use std::alloc::Global;
 
@@ -41,12 +45,14 @@ pub(crate) fn bind(
     word: &WExpr,
     to: u32,
     scope: Scope,
-) -> Answer<()> {
+) -> Answer<()>
+    ensures { OnOk result (written words.new ≡ bind_onto (part_of number.now) (part_of word.now) to scope (written words.old)) }
+{
     let number = value(words, number, scope)?;
     let word = value(words, word, scope.keeping(number))?;
     number.put(words, Value)?;
     word.put(words, Travelling)?;
-    words.hole(First, HoleKind::Runtime, Part::Bind.number())?;
+    part_address(words, First, Part::Bind)?;
     words.jalr(Second, First, 0)?;
     save_slot(words, Value, to)
 }

@@ -1,22 +1,50 @@
 //! What is known of expressions before they are evaluated.
 
+ghost use Rattle.std.specs.Prelude.{◌≡◌};
+ghost use Rattle.rv_select.specs.Evaluation.{added_by, bound_word, both_known as known_of_both, compared as comparison_of, is_comparison as compares, is_known as knows, is_opposite as opposes, is_told as tells, part_of, ready_first, ready_side as side_of, short_of, small_word, way_of};
+
 use crate::combining::small;
 use crate::operand::{Operand, Scope};
 use clu_wir::{WExpr, WOp};
 
 /// The word of an expression that is known where its bound words are. Of operations only comparisons are looked at.
-pub(crate) fn known_of(expression: &WExpr, scope: Scope) -> Option<u64> {
+pub(crate) fn known_of(expression: &WExpr, scope: Scope) -> Option<u64>
+    ensures { result ≡ (part_of expression.now).known scope }
+{
     match expression {
         WExpr::Word(word) => Some(*word),
-        WExpr::Bound(number) => match scope.bound(*number) {
-            Some(Operand::Known(word)) => Some(word),
-            _ => None,
-        },
+        WExpr::Bound(number) => known_operand(scope.bound(*number)),
         WExpr::Binary(op, left, right) => {
-            let left = known_of(left, scope)?;
-            compared(*op, left, known_of(right, scope)?)
+            both_known(*op, known_of(left, scope), known_of(right, scope))
         }
-        _ => None,
+        WExpr::Slot(_)
+        | WExpr::Hole(_, _)
+        | WExpr::Load(_, _)
+        | WExpr::Byte(_)
+        | WExpr::If(_, _, _)
+        | WExpr::Check(_, _, _)
+        | WExpr::With(_, _) => None,
+    }
+}
+
+fn known_operand(operand: Option<Operand>) -> Option<u64>
+    ensures { result ≡ bound_word operand }
+{
+    match operand {
+        Some(Operand::Known(word)) => Some(word),
+        Some(Operand::At(_)) | None => None,
+    }
+}
+
+fn both_known(op: WOp, left: Option<u64>, right: Option<u64>) -> Option<u64>
+    ensures { result ≡ known_of_both op left right }
+{
+    match left {
+        Some(left) => match right {
+            Some(right) => compared(op, left, right),
+            None => None,
+        },
+        None => None,
     }
 }
 
@@ -25,35 +53,55 @@ const REACH: u64 = 1000;
 
 /// The side of a choice that is known or in a register already, if one branch reaches over the condition and the other
 /// side, and whether it is the first.
+#[tactic(auto, using(crate::proofs::Sizes::part_words))]
 pub(crate) fn ready_side(
     condition: &WExpr,
     then: &WExpr,
     other: &WExpr,
     scope: Scope,
-) -> Option<(Operand, bool)> {
+) -> Option<(Operand, bool)>
+    ensures { result ≡ side_of (part_of condition.now) (part_of then.now) (part_of other.now) scope }
+{
     let sides = then.words().saturating_add(other.words());
     if condition.words().saturating_add(sides) > REACH {
         return None;
     }
-    match ready(then, scope) {
+    first_ready(ready(then, scope), ready(other, scope))
+}
+
+fn first_ready(then: Option<Operand>, other: Option<Operand>) -> Option<(Operand, bool)>
+    ensures { result ≡ ready_first then other }
+{
+    match then {
         Some(word) => Some((word, true)),
-        None => match ready(other, scope) {
+        None => match other {
             Some(word) => Some((word, false)),
             None => None,
         },
     }
 }
 
-fn ready(side: &WExpr, scope: Scope) -> Option<Operand> {
+fn ready(side: &WExpr, scope: Scope) -> Option<Operand>
+    ensures { result ≡ (part_of side.now).ready scope }
+{
     match side {
         WExpr::Word(word) => Some(Operand::Known(*word)),
         WExpr::Bound(number) => scope.bound(*number),
-        _ => None,
+        WExpr::Slot(_)
+        | WExpr::Hole(_, _)
+        | WExpr::Load(_, _)
+        | WExpr::Byte(_)
+        | WExpr::Binary(_, _, _)
+        | WExpr::If(_, _, _)
+        | WExpr::Check(_, _, _)
+        | WExpr::With(_, _) => None,
     }
 }
 
 /// The word of a comparison of two words.
-fn compared(op: WOp, left: u64, right: u64) -> Option<u64> {
+fn compared(op: WOp, left: u64, right: u64) -> Option<u64>
+    ensures { result ≡ comparison_of op left right }
+{
     match op {
         WOp::Slt => Some(u64::from(left.cast_signed() < right.cast_signed())),
         WOp::Sltu => Some(u64::from(left < right)),
@@ -62,18 +110,39 @@ fn compared(op: WOp, left: u64, right: u64) -> Option<u64> {
     }
 }
 
-/// The word of an expression, if it is known and an immediate holds it.
-pub(crate) fn small_of(expression: &WExpr, scope: Scope) -> Option<i32> {
-    small(known_of(expression, scope)?.cast_signed())
+/// The number that an operation adds to its left word, if it is known and an immediate holds it.
+pub(crate) fn added(op: WOp, right: &WExpr, scope: Scope) -> Option<i32>
+    ensures { result ≡ added_by op (small_word ((part_of right.now).known scope)) }
+{
+    match op {
+        WOp::Add => small_of(right, scope),
+        _ => None,
+    }
+}
+
+fn small_of(expression: &WExpr, scope: Scope) -> Option<i32>
+    ensures { result ≡ small_word ((part_of expression.now).known scope) }
+{
+    match known_of(expression, scope) {
+        Some(word) => small(word.cast_signed()),
+        None => None,
+    }
 }
 
 /// Whether the word of an expression is known to be this one.
-pub(crate) fn is_known(expression: &WExpr, word: u64, scope: Scope) -> bool {
-    known_of(expression, scope) == Some(word)
+fn is_known(expression: &WExpr, word: u64, scope: Scope) -> bool
+    ensures { result ≡ knows (part_of expression.now) word scope }
+{
+    match known_of(expression, scope) {
+        Some(known) => known == word,
+        None => false,
+    }
 }
 
 /// Whether an operation compares, so that its word is 0 or 1.
-pub(crate) fn is_comparison(op: WOp) -> bool {
+fn is_comparison(op: WOp) -> bool
+    ensures { result ≡ compares op }
+{
     match op {
         WOp::Slt | WOp::Sltu | WOp::Equal => true,
         _ => false,
@@ -81,15 +150,56 @@ pub(crate) fn is_comparison(op: WOp) -> bool {
 }
 
 /// Whether the word of an expression is 0 or 1 in any case.
-fn is_truth(expression: &WExpr) -> bool {
+fn is_truth(expression: &WExpr) -> bool
+    ensures { result ≡ (part_of expression.now).is_truth }
+{
     match expression {
         WExpr::Binary(op, _, _) => is_comparison(*op),
-        _ => false,
+        WExpr::Slot(_)
+        | WExpr::Word(_)
+        | WExpr::Hole(_, _)
+        | WExpr::Load(_, _)
+        | WExpr::Byte(_)
+        | WExpr::If(_, _, _)
+        | WExpr::Check(_, _, _)
+        | WExpr::With(_, _)
+        | WExpr::Bound(_) => false,
+    }
+}
+
+/// What tells an operation as a condition.
+#[derive(Clone, Copy)]
+pub(crate) enum Way {
+    /// The left word, which is 0 where it holds.
+    Left,
+    /// The right word, which is 0 where it holds, or where it doesn't hold.
+    Right(bool),
+    /// A comparison of both words.
+    Both,
+    /// The word of the operation.
+    Word,
+}
+
+pub(crate) fn told_by(op: WOp, left: &WExpr, right: &WExpr, scope: Scope) -> Way
+    ensures { result ≡ way_of op (part_of left.now) (part_of right.now) scope }
+{
+    if is_opposite(op, left, right, scope) {
+        return Way::Left;
+    }
+    if is_told(op, left, right, scope) {
+        return Way::Right(is_known(left, 1, scope));
+    }
+    if is_comparison(op) {
+        Way::Both
+    } else {
+        Way::Word
     }
 }
 
 /// Whether an operation asks whether the left word is 0.
-pub(crate) fn is_opposite(op: WOp, left: &WExpr, right: &WExpr, scope: Scope) -> bool {
+fn is_opposite(op: WOp, left: &WExpr, right: &WExpr, scope: Scope) -> bool
+    ensures { result ≡ opposes op (part_of left.now) (part_of right.now) scope }
+{
     match op {
         WOp::Equal => is_known(right, 0, scope),
         WOp::Xor => is_known(right, 1, scope) && is_truth(left),
@@ -97,12 +207,27 @@ pub(crate) fn is_opposite(op: WOp, left: &WExpr, right: &WExpr, scope: Scope) ->
     }
 }
 
-/// Whether the words are equal just where the right one is 0, or just where it isn't.
-pub(crate) fn is_told(left: &WExpr, right: &WExpr, scope: Scope) -> bool {
-    is_known(left, 0, scope) || (is_known(left, 1, scope) && is_truth(right))
+/// Whether words are equal just where the right one is 0, or just where it isn't.
+fn is_told(op: WOp, left: &WExpr, right: &WExpr, scope: Scope) -> bool
+    ensures { result ≡ tells op (part_of left.now) (part_of right.now) scope }
+{
+    match op {
+        WOp::Equal => { is_known(left, 0, scope) || (is_known(left, 1, scope) && is_truth(right)) }
+        _ => false,
+    }
 }
 
-/// Whether the choice between two words, as a condition, is told by the first condition and one of them.
-pub(crate) fn is_short(second: &WExpr, other: &WExpr, scope: Scope) -> bool {
-    is_known(other, 0, scope) || is_known(second, 1, scope)
+/// Whether a choice between two words, as a condition, wants both the first condition and the second word, or one of the
+/// first condition and the other word.
+pub(crate) fn short(second: &WExpr, other: &WExpr, scope: Scope) -> Option<bool>
+    ensures { result ≡ short_of (part_of second.now) (part_of other.now) scope }
+{
+    if is_known(other, 0, scope) {
+        return Some(true);
+    }
+    if is_known(second, 1, scope) {
+        Some(false)
+    } else {
+        None
+    }
 }

@@ -4,11 +4,15 @@
 //! and `unhandled exception: `, the address of the descriptor of the procedure at which the program starts, and for each
 //! trap two words, the address of the string of its name and the word of its object, or 0 if it has none.
 
-ghost use Rattle.std.specs.Prelude.{◌≡◌, IfOk, codes};
+ghost use Rattle.std.specs.Prelude.{◌≡◌, IfOk, OnOk, codes};
 ghost use Rattle.rv_select.specs.Parts.{part_number};
+ghost use Rattle.rv_select.specs.Evaluation.{trap_distance, trap_onto, trap_to};
+ghost use Rattle.rv_select.specs.Written.{written};
 ghost use Rattle.rv_select.specs.Selected.{IsBare, IsPart};
 
 use crate::error::{Answer, SelectError};
+use crate::exceptions::part_address;
+use crate::register::Register;
 use crate::register::Register::{
     Back, Caller, First, Frame, Second, Table, Top, Value, Words as Objects, Zero,
 };
@@ -106,18 +110,29 @@ fn traps(words: &mut Words) -> Answer<()> {
 }
 
 /// How many bytes the item of a trap is from where the first one is so many, each of so many bytes.
-fn place_of(trap: Trap, first: i32, each: i32) -> Answer<i32> {
+fn place_of(trap: Trap, first: i32, each: i32) -> Answer<i32>
+    ensures { IfOk result (λ bytes. bytes ≡ trap_distance trap first each) }
+{
     let number = i32::try_from(trap.number())?;
     Ok(each.saturating_mul(number).saturating_add(first))
 }
 
 /// Raises a trap here. A routine without a frame gives it to its caller, with the caller's link table.
-pub(crate) fn raise_trap(words: &mut Words, trap: Trap, is_leaf: bool) -> Answer<()> {
+#[tactic(auto, unfolding(crate::specs::Evaluation::trap_onto))]
+pub(crate) fn raise_trap(words: &mut Words, trap: Trap, is_leaf: bool) -> Answer<()>
+    ensures { OnOk result (written words.new ≡ trap_onto trap is_leaf (written words.old)) }
+{
     if is_leaf {
         words.copy(Table, Caller)?;
+        return go_to_trap(words, Zero, trap);
     }
-    words.hole(First, HoleKind::Runtime, Part::Trap.number())?;
-    let link = if is_leaf { Zero } else { Back };
+    go_to_trap(words, Back, trap)
+}
+
+fn go_to_trap(words: &mut Words, link: Register, trap: Trap) -> Answer<()>
+    ensures { OnOk result (written words.new ≡ trap_to link trap (written words.old)) }
+{
+    part_address(words, First, Part::Trap)?;
     words.jalr(link, First, place_of(trap, 0, TRAP_ENTRY)?)
 }
 

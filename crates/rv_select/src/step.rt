@@ -1,7 +1,8 @@
 //! The words of each step of flat code.
 
-ghost use Rattle.std.specs.Prelude.{OnOk};
-ghost use Rattle.rv_select.specs.Steps.{Becomes};
+ghost use Rattle.std.specs.Prelude.{◌≡◌, OnOk};
+ghost use Rattle.rv_select.specs.Evaluation.{part_of};
+ghost use Rattle.rv_select.specs.Selection.{set_onto, step_onto, store_onto};
 ghost use Rattle.rv_select.specs.Written.{written};
 
 use crate::binding::bind;
@@ -20,7 +21,7 @@ use clu_wir::WExpr;
 
 /// The words of a step of a routine whose frame has so many slots.
 pub(crate) fn select_step(words: &mut Words, step: &Flat, frame: u32) -> Answer<()>
-    ensures { OnOk result (Becomes frame step.now (written words.old) (written words.new)) }
+    ensures { OnOk result (written words.new ≡ step_onto frame step.now (written words.old)) }
 {
     let scope = Scope::new(false);
     match step {
@@ -47,7 +48,9 @@ pub(crate) fn select_step(words: &mut Words, step: &Flat, frame: u32) -> Answer<
     }
 }
 
-fn set(words: &mut Words, to: u32, word: &WExpr, scope: Scope) -> Answer<()> {
+fn set(words: &mut Words, to: u32, word: &WExpr, scope: Scope) -> Answer<()>
+    ensures { OnOk result (written words.new ≡ set_onto to (part_of word.now) scope (written words.old)) }
+{
     let register = in_register(words, word, scope)?;
     save_slot(words, register, to)
 }
@@ -59,7 +62,9 @@ pub(crate) fn put(
     distance: i32,
     word: &WExpr,
     scope: Scope,
-) -> Answer<()> {
+) -> Answer<()>
+    ensures { OnOk result (written words.new ≡ store_onto (part_of address.now) distance (part_of word.now) scope (written words.old)) }
+{
     let register = in_register(words, word, scope)?;
     let base = in_register(words, address, scope.keeping(Operand::At(register)))?;
     save_at(words, register, base, distance)
