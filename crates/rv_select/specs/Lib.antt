@@ -2,6 +2,7 @@
 pub mod Combining
 pub mod Conditions
 pub mod Evaluation
+pub mod Finished
 pub mod Instructions
 pub mod Operands
 pub mod Operations

@@ -6,6 +6,7 @@ use Rattle.clu_frames.specs.Steps.{code_words}
 use Rattle.clu_frames.specs.declared.flat.FlatRoutine.{FlatRoutine}
 use Rattle.clu_object.specs.Holes.{has_holes}
 use Rattle.clu_object.specs.declared.object.ObjRoutine.{ObjRoutine}
+use Rattle.rv_select.specs.Finished.{all_onto, finished}
 use Rattle.rv_select.specs.Instructions.{AreInstructions}
 
 -- all but its steps: the name, the number of nodes, and what holes name
@@ -16,9 +17,11 @@ pub record HandsOn (flat : FlatRoutine) (object : ObjRoutine) : Type 0 where
   pub constants : object.constants ≡ flat.constants.items
   pub types : object.types ≡ flat.types.items
 
--- its words are those of instructions, no more than are counted for its steps, and each hole is where the linker fills in
--- what it names
+-- its words and holes are those of its steps, one after the other; the words are those of instructions, no more than are
+-- counted for the steps, and each hole is where the linker fills in what it names
 pub record IsSelected (flat : FlatRoutine) (object : ObjRoutine) : Type 0 where
+  pub of_steps : object.code ≡ finished (all_onto flat.frame flat.code.items)
+  pub holes_of_steps : object.holes ≡ (all_onto flat.frame flat.code.items).holes
   pub words : length object.code ≤ code_words flat.code.items
   pub instructions : AreInstructions object.code
   pub holes : IsTrue (has_holes object)

@@ -1,6 +1,7 @@
 //! An assembler: instructions become words one by one, and jumps find their labels at the end.
 
-ghost use Rattle.std.specs.Prelude.{◌≡◌, IfOk, OnOk, length};
+ghost use Rattle.std.specs.Prelude.{◌≡◌, IfOk, OnOk, Some, length, slice_set};
+ghost use Rattle.rv_select.specs.Finished.{blank, bytes_between, finished, landed, landed_at, with_bytes};
 ghost use Rattle.rv_select.specs.Instructions.{AreInstructions, IsInstruction};
 ghost use Rattle.rv_select.specs.Written.{addi_onto, address_onto, branch_onto, copy_onto, emitted, fresh, go_onto, go_unless_onto, hole_onto, holed, imm_onto, jal_onto, jalr_onto, ld_onto, load_onto, noted, placed, referred, save_onto, sd_onto, service_onto, service_unless_onto, three_onto, upper_onto, word_of as word_of_instr, written};
 
@@ -15,7 +16,9 @@ use std::alloc::Global;
 
 impl Words {
     /// No words yet. Labels are the numbers below `labels`, and those that `fresh` gives.
-    pub fn new(alloc: Global, labels: usize) -> Result<Words, Memory> {
+    pub fn new(alloc: Global, labels: usize) -> Result<Words, Memory>
+        ensures { IfOk result (λ words. written words ≡ blank labels) }
+    {
         Ok(Words {
             code: Vec::new(alloc),
             holes: Vec::new(alloc),
@@ -289,7 +292,11 @@ impl Words {
     }
 
     /// The words, each with its distance to the label that it names.
-    pub fn finish(self) -> Answer<Finished> {
+    #[tactic(auto, unfolding(crate::specs::Finished::finished))]
+    pub fn finish(self) -> Answer<Finished>
+        ensures code { IfOk result (λ words. words.code.items ≡ finished (written self)) }
+        ensures holes { IfOk result (λ words. words.holes.items ≡ self.holes.items) }
+    {
         let Words {
             mut code,
             holes,
@@ -305,14 +312,24 @@ impl Words {
 
 impl Reference {
     /// Gives the instruction its distance.
+    #[tactic(auto, unfolding(crate::specs::Finished::landed))]
     fn land(&self, code: &mut [u32], labels: &[Option<u32>]) -> Answer<()>
         requires { AreInstructions code.old }
-        ensures { AreInstructions code.new }
+        ensures instructions { AreInstructions code.new }
+        ensures landed { OnOk result (code.new ≡ landed labels.now self.now code.old) }
     {
-        let Some(Some(place)) = labels.get(self.label as usize) else {
-            return Err(SelectError::NotYet);
-        };
-        let bytes = distance(self.at, *place)?;
+        match labels.get(self.label as usize).copied() {
+            Some(Some(place)) => self.land_at(code, place),
+            _ => Err(SelectError::NotYet),
+        }
+    }
+
+    fn land_at(&self, code: &mut [u32], place: u32) -> Answer<()>
+        requires { AreInstructions code.old }
+        ensures instructions { AreInstructions code.new }
+        ensures landed { OnOk result (code.new ≡ landed_at (Some (Some place)) self.now code.old) }
+    {
+        let bytes = distance(self.at, place)?;
         let word = word_of(with_distance(self.instr, bytes))?;
         replace(code, self.at as usize, word)
     }
@@ -322,7 +339,8 @@ impl Reference {
 fn replace(code: &mut [u32], at: usize, word: u32) -> Answer<()>
     requires others { AreInstructions code.old }
     requires word { IsInstruction word }
-    ensures { AreInstructions code.new }
+    ensures instructions { AreInstructions code.new }
+    ensures replaced { OnOk result (code.new ≡ slice_set code.old at word) }
 {
     if code.len() <= at {
         return Err(SelectError::NotYet);
@@ -332,12 +350,16 @@ fn replace(code: &mut [u32], at: usize, word: u32) -> Answer<()>
 }
 
 /// How many bytes it is from one word to another.
-fn distance(from: u32, to: u32) -> Answer<i32> {
+fn distance(from: u32, to: u32) -> Answer<i32>
+    ensures { IfOk result (λ bytes. bytes ≡ bytes_between from to) }
+{
     Ok(i32::try_from((i64::from(to) - i64::from(from)) * 4)?)
 }
 
 /// A jump, a branch, or an ADDI after its AUIPC, with a distance from its own word.
-fn with_distance(instr: Instr, bytes: i32) -> Instr {
+fn with_distance(instr: Instr, bytes: i32) -> Instr
+    ensures { result ≡ with_bytes instr bytes }
+{
     match instr {
         Instr::Jal { rd, .. } => Instr::Jal { rd, imm: bytes },
         Instr::Branch { op, rs1, rs2, .. } => Instr::Branch {

@@ -1,7 +1,8 @@
 //! A routine of flat code as an object's routine.
 
-ghost use Rattle.std.specs.Prelude.{IfOk};
+ghost use Rattle.std.specs.Prelude.{◌≡◌, IfOk};
 ghost use Rattle.clu_frames.specs.Labels.{IsFlat};
+ghost use Rattle.rv_select.specs.Finished.{all_onto, finished as finished_words};
 ghost use Rattle.rv_select.specs.Instructions.{AreInstructions};
 ghost use Rattle.rv_select.specs.Selected.{HandsOn, IsSelected};
 
@@ -53,6 +54,8 @@ fn make_routine(
 ) -> Result<ObjRoutine, Memory>
     ensures handed { IfOk result (HandsOn f.now) }
     ensures instructions { IfOk result (λ object. AreInstructions object.code) }
+    ensures code { IfOk result (λ object. object.code ≡ finished.code.items) }
+    ensures holes { IfOk result (λ object. object.holes ≡ finished.holes.items) }
 {
     let Finished { code, holes } = finished;
     Ok(ObjRoutine {
@@ -67,7 +70,10 @@ fn make_routine(
     })
 }
 
-fn select_steps(alloc: Global, steps: &[Flat], frame: u32) -> Answer<Selected> {
+fn select_steps(alloc: Global, steps: &[Flat], frame: u32) -> Answer<Selected>
+    ensures code { IfOk result (λ all. all.finished.code.items ≡ finished_words (all_onto frame steps.now)) }
+    ensures holes { IfOk result (λ all. all.finished.holes.items ≡ (all_onto frame steps.now).holes) }
+{
     // Each label is a step, and labels are numbered from 0: those of flat code are below the number of steps.
     let mut words = Words::new(alloc, steps.len())?;
     let mut starts = Vec::new(alloc);
