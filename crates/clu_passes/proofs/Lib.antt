@@ -20,6 +20,7 @@ pub mod Marked
 pub mod Modules
 pub mod Nameless
 pub mod Noted
+pub mod OfParents
 pub mod OwnPlaces
 pub mod Owns
 pub mod ParameterKinds
