@@ -4,6 +4,7 @@ pub mod BadEquates
 pub mod ByKinds
 pub mod ByNodes
 pub mod ByNotes
+pub mod ClusterRoutines
 pub mod ConstantNodes
 pub mod Constants
 pub mod Counted

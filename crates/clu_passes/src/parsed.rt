@@ -4,9 +4,14 @@ ghost use Rattle.clu_parser.specs.Trees.{Text};
 ghost use Rattle.clu_syntax.specs.Rounds.{AreRounds};
 ghost use Rattle.clu_checking.specs.Files.{File};
 ghost use Rattle.clu_declares.specs.Declares.{IsParsed};
-ghost use Rattle.clu_passes.specs.Notes.{HaveParents};
+ghost use Rattle.clu_passes.specs.Notes.{HaveParents, HaveRoutines};
 
 /// Each node stands once among the children of its parent, and among those of no other node.
 pub fn have_parents()
     ensures { (t : Text) (f : File) → IsParsed t f.nodes → AreRounds f.nodes f.rounds → HaveParents f }
+{}
+
+/// The routines of a cluster are its children that are routines.
+pub fn have_routines()
+    ensures { (t : Text) (f : File) → IsParsed t f.nodes → AreRounds f.nodes f.rounds → HaveRoutines f }
 {}
