@@ -1,5 +1,5 @@
 -- Each node but the root has a parent, and which kinds it may be of.
-use Rattle.std.proofs.Common.{◌≡◌, ◌⊎◌, ℕ, ◌+◌, ◌-◌, ◌<◌, ◌≤◌, ◌&&◌, ◌||◌, not, Bool, true, false, List, [], ◌∷◌, ◌++◌, length, take, drop, Some, slice_get, refl, sym, subst, inl, inr, arith}
+use Rattle.std.proofs.Common.{◌≡◌, ◌∙◌, ◌⊎◌, ℕ, ◌+◌, ◌-◌, ◌<◌, ◌≤◌, ◌&&◌, ◌||◌, not, Bool, true, false, List, [], ◌∷◌, ◌++◌, length, take, drop, Some, slice_get, refl, ap, sym, subst, inl, inr, arith}
 use Rattle.std.specs.List.{AllByRecursion}
 use Rattle.std.proofs.lemmas.Bool.{true≢false, cases_lt}
 use Rattle.std.proofs.lemmas.List.{take-append-drop}
@@ -66,7 +66,7 @@ has_parent nodes order c l = elim (covers nodes 0 (length nodes) ((length nodes 
 
 -- ---- kinds of parents
 
-no_form : List (List Part) → NodeKind → Bool
+pub no_form : List (List Part) → NodeKind → Bool
 no_form [] k = true
 no_form (form ∷ fs) k = not (may_stand 3 form k) && no_form fs k
 
@@ -74,6 +74,11 @@ file_above : (k : NodeKind) → (is_of kind.File k || no_form (forms k) kind.Mod
 unfolding no_form
 file_above kind.File = refl
 file_above _ = refl
+
+module_below_file : (k : NodeKind) → (is_of kind.Module k || no_form (forms kind.File) k) ≡ true
+unfolding no_form
+module_below_file kind.Module = refl
+module_below_file _ = refl
 
 no_file_below : (k : NodeKind) → no_form (forms k) kind.File ≡ true
 unfolding no_form
@@ -132,6 +137,14 @@ module _ (nodes : List Node) (tree_is : IsTree nodes) (n : ℕ) (node : Node) (a
 
   pub file_of_module : kind_at nodes c ≡ kind.Module → is_of kind.File node.kind ≡ true
   file_of_module e = first_or (is_of kind.File node.kind) (no_form (forms node.kind) kind.Module) (file_above node.kind) (cannot kind.Module e)
+
+  -- what holds of all kinds that may stand in such a node holds of the child
+  pub kind_of_child : (test : NodeKind → Bool) → ((k : NodeKind) → (test k || no_form (forms node.kind) k) ≡ true) → test (kind_at nodes c) ≡ true
+  kind_of_child test each = first_or (test (kind_at nodes c)) (no_form (forms node.kind) (kind_at nodes c)) (each (kind_at nodes c)) (cannot (kind_at nodes c) refl)
+
+  pub module_of_file : node.kind ≡ kind.File → is_of kind.Module (kind_at nodes c) ≡ true
+  module_of_file is =
+      kind_of_child (is_of kind.Module) (λ k. ap (λ (j : NodeKind). is_of kind.Module k || no_form (forms j) k) is ∙ module_below_file k)
 
   pub module_of_cluster : kind_at nodes c ≡ kind.Cluster → is_of kind.Module node.kind ≡ true
   module_of_cluster e = first_or (is_of kind.Module node.kind) (no_form (forms node.kind) kind.Cluster) (module_above_cluster node.kind) (cannot kind.Cluster e)

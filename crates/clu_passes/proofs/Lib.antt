@@ -36,4 +36,5 @@ pub mod Subtrees
 pub mod Surrounding
 pub mod Tables
 pub mod Unknown
+pub mod Units
 pub mod Words
