@@ -19,6 +19,7 @@ pub mod RepWords
 pub mod Rights
 pub mod Said
 mod Samples
+pub mod Sources
 pub mod Tops
 pub mod Whole
 pub mod Wholes

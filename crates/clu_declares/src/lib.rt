@@ -2,7 +2,9 @@
 //! functions do nothing: their contracts are the laws.
 #![tactic(auto)]
 
-ghost use Rattle.std.specs.Prelude.{◌≡◌, ◌≤◌, ◌^◌, ℕ, true, List};
+ghost use Rattle.std.specs.Prelude.{◌≡◌, ◌≤◌, ◌^◌, ℕ, true, List, length};
+ghost use Rattle.clu_base.specs.declared.tokens.Token.{Token};
+ghost use Rattle.clu_lexer.specs.Tokens.{Tokens};
 ghost use Rattle.clu_tree.specs.declared.node.Node.{Node};
 ghost use Rattle.clu_parser.specs.Trees.{Text};
 ghost use Rattle.clu_parser.specs.Order.{IsFileOver};
@@ -41,4 +43,9 @@ pub fn values_said()
 /// A tree over so many tokens as a source of a MiB may have has few nodes and declarations.
 pub fn few_declared()
     ensures { (t : Text) (nodes : List Node) (rounds : List Round) (tokens : ℕ) → IsParsed t nodes → IsFileOver tokens nodes → tokens ≤ 2 ^ 20 → AreFew nodes rounds }
+{}
+
+/// So has that of a source of at most a MiB, since each token takes a byte.
+pub fn few_of_source()
+    ensures { (bytes : List ℕ) (tokens : List Token) (t : Text) (nodes : List Node) (rounds : List Round) → Tokens bytes tokens → IsParsed t nodes → IsFileOver (length tokens) nodes → length bytes ≤ 2 ^ 20 → AreFew nodes rounds }
 {}
