@@ -100,6 +100,11 @@ more_meant : (nodes : List Node) (ds : List Declared) (declared : List Meaning) 
 unfolding meant.meant_to
 more_meant nodes ds declared n = refl
 
+-- what the table of meanings has at a node
+pub meaning_there : (nodes : List Node) (rounds : List Round) (ds : List Declared) (n : ℕ) → n < length nodes → slice_get (meant.meanings_of nodes rounds ds) n ≡ Some (meant.meant_at nodes ds (meant.declared_to nodes rounds ds (length ds)) n)
+meaning_there nodes rounds ds n l =
+    grown (meant.meant_to nodes ds (meant.declared_to nodes rounds ds (length ds))) (meant.meant_at nodes ds (meant.declared_to nodes rounds ds (length ds))) (none_meant nodes ds (meant.declared_to nodes rounds ds (length ds))) (more_meant nodes ds (meant.declared_to nodes rounds ds (length ds))) (length nodes) n l
+
 open_same : (name : Identifier) (n : ℕ) (e d : Declared) → e.name ≡ d.name → e.unit ≡ d.unit → e.from ≡ d.from → e.to ≡ d.to → is_open name n e ≡ is_open name n d
 open_same name n e d a b c f =
     ap (λ (x : Identifier). bytes_eq x name && stands_in e.unit e.from e.to n) a
@@ -457,7 +462,7 @@ module _ (t : Text) (nodes : List Node) (rounds : List Round) (parsed : IsParsed
     at_meant n None at may = absurd (true≢false (sym may))
     at_meant n (Some node) at may =
         subst (λ (m : Meaning). Means nodes m (meaning_of (scope_in nodes rounds) n (name_at nodes n)))
-        (sym (ap meaning_in (grown (meant.meant_to nodes ds table) (meant.meant_at nodes ds table) (none_meant nodes ds table) (more_meant nodes ds table) (length nodes) n (slice_get_within nodes n node at))))
+        (sym (ap meaning_in (meaning_there nodes rounds ds n (slice_get_within nodes n node at))))
         (node_meant n node at may)
 
     pub are_meanings : AreMeanings nodes (scope_in nodes rounds) (meant.meanings_of nodes rounds ds)

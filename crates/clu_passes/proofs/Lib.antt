@@ -11,6 +11,7 @@ pub mod Counted
 pub mod Elsewhere
 pub mod Exports
 pub mod FileNames
+pub mod FoundStrings
 pub mod InEquates
 pub mod Known
 pub mod Least

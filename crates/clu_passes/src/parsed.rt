@@ -1,12 +1,20 @@
 //! What the laws ask of a file, of the tree of a text with its surroundings and declarations.
 
-ghost use Rattle.std.specs.Prelude.{◌≡◌};
+ghost use Rattle.std.specs.Prelude.{◌≡◌, ◌<◌, ℕ, true, List, length};
+ghost use Rattle.clu_tree.specs.Nodes.{IsTree};
+ghost use Rattle.clu_parser.specs.Shape.{HaveForms};
 ghost use Rattle.clu_parser.specs.Trees.{Text};
 ghost use Rattle.clu_syntax.specs.Rounds.{AreRounds};
 ghost use Rattle.clu_names.specs.Scopes.{declarations};
 ghost use Rattle.clu_checking.specs.Files.{File};
+ghost use Rattle.clu_settle.specs.declared.value.Value.{Value};
+ghost use Rattle.clu_settle.specs.declared.value.Value.TheVariants as value;
+ghost use Rattle.clu_settle.specs.Lists.{value_of};
+ghost use Rattle.clu_settle.specs.Lost.{is_lost};
+ghost use Rattle.clu_settle.specs.Meant.{meanings_of};
 ghost use Rattle.clu_declares.specs.Declares.{IsParsed};
 ghost use Rattle.clu_passes.specs.Notes.{DeclareModules, HaveParents, HaveRoutines};
+ghost use Rattle.clu_passes.specs.Tables.{AreFoundStrings};
 
 /// Each node stands once among the children of its parent, and among those of no other node.
 pub fn have_parents()
@@ -21,4 +29,9 @@ pub fn have_routines()
 /// What is declared outside of every module is a module.
 pub fn declare_modules()
     ensures { (t : Text) (f : File) → IsParsed t f.nodes → AreRounds f.nodes f.rounds → f.scope.declarations ≡ declarations f.nodes f.rounds → DeclareModules f }
+{}
+
+/// The value of no string is lost, where what is lost is so by the table of meanings that `settle` of clu_settle makes.
+pub fn found_strings()
+    ensures { (f : File) → HaveForms f.nodes → IsTree f.nodes → (values : List Value) → ((n : ℕ) → n < length f.nodes → value_of values n ≡ value.Lost → is_lost f.nodes (meanings_of f.nodes f.rounds f.scope.declarations) n ≡ true) → AreFoundStrings f values }
 {}
