@@ -38,4 +38,5 @@ pub mod Surrounding
 pub mod Tables
 pub mod Unknown
 pub mod Units
+pub mod Within
 pub mod Words

@@ -36,7 +36,7 @@ module _ (nodes : List Node) (rounds : List Round) (n : ℕ) (node : Node) where
       (ap (λ (r : Round). r.first) its, firsts_in part (c + 1) cs l.1 tail)
 
 module _ (nodes : List Node) (rounds : List Round) (is_tree : IsTree nodes) (are : AreRounds nodes rounds) where
-  firsts_of : (n : ℕ) (node : Node) → slice_get nodes n ≡ Some node → AreFirst rounds (round_at rounds n).first node.children
+  pub firsts_of : (n : ℕ) (node : Node) → slice_get nodes n ≡ Some node → AreFirst rounds (round_at rounds n).first node.children
   firsts_of n node at =
       let inside : n < length nodes = slice_get_within nodes n node at in
       firsts_in nodes rounds n node (first_part nodes node (round_at rounds n).first) (round_at rounds n).first node.children

@@ -1,10 +1,14 @@
 //! What the laws ask of a file, of the tree of a text with its surroundings and declarations.
 
-ghost use Rattle.std.specs.Prelude.{◌≡◌, ◌<◌, ℕ, true, List, length};
+ghost use Rattle.std.specs.Prelude.{◌≡◌, ◌<◌, ◌^◌, ℕ, true, List, Some, length, slice_get};
+ghost use Rattle.clu_tree.specs.declared.node.Node.{Node};
 ghost use Rattle.clu_tree.specs.Nodes.{IsTree};
 ghost use Rattle.clu_parser.specs.Shape.{HaveForms};
 ghost use Rattle.clu_parser.specs.Trees.{Text};
+ghost use Rattle.clu_syntax.specs.declared.round.Round.{Round};
 ghost use Rattle.clu_syntax.specs.Rounds.{AreRounds};
+ghost use Rattle.clu_syntax.specs.Syntax.{Identifier};
+ghost use Rattle.clu_names.specs.declared.scopes.Declared.{Declared};
 ghost use Rattle.clu_names.specs.Scopes.{declarations};
 ghost use Rattle.clu_checking.specs.Files.{File};
 ghost use Rattle.clu_settle.specs.declared.value.Value.{Value};
@@ -14,7 +18,7 @@ ghost use Rattle.clu_settle.specs.Lost.{is_lost};
 ghost use Rattle.clu_settle.specs.Meant.{meanings_of};
 ghost use Rattle.clu_declares.specs.Declares.{IsParsed};
 ghost use Rattle.clu_passes.specs.Notes.{DeclareModules, HaveParents, HaveRoutines};
-ghost use Rattle.clu_passes.specs.Tables.{AreFoundStrings};
+ghost use Rattle.clu_passes.specs.Tables.{AreFoundStrings, OpenOfOne};
 
 /// Each node stands once among the children of its parent, and among those of no other node.
 pub fn have_parents()
@@ -34,4 +38,9 @@ pub fn declare_modules()
 /// The value of no string is lost, where what is lost is so by the table of meanings that `settle` of clu_settle makes.
 pub fn found_strings()
     ensures { (f : File) → HaveForms f.nodes → IsTree f.nodes → (values : List Value) → ((n : ℕ) → n < length f.nodes → value_of values n ≡ value.Lost → is_lost f.nodes (meanings_of f.nodes f.rounds f.scope.declarations) n ≡ true) → AreFoundStrings f values }
+{}
+
+/// The declarations that a node has in their scope, but for modules, are those of the module of each one that it declares.
+pub fn open_of_one()
+    ensures { (t : Text) (nodes : List Node) (rounds : List Round) → IsParsed t nodes → AreRounds nodes rounds → length nodes < 2 ^ 32 → (n : ℕ) (name : Identifier) (own : ℕ) (e : Declared) → slice_get (declarations nodes rounds) own ≡ Some e → e.node ≡ n → OpenOfOne (declarations nodes rounds) n name e }
 {}
