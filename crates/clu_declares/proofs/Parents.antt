@@ -66,7 +66,7 @@ has_parent nodes order c l = elim (covers nodes 0 (length nodes) ((length nodes 
 
 -- ---- kinds of parents
 
-pub no_form : List (List Part) → NodeKind → Bool
+unfoldable pub no_form : List (List Part) → NodeKind → Bool
 no_form [] k = true
 no_form (form ∷ fs) k = not (may_stand 3 form k) && no_form fs k
 

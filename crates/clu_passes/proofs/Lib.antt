@@ -31,6 +31,7 @@ pub mod Redefined
 pub mod RightSides
 pub mod Routines
 pub mod Seen
+pub mod Sides
 pub mod StandTwice
 pub mod Strings
 pub mod Subtrees

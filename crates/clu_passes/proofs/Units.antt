@@ -43,62 +43,77 @@ all_as : (P : Declared → Type 0) (n : ℕ) (unit : Option ℕ) (scope : ℕ ×
 all_as P n unit scope [] each = tt
 all_as P n unit scope (name ∷ names) each = (each name, all_as P n unit scope names each)
 
--- by what declares: the variable of a parent, a node by itself, a module
-pub record AreEach (nodes : List Node) (rounds : List Round) (P : Declared → Type 0) : Type 0 where
-  pub variables : (n p : ℕ) (outer : Node) (k : NodeKind) → (round_at rounds n).parent ≡ Some p → slice_get nodes p ≡ Some outer → opens outer.kind k ≡ true → (name : Identifier) → P (record { name = name; node = p; from = (round_at rounds n).body_first; to = (round_at rounds n).body_last; unit = (round_at rounds n).unit })
-  pub owns : (n : ℕ) (node : Node) → slice_get nodes n ≡ Some node → (scope : ℕ × ℕ) → scope_of node.kind (kind_at_parent nodes (round_at rounds n).parent) n (round_at rounds n) ≡ Some scope → (name : Identifier) → P (record { name = name; node = n; from = scope.0; to = scope.1; unit = (round_at rounds n).unit })
-  pub modules : (n : ℕ) (node : Node) → slice_get nodes n ≡ Some node → is_module (kind_at_parent nodes (round_at rounds n).parent) node.kind ≡ true → (name : Identifier) → P (record { name = name; node = n; from = 0; to = 4294967295; unit = None })
+-- by what declares at a node: its parent's variable, the node by itself, a module
+module _ (nodes : List Node) (rounds : List Round) (P : Declared → Type 0) (n : ℕ) where
+  abbrev round : Round
+  round = round_at rounds n
 
-module _ (nodes : List Node) (rounds : List Round) (P : Declared → Type 0) (each : AreEach nodes rounds P) where
-  abbrev round : ℕ → Round
-  round n = round_at rounds n
+  abbrev above : NodeKind
+  above = kind_at_parent nodes round.parent
 
-  abbrev outer : ℕ → NodeKind
-  outer n = kind_at_parent nodes (round n).parent
+  abbrev pub VariablesAre : Type 0
+  VariablesAre = (p : ℕ) (outer : Node) (k : NodeKind) → round.parent ≡ Some p → slice_get nodes p ≡ Some outer → opens outer.kind k ≡ true → (name : Identifier) → P (record { name = name; node = p; from = round.body_first; to = round.body_last; unit = round.unit })
 
-  of_variables : (n : ℕ) (k : NodeKind) (above : Option ℕ) → (round n).parent ≡ above → (o : Option Node) → node_at nodes above ≡ o → AllOf P (variable_of n k (round n) above o)
-  of_variables n k None e o f = tt
-  of_variables n k (Some p) e None f = tt
-  of_variables n k (Some p) e (Some its) f = by (opens its.kind k) refl (is_first n its.children)
+  abbrev pub OwnsAre : Type 0
+  OwnsAre = (node : Node) → slice_get nodes n ≡ Some node → (scope : ℕ × ℕ) → scope_of node.kind above n round ≡ Some scope → (name : Identifier) → P (record { name = name; node = n; from = scope.0; to = scope.1; unit = round.unit })
+
+  abbrev pub ModulesAre : Type 0
+  ModulesAre = (node : Node) → slice_get nodes n ≡ Some node → is_module above node.kind ≡ true → (name : Identifier) → P (record { name = name; node = n; from = 0; to = 4294967295; unit = None })
+
+  pub of_variables : VariablesAre → (k : NodeKind) (o : Option ℕ) → round.parent ≡ o → (outer : Option Node) → node_at nodes o ≡ outer → AllOf P (variable_of n k round o outer)
+  of_variables are k None e outer f = tt
+  of_variables are k (Some p) e None f = tt
+  of_variables are k (Some p) e (Some its) f = by (opens its.kind k) refl (is_first n its.children)
     where
-      by : (b : Bool) → opens its.kind k ≡ b → (c : Bool) → AllOf P (if b && c then declared_as p (round n).unit (Some ((round n).body_first, (round n).body_last)) (variable_names its.kind its.names) else [])
-      by true o true = all_as P p (round n).unit ((round n).body_first, (round n).body_last) (variable_names its.kind its.names) (each.variables n p its k e f o)
+      by : (b : Bool) → opens its.kind k ≡ b → (c : Bool) → AllOf P (if b && c then declared_as p round.unit (Some (round.body_first, round.body_last)) (variable_names its.kind its.names) else [])
+      by true o true = all_as P p round.unit (round.body_first, round.body_last) (variable_names its.kind its.names) (are p its k e f o)
       by true o false = tt
       by false o c = tt
 
-  of_owns : (n : ℕ) (node : Node) → slice_get nodes n ≡ Some node → (o : Option (ℕ × ℕ)) → scope_of node.kind (outer n) n (round n) ≡ o → AllOf P (declared_as n (round n).unit o (own_names node.kind node))
-  of_owns n node at None e = tt
-  of_owns n node at (Some scope) e = all_as P n (round n).unit scope (own_names node.kind node) (each.owns n node at scope e)
+  of_owns : OwnsAre → (node : Node) → slice_get nodes n ≡ Some node → (o : Option (ℕ × ℕ)) → scope_of node.kind above n round ≡ o → AllOf P (declared_as n round.unit o (own_names node.kind node))
+  of_owns are node at None e = tt
+  of_owns are node at (Some scope) e = all_as P n round.unit scope (own_names node.kind node) (are node at scope e)
 
-  of_modules : (n : ℕ) (node : Node) → slice_get nodes n ≡ Some node → (b : Bool) → is_module (outer n) node.kind ≡ b → AllOf P (if b then module_named n node.names else [])
-  of_modules n node at false e = tt
-  of_modules n node at true e = by node.names
+  of_modules : ModulesAre → (node : Node) → slice_get nodes n ≡ Some node → (b : Bool) → is_module above node.kind ≡ b → AllOf P (if b then module_named n node.names else [])
+  of_modules are node at false e = tt
+  of_modules are node at true e = by node.names
     where
       one : (name : Identifier) (b : Bool) → AllOf P (if b then [] else record { name = name; node = n; from = 0; to = 4294967295; unit = None } ∷ [])
       one name true = tt
-      one name false = (each.modules n node at e name, tt)
+      one name false = (are node at e name, tt)
 
       by : (names : List Identifier) → AllOf P (module_named n names)
       by [] = tt
       by (name ∷ names) = one name (is_stream name)
 
-  of_node : (n : ℕ) (o : Option Node) → slice_get nodes n ≡ o → AllOf P (declared_at nodes rounds n o)
-  of_node n None at = tt
-  of_node n (Some node) at =
-      all_both P (variable_of n node.kind (round n) (round n).parent (node_at nodes (round n).parent) ++ own_at (outer n) n node (round n)) (module_at (outer n) n node)
-      (all_both P (variable_of n node.kind (round n) (round n).parent (node_at nodes (round n).parent)) (own_at (outer n) n node (round n))
-      (of_variables n node.kind (round n).parent refl (node_at nodes (round n).parent) refl)
-      (of_owns n node at (scope_of node.kind (outer n) n (round n)) refl))
-      (of_modules n node at (is_module (outer n) node.kind) refl)
+  of_node : VariablesAre → OwnsAre → ModulesAre → (o : Option Node) → slice_get nodes n ≡ o → AllOf P (declared_at nodes rounds n o)
+  of_node vs os ms None at = tt
+  of_node vs os ms (Some node) at =
+      all_both P (variable_of n node.kind round round.parent (node_at nodes round.parent) ++ own_at above n node round) (module_at above n node)
+      (all_both P (variable_of n node.kind round round.parent (node_at nodes round.parent)) (own_at above n node round)
+      (of_variables vs node.kind round.parent refl (node_at nodes round.parent) refl)
+      (of_owns os node at (scope_of node.kind above n round) refl))
+      (of_modules ms node at (is_module above node.kind) refl)
 
-  all_to : (n : ℕ) → AllOf P (declared_to nodes rounds n)
+  -- so of what is declared at the node
+  pub at_node : VariablesAre → OwnsAre → ModulesAre → AllOf P (declared_at nodes rounds n (slice_get nodes n))
+  at_node vs os ms = of_node vs os ms (slice_get nodes n) refl
+
+pub record AreEach (nodes : List Node) (rounds : List Round) (P : Declared → Type 0) : Type 0 where
+  pub variables : (n : ℕ) → VariablesAre nodes rounds P n
+  pub owns : (n : ℕ) → OwnsAre nodes rounds P n
+  pub modules : (n : ℕ) → ModulesAre nodes rounds P n
+
+module _ (nodes : List Node) (rounds : List Round) (P : Declared → Type 0) where
+  -- of the nodes before one
+  pub all_to : (to : ℕ) → ((n : ℕ) → n < to → AllOf P (declared_at nodes rounds n (slice_get nodes n))) → AllOf P (declared_to nodes rounds to)
   unfolding declared_to
-  all_to zero = tt
-  all_to (suc n) = all_both P (declared_to nodes rounds n) (declared_at nodes rounds n (slice_get nodes n)) (all_to n) (of_node n (slice_get nodes n) refl)
+  all_to zero each = tt
+  all_to (suc n) each = all_both P (declared_to nodes rounds n) (declared_at nodes rounds n (slice_get nodes n)) (all_to n (λ m less. each m (omega (arith, less)))) (each n (omega arith))
 
   -- so of each declaration of the file
-  pub of_each : (j : ℕ) (d : Declared) → slice_get (declarations nodes rounds) j ≡ Some d → P d
-  of_each = all_here P (declarations nodes rounds) (all_to (length nodes))
+  pub of_each : AreEach nodes rounds P → (j : ℕ) (d : Declared) → slice_get (declarations nodes rounds) j ≡ Some d → P d
+  of_each each = all_here P (declarations nodes rounds) (all_to (length nodes) (λ n less. at_node nodes rounds P n (each.variables n) (each.owns n) (each.modules n)))
 
 -- ---- all but the root and the modules stand in a module
 

@@ -11,10 +11,12 @@ ghost use Rattle.clu_syntax.specs.Syntax.{Identifier};
 ghost use Rattle.clu_names.specs.declared.scopes.Declared.{Declared};
 ghost use Rattle.clu_names.specs.Scopes.{declarations};
 ghost use Rattle.clu_checking.specs.Files.{File};
+ghost use Rattle.clu_checking.specs.ConstantRules.{is_right_side};
 ghost use Rattle.clu_settle.specs.declared.value.Value.{Value};
 ghost use Rattle.clu_settle.specs.declared.value.Value.TheVariants as value;
 ghost use Rattle.clu_settle.specs.Lists.{value_of};
 ghost use Rattle.clu_settle.specs.Lost.{is_lost};
+ghost use Rattle.clu_settle.specs.Names.{is_constant};
 ghost use Rattle.clu_settle.specs.Meant.{meanings_of};
 ghost use Rattle.clu_declares.specs.Declares.{IsParsed};
 ghost use Rattle.clu_passes.specs.Notes.{DeclareModules, HaveParents, HaveRoutines};
@@ -43,4 +45,9 @@ pub fn found_strings()
 /// The declarations that a node has in their scope, but for modules, are those of the module of each one that it declares.
 pub fn open_of_one()
     ensures { (t : Text) (nodes : List Node) (rounds : List Round) → IsParsed t nodes → AreRounds nodes rounds → length nodes < 2 ^ 32 → (n : ℕ) (name : Identifier) (own : ℕ) (e : Declared) → slice_get (declarations nodes rounds) own ≡ Some e → e.node ≡ n → OpenOfOne (declarations nodes rounds) n name e }
+{}
+
+/// What stands on the right side of an equate is a constant or a type set.
+pub fn right_sides()
+    ensures { (t : Text) (f : File) → IsParsed t f.nodes → AreRounds f.nodes f.rounds → (n : ℕ) → is_right_side f n ≡ true → is_constant f.nodes n ≡ true }
 {}
