@@ -13,6 +13,7 @@ pub mod Exports
 pub mod FileNames
 pub mod FoundStrings
 pub mod InEquates
+pub mod InOrder
 pub mod Known
 pub mod Least
 pub mod Leaving
@@ -27,6 +28,7 @@ pub mod OwnPlaces
 pub mod Owns
 pub mod ParameterKinds
 pub mod Places
+pub mod Redeclared
 pub mod Redefined
 pub mod RightSides
 pub mod Routines

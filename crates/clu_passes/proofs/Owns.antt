@@ -14,7 +14,7 @@ and_false false = refl
 abbrev IsNoted : ℕ → ℕ → ℕ → Type 0
 IsNoted none k place = (place < k) ⊎ (place ≡ none)
 
-size_if : (own : List ℕ) (n k : ℕ) (b : Bool) → length (if b then set own n k else own) ≡ length own
+pub size_if : (own : List ℕ) (n k : ℕ) (b : Bool) → length (if b then set own n k else own) ≡ length own
 size_if own n k true = length-set own n k
 size_if own n k false = refl
 

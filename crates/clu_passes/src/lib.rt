@@ -23,7 +23,7 @@ pub use name_rules::{
     names_of_node, own_is_first, redefined_by_binding, strings_told, v4_by_tables, v5_by_tables,
     v7_by_tables, v37_by_tables,
 };
-pub use parsed::{declare_modules, found_strings, have_parents, have_routines, open_of_one, right_sides};
+pub use parsed::{declare_modules, found_strings, have_parents, have_routines, open_of_one, redefined_by_places, right_sides};
 pub use refusals::refused_counted;
 pub use repeated::{arms_repeated, items_repeated, names_repeated, v17_of_selectors};
 pub use statement_rules::{stands_in_routine, v28_by_tables, v29_by_tables};

@@ -1,6 +1,7 @@
 //! What the laws ask of a file, of the tree of a text with its surroundings and declarations.
 
-ghost use Rattle.std.specs.Prelude.{◌≡◌, ◌<◌, ◌^◌, ℕ, true, List, Some, length, slice_get};
+ghost use Rattle.std.specs.Prelude.{◌≡◌, ◌<◌, ◌^◌, ℕ, Bool, true, false, List, Some, length, get_or, slice_get};
+ghost use Rattle.std.specs.List.{list_any};
 ghost use Rattle.clu_tree.specs.declared.node.Node.{Node};
 ghost use Rattle.clu_tree.specs.Nodes.{IsTree};
 ghost use Rattle.clu_parser.specs.Shape.{HaveForms};
@@ -9,18 +10,24 @@ ghost use Rattle.clu_syntax.specs.declared.round.Round.{Round};
 ghost use Rattle.clu_syntax.specs.Rounds.{AreRounds};
 ghost use Rattle.clu_syntax.specs.Syntax.{Identifier};
 ghost use Rattle.clu_names.specs.declared.scopes.Declared.{Declared};
+ghost use Rattle.clu_names.specs.declared.binding.Names.{Names};
 ghost use Rattle.clu_names.specs.Scopes.{declarations};
-ghost use Rattle.clu_checking.specs.Files.{File};
+ghost use Rattle.clu_checking.specs.Files.{File, kind_in};
+ghost use Rattle.clu_checking.specs.NameRules.{is_redefined, names_defined, stands_twice};
 ghost use Rattle.clu_checking.specs.ConstantRules.{is_right_side};
 ghost use Rattle.clu_settle.specs.declared.value.Value.{Value};
 ghost use Rattle.clu_settle.specs.declared.value.Value.TheVariants as value;
 ghost use Rattle.clu_settle.specs.Lists.{value_of};
 ghost use Rattle.clu_settle.specs.Lost.{is_lost};
-ghost use Rattle.clu_settle.specs.Names.{is_constant};
+ghost use Rattle.clu_settle.specs.Names.{is_constant, names_of};
 ghost use Rattle.clu_settle.specs.Meant.{meanings_of};
+ghost use Rattle.clu_bindings.specs.Files.{bound_in};
+ghost use Rattle.clu_name_rules.specs.NameRules.{bound_defined, has_redefined};
+ghost use Rattle.clu_name_rules.specs.Own.{own_places};
 ghost use Rattle.clu_declares.specs.Declares.{IsParsed};
 ghost use Rattle.clu_passes.specs.Notes.{DeclareModules, HaveParents, HaveRoutines};
-ghost use Rattle.clu_passes.specs.Tables.{AreFoundStrings, OpenOfOne};
+ghost use Rattle.clu_passes.specs.Owns.{declares_all};
+ghost use Rattle.clu_passes.specs.Tables.{AreFoundStrings, AreNames, OpenOfOne};
 
 /// Each node stands once among the children of its parent, and among those of no other node.
 pub fn have_parents()
@@ -50,4 +57,9 @@ pub fn open_of_one()
 /// What stands on the right side of an equate is a constant or a type set.
 pub fn right_sides()
     ensures { (t : Text) (f : File) → IsParsed t f.nodes → AreRounds f.nodes f.rounds → (n : ℕ) → is_right_side f n ≡ true → is_constant f.nodes n ≡ true }
+{}
+
+/// Of a node that declares all its names, each once, one of them is redefined just if the places say so.
+pub fn redefined_by_places()
+    ensures { (t : Text) (f : File) → IsParsed t f.nodes → AreRounds f.nodes f.rounds → f.scope.declarations ≡ declarations f.nodes f.rounds → length f.nodes < 2 ^ 32 → (table : Names) → AreNames f table → (with_variable : Bool) (n : ℕ) → declares_all (kind_in f n) ≡ true → stands_twice (names_defined f (kind_in f n) n) ≡ false → list_any (is_redefined f n) (names_defined f (kind_in f n) n) ≡ has_redefined f.scope.declarations (get_or (own_places f.scope.declarations (length f.nodes)) n (length f.scope.declarations)) (bound_defined (kind_in f n) (names_of (slice_get f.nodes n)) with_variable (bound_in table n)) }
 {}
