@@ -1,4 +1,5 @@
 pub mod Closed
+pub mod Components
 pub mod ConstantRules
 pub mod Constructors
 pub mod ModuleRules

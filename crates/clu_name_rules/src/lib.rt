@@ -2,6 +2,7 @@
 //! (docs/language.md, "The rules as definitions").
 #![tactic(auto)]
 
+mod components;
 mod constant_rules;
 mod constructors;
 mod lengths;
@@ -13,10 +14,9 @@ mod tables;
 mod views;
 mod words;
 
+pub use crate::components::{are_selectors, component_type, components_of, element_of};
 pub use crate::constant_rules::{v8, v9, v10, v19, v31};
-pub use crate::constructors::{
-    component_type, components_of, element_of, is_constructor, term_at, v17,
-};
+pub use crate::constructors::{has_low_at, is_constructor, term_at, v17};
 pub use crate::lengths::{long_constants, long_types};
 pub use crate::module_rules::{v33, v34, v35};
 pub use crate::name_rules::{v4, v5, v6, v7, v37};
