@@ -1,6 +1,7 @@
 pub mod Bad
 pub mod ConstantTables
 pub mod Counted
+pub mod FactTables
 pub mod Marks
 pub mod Notes
 pub mod Owns

@@ -5,6 +5,7 @@
 mod asking;
 mod circles;
 mod constant_rules;
+mod fact_rules;
 mod heads;
 mod module_rules;
 mod name_rules;
@@ -17,6 +18,9 @@ mod types;
 pub use asking::{bad_settled, least_asked};
 pub use circles::{circle_by_mark, circular_by_nodes, circular_found, v7_by_marks};
 pub use constant_rules::{v8_by_tables, v9_by_tables, v10_by_tables, v19_by_tables, v31_by_tables};
+pub use fact_rules::{
+    v11_by_facts, v12_by_facts, v16_by_facts, v21_by_facts, v24_by_tables, v32_by_facts,
+};
 pub use heads::{demands_listed, routines_headed, routines_listed};
 pub use module_rules::{v33_by_tables, v34_by_nodes, v35_by_nodes};
 pub use name_rules::{
