@@ -14,18 +14,20 @@ use Rattle.clu_checking.specs.Specifications.{Specification}
 use Rattle.clu_checking.specs.Files.{File, item, node_children, children}
 use Rattle.clu_checking.specs.Typing as checking
 use Rattle.clu_checking.specs.ExpressionRules.{is_other_than}
-use Rattle.clu_checking.specs.StatementRules.{is_none_tagged}
+use Rattle.clu_checking.specs.ExpressionRules as expressions
+use Rattle.clu_checking.specs.StatementRules.{is_none_tagged, is_other_than_iterator}
 use Rattle.clu_checking.specs.Invocations as wanting
 use Rattle.clu_checking.specs.Wanted as wants
 use Rattle.clu_bindings.specs.declared.wanted.Wanted.{Wanted as WantedThere}
 use Rattle.clu_bindings.specs.declared.wanted.Wanted.TheVariants as wanted
 use Rattle.clu_bindings.specs.Wanted as bound
 use Rattle.clu_type_rules.specs.declared.known.Known.{Known}
-use Rattle.clu_type_rules.specs.Known.{term_of, type_at, wanted_in, is_other_than_bool, tags_in}
+use Rattle.clu_type_rules.specs.Known.{term_of, type_at, wanted_in, is_other_than_bool, is_iterator, tags_in}
+use Rattle.clu_type_rules.specs.InvocationRules as of_tables
 use Rattle.clu_type_rules.specs.StatementRules.{is_no_condition}
 use Rattle.clu_passes.specs.ConstantTables.{file_with, wanted_told, AreTables}
 use Rattle.clu_passes.specs.FactTables.{typed, IsType, AreFacts}
-use Rattle.clu_passes.proofs.FactTypes.{IsTerm, term_of_type, bool_same, tags_same}
+use Rattle.clu_passes.proofs.FactTypes.{IsTerm, term_of_type, bool_same, iterator_same, tags_same}
 
 -- ---- what is wanted
 
@@ -38,12 +40,24 @@ object_wanted wanted.Type = refl
 object_wanted wanted.NameWithActuals = refl
 object_wanted wanted.Nothing = refl
 
+loop_wanted : (w : WantedThere) → expressions.is_loop_call (wanted_told w) ≡ of_tables.is_loop_call w
+loop_wanted wanted.Object = refl
+loop_wanted wanted.Objects = refl
+loop_wanted wanted.LoopCall = refl
+loop_wanted wanted.Constant = refl
+loop_wanted wanted.Type = refl
+loop_wanted wanted.NameWithActuals = refl
+loop_wanted wanted.Nothing = refl
+
 module _ (k : Known) (scope : Scope) (library : List Specification) (refused : List ℕ) where
   abbrev pub nodes : List Node
   nodes = k.tables.file.syntax.now
 
   abbrev pub f : File
   f = file_with k.tables.file scope library refused
+
+  abbrev pub children_of_file : Option Node → List ℕ
+  children_of_file its = node_children f its
 
   pub children_same : (its : Option Node) → node_children f its ≡ children_of its
   children_same None = refl
@@ -58,6 +72,9 @@ module _ (k : Known) (scope : Scope) (library : List Specification) (refused : L
   module _ (are : AreTables f k.tables) where
     pub object_wanted_at : (n : ℕ) → wanting.is_object_wanted (wants.wanted f n) ≡ bound.is_object_wanted (wanted_in k n)
     object_wanted_at n = sym (ap wanting.is_object_wanted (are.wanted n)) ∙ object_wanted (wanted_in k n)
+
+    pub loop_wanted_at : (n : ℕ) → expressions.is_loop_call (wants.wanted f n) ≡ of_tables.is_loop_call (wanted_in k n)
+    loop_wanted_at n = sym (ap expressions.is_loop_call (are.wanted n)) ∙ loop_wanted (wanted_in k n)
 
     abbrev terms : List Term
     terms = k.tables.types.now
@@ -79,6 +96,14 @@ module _ (k : Known) (scope : Scope) (library : List Specification) (refused : L
     no_tags (Some of) (Some t) is =
         let x : IsTerm terms of t = term_of_type terms are.arena of t is.0 is.1 in
         ap (λ (t : CluType). is_none_tagged (Some t)) x.is ∙ tags_same (types_of terms) x.its ∙ ap (λ (o : Option Term). is_none (tags_in o)) (sym x.there)
+
+    pub no_iterator : (of : Option TypeId) (t : Option CluType) → IsType terms of t → is_other_than_iterator f t ≡ (is_some of && not (is_iterator (term_of k of)))
+    no_iterator None None is = refl
+    no_iterator None (Some t) is = absurd is
+    no_iterator (Some of) None is = absurd is
+    no_iterator (Some of) (Some t) is =
+        let x : IsTerm terms of t = term_of_type terms are.arena of t is.0 is.1 in
+        ap (λ (t : CluType). is_other_than_iterator f (Some t)) x.is ∙ ap not (iterator_same (types_of terms) x.its) ∙ ap (λ (o : Option Term). not (is_iterator o)) (sym x.there)
 
     module _ (lost : ℕ → Bool) (facts : AreFacts f terms k.facts.now lost) where
       -- a child has no condition's type

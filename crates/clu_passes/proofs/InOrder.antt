@@ -118,14 +118,13 @@ module _ (f : File) (n : ℕ) where
         let its : (n == n && bytes_eq name name) ≡ true = and_from (n == n) (bytes_eq name name) (eq-eqb n n refl) ((bytes_eq-Decides name name).1 refl) in
         let from : 0 + length xs ≡ length xs = omega arith in
         let size : length (xs ++ made name ∷ []) ≡ length xs + 1 = length-append xs (made name ∷ []) in
-        let more : xs ++ (own (name ∷ names) ++ ys) ≡ (xs ++ made name ∷ []) ++ (own names ++ ys) = sym (append_assoc xs (made name ∷ []) (own names ++ ys)) in
-        (
+        let more : xs ++ (own (name ∷ names) ++ ys) ≡ (xs ++ made name ∷ []) ++ (own names ++ ys) = sym (append_assoc xs (made name ∷ []) (own names ++ ys)) in (
           record {
             first =
                 ap (λ (l : List Declared). declared_from 0 l n name) e
-                    ∙ past n name 0 xs (own (name ∷ names) ++ ys) apart.0
-                    ∙ ap (λ (k : ℕ). declared_from k (own (name ∷ names) ++ ys) n name) from
-                    ∙ ap (λ (b : Bool). if b then length xs else declared_from (suc (length xs)) (own names ++ ys) n name) its;
+                ∙ past n name 0 xs (own (name ∷ names) ++ ys) apart.0
+                ∙ ap (λ (k : ℕ). declared_from k (own (name ∷ names) ++ ys) n name) from
+                ∙ ap (λ (b : Bool). if b then length xs else declared_from (suc (length xs)) (own names ++ ys) n name) its;
             its = made name;
             there = ap (λ (l : List Declared). slice_get l (length xs)) e ∙ in_middle xs (made name) (own names ++ ys);
             own = refl;

@@ -88,13 +88,13 @@ module _ (f : File) (stand : StandInRoutines f) (parts : List (Option Parts)) (a
   abbrev items : ℕ → ℕ → Item
   items r = before r (item_to f.nodes r)
 
-  found : (r : ℕ) → is_there kind.Routine (slice_get f.nodes r) ≡ true → parts_in parts (Some r) ≡ Some (parts_of (items r) f.nodes r)
+  pub found : (r : ℕ) → is_there kind.Routine (slice_get f.nodes r) ≡ true → parts_in parts (Some r) ≡ Some (parts_of (items r) f.nodes r)
   found r is =
       ap (λ (table : List (Option Parts)). optional (slice_get table r)) (are (items r))
       ∙ ap optional (part_at (items r) f.nodes (length f.nodes) r (inside f.nodes r is))
       ∙ ap (λ (b : Bool). if b then Some (parts_of (items r) f.nodes r) else None) is
 
-  in_procedure : (its : Option ℕ) → ((r : ℕ) → its ≡ Some r → is_there kind.Routine (slice_get f.nodes r) ≡ true) → checking.is_in_procedure f (routine_at f its) ≡ is_in_procedure (parts_in parts its)
+  pub in_procedure : (its : Option ℕ) → ((r : ℕ) → its ≡ Some r → is_there kind.Routine (slice_get f.nodes r) ≡ true) → checking.is_in_procedure f (routine_at f its) ≡ is_in_procedure (parts_in parts its)
   in_procedure None stands = refl
   in_procedure (Some r) stands =
       procedure_same (item_at f.nodes r).routine.kind

@@ -24,6 +24,7 @@ pub mod Least
 pub mod Leaving
 pub mod Listing
 pub mod Literals
+pub mod Loops
 pub mod Marked
 pub mod Modules
 pub mod Nameless
@@ -35,6 +36,7 @@ pub mod ParameterKinds
 pub mod Places
 pub mod Redeclared
 pub mod Redefined
+pub mod Returned
 pub mod RightSides
 pub mod Routines
 pub mod Seen

@@ -168,8 +168,7 @@ module _ (t : Text) (nodes : List Node) (rounds : List Round) (parsed : IsParsed
         let is : round_at rounds c ≡ round_in nodes n node its.0 (round n) first part = head ∙ ap (λ (o : Option Node). child_round nodes n node o (round n) first part) its.1 in
         let part_is : IsPartIn (round n).first n part = part_in nodes node (round n).first n (slice_get nodes c) before first (c ∷ cs) b l m cs_in in
         let lower : (round n).first ≤ c = cs_in.0.0 in
-        let upper : c < n = cs_in.0.1 in
-        (
+        let upper : c < n = cs_in.0.1 in (
           subst (λ (r : Round). IsBodyIn low high (r.body_first, r.body_last)) (sym is) (one_body_in its.0.kind part part_is),
           bodies_in part (c + 1) cs part_is (omega (arith, lower)) (omega (arith, upper)) cs_in.1 inside.1 tail,
         )

@@ -1,17 +1,18 @@
 -- What is known of the nodes of a file is so, but where something is lost.
-use Rattle.std.specs.Prelude.{◌≡◌, ◌<◌, if◌then◌else◌, ℕ, Bool, false, List, [], ◌∷◌, length, is_some, codes, Option, Some, None}
+use Rattle.std.specs.Prelude.{◌≡◌, ◌<◌, if◌then◌else◌, ℕ, Bool, true, false, List, [], ◌∷◌, length, is_some, codes, Option, Some, None}
 use Rattle.std.specs.List.{AllByRecursion}
 use Rattle.clu_types.specs.CluType.{CluType}
 use Rattle.clu_types.specs.declared.term.TypeId.{TypeId}
 use Rattle.clu_types.specs.declared.term.Term.{Term}
 use Rattle.clu_types.specs.Arena.{type_at, types_of}
-use Rattle.clu_syntax.specs.Kinds.{is_expression}
+use Rattle.clu_syntax.specs.Kinds.{is_expression, is_type}
+use Rattle.clu_syntax.specs.Items.{Item}
 use Rattle.clu_checking.specs.Files.{File, item, kind_in, round, children, equate_named}
 use Rattle.clu_checking.specs.Headings as headings
 use Rattle.clu_checking.specs.Operations as finding
 use Rattle.clu_checking.specs.Typing as typing
 use Rattle.clu_checking.specs.Invocations as invoking
-use Rattle.clu_bindings.specs.Inside.{own_type, rep_at, declared_at, representation}
+use Rattle.clu_bindings.specs.Inside.{own_type, rep_at, declared_at, representation, type_inside}
 use Rattle.clu_typing.specs.declared.facts.Facts.{Facts}
 use Rattle.clu_typing.specs.declared.facts.Operation.{Operation}
 use Rattle.clu_typing.specs.declared.facts.Operation.TheVariants as operation
@@ -70,3 +71,7 @@ pub record AreOwnTypes (f : File) (k : Known) (lost : ℕ → Bool) : Type 0 whe
   pub own : (n : ℕ) → IsType k.tables.types.now (own_type k.tables.file n) (headings.own_type f n)
   pub reps : (n : ℕ) → is_equate (declared_at k.tables.file (rep_at k.tables.file n)) ≡ is_some (equate_named f n (codes "rep"))
   pub represented : (n : ℕ) → lost n ≡ false → IsType k.tables.types.now (representation k.headed n) (typing.representation f n)
+
+-- The types that the routine round a node gives, as its body sees them.
+pub record AreResults (f : File) (k : Known) (lost : ℕ → Bool) : Type 0 where
+  pub types : (items : ℕ → Item) (n r t : ℕ) → (round f n).routine ≡ Some r → is_type (kind_in f t) ≡ true → lost t ≡ false → IsType k.tables.types.now (type_inside k.tables.file items n t) (Some (headings.type_inside f r (item f t).type))

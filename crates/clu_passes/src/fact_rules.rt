@@ -2,7 +2,7 @@
 //! of the definitions, where the tables are right and nothing is lost of the node.
 
 ghost use Rattle.std.specs.Prelude.{◌≡◌, ◌&&◌, ℕ, Bool, false, List, slice_get};
-ghost use Rattle.std.specs.List.{list_any};
+ghost use Rattle.std.specs.List.{AllByRecursion, list_any};
 ghost use Rattle.clu_tree.specs.declared.node.NodeKind.TheVariants as kind;
 ghost use Rattle.clu_tree.specs.Nodes.{IsTree};
 ghost use Rattle.clu_parser.specs.Trees.{Text};
@@ -14,7 +14,7 @@ ghost use Rattle.clu_checking.specs.Specifications.{Specification};
 ghost use Rattle.clu_checking.specs.Files.{File};
 ghost use Rattle.clu_checking.specs.Invocations.{invocations};
 ghost use Rattle.clu_checking.specs.ExpressionRules.{v11, v12, v32, has_other_types, has_not_one_result};
-ghost use Rattle.clu_checking.specs.StatementRules.{v16, v21};
+ghost use Rattle.clu_checking.specs.StatementRules.{v16, v21, v30, v36};
 ghost use Rattle.clu_checking.specs.ExceptionRules.{v24};
 ghost use Rattle.clu_head.specs.Refused.{is_set};
 ghost use Rattle.clu_head.specs.There.{is_there};
@@ -22,10 +22,11 @@ ghost use Rattle.clu_type_rules.specs.declared.known.Known.{Known};
 ghost use Rattle.clu_type_rules.specs.declared.invocation_rules.Fault.TheVariants as fault;
 ghost use Rattle.clu_type_rules.specs.Known.{kind_in};
 ghost use Rattle.clu_type_rules.specs.ExpressionRules.{is_up_or_down_misplaced};
-ghost use Rattle.clu_type_rules.specs.InvocationRules.{lacks_operation, some_has_fault};
-ghost use Rattle.clu_type_rules.specs.StatementRules.{has_no_condition, is_on_no_tags};
+ghost use Rattle.clu_type_rules.specs.InvocationRules.{lacks_operation, some_has_fault, misuses_iterator};
+ghost use Rattle.clu_type_rules.specs.StatementRules.{gives_other, has_no_condition, is_on_no_tags, results_round};
 ghost use Rattle.clu_passes.specs.ConstantTables.{file_with, AreTables};
-ghost use Rattle.clu_passes.specs.FactTables.{AreFacts, AreOwnTypes};
+ghost use Rattle.clu_passes.specs.FactTables.{AreFacts, AreOwnTypes, AreResults};
+ghost use Rattle.clu_passes.specs.Routines.{AreParts, StandInRoutines};
 ghost use Rattle.clu_passes.specs.Notes.{AreRepeated, DeclareModules, HaveParents};
 
 /// V11.
@@ -55,7 +56,17 @@ pub fn v24_by_tables()
     ensures { (f : File) → HaveParents f → DeclareModules f → (bits : List Bool) → AreRepeated f bits → (n : ℕ) → v24 f n ≡ (is_there kind.When (slice_get f.nodes n) && is_set (slice_get bits n)) }
 {}
 
+/// V30, where the table has the parts of each routine and nothing is lost of the types that it gives.
+pub fn v30_by_facts()
+    ensures { (k : Known) (scope : Scope) (library : List Specification) (refused : List ℕ) → HaveForms k.tables.file.syntax.now → IsTree k.tables.file.syntax.now → (lost : ℕ → Bool) → AreFacts (file_with k.tables.file scope library refused) k.tables.types.now k.facts.now lost → AreResults (file_with k.tables.file scope library refused) k lost → StandInRoutines (file_with k.tables.file scope library refused) → AreParts (file_with k.tables.file scope library refused) k.routines.now.parts.items → (items : ℕ → Item) (n : ℕ) → lost n ≡ false → AllByRecursion (λ t. lost t ≡ false) (results_round k n) → v30 (file_with k.tables.file scope library refused) n ≡ gives_other k items (kind_in k n) n }
+{}
+
 /// V32.
 pub fn v32_by_facts()
     ensures { (k : Known) (scope : Scope) (library : List Specification) (refused : List ℕ) → HaveForms k.tables.file.syntax.now → IsTree k.tables.file.syntax.now → AreTables (file_with k.tables.file scope library refused) k.tables → (lost : ℕ → Bool) → AreFacts (file_with k.tables.file scope library refused) k.tables.types.now k.facts.now lost → AreOwnTypes (file_with k.tables.file scope library refused) k lost → (n : ℕ) → lost n ≡ false → v32 (file_with k.tables.file scope library refused) n ≡ is_up_or_down_misplaced k (kind_in k n) n }
+{}
+
+/// V36.
+pub fn v36_by_facts()
+    ensures { (k : Known) (scope : Scope) (library : List Specification) (refused : List ℕ) → HaveForms k.tables.file.syntax.now → IsTree k.tables.file.syntax.now → AreTables (file_with k.tables.file scope library refused) k.tables → (lost : ℕ → Bool) → AreFacts (file_with k.tables.file scope library refused) k.tables.types.now k.facts.now lost → (n : ℕ) → lost n ≡ false → v36 (file_with k.tables.file scope library refused) n ≡ misuses_iterator k (kind_in k n) n }
 {}
