@@ -288,6 +288,23 @@ module _ (nodes : List Node) (ds : List Declared) where
     equate_unnamed : (e : ℕ) → is_equate_at nodes e ≡ true → unfolded_at nodes ds e ≡ []
     equate_unnamed e is = ap (λ (bound : List (Option ℕ)). map (equate_of nodes ds) bound) (unnamed (kind_at nodes e) (bound_at ds e (slice_get nodes e)) is)
 
+    -- an equate leads to those that are named in it
+    pub named_leads : (k : ℕ) (d : Declared) → slice_get ds k ≡ Some d → is_equate_at nodes d.node ≡ true → (n i t : ℕ) → (round_at rounds d.node).first ≤ n → n < d.node → slice_get (unfolded_at nodes ds n) i ≡ Some (Some t) → Leads targets spans k t
+    named_leads k d at is n i t least below e =
+        let few : i < length (unfolded_at nodes ds n) = slice_get_within (unfolded_at nodes ds n) i (Some t) e in
+        let inside : d.node < length nodes = equate_inside d.node is in
+        let next : length (unfolded_to nodes ds (suc n)) ≡ length (unfolded_to nodes ds n) + length (unfolded_at nodes ds n) = next_length n in
+        let first : length (unfolded_to nodes ds (round_at rounds d.node).first) ≤ length (unfolded_to nodes ds n) = longer n (round_at rounds d.node).first least in
+        let last : length (unfolded_to nodes ds (suc n)) ≤ length (unfolded_to nodes ds d.node) = longer d.node (suc n) (omega (arith, below)) in
+        record {
+          span = record { from = length (unfolded_to nodes ds (round_at rounds d.node).first); to = length (unfolded_to nodes ds d.node) };
+          place = length (unfolded_to nodes ds n) + i;
+          its = span_there k d at ∙ ap Some (span_is d is);
+          onward = omega (arith, first);
+          before = omega (arith, few, next, last);
+          there = ap (λ (xs : List (Option ℕ)). slice_get xs (length (unfolded_to nodes ds n) + i)) targets_are ∙ there (length nodes) n i (Some t) (omega (arith, below, inside)) e;
+        }
+
     next_in : (steps k : ℕ) (d : Declared) → slice_get ds k ≡ Some d → is_equate_at nodes d.node ≡ true → (n i : ℕ) (o : Option ℕ) → (round_at rounds d.node).first ≤ n → n < suc d.node → slice_get (unfolded_at nodes ds n) i ≡ Some o → goes_on nodes rounds ds (goes_far nodes rounds ds steps) o ≡ true → Next steps k
     next_in steps k d at is n i None least most e h = absurd (true≢false (sym h))
     next_in steps k d at is n i (Some t) least most e h =
@@ -296,22 +313,7 @@ module _ (nodes : List Node) (ds : List Declared) where
           | inl same ↦ let none : length (unfolded_at nodes ds n) ≡ 0 = ap (λ (x : ℕ). length (unfolded_at nodes ds x)) same ∙ ap length (equate_unnamed d.node is) in absurd (omega (arith, few, none))
           | inr apart ↦ omega (arith, most, apart)
         ] in
-        let inside : d.node < length nodes = equate_inside d.node is in
-        let next : length (unfolded_to nodes ds (suc n)) ≡ length (unfolded_to nodes ds n) + length (unfolded_at nodes ds n) = next_length n in
-        let first : length (unfolded_to nodes ds (round_at rounds d.node).first) ≤ length (unfolded_to nodes ds n) = longer n (round_at rounds d.node).first least in
-        let last : length (unfolded_to nodes ds (suc n)) ≤ length (unfolded_to nodes ds d.node) = longer d.node (suc n) (omega (arith, below)) in
-        record {
-          to = t;
-          leads = record {
-            span = record { from = length (unfolded_to nodes ds (round_at rounds d.node).first); to = length (unfolded_to nodes ds d.node) };
-            place = length (unfolded_to nodes ds n) + i;
-            its = span_there k d at ∙ ap Some (span_is d is);
-            onward = omega (arith, first);
-            before = omega (arith, few, next, last);
-            there = ap (λ (xs : List (Option ℕ)). slice_get xs (length (unfolded_to nodes ds n) + i)) targets_are ∙ there (length nodes) n i (Some t) (omega (arith, below, inside)) e;
-          };
-          rest = h;
-        }
+        record { to = t; leads = named_leads k d at is n i t least below e; rest = h }
 
     next_at : (steps k : ℕ) → far (suc steps) k ≡ true → Next steps k
     unfolding goes_far
