@@ -8,14 +8,13 @@ ghost use Rattle.clu_lower_ctl.specs.Inside.{AreNodes, IsNode};
 use crate::declaring::formals;
 use crate::given::{give_cluster, give_member, own_actuals};
 use crate::headings::note_heading;
-use crate::own_type::note_types;
+use crate::own_type::{OwnTypes, note_types};
 use crate::own_variables::{declare_owns, set_up};
 use crate::routines::{body, nothing_fixed, specification};
 use clu_base::{Bytes, Sequence};
 use clu_core::{Checked, intern};
 use clu_lower_expr::{
-    Declarations, Fixed, LowerError, Lowering, Result, Sealed, Seen, lower_own_set_up,
-    written_heading,
+    Declarations, Fixed, LowerError, Lowering, Result, Sealed, lower_own_set_up, written_heading,
 };
 use clu_specs::{Target, use_text};
 use clu_syntax::{Equated, RoutineKind};
@@ -39,6 +38,14 @@ struct Making<'a> {
     owns: &'a [u32],
     /// The type that its `rep` denotes.
     rep: Option<TypeId>,
+}
+
+/// What callers see of a cluster: its type, in an arena to which the types of its routines are added, and the texts of the
+/// routines' own types.
+#[derive(Drop)]
+struct Shown {
+    sealed: Sealed,
+    owns: OwnTypes,
 }
 
 /// The routines of a cluster, by its node, after that which sets up its own variables, if it has any.
@@ -97,8 +104,9 @@ impl Making<'_> {
         ensures { IfOk result (λ routines. All IsBounded routines.items) }
     {
         let mut routines = self.set_ups(alloc, c)?;
+        let mut shown = Box::new(alloc, self.shown(alloc)?)?;
         for n in nodes {
-            routines.push(self.routine(alloc, c, *n)?)?;
+            routines.push(self.routine(alloc, &mut shown, c, *n)?)?;
         }
         Ok(routines)
     }
@@ -129,7 +137,7 @@ impl Making<'_> {
         out.finish(name, 0, own_nodes(c, self.owns))
     }
 
-    fn routine(&self, alloc: Global, c: &Checked, n: u32) -> Result<WRoutine>
+    fn routine(&self, alloc: Global, shown: &mut Shown, c: &Checked, n: u32) -> Result<WRoutine>
         requires parameters { AreNodes c.now.syntax NodeKind.Parm self.now.parameters.now }
         requires owns { AreNodes c.now.syntax NodeKind.Own self.now.owns.now }
         requires routine { IsNode c.now.syntax NodeKind.Routine n }
@@ -139,7 +147,7 @@ impl Making<'_> {
         let mut out = Box::new(alloc, Lowering::new(alloc))?;
         let mut fixed = nothing_fixed(alloc, c, self.declarations)?;
         self.note_member(&mut fixed, n)?;
-        let args = self.fill(&mut out, &mut fixed, c, n)?;
+        let args = self.fill(&mut out, &mut fixed, shown, c, n)?;
         out.finish(name, args, c.syntax.tree().nodes(n))
     }
 
@@ -156,14 +164,20 @@ impl Making<'_> {
     }
 
     /// Adds all that stands in the routine n; the answer is how many arguments it takes.
-    fn fill(&self, out: &mut Lowering, fixed: &mut Fixed, c: &Checked, n: u32) -> Result<u32>
+    fn fill(
+        &self,
+        out: &mut Lowering,
+        fixed: &mut Fixed,
+        shown: &mut Shown,
+        c: &Checked,
+        n: u32,
+    ) -> Result<u32>
         requires routine { IsNode fixed.old.syntax.now NodeKind.Routine n }
         requires checked { IsNode c.now.syntax NodeKind.Routine n }
     {
         let routine = fixed.syntax.routine(n);
         let is_iterator = matches!(routine.kind, RoutineKind::Iterator);
-        let seen = self.seen(out.alloc, c, n)?;
-        note_types(out, &mut fixed.object_types, seen, is_iterator)?;
+        shown.note(out, fixed, c, n, is_iterator)?;
         let args = formals(out, fixed, routine.arguments)?;
         if !self.owns.is_empty() {
             let text = self.set_up_text(out.alloc)?;
@@ -190,10 +204,8 @@ impl Making<'_> {
         Ok(intern(types, Term::Cluster(name, Sequence::from_vec(actuals)))?)
     }
 
-    /// The heading of the routine n as callers see it.
-    fn seen(&self, alloc: Global, c: &Checked, n: u32) -> Result<Seen>
-        requires { IsNode c.now.syntax NodeKind.Routine n }
-    {
+    /// What callers see of the cluster before its routines.
+    fn shown(&self, alloc: Global) -> Result<Shown> {
         let mut types = Box::new(alloc, TypeArena::new(alloc))?;
         let of = self.cluster_type(alloc, &mut types)?;
         let sealed = Sealed {
@@ -202,7 +214,35 @@ impl Making<'_> {
             name: self.spec.name.copy(alloc)?,
             actuals: Vec::new(alloc),
         };
-        written_heading(alloc, c, n, sealed)
+        Ok(Shown {
+            sealed,
+            owns: OwnTypes::new(alloc),
+        })
+    }
+}
+
+impl Shown {
+    /// Notes the types of the routine n as callers see it.
+    fn note(
+        &mut self,
+        out: &mut Lowering,
+        fixed: &mut Fixed,
+        c: &Checked,
+        n: u32,
+        iter: bool,
+    ) -> Result<()>
+        requires { IsNode c.now.syntax NodeKind.Routine n }
+        ensures { fixed.new.syntax ≡ fixed.old.syntax }
+    {
+        let heading = written_heading(out.alloc, c, n, &mut self.sealed)?;
+        note_types(
+            out,
+            &mut fixed.object_types,
+            &mut self.owns,
+            &mut self.sealed.types,
+            heading,
+            iter,
+        )
     }
 }
 

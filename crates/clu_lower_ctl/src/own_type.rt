@@ -2,10 +2,36 @@
 
 use clu_base::Bytes;
 use clu_core::{intern, term};
-use clu_lower_expr::{LowerError, Lowering, Result, Seen, carried, text_of, texts_of};
-use clu_types::{Exception, Heading, OpSpec, Term, TypeArena};
+use clu_lower_expr::{LowerError, Lowering, Result, carried, text_of, texts_of};
+use clu_types::{Exception, Heading, OpSpec, Term, TypeArena, TypeId};
 use indexmap::IndexMap;
+use std::alloc::Global;
 use std::boxed::Box;
+
+/// The own types of routines, of one arena, with their texts. Each text is written once, as many routines of a cluster may
+/// have the same type.
+#[derive(Drop)]
+pub struct OwnTypes {
+    texts: IndexMap<TypeId, Bytes>,
+}
+
+impl OwnTypes {
+    pub fn new(alloc: Global) -> OwnTypes {
+        OwnTypes {
+            texts: IndexMap::new(alloc),
+        }
+    }
+
+    /// The text of a type of the arena.
+    fn text(&mut self, alloc: Global, types: &TypeArena, own: TypeId) -> Result<Bytes> {
+        if let Some(text) = self.texts.get(&own) {
+            return Ok(text.copy(alloc)?);
+        }
+        let text = text_of(alloc, types, own)?;
+        self.texts.insert(own, text.copy(alloc)?)?;
+        Ok(text)
+    }
+}
 
 /// Notes the types of a routine by its specification, whose types are in this arena, and by the names of its exceptions
 /// where the types of their objects begin.
@@ -18,23 +44,25 @@ pub fn note_operation(
     let mut types = Box::new(out.alloc, TypeArena::new(out.alloc))?;
     let heading = carried(out.alloc, &mut types, from, &op.heading, &[])?;
     let heading = Box::new(out.alloc, heading)?;
-    note_types(out, objects, Seen { types, heading }, op.iter)
+    let mut owns = OwnTypes::new(out.alloc);
+    note_types(out, objects, &mut owns, &mut types, heading, op.iter)
 }
 
-/// Notes the types of a routine with this heading: its own is the first of its table.
+/// Notes the types of a routine with this heading, whose types are of this arena: its own is the first of its table.
 pub fn note_types(
     out: &mut Lowering,
     objects: &mut IndexMap<Bytes, u32>,
-    seen: Seen,
+    owns: &mut OwnTypes,
+    types: &mut TypeArena,
+    heading: Box<Heading>,
     iter: bool,
 ) -> Result<()> {
-    let Seen { mut types, heading } = seen;
-    let own = intern(&mut types, routine_term(Box::into_inner(heading), iter))?;
-    let text = text_of(out.alloc, &types, own)?;
+    let own = intern(types, routine_term(Box::into_inner(heading), iter))?;
+    let text = owns.text(out.alloc, types, own)?;
     let _own = out.add_type(text)?;
-    match term(&types, own)? {
-        Term::Iter(heading) => note_objects(out, objects, &types, heading.signals.as_slice()),
-        Term::Proc(heading) => note_objects(out, objects, &types, heading.signals.as_slice()),
+    match term(types, own)? {
+        Term::Iter(heading) => note_objects(out, objects, types, heading.signals.as_slice()),
+        Term::Proc(heading) => note_objects(out, objects, types, heading.signals.as_slice()),
         _ => Err(LowerError::NotYet),
     }
 }

@@ -67,12 +67,14 @@ fn of_cluster(
     of: TypeId,
     op: &Bytes,
 ) -> Result<Seen> {
-    let sealed = sealed_type(alloc, from, of)?;
+    let mut sealed = sealed_type(alloc, from, of)?;
     match exported_operation(c, &sealed.name, op) {
         Some((from, heading)) => sealed.put_into(alloc, from, heading),
         None => {
             let routine = routine_of(c, &sealed.name, op)?;
-            written_heading(alloc, c, routine, sealed)
+            let heading = written_heading(alloc, c, routine, &mut sealed)?;
+            let Sealed { types, .. } = sealed;
+            Ok(Seen { types, heading })
         }
     }
 }

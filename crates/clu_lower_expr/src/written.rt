@@ -6,7 +6,7 @@ ghost use Rattle.clu_syntax.specs.Parts.{AreOf, IsOf};
 
 use crate::binding::is_cvt;
 use crate::errors::{LowerError, Result};
-use crate::seen::{Sealed, Seen};
+use crate::seen::Sealed;
 use clu_base::{Bytes, Sequence};
 use clu_core::{Checked, carry};
 use clu_tree::NodeKind;
@@ -19,14 +19,17 @@ use std::boxed::Box;
 const FAILURE: &[u8] = b"failure";
 
 /// The heading of a routine of a cluster of this type, with the actuals of the type put in. Without actuals the
-/// parameters stay.
-pub fn written_heading(alloc: Global, c: &Checked, n: u32, mut sealed: Sealed) -> Result<Seen>
+/// parameters stay. Its types are of the arena of the cluster's type.
+pub fn written_heading(
+    alloc: Global,
+    c: &Checked,
+    n: u32,
+    sealed: &mut Sealed,
+) -> Result<Box<Heading>>
     requires { IsOf c.now.syntax NodeKind.Routine (length c.now.syntax) n }
 {
     let text = Text { alloc, c };
-    let heading = Box::new(alloc, text.heading(&mut sealed, n)?)?;
-    let Sealed { types, .. } = sealed;
-    Ok(Seen { types, heading })
+    Ok(Box::new(alloc, text.heading(sealed, n)?)?)
 }
 
 /// The text from which a heading is read. What it says goes into the arena of the type for which `cvt` stands.
