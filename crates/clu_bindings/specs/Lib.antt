@@ -1,6 +1,12 @@
+pub mod Bindings
+pub mod Declaring
 pub mod Files
+pub mod Headlines
 pub mod Inside
+pub mod Modules
 pub mod Named
+pub mod Parameters
 pub mod Readers
 pub mod Tables
 pub mod Wanted
+pub mod Wanting

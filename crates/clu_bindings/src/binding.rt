@@ -1,12 +1,17 @@
 //! The tables of what names denote and what is wanted, made in their order.
 
-ghost use Rattle.std.specs.Prelude.{◌≡◌, length};
+ghost use Rattle.std.specs.Prelude.{◌≡◌, IfOk, length};
 ghost use Rattle.clu_names.specs.Denotes.{bound_to, starts_to};
+ghost use Rattle.clu_bindings.specs.Modules.{named};
+ghost use Rattle.clu_bindings.specs.Parameters.{AreParameters};
+ghost use Rattle.clu_bindings.specs.Declaring.{declared_of};
+ghost use Rattle.clu_bindings.specs.Bindings.{placed, places_to, AreBindings};
 
 use crate::bindings::{Bindings, Modules, ParameterTypes};
 use crate::declaring::{declared_of, meanings_of};
 use crate::meaning::Meaning;
 use crate::modules::modules_of;
+use crate::nodes::children_of;
 use crate::parameters::parameters_of;
 use crate::reps::reps_of;
 use crate::wanting::{takers_of, wanted_of};
@@ -19,7 +24,11 @@ use clu_tree::{NodeKind, Tree};
 use clu_types::{Specs, TypeArena, TypeId};
 use std::alloc::Global;
 
-fn place_all(places: &mut [usize], children: &[u32]) {
+/// Writes the place of each of these children of a node.
+#[tactic(auto, unfolding(crate::specs::Bindings::placed))]
+fn place_all(places: &mut [usize], children: &[u32])
+    ensures { places.new ≡ placed places.old 0 children.now }
+{
     for at in 0..children.len() {
         let child = children[at] as usize;
         if child < places.len() {
@@ -29,10 +38,13 @@ fn place_all(places: &mut [usize], children: &[u32]) {
 }
 
 /// For each node its place among its parent's children.
-fn places_of(alloc: Global, tree: &Tree) -> Result<Vec<usize>, Memory> {
+#[tactic(auto, unfolding(crate::specs::Bindings::places_to))]
+fn places_of(alloc: Global, tree: &Tree) -> Result<Vec<usize>, Memory>
+    ensures { IfOk result (λ places. places.items ≡ places_to tree.now (length tree.now)) }
+{
     let mut places = vec![in alloc; 0usize; tree.len() as usize]?;
     for n in 0..tree.len() {
-        place_all(&mut places, tree.node(n).children.as_slice());
+        place_all(&mut places, children_of(tree, n));
     }
     Ok(places)
 }
@@ -81,6 +93,9 @@ fn tables_of(
 ) -> Result<Box<Bindings>, Memory>
     requires bound { names.now.bound.items ≡ bound_to syntax.now names.now.declared.items (length syntax.now) }
     requires starts { names.now.starts.items ≡ starts_to syntax.now names.now.declared.items (length syntax.now) }
+    requires parameters { AreParameters syntax.now rounds.now names.now.declared.items parameters }
+    requires declared { declared.items ≡ declared_of syntax.now rounds.now (named modules) parameters.counts.items parameters.numbers.items names.now.declared.items }
+    ensures { IfOk result (λ all. AreBindings syntax.now rounds.now names.now values.now all.value) }
 {
     let tree = syntax.tree();
     let meanings = meanings_of(alloc, tree, names, &modules, declared.as_slice())?;
@@ -122,12 +137,13 @@ pub fn bindings_of(
 ) -> Result<Box<Bindings>, Memory>
     requires bound { names.now.bound.items ≡ bound_to syntax.now names.now.declared.items (length syntax.now) }
     requires starts { names.now.starts.items ≡ starts_to syntax.now names.now.declared.items (length syntax.now) }
+    ensures { IfOk result (λ all. AreBindings syntax.now rounds.now names.now values.now all.value) }
 {
     let modules = modules_of(alloc, syntax, types, values, library)?;
     let parameters = parameters_of(alloc, syntax, rounds, names)?;
     let declared = declared_of(
         alloc,
-        syntax,
+        syntax.tree(),
         rounds,
         names.declared.as_slice(),
         &parameters,

@@ -1,5 +1,8 @@
 //! What names denote and what is wanted, as tables by node.
 
+ghost use Rattle.std.specs.Prelude.{◌≡◌, ◌-◌, ◌^◌, length, min};
+ghost use Rattle.clu_bindings.specs.Modules.{named};
+
 use crate::meaning::{Meaning, ModuleId};
 use crate::wanted::Wanted;
 use clu_base::{Bytes, Sequence};
@@ -28,13 +31,20 @@ pub struct Modules {
 
 impl Modules {
     /// The module of this name; None of `stream` and of a name of no module.
-    pub fn named(&self, name: &Bytes) -> Option<ModuleId> {
+    pub fn named(&self, name: &Bytes) -> Option<ModuleId>
+        ensures { result ≡ named self.now name.now }
+    {
         self.by_name.get(name).copied()
     }
 
-    /// How many there are.
-    pub fn count(&self) -> u32 {
-        u32::try_from(self.known.len()).unwrap_or(u32::MAX)
+    /// How many there are, as far as 32 bits count.
+    pub fn count(&self) -> u32
+        ensures { result ≡ min (length self.now.known.items) (2 ^ 32 - 1) }
+    {
+        match u32::try_from(self.known.len()) {
+            Ok(count) => count,
+            Err(_) => u32::MAX,
+        }
     }
 }
 

@@ -16,14 +16,14 @@ ghost use Rattle.clu_bindings.specs.Readers.{children_in, place_in, meaning_in, 
 
 use crate::bindings::{Bindings, ModuleKnown};
 use crate::meaning::{Meaning, ModuleId};
-use crate::nodes::{kind_of, parent_of};
+use crate::nodes::{children_of, kind_of, names_of, parent_of, round_of};
 use crate::tables::{is_set, items_of, number_at, optional_at};
 use crate::wanted::Wanted;
 use clu_base::{Bytes, Const};
 use clu_head::{Heads, is_refused};
 use clu_names::Names;
 use clu_settle::Value;
-use clu_syntax::{Expression, OUTSIDE, Round, Statement, Syntax, TypeExpression};
+use clu_syntax::{Expression, Round, Statement, Syntax, TypeExpression};
 use clu_tree::NodeKind;
 use clu_types::{ParamKind, Specs};
 use std::alloc::Global;
@@ -66,7 +66,7 @@ impl<'a> File<'a> {
     pub fn round(self, n: u32) -> Round
         ensures { result ≡ round_at self.entry.rounds.now n }
     {
-        self.rounds.get(n as usize).copied().unwrap_or(OUTSIDE)
+        round_of(self.rounds, n)
     }
 
     pub fn parent(self, n: u32) -> Option<u32>
@@ -78,11 +78,7 @@ impl<'a> File<'a> {
     pub fn children(self, n: u32) -> &'a [u32]
         ensures { result.now ≡ children_in self.entry n }
     {
-        if n < self.syntax.tree().len() {
-            self.syntax.tree().node(n).children.as_slice()
-        } else {
-            &[]
-        }
+        children_of(self.syntax.tree(), n)
     }
 
     /// The place of the node n among its parent's children.
@@ -96,11 +92,7 @@ impl<'a> File<'a> {
     pub fn names(self, n: u32) -> &'a [Bytes]
         ensures { result.now ≡ names_of (slice_get self.entry.syntax.now n) }
     {
-        if n < self.syntax.tree().len() {
-            self.syntax.tree().node(n).names.as_slice()
-        } else {
-            &[]
-        }
+        names_of(self.syntax.tree(), n)
     }
 
     pub fn expression(self, n: u32) -> Option<Expression<'a>>

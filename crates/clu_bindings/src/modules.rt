@@ -1,7 +1,12 @@
 //! The modules that a file may name, by name: its own before those of the library.
 
-ghost use Rattle.std.specs.Prelude.{◌≡◌};
+ghost use Rattle.std.specs.Prelude.{◌≡◌, ◌++◌, ◌∷◌, [], List, IfOk, OnOk, map, take, Some};
+ghost use Rattle.std.specs.Str.{bytes_eq};
+ghost use Rattle.std.specs.HashMap.{get};
+ghost use Rattle.clu_syntax.specs.Syntax.{Identifier};
 ghost use Rattle.clu_names.specs.Scopes.{is_stream};
+ghost use Rattle.clu_bindings.specs.declared.bindings.ModuleKnown.{ModuleKnown};
+ghost use Rattle.clu_bindings.specs.Modules.{AreModules, is_new, with_name, with_module, is_routine_form, kept_known, kept_in};
 
 use crate::bindings::{ModuleKnown, Modules};
 use crate::headline::headline_at;
@@ -21,18 +26,63 @@ pub fn is_stream(name: &Bytes) -> bool
     name.as_slice() == b"stream".as_slice()
 }
 
+/// The module that is found by a name.
+fn found_by(by_name: &HashMap<Bytes, ModuleId>, name: &Bytes) -> Option<ModuleId>
+    ensures { result ≡ get bytes_eq by_name.now name.now }
+{
+    by_name.get(name).copied()
+}
+
+/// Whether a module of this name is to be found by it, where this is found so far: by `stream` none is.
+fn is_new(name: &Bytes, found: Option<ModuleId>) -> bool
+    ensures { result ≡ is_new name.now found }
+{
+    match found {
+        Some(_) => false,
+        None => !is_stream(name),
+    }
+}
+
+fn put(
+    alloc: Global,
+    by_name: &mut HashMap<Bytes, ModuleId>,
+    name: &Bytes,
+    id: ModuleId,
+) -> Result<(), Memory>
+    ensures { OnOk result ((q : Identifier) → get bytes_eq by_name.new q ≡ with_name name.now id (get bytes_eq by_name.old) q) }
+{
+    by_name.insert(name.copy(alloc)?, id)?;
+    Ok(())
+}
+
+/// Enters a module by its name, unless one of this name is known, or it is that of the type `stream`.
+fn enter(
+    alloc: Global,
+    by_name: &mut HashMap<Bytes, ModuleId>,
+    name: &Bytes,
+    id: ModuleId,
+) -> Result<(), Memory>
+    ensures { OnOk result ((q : Identifier) → get bytes_eq by_name.new q ≡ with_module name.now id (get bytes_eq by_name.old) q) }
+{
+    if is_new(name, found_by(by_name, name)) {
+        put(alloc, by_name, name, id)
+    } else {
+        Ok(())
+    }
+}
+
 /// Appends a module, and enters its name, unless a module of this name is known.
 fn push(
     alloc: Global,
     modules: &mut Modules,
     name: &Bytes,
     known: ModuleKnown,
-) -> Result<ModuleId, Memory> {
+) -> Result<ModuleId, Memory>
+    ensures { OnOk result ((all : List (Identifier × ModuleKnown)) → AreModules modules.old all → AreModules modules.new (all ++ (name.now, known) ∷ [])) }
+{
     let module = ModuleId(modules.count());
     modules.known.push(known)?;
-    if !is_stream(name) && !modules.by_name.contains_key(name) {
-        modules.by_name.insert(name.copy(alloc)?, module)?;
-    }
+    enter(alloc, &mut modules.by_name, name, module)?;
     Ok(module)
 }
 
@@ -72,7 +122,9 @@ fn push_modules(
     Ok(())
 }
 
-fn known_kinds(alloc: Global, kinds: &[ParamKind]) -> Result<Sequence<Option<ParamKind>>, Memory> {
+fn known_kinds(alloc: Global, kinds: &[ParamKind]) -> Result<Sequence<Option<ParamKind>>, Memory>
+    ensures { IfOk result (λ known. known ≡ map (λ k. Some k) kinds.now) }
+{
     let mut known = Vec::new(alloc);
     for kind in kinds {
         known.push(Some(*kind))?;
@@ -80,14 +132,18 @@ fn known_kinds(alloc: Global, kinds: &[ParamKind]) -> Result<Sequence<Option<Par
     Ok(Sequence::from_vec(known))
 }
 
-fn is_routine(form: &Form) -> bool {
+fn is_routine(form: &Form) -> bool
+    ensures { result ≡ is_routine_form form.now }
+{
     match form {
         Form::Routine(_) => true,
         Form::Cluster(_, _) => false,
     }
 }
 
-fn push_kept(alloc: Global, modules: &mut Modules, spec: &Spec) -> Result<(), Memory> {
+fn push_kept(alloc: Global, modules: &mut Modules, spec: &Spec) -> Result<(), Memory>
+    ensures { OnOk result ((all : List (Identifier × ModuleKnown)) → AreModules modules.old all → AreModules modules.new (all ++ (spec.now.name, kept_known spec.now) ∷ [])) }
+{
     let known = ModuleKnown {
         kinds: known_kinds(alloc, spec.kinds.as_slice())?,
         is_routine: is_routine(&spec.form),
@@ -96,7 +152,9 @@ fn push_kept(alloc: Global, modules: &mut Modules, spec: &Spec) -> Result<(), Me
     Ok(())
 }
 
-fn push_library(alloc: Global, modules: &mut Modules, library: &Specs) -> Result<(), Memory> {
+fn push_library(alloc: Global, modules: &mut Modules, library: &Specs) -> Result<(), Memory>
+    ensures { OnOk result ((all : List (Identifier × ModuleKnown)) → AreModules modules.old all → AreModules modules.new (all ++ kept_in (take 4294967295 library.now))) }
+{
     for n in 0..u32::MAX {
         match library.at(n) {
             Some(spec) => push_kept(alloc, modules, spec)?,

@@ -1,6 +1,6 @@
 //! Tables by number, of which what isn't there is nothing.
 
-ghost use Rattle.std.specs.Prelude.{◌≡◌, get_or, slice_get};
+ghost use Rattle.std.specs.Prelude.{◌≡◌, get_or, set, slice_get, true};
 ghost use Rattle.clu_head.specs.Refused.{is_set};
 ghost use Rattle.clu_bindings.specs.Tables.{optional, items_at};
 
@@ -26,7 +26,9 @@ pub fn is_set(table: &[bool], place: usize) -> bool
 }
 
 /// Sets a table at a place, unless it is beyond the end.
-pub fn set(table: &mut [bool], place: usize) {
+pub fn set(table: &mut [bool], place: usize)
+    ensures { table.new ≡ set table.old place true }
+{
     if place < table.len() {
         table[place] = true;
     }

@@ -2,6 +2,7 @@
 
 ghost use Rattle.std.specs.Prelude.{◌≡◌};
 ghost use Rattle.clu_bindings.specs.Wanted.{is_object_wanted};
+ghost use Rattle.clu_bindings.specs.Wanting.{wanted_by_role};
 
 use clu_syntax::Role;
 
@@ -33,7 +34,9 @@ pub fn is_object_wanted(wanted: Wanted) -> bool
 }
 
 /// What a role wants.
-pub fn wanted_by_role(role: Role) -> Wanted {
+pub fn wanted_by_role(role: Role) -> Wanted
+    ensures { result ≡ wanted_by_role role }
+{
     match role {
         Role::Part => Wanted::Nothing,
         Role::Object => Wanted::Object,

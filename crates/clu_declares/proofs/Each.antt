@@ -429,7 +429,7 @@ module _ (t : Text) (nodes : List Node) (rounds : List Round) (parsed : IsParsed
         (subst (λ (x : Option Declared). Means nodes (meant.declared_at nodes rounds ds p (Some d)) (means.declared_at (scope_in nodes rounds) (Some p) x).1) (sym best.there)
         (each_meant p d best.there first))
 
-    name_meant : (n : ℕ) (name : Identifier) → Means nodes (meant.bound_to_one table (found ds name n)) (meaning_of (scope_in nodes rounds) n name)
+    pub name_meant : (n : ℕ) (name : Identifier) → Means nodes (meant.bound_to_one table (found ds name n)) (meaning_of (scope_in nodes rounds) n name)
     name_meant n name = bound_meant n name (found ds name n) (found_is ds name n)
 
     abbrev Uses : ℕ → Node → NodeKind → Type 0

@@ -1,0 +1,126 @@
+-- The modules that are known once one more has come.
+use Rattle.std.proofs.Common.{◌≡◌, ◌∙◌, ℕ, zero, suc, ◌+◌, ◌-◌, ◌^◌, min, ◌<◌, ◌≤◌, not, Bool, true, false, if◌then◌else◌, List, [], ◌∷◌, ◌++◌, length, map, take, Option, Some, None, slice_get, option_map, refl, ap, sym, subst, arith, append-nil, append_assoc, add-one}
+use Rattle.std.specs.Prelude.{bytes_eq}
+use Rattle.std.specs.HashMap.{get}
+use Rattle.std.proofs.lemmas.Slice.Eq.{bytes_eq-Decides}
+use Rattle.clu_types.specs.declared.spec.Spec.{Spec}
+use Rattle.clu_syntax.specs.Syntax.{Identifier}
+use Rattle.clu_names.specs.Scopes.{is_stream}
+use Rattle.clu_bindings.specs.declared.bindings.Modules.{Modules}
+use Rattle.clu_bindings.specs.declared.bindings.ModuleKnown.{ModuleKnown}
+use Rattle.clu_bindings.specs.declared.meaning.ModuleId.{ModuleId}
+use Rattle.clu_bindings.specs.Modules.{module_id, place_from, module_named, AreModules, is_new, with_module, kept_known, kept_in}
+
+-- ---- lists
+
+map_last : {X Y : Type 0} (f : X → Y) (xs : List X) (x : X) → map f (xs ++ x ∷ []) ≡ map f xs ++ f x ∷ []
+map_last f [] x = refl
+map_last f (y ∷ xs) x = ap (λ (ys : List _). f y ∷ ys) (map_last f xs x)
+
+map_size : {X Y : Type 0} (f : X → Y) (xs : List X) → length (map f xs) ≡ length xs
+map_size f [] = refl
+map_size f (x ∷ xs) = ap suc (map_size f xs)
+
+take_next : {X : Type 0} (xs : List X) (n : ℕ) (x : X) → slice_get xs n ≡ Some x → take (suc n) xs ≡ take n xs ++ x ∷ []
+take_next [] n x e = absurd (cc)
+take_next (y ∷ xs) zero x e = let same : y ≡ x = cc in ap (λ (y : _). y ∷ []) same
+take_next (y ∷ xs) (suc n) x e = ap (λ (ys : List _). y ∷ ys) (take_next xs n x e)
+
+take_past : {X : Type 0} (xs : List X) (n m : ℕ) → slice_get xs n ≡ None → n ≤ m → take m xs ≡ take n xs
+take_past [] zero zero e l = refl
+take_past [] zero (suc m) e l = refl
+take_past [] (suc n) zero e l = refl
+take_past [] (suc n) (suc m) e l = refl
+take_past (y ∷ xs) zero m e l = absurd (cc)
+take_past (y ∷ xs) (suc n) zero e l = absurd (omega (arith, l))
+take_past (y ∷ xs) (suc n) (suc m) e l = ap (λ (ys : List _). y ∷ ys) (take_past xs n m e (omega (arith, l)))
+
+-- ---- places by name
+
+abbrev or_else : Option ℕ → Option ℕ → Option ℕ
+or_else (Some x) y = Some x
+or_else None y = y
+
+or_none : (p : Option ℕ) → or_else p None ≡ p
+or_none (Some x) = refl
+or_none None = refl
+
+place_behind : (k : ℕ) (all : List (Identifier × ModuleKnown)) (m : Identifier × ModuleKnown) (q : Identifier) → place_from k (all ++ m ∷ []) q ≡ or_else (place_from k all q) (if bytes_eq m.0 q then Some (k + length all) else None)
+place_behind k [] m q = let same : k ≡ k + 0 = omega arith in ap (λ (x : ℕ). if bytes_eq m.0 q then Some x else None) same
+place_behind k (x ∷ all) m q = by (bytes_eq x.0 q) (place_behind (suc k) all m q)
+  where
+    by : (b : Bool) → place_from (suc k) (all ++ m ∷ []) q ≡ or_else (place_from (suc k) all q) (if bytes_eq m.0 q then Some (suc k + length all) else None)
+        → (if b then Some k else place_from (suc k) (all ++ m ∷ []) q) ≡ or_else (if b then Some k else place_from (suc k) all q) (if bytes_eq m.0 q then Some (k + suc (length all)) else None)
+    by true before = refl
+    by false before =
+        let same : suc k + length all ≡ k + suc (length all) = omega arith in
+        before ∙ ap (λ (x : ℕ). or_else (place_from (suc k) all q) (if bytes_eq m.0 q then Some x else None)) same
+
+same_either : {A : Type 0} (b : Bool) (x : A) → (if b then x else x) ≡ x
+same_either true x = refl
+same_either false x = refl
+
+-- what is found by the name of the new module, where `found` was, at `place`
+at_name : (name : Identifier) (s : Bool) → is_stream name ≡ s → (found : Option ModuleId) (place : Option ℕ) (id : ModuleId) (last : ℕ) → found ≡ (if s then None else option_map module_id place) → id ≡ module_id last
+    → (if is_new name found then Some id else found) ≡ (if s then None else option_map module_id (or_else place (Some last)))
+at_name name true stream found place id last e is =
+    ap (λ (found : Option ModuleId). if is_new name found then Some id else found) e
+    ∙ ap (λ (s : Bool). if not s then Some id else None) stream
+at_name name false stream found (Some x) id last e is = ap (λ (found : Option ModuleId). if is_new name found then Some id else found) e
+at_name name false stream found None id last e is =
+    ap (λ (found : Option ModuleId). if is_new name found then Some id else found) e
+    ∙ ap (λ (s : Bool). if not s then Some id else None) stream
+    ∙ ap Some is
+
+abbrev numbered : ℕ → ModuleId
+numbered k = record { 0 = k }
+
+module _ (old new : Modules) (name : Identifier) (known : ModuleKnown) (k : ℕ) (all : List (Identifier × ModuleKnown)) (are : AreModules old all) (more : new.known.items ≡ old.known.items ++ known ∷ []) (is : k ≡ min (length old.known.items) (2 ^ 32 - 1))
+    (entered : (q : Identifier) → get bytes_eq new.by_name q ≡ with_module name (numbered k) (get bytes_eq old.by_name) q) where
+  abbrev id : ModuleId
+  id = numbered k
+
+  last_id : id ≡ module_id (length all)
+  last_id = ap numbered is ∙ ap module_id (ap length are.known ∙ map_size (λ m. m.1) all)
+
+  named_so : (q : Identifier) → get bytes_eq new.by_name q ≡ module_named (all ++ (name, known) ∷ []) q
+  named_so q =
+      entered q ∙ by (bytes_eq name q) refl
+      ∙ ap (λ (o : Option ℕ). if is_stream q then None else option_map module_id o) (sym (place_behind 0 all (name, known) q))
+    where
+      by : (t : Bool) → bytes_eq name q ≡ t
+          → (if is_new name (get bytes_eq old.by_name name) then (if t then Some id else get bytes_eq old.by_name q) else get bytes_eq old.by_name q)
+          ≡ (if is_stream q then None else option_map module_id (or_else (place_from 0 all q) (if t then Some (0 + length all) else None)))
+      by false e =
+          same_either (is_new name (get bytes_eq old.by_name name)) (get bytes_eq old.by_name q)
+          ∙ are.named q ∙ ap (λ (o : Option ℕ). if is_stream q then None else option_map module_id o) (sym (or_none (place_from 0 all q)))
+      by true e =
+          let same : length all ≡ 0 + length all = omega arith in
+          subst (λ (q : Identifier). (if is_new name (get bytes_eq old.by_name name) then Some id else get bytes_eq old.by_name q) ≡ (if is_stream q then None else option_map module_id (or_else (place_from 0 all q) (Some (0 + length all)))))
+          ((bytes_eq-Decides name q).0 e)
+          (at_name name (is_stream name) refl (get bytes_eq old.by_name name) (place_from 0 all name) id (0 + length all) (are.named name) (last_id ∙ ap module_id same))
+
+  pub pushed : AreModules new (all ++ (name, known) ∷ [])
+  pushed = record {
+    known = more ∙ ap (λ (xs : List ModuleKnown). xs ++ known ∷ []) are.known ∙ sym (map_last (λ m. m.1) all (name, known));
+    named = named_so;
+  }
+
+-- ---- those of a library
+
+abbrev pub Adds : Modules → Modules → List (Identifier × ModuleKnown) → Type 0
+Adds old new more = (all : List (Identifier × ModuleKnown)) → AreModules old all → AreModules new (all ++ more)
+
+pub none_kept : (old : Modules) (library : List Spec) → Adds old old (kept_in (take 0 library))
+none_kept old [] = λ all are. subst (AreModules old) (sym (append-nil all)) are
+none_kept old (s ∷ library) = λ all are. subst (AreModules old) (sym (append-nil all)) are
+
+pub kept_next : (old now new : Modules) (library : List Spec) (n : ℕ) (s : Spec) → slice_get library n ≡ Some s → Adds old now (kept_in (take n library)) → ((all : List (Identifier × ModuleKnown)) → AreModules now all → AreModules new (all ++ (s.name, kept_known s) ∷ [])) → Adds old new (kept_in (take (n + 1) library))
+kept_next old now new library n s at before step = λ all are.
+    let grown : (all ++ kept_in (take n library)) ++ (s.name, kept_known s) ∷ [] ≡ all ++ kept_in (take (n + 1) library) =
+    append_assoc all (kept_in (take n library)) ((s.name, kept_known s) ∷ [])
+    ∙ ap (λ (xs : List (Identifier × ModuleKnown)). all ++ xs) (sym (map_last (λ s. (s.name, kept_known s)) (take n library) s) ∙ ap kept_in (sym (take_next library n s at) ∙ ap (λ (k : ℕ). take k library) (sym (add-one n)))) in
+    subst (AreModules new) grown (step (all ++ kept_in (take n library)) (before all are))
+
+pub kept_whole : (old now : Modules) (library : List Spec) (n : ℕ) → slice_get library n ≡ None → n ≤ 4294967295 → Adds old now (kept_in (take n library)) → Adds old now (kept_in (take 4294967295 library))
+kept_whole old now library n past l before = subst (λ (ss : List Spec). Adds old now (kept_in ss)) (sym (take_past library n 4294967295 past l)) before

@@ -1,0 +1,3 @@
+pub mod Appending
+pub mod Growing
+pub mod Labelled
