@@ -1,1 +1,10 @@
+pub mod Asking
+pub mod Builtins
+pub mod Bundles
+pub mod ByName
+pub mod Clauses
 pub mod Finding
+pub mod Modules
+pub mod Operations
+pub mod Shapes
+pub mod Words

@@ -1,11 +1,14 @@
 //! The operations of built-in types. Those of a selector are found on the type with this component alone, so that each costs
 //! no more than its own.
 
-ghost use Rattle.std.specs.Prelude.{◌<◌, length, IfOk};
+ghost use Rattle.std.specs.Prelude.{◌≡◌, ◌<◌, length, option_map, IfOk, OnOk};
+ghost use Rattle.clu_operations.specs.Asking.{asks_of, with_needs};
+ghost use Rattle.clu_operations.specs.Builtins.{selector_in, put, in_place, heading_in_place, routine_term};
 
+use crate::asking::push_asked;
 use crate::finding::Finding;
 use crate::found::{Asked, FoundId};
-use crate::words::NameId;
+use crate::words::{NameId, Words};
 use clu_base::{Bytes, Memory, Sequence};
 use clu_builtin::{Builtin, Need, heading};
 use clu_head::interned;
@@ -13,11 +16,14 @@ use clu_types::{Field, Heading, Term, TypeArena, TypeId};
 use std::alloc::Global;
 
 /// What stands in the name of an operation behind its first `_`, which ends what stands there before a selector.
-fn selector_in(name: &[u8]) -> Option<&[u8]> {
-    for at in 0..name.len() {
-        if name[at] == b'_' {
-            return Some(&name[at + 1..]);
+fn selector_in(mut name: &[u8]) -> Option<&[u8]>
+    ensures { option_map (λ rest. rest.now) result ≡ selector_in name.entry.now }
+{
+    while let [first, rest @ ..] = name {
+        if *first == b'_' {
+            return Some(rest);
         }
+        name = rest;
     }
     None
 }
@@ -83,29 +89,48 @@ fn builtin_at(
     }
 }
 
-/// These types with another one in the place of `part`.
-fn in_place(ids: Sequence<TypeId>, part: TypeId, of: TypeId) -> Sequence<TypeId> {
-    let mut ids = ids.into_vec();
-    for at in 0..ids.len() {
-        if ids[at] == part {
-            ids[at] = of;
-        }
-    }
-    Sequence::from_vec(ids)
+/// The type `of` for `part`, and every other one for itself.
+fn put(part: TypeId, of: TypeId, id: TypeId) -> TypeId
+    ensures { result ≡ put part of id }
+{
+    if id.0 == part.0 { of } else { id }
 }
 
-/// The term of a routine with the type `of` in the place of `part`.
-fn routine_term(iter: bool, heading: Heading, part: TypeId, of: TypeId) -> Term {
-    let Heading {
-        args,
-        results,
-        signals,
-    } = heading;
-    let heading = Heading {
-        args: in_place(args, part, of),
-        results: in_place(results, part, of),
-        signals,
-    };
+/// These types with another one in the place of `part`.
+fn in_place(
+    alloc: Global,
+    ids: &[TypeId],
+    part: TypeId,
+    of: TypeId,
+) -> Result<Sequence<TypeId>, Memory>
+    ensures { IfOk result (λ made. made ≡ in_place part of ids.now) }
+{
+    let mut made = Vec::new(alloc);
+    for id in ids {
+        made.push(put(part, of, *id))?;
+    }
+    Ok(Sequence::from_vec(made))
+}
+
+/// A heading with the type `of` in the place of `part`.
+fn heading_in_place(
+    alloc: Global,
+    heading: Heading,
+    part: TypeId,
+    of: TypeId,
+) -> Result<Heading, Memory>
+    ensures { IfOk result (λ made. made ≡ heading_in_place part of heading) }
+{
+    Ok(Heading {
+        args: in_place(alloc, heading.args.as_slice(), part, of)?,
+        results: in_place(alloc, heading.results.as_slice(), part, of)?,
+        signals: heading.signals,
+    })
+}
+
+fn routine_term(iter: bool, heading: Heading) -> Term
+    ensures { result ≡ routine_term iter heading }
+{
     if iter {
         Term::Iter(heading)
     } else {
@@ -113,15 +138,17 @@ fn routine_term(iter: bool, heading: Heading, part: TypeId, of: TypeId) -> Term 
     }
 }
 
-fn push_needs(alloc: Global, finding: &mut Finding, needs: &[Need]) -> Result<(), Memory> {
+/// Appends what a built-in operation needs.
+fn push_needs(
+    alloc: Global,
+    words: &mut Words,
+    asked: &mut Vec<Asked>,
+    needs: &[Need],
+) -> Result<(), Memory>
+    ensures { OnOk result (asks_of words.new asked.new.items ≡ with_needs needs.now (asks_of words.old asked.old.items)) }
+{
     for need in needs {
-        let operation = finding.words.number(alloc, &need.op)?;
-        finding.asked.push(Asked {
-            of: need.of,
-            operation,
-            wanted: need.wanted,
-            in_set: false,
-        })?;
+        push_asked(alloc, words, asked, need.of, &need.op, need.wanted, false)?;
     }
     Ok(())
 }
@@ -140,9 +167,15 @@ fn keep(
         heading,
         needs,
     } = builtin;
-    let of_type = interned(types, routine_term(iter, heading, part, of))?;
+    let heading = heading_in_place(alloc, heading, part, of)?;
+    let of_type = interned(types, routine_term(iter, heading))?;
     let from = finding.asked.len();
-    push_needs(alloc, finding, needs.as_slice())?;
+    push_needs(
+        alloc,
+        &mut finding.words,
+        &mut finding.asked,
+        needs.as_slice(),
+    )?;
     finding.keep(of_type, from)
 }
 

@@ -1,10 +1,13 @@
 //! What where clauses and type sets give of type parameters.
 
+ghost use Rattle.std.specs.Prelude.{◌≡◌};
+ghost use Rattle.clu_operations.specs.Clauses.{given_by, is_set_kind, is_set_round, count_round, set_round, given};
+
 use crate::finding::Finding;
 use crate::found::{FoundId, Given};
 use crate::words::NameId;
 use clu_base::Memory;
-use clu_bindings::Headed;
+use clu_bindings::{File, Headed, number_at};
 use clu_head::Demanded;
 use clu_tree::NodeKind;
 use std::alloc::Global;
@@ -34,12 +37,15 @@ pub fn enter_given(headed: Headed<'_>, finding: &mut Finding) -> Result<(), Memo
     Ok(())
 }
 
+/// What is given of a type parameter by a node.
 fn given_by(
     finding: &Finding,
     node: Option<u32>,
     parameter: u32,
     operation: NameId,
-) -> Option<FoundId> {
+) -> Option<FoundId>
+    ensures { result ≡ given_by finding.now node parameter operation }
+{
     let key = Given {
         node: node?,
         parameter,
@@ -48,15 +54,39 @@ fn given_by(
     finding.given.get(&key).copied()
 }
 
-/// The type set whose variable has this number, if the node n stands in it.
-fn set_round(headed: Headed<'_>, n: u32, parameter: u32) -> Option<u32> {
-    let count = match headed.file.round(n).unit {
-        Some(unit) => headed.file.parameter_count(unit),
+fn is_set_kind(kind: NodeKind) -> bool
+    ensures { result ≡ is_set_kind kind }
+{
+    match kind {
+        NodeKind::TypeSet => true,
+        _ => false,
+    }
+}
+
+/// Whether the node `set` is a TypeSet in which the node n stands.
+fn is_set_round(file: File<'_>, n: u32, set: u32) -> bool
+    ensures { result ≡ is_set_round file.entry n set }
+{
+    is_set_kind(file.kind(set)) && file.round(set).first <= n && n <= set
+}
+
+/// How many parameters the module round the node n has.
+fn count_round(file: File<'_>, n: u32) -> u32
+    ensures { result ≡ count_round file.entry n }
+{
+    match file.round(n).unit {
+        Some(unit) => number_at(file.bindings.parameters.counts.as_slice(), unit as usize),
         None => 0,
-    };
-    let set = parameter.checked_sub(count)?.checked_sub(1)?;
-    if headed.file.kind(set) == NodeKind::TypeSet && headed.file.round(set).first <= n && n <= set {
-        Some(set)
+    }
+}
+
+/// The type set whose variable has this number, if the node n stands in it.
+fn set_round(file: File<'_>, n: u32, parameter: u32) -> Option<u32>
+    ensures { result ≡ set_round file.entry n parameter }
+{
+    let count = count_round(file, n);
+    if count < parameter && is_set_round(file, n, parameter - count - 1) {
+        Some(parameter - count - 1)
     } else {
         None
     }
@@ -70,17 +100,13 @@ pub fn given(
     n: u32,
     parameter: u32,
     operation: NameId,
-) -> Option<FoundId> {
-    let round = headed.file.round(n);
-    for node in [
-        round.routine,
-        round.cluster,
-        set_round(headed, n, parameter),
-    ] {
-        let found = given_by(finding, node, parameter, operation);
-        if found.is_some() {
-            return found;
-        }
-    }
-    None
+) -> Option<FoundId>
+    ensures { result ≡ given headed.entry.file finding.now n parameter operation }
+{
+    let file = headed.file;
+    let round = file.round(n);
+    let by_routine = given_by(finding, round.routine, parameter, operation);
+    let by_cluster = given_by(finding, round.cluster, parameter, operation);
+    let by_set = given_by(finding, set_round(file, n, parameter), parameter, operation);
+    by_routine.or(by_cluster).or(by_set)
 }

@@ -1,7 +1,8 @@
 //! What was found so far: operations of types and modules with actual parameters, each once.
 
-ghost use Rattle.std.specs.Prelude.{◌≡◌};
-ghost use Rattle.clu_operations.specs.Finding.{found_at};
+ghost use Rattle.std.specs.Prelude.{◌≡◌, IfOk};
+ghost use Rattle.clu_operations.specs.Finding.{found_at, asked_by, IsOneMore};
+ghost use Rattle.clu_operations.specs.Words.{named};
 
 use crate::bundles::Shown;
 use crate::found::{Asked, Found, FoundId, Given, Wished};
@@ -54,23 +55,27 @@ impl Finding {
     }
 
     /// What it asks.
-    pub fn asked_by(&self, id: FoundId) -> &[Asked] {
+    pub fn asked_by(&self, id: FoundId) -> &[Asked]
+        ensures { result.now ≡ asked_by self.now id }
+    {
         let found = self.found(id);
-        match self.asked.as_slice().get(found.from..found.to) {
-            Some(asked) => asked,
-            None => &[],
-        }
+        let asked = self.asked.as_slice().get(found.from..found.to);
+        asked.unwrap_or(&[])
     }
 
     /// The number of a name, if it is kept.
-    pub fn named(&self, name: &Bytes) -> Option<NameId> {
+    pub fn named(&self, name: &Bytes) -> Option<NameId>
+        ensures { result ≡ named self.now.words name.now }
+    {
         self.words.named(name)
     }
 
     /// Keeps what was found, of this type, that asks what stands behind this place.
-    pub fn keep(&mut self, of: Option<TypeId>, from: usize) -> Result<FoundId, Memory> {
-        let id = FoundId(self.founds.len());
-        let to = self.asked.len();
+    pub fn keep(&mut self, of: Option<TypeId>, from: usize) -> Result<FoundId, Memory>
+        ensures { IfOk result (IsOneMore self.old self.new of from) }
+    {
+        let id = FoundId(self.founds.as_slice().len());
+        let to = self.asked.as_slice().len();
         self.founds.push(Found { of, from, to })?;
         Ok(id)
     }

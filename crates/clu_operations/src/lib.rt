@@ -2,6 +2,7 @@
 //! actual parameters (CLU Reference Manual, sections 12 and 13).
 #![tactic(auto)]
 
+mod asking;
 mod builtins;
 mod bundles;
 mod clauses;

@@ -1,10 +1,13 @@
 //! The operations that types have at a node, and modules with actual parameters, each found once.
 
+ghost use Rattle.std.specs.Prelude.{◌≡◌, option_copied, IfOk};
+ghost use Rattle.clu_operations.specs.Operations.{instance_at, name_round, is_inside};
+
 use crate::builtins::builtin_found;
 use crate::clauses::given;
 use crate::finding::Finding;
 use crate::found::{FoundId, View, Wished};
-use crate::modules::{Known, known_of, part_named};
+use crate::modules::{Known, Part, known_of, part_named};
 use crate::parts::{Callee, part_found};
 use crate::shapes::{Shape, cluster_name, shape_of};
 use crate::words::NameId;
@@ -14,7 +17,9 @@ use clu_demands::{Instance, instance_of};
 use clu_types::{TypeArena, TypeId};
 use std::alloc::Global;
 
-fn instance(alloc: Global, types: &TypeArena, of: TypeId) -> Result<Option<Instance>, Memory> {
+fn instance(alloc: Global, types: &TypeArena, of: TypeId) -> Result<Option<Instance>, Memory>
+    ensures { IfOk result (λ found. found ≡ instance_at types.now of) }
+{
     if types.contains(of) {
         instance_of(alloc, types.view(of))
     } else {
@@ -22,16 +27,19 @@ fn instance(alloc: Global, types: &TypeArena, of: TypeId) -> Result<Option<Insta
     }
 }
 
-/// The part of a module for which an operation stands; None is the module itself.
+/// The part of a module for which an operation stands; without a name it is the module itself.
 fn part_of(
     finding: &Finding,
     known: Known<'_>,
     operation: Option<NameId>,
     inside: bool,
-) -> Option<usize> {
+) -> Option<Part> {
     match operation {
-        Some(operation) => part_named(known, finding.words.name(operation)?, inside),
-        None => Some(0),
+        Some(operation) => {
+            let name = finding.words.name(operation)?;
+            Some(Part::Routine(part_named(known, name, inside)?))
+        }
+        None => Some(Part::Itself),
     }
 }
 
@@ -80,12 +88,16 @@ fn find(
 // ---- at a node
 
 /// The name of the cluster in which the node n stands.
-fn name_round<'a>(headed: Headed<'a>, n: Option<u32>) -> Option<&'a Bytes> {
+fn name_round<'a>(headed: Headed<'a>, n: Option<u32>) -> Option<&'a Bytes>
+    ensures { option_copied result ≡ name_round headed.entry.file n }
+{
     let cluster = headed.file.round(n?).cluster?;
     headed.file.names(cluster).first()
 }
 
-fn is_inside(headed: Headed<'_>, n: Option<u32>, name: &Bytes) -> bool {
+fn is_inside(headed: Headed<'_>, n: Option<u32>, name: &Bytes) -> bool
+    ensures { result ≡ is_inside headed.entry.file n name.now }
+{
     match name_round(headed, n) {
         Some(own) => *own == *name,
         None => false,

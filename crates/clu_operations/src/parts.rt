@@ -1,9 +1,10 @@
 //! The parts of modules with actual parameters put in: their types, and what they ask.
 
+use crate::asking::push_asked;
 use crate::bundles::{bundled, part_bundle, put_in, shown_by};
 use crate::finding::Finding;
-use crate::found::{Asked, FoundId};
-use crate::modules::{Known, OwnPart, kept_demands, kept_routine, own_part};
+use crate::found::FoundId;
+use crate::modules::{Known, OwnPart, Part, kept_demands, kept_routine, own_part};
 use clu_base::{Bytes, Memory};
 use clu_bindings::ModuleId;
 use clu_demands::{carried_type, is_whole_op, type_actual};
@@ -15,7 +16,7 @@ use std::alloc::Global;
 #[derive(Clone, Copy)]
 pub struct Callee<'a> {
     pub module: ModuleId,
-    pub part: usize,
+    pub part: Part,
     pub actuals: &'a [Actual],
 }
 
@@ -28,7 +29,7 @@ fn put_of(types: &mut TypeArena, actuals: &[Actual], parameter: u32) -> Result<T
 }
 
 /// Appends that an operation is asked of the type that is put in for a parameter; nothing, if the wanted type is refused.
-fn push_asked(
+fn push_demand(
     alloc: Global,
     types: &mut TypeArena,
     finding: &mut Finding,
@@ -42,14 +43,15 @@ fn push_asked(
         return Ok(());
     };
     let of = put_of(types, actuals, parameter)?;
-    let operation = finding.words.number(alloc, operation)?;
-    finding.asked.push(Asked {
+    push_asked(
+        alloc,
+        &mut finding.words,
+        &mut finding.asked,
         of,
         operation,
         wanted,
         in_set,
-    })?;
-    Ok(())
+    )
 }
 
 // ---- modules of the file
@@ -106,7 +108,7 @@ fn push_own(
             ..
         } = &demands[at];
         let wanted = shown_at(types, shown, at, *wanted);
-        push_asked(
+        push_demand(
             alloc, types, finding, actuals, *parameter, operation, wanted, *in_set,
         )?;
     }
@@ -161,7 +163,7 @@ fn kept_found(
     for demand in kept_demands(&spec.form, callee.part) {
         let Demand { param, op, wanted } = demand;
         let wanted = put_in(alloc, types, &spec.types, *wanted, actuals)?;
-        push_asked(alloc, types, finding, actuals, *param, op, wanted, false)?;
+        push_demand(alloc, types, finding, actuals, *param, op, wanted, false)?;
     }
     finding.keep(of, from)
 }

@@ -1,5 +1,5 @@
 -- What is known of the nodes of a file, read from its tables. Of a node that isn't there all is nothing.
-use Rattle.std.specs.Prelude.{ℕ, List, slice_get, Option, Some, None}
+use Rattle.std.specs.Prelude.{ℕ, List, get_or, slice_get, Option, Some, None}
 use Rattle.clu_types.specs.declared.term.TypeId.{TypeId}
 use Rattle.clu_bindings.specs.Tables.{optional, between, items_at}
 use Rattle.clu_operations.specs.Finding.{found_at}
@@ -7,6 +7,8 @@ use Rattle.clu_typing.specs.declared.facts.Operation.{Operation}
 use Rattle.clu_typing.specs.declared.facts.Operation.TheVariants as operation
 use Rattle.clu_typing.specs.declared.facts.Invocation.{Invocation}
 use Rattle.clu_typing.specs.declared.facts.Facts.{Facts}
+use Rattle.clu_typing.specs.declared.raising.RaisesId.{RaisesId}
+use Rattle.clu_typing.specs.Raised.{nothing}
 
 module _ (facts : Facts) where
   -- the type of the expression that the node is
@@ -27,3 +29,7 @@ module _ (facts : Facts) where
 
   abbrev pub operations_at : ℕ → List Operation
   operations_at n = items_at facts.invocations.operations.items facts.invocations.operation_starts.items n
+
+  -- the set of what the expression or statement may raise
+  abbrev pub raised_at : ℕ → RaisesId
+  raised_at n = get_or facts.raises.items n nothing

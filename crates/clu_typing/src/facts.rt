@@ -1,7 +1,7 @@
 //! What is known of the nodes of a file, as tables by node.
 
 ghost use Rattle.std.specs.Prelude.{◌≡◌};
-ghost use Rattle.clu_typing.specs.Facts.{type_of, invocations, arguments, operation_type, operations_at};
+ghost use Rattle.clu_typing.specs.Facts.{type_of, invocations, arguments, operation_type, operations_at, raised_at};
 
 use crate::raising::{NOTHING, RaisesId, Raising};
 use clu_bindings::{items_of, optional_at};
@@ -133,7 +133,9 @@ impl Facts {
     }
 
     /// The set of what the expression or statement at the node n may raise.
-    pub fn raised_at(&self, n: u32) -> RaisesId {
+    pub fn raised_at(&self, n: u32) -> RaisesId
+        ensures { result ≡ raised_at self.now n }
+    {
         self.raises.get(n as usize).copied().unwrap_or(NOTHING)
     }
 }
