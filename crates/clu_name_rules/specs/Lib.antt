@@ -2,6 +2,7 @@ pub mod Closed
 pub mod Components
 pub mod ConstantRules
 pub mod Constructors
+pub mod Lengths
 pub mod ModuleRules
 pub mod NameRules
 pub mod Own

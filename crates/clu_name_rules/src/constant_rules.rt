@@ -384,7 +384,7 @@ fn is_misfit(t: &Tables<'_>, named: Option<Named<'_>>) -> bool
 }
 
 /// The first of the children, if it is a type.
-fn first_type(f: File<'_>, children: &[u32]) -> Option<u32>
+pub fn leading_type(f: File<'_>, children: &[u32]) -> Option<u32>
     ensures { result ≡ type_of f.entry.syntax.now children.now }
 {
     match children {
@@ -425,7 +425,7 @@ fn is_illegal_parameter(t: &Tables<'_>, n: u32) -> bool
     ensures { result ≡ is_illegal_parameter t.now (kind_in t.now.file n) n }
 {
     match t.file.kind(n) {
-        NodeKind::Parm => is_illegal_type(t, first_type(t.file, t.file.children(n))),
+        NodeKind::Parm => is_illegal_type(t, leading_type(t.file, t.file.children(n))),
         NodeKind::Name => is_object_wanted(t.file.wanted(n)) && is_illegal_use(t, n),
         _ => false,
     }

@@ -13,7 +13,6 @@ ghost use Rattle.clu_name_rules.specs.Constructors.{is_selector, has_low, has_lo
 
 use crate::components::{are_selectors, components_of, element_of, is_array};
 use crate::tables::{Tables, is_repeated};
-use crate::views::is_kind;
 use clu_bindings::{File, is_object_wanted, type_of_value};
 use clu_syntax::Expression;
 use clu_tree::NodeKind;
@@ -72,12 +71,6 @@ fn has_other_selectors(f: File<'_>, term: &Term, components: &[u32]) -> bool
         Some(fields) => are_others(f, fields, components),
         None => true,
     }
-}
-
-/// Whether the node n makes an object from components or elements.
-pub fn is_constructor(f: File<'_>, n: u32) -> bool {
-    (is_kind(f, NodeKind::Fields, n) || is_kind(f, NodeKind::Elems, n))
-        && is_object_wanted(f.wanted(n))
 }
 
 fn has_low(expression: Expression<'_>) -> bool

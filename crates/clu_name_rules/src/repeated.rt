@@ -84,8 +84,8 @@ fn first_of(names: &[Bytes]) -> &[Bytes]
     }
 }
 
-/// The tags of an arm of a Tagcase.
-fn tags_of(syntax: &Syntax, n: u32) -> &[Bytes]
+/// The tags of an arm of a Tagcase; none of another node.
+pub fn tags_of(syntax: &Syntax, n: u32) -> &[Bytes]
     ensures { result.now ≡ tags_at syntax.now n }
 {
     if is_at(syntax.tree(), n, NodeKind::TagArm) {
@@ -300,12 +300,16 @@ impl Items {
     }
 
     /// The first exception of this name in the list that the Signals is.
-    pub fn exception(&self, list: u32, word: usize) -> Option<u32> {
+    pub fn exception(&self, list: u32, word: usize) -> Option<u32>
+        ensures { result ≡ get same self.now.first (record { list = list; kind = ListKind.Exceptions; word = word }) }
+    {
         self.find(list, ListKind::Exceptions, word)
     }
 
     /// The first when arm of this name of the Except.
-    pub fn arm(&self, except: u32, word: usize) -> Option<u32> {
+    pub fn arm(&self, except: u32, word: usize) -> Option<u32>
+        ensures { result ≡ get same self.now.first (record { list = except; kind = ListKind.WhenArms; word = word }) }
+    {
         self.find(except, ListKind::WhenArms, word)
     }
 

@@ -1,1 +1,4 @@
+mod Arms
+pub mod Ascending
+mod Declared
 pub mod Included

@@ -1,5 +1,4 @@
-//! The rules on expressions: V18 WhereNotMet, V20 NotInTypeSet, V32 UpDown, and of V14 ResultCount and V16 NotBool what is asked of
-//! expressions.
+//! The rules on expressions: V18 WhereNotMet, V20 NotInTypeSet, V32 UpDown, and of V16 NotBool what is asked of expressions.
 
 ghost use Rattle.std.specs.Prelude.{◌≡◌, ℕ};
 ghost use Rattle.clu_syntax.specs.Items.{Item};
@@ -10,65 +9,12 @@ ghost use Rattle.clu_type_rules.specs.Known.{kind_in};
 ghost use Rattle.clu_type_rules.specs.StatementRules.{joins_conditions, is_logical, has_no_bool};
 ghost use Rattle.clu_type_rules.specs.Unmet.{unmet_at};
 
-use crate::invocation_rules::{Fault, some_has_fault};
 use crate::known::{Known, first_type, some_no_condition};
 use crate::unmet::unmet_at;
-use clu_bindings::{
-    File, Meaning, Wanted, is_object_wanted, own_type, representation, type_of_value,
-};
-use clu_syntax::{Expression, Operator, is_type};
+use clu_bindings::{File, Meaning, is_object_wanted, own_type, representation};
+use clu_syntax::{Expression, Operator};
 use clu_tree::NodeKind;
 use clu_types::TypeId;
-
-// ---- V14, of expressions
-
-/// A call statement, the call of a loop and `r.s := e` may have any number of results.
-fn is_one_wanted(f: File<'_>, n: u32) -> bool {
-    f.wanted(n) == Wanted::Object && !matches!(f.kind(n), NodeKind::SetField | NodeKind::SetIndex)
-}
-
-/// Whether the first name of the node n is that of a type, a type set or a cluster. Modules that are no routines are clusters,
-/// and `stream` is a type.
-fn is_no_object_name(f: File<'_>, n: u32) -> bool {
-    match f.meaning(n) {
-        Meaning::Equate(c) => type_of_value(f.value(c)).is_some() || f.set_named(n).is_some(),
-        Meaning::TypeSet | Meaning::TypeParameter(_) => true,
-        Meaning::Module(module) => !f.is_routine(module),
-        _ => false,
-    }
-}
-
-/// A type's name, also before an index.
-fn is_no_object_at(f: File<'_>, n: u32) -> bool {
-    match f.wanted(n) {
-        Wanted::NameWithActuals => match f.parent(n) {
-            Some(index) => is_object_wanted(f.wanted(index)) && !f.is_of_module(n),
-            None => false,
-        },
-        wanted => is_object_wanted(wanted) && is_no_object_name(f, n),
-    }
-}
-
-fn is_no_object_index(f: File<'_>, n: u32) -> bool {
-    match f.children(n) {
-        [m, ..] => f.takes_actuals(*m) && is_no_object_name(f, *m),
-        [] => false,
-    }
-}
-
-fn is_no_object(f: File<'_>, n: u32) -> bool {
-    match f.kind(n) {
-        NodeKind::Name => is_no_object_at(f, n),
-        NodeKind::Index => is_object_wanted(f.wanted(n)) && is_no_object_index(f, n),
-        kind => is_type(kind) && is_object_wanted(f.wanted(n)),
-    }
-}
-
-/// Whether an expression has not exactly one result, or is a type, a type set or a cluster where an object is wanted.
-pub fn is_not_one_object(k: &Known<'_>, n: u32) -> bool {
-    let f = k.tables.file;
-    (is_one_wanted(f, n) && some_has_fault(k, n, Fault::ResultCount)) || is_no_object(f, n)
-}
 
 // ---- V16, of cand and cor
 

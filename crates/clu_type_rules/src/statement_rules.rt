@@ -1,16 +1,23 @@
-//! The rules on statements: V14 ResultCount, V15 AssignType, V16 NotBool, V21 NotTagged, V22 TagMissingOrTwice, V28 NotInLoop,
+//! The rules on statements: V15 AssignType, V16 NotBool, V21 NotTagged, V22 TagMissingOrTwice, V28 NotInLoop,
 //! V29 NotInIterator, V30 ReturnValues, V36 IteratorUse.
 
-ghost use Rattle.std.specs.Prelude.{◌≡◌, ℕ, IfNone, IfSome, None, Some};
+ghost use Rattle.std.specs.Prelude.{◌≡◌, ℕ, IfNone, IfSome, List, None, Some, slice_get};
+ghost use Rattle.clu_tree.specs.declared.node.Node.{Node};
 ghost use Rattle.clu_syntax.specs.Items.{Item};
+ghost use Rattle.clu_syntax.specs.Nodes.{item_with};
+ghost use Rattle.clu_syntax.specs.Views.{statement_told};
+ghost use Rattle.clu_name_rules.specs.Components.{AreAscending, HaveAscending, leaves_some};
+ghost use Rattle.clu_name_rules.specs.Repeated.{tags_at};
 ghost use Rattle.clu_type_rules.specs.Known.{kind_in, parts_round};
 ghost use Rattle.clu_type_rules.specs.Routines.{is_in_procedure};
 ghost use Rattle.clu_type_rules.specs.Leaving.{is_outside_loop, is_outside_iterator};
 ghost use Rattle.clu_type_rules.specs.InvocationRules.{is_loop_call, misuses_iterator};
 ghost use Rattle.clu_type_rules.specs.StatementRules.{has_no_condition, tagged_by, tags_by, is_on_no_tags, results_round, returned, gives_other, call_in, invoked_in, loops_over_other};
+ghost use Rattle.clu_type_rules.specs.Bindings.{v15};
+ghost use Rattle.clu_type_rules.specs.Tags.{has_no_others, tags_round, takes_tags, arm_misfits_by, arm_misfits_if, arm_misfits, names_bad_tag, has_bad_tag, leaves_tag, v22};
 
-use crate::binding_rules::{binds_misfit, binds_other_number};
-use crate::expression_rules::{has_no_bool, is_not_one_object};
+use crate::binding_rules::binds_misfit;
+use crate::expression_rules::has_no_bool;
 use crate::invocation_rules::{Fault, some_has_fault};
 use crate::known::{
     Known, first_type, invoked_by, is_iterator, may_be, routine_round, some_no_condition, term,
@@ -19,16 +26,10 @@ use crate::objects::fit_values;
 use crate::routines::Parts;
 use clu_base::Bytes;
 use clu_bindings::{File, Wanted, type_inside};
-use clu_name_rules::{component_type, is_kind, is_repeated, tag_arm_at};
-use clu_syntax::{Statement, TagArm};
+use clu_name_rules::{are_selectors, component_type, is_kind, is_repeated, leading_type, tags_of};
+use clu_syntax::Statement;
 use clu_tree::NodeKind;
 use clu_types::{Field, Term, TypeId};
-
-/// V14: an expression has not exactly one result, or is a type or a cluster where an object is wanted; or a statement has another
-/// number of variables than objects (CLU Reference Manual, sections 9 and 10). In `a, b: int := q()` at `a`.
-pub fn v14(k: &Known<'_>, n: u32) -> bool {
-    is_not_one_object(k, n) || binds_other_number(k, n)
-}
 
 // ---- tagcase
 
@@ -55,23 +56,23 @@ fn tags_by<'a>(k: &Known<'a>, n: u32) -> Option<&'a [Field]>
 }
 
 /// The tags of the type on which the Tagcase round the arm n selects.
-fn tags_round<'a>(k: &Known<'a>, n: u32) -> Option<&'a [Field]> {
-    tags_by(k, k.tables.file.parent(n)?)
-}
-
-/// The tags that the node n names, if it is an arm.
-fn tags_at<'a>(f: File<'a>, n: u32) -> &'a [Bytes] {
-    match tag_arm_at(f, n) {
-        Some(arm) => arm.tags,
-        None => &[],
+fn tags_round<'a>(k: &Known<'a>, n: u32) -> Option<&'a [Field]>
+    ensures some { IfSome result (λ fields. tags_round k.now n ≡ Some fields.now) }
+    ensures none { IfNone result (tags_round k.now n ≡ None) }
+{
+    match k.tables.file.parent(n) {
+        Some(p) => tags_by(k, p),
+        None => None,
     }
 }
 
 // ---- V15
 
 /// Whether a variable of this type may name the objects of all these tags.
-fn takes_tags(k: &Known<'_>, wanted: Option<TypeId>, fields: &[Field], tags: &[Bytes]) -> bool {
-    for tag in tags {
+fn takes_tags(k: &Known<'_>, wanted: Option<TypeId>, fields: &[Field], mut tags: &[Bytes]) -> bool
+    ensures { AreAscending fields.now → result ≡ takes_tags k.now wanted fields.now tags.entry.now }
+{
+    while let [tag, rest @ ..] = tags {
         if !may_be(
             k.tables.types,
             component_type(fields, tag.as_slice()),
@@ -79,31 +80,47 @@ fn takes_tags(k: &Known<'_>, wanted: Option<TypeId>, fields: &[Field], tags: &[B
         ) {
             return false;
         }
+        tags = rest;
     }
     true
 }
 
-/// Whether the variable of the arm n may not name the object of a tag.
-fn arm_misfits(k: &Known<'_>, n: u32) -> bool {
+/// Whether the variable of the arm n, whose type is at the node t, may not name the object of a tag.
+fn arm_misfits_by(k: &Known<'_>, n: u32, t: u32) -> bool
+    ensures { (items : ℕ → Item) → HaveAscending k.now.tables.types.now → result ≡ arm_misfits_by k.now items n t (tags_round k.now n) }
+{
     let f = k.tables.file;
-    match tag_arm_at(f, n) {
-        Some(
-            TagArm {
-                tags,
-                variable: Some(variable),
-                ..
-            },
-        ) => match tags_round(k, n) {
-            Some(fields) => !takes_tags(k, type_inside(f, n, variable.declared), fields, tags),
-            None => false,
-        },
+    match tags_round(k, n) {
+        Some(fields) => !takes_tags(k, type_inside(f, n, t), fields, tags_of(f.syntax, n)),
+        None => false,
+    }
+}
+
+fn arm_misfits_if(k: &Known<'_>, n: u32, declared: Option<u32>) -> bool
+    ensures { (items : ℕ → Item) → HaveAscending k.now.tables.types.now → result ≡ arm_misfits_if k.now items n declared }
+{
+    match declared {
+        Some(t) => arm_misfits_by(k, n, t),
+        None => false,
+    }
+}
+
+/// The same of the arm n, if it has a variable.
+fn arm_misfits(k: &Known<'_>, n: u32) -> bool
+    ensures { (items : ℕ → Item) → HaveAscending k.now.tables.types.now → result ≡ arm_misfits k.now items (kind_in k.now n) n }
+{
+    let f = k.tables.file;
+    match f.kind(n) {
+        NodeKind::TagArm => arm_misfits_if(k, n, leading_type(f, f.children(n))),
         _ => false,
     }
 }
 
 /// V15: an object's type isn't included in the variable's, or what is assigned to is no variable (section 9). In
 /// `x: any := 1 y: int := x` at `y`.
-pub fn v15(k: &Known<'_>, n: u32) -> bool {
+pub fn v15(k: &Known<'_>, n: u32) -> bool
+    ensures { (items : ℕ → Item) → HaveAscending k.now.tables.types.now → result ≡ v15 k.now items n }
+{
     arm_misfits(k, n) || binds_misfit(k, n)
 }
 
@@ -134,57 +151,74 @@ pub fn v21(k: &Known<'_>, n: u32) -> bool
 
 // ---- V22
 
-fn are_tags(fields: &[Field], tags: &[Bytes]) -> bool {
-    for tag in tags {
-        if component_type(fields, tag.as_slice()).is_none() {
-            return false;
-        }
-    }
-    true
+/// Whether the arm n names a tag that is none of these, or one that stands before it.
+fn names_bad_tag(k: &Known<'_>, n: u32, fields: &[Field]) -> bool
+    ensures { AreAscending fields.now → result ≡ names_bad_tag k.now n fields.now }
+{
+    !are_selectors(fields, tags_of(k.tables.file.syntax, n)) || is_repeated(&k.tables, n)
 }
 
-/// Whether the arm n names a foreign tag, or one that stands before it.
-fn has_bad_tag(k: &Known<'_>, n: u32) -> bool {
+fn has_bad_tag(k: &Known<'_>, n: u32) -> bool
+    ensures { HaveAscending k.now.tables.types.now → result ≡ has_bad_tag k.now n (tags_round k.now n) }
+{
     match tags_round(k, n) {
-        Some(fields) => {
-            !are_tags(fields, tags_at(k.tables.file, n)) || is_repeated(&k.tables, n)
-        }
+        Some(fields) => names_bad_tag(k, n, fields),
         None => false,
     }
 }
 
-fn count_tags(f: File<'_>, arms: &[u32]) -> usize {
-    let mut count = 0usize;
-    for arm in arms {
-        count = count.saturating_add(tags_at(f, *arm).len());
+/// Whether of so many tags some are left, where the arms among these nodes take those that they name.
+fn leaves_some(f: File<'_>, mut arms: &[u32], many: usize) -> bool
+    ensures { result ≡ leaves_some (tags_at f.entry.syntax.now) many arms.entry.now }
+{
+    let mut left = many;
+    while let [arm, rest @ ..] = arms {
+        left = left.saturating_sub(tags_of(f.syntax, *arm).len());
+        arms = rest;
     }
-    count
+    left > 0
 }
 
-/// Whether the Tagcase n leaves a tag. A foreign tag and one that stands twice are refused at their arm before; so tags that are
-/// fewer than those of the type leave one.
-fn leaves_tag(k: &Known<'_>, n: u32) -> bool {
-    match k.tables.file.statement(n) {
-        Some(
-            Statement::Tagcase {
-                arms,
-                otherwise: None,
-                ..
-            },
-        ) => match tags_by(k, n) {
-            Some(fields) => count_tags(k.tables.file, arms) < fields.len(),
-            None => false,
-        },
+/// Whether the Tagcase n leaves a tag. A foreign tag and one that stands twice are refused at their arm before; so none is left
+/// if the arms name as many.
+fn leaves_tag(k: &Known<'_>, n: u32) -> bool
+    ensures { result ≡ leaves_tag k.now n (tags_by k.now n) }
+{
+    let f = k.tables.file;
+    match tags_by(k, n) {
+        Some(fields) => leaves_some(f, f.children(n), fields.len()),
+        None => false,
+    }
+}
+
+fn has_no_others(statement: Statement<'_>) -> bool
+    ensures { (items : ℕ → Item) (nodes : List Node) (n : ℕ) → result ≡ has_no_others (statement_told items nodes n statement.entry) }
+{
+    match statement {
+        Statement::Tagcase {
+            otherwise: None,
+            ..
+        } => true,
         _ => false,
     }
 }
 
+/// Whether the node n is a Tagcase without `others`.
+fn has_no_others_at(f: File<'_>, n: u32) -> bool
+    ensures { (items : ℕ → Item) → result ≡ has_no_others (item_with items f.entry.syntax.now n (slice_get f.entry.syntax.now n)).statement }
+{
+    n < f.syntax.tree().len() && has_no_others(f.syntax.statement(n))
+}
+
 /// V22: an arm names a foreign tag or one that stands before it, or a tag is left without `others` (section 11.6). In
 /// `tagcase x tag a: tag b, c: end`, where `x` has `a` and `b`, at the second `tag`.
-pub fn v22(k: &Known<'_>, n: u32) -> bool {
+pub fn v22(k: &Known<'_>, n: u32) -> bool
+    ensures { (items : ℕ → Item) → HaveAscending k.now.tables.types.now → result ≡ v22 k.now items n }
+{
     match k.tables.file.kind(n) {
         NodeKind::TagArm => has_bad_tag(k, n),
-        _ => leaves_tag(k, n),
+        NodeKind::Tagcase => has_no_others_at(k.tables.file, n) && leaves_tag(k, n),
+        _ => false,
     }
 }
 

@@ -1,0 +1,7 @@
+use Rattle.std.proofs.Common.{◌≡◌, map, take}
+use Rattle.std.specs.Prelude.{nat_lt}
+use Rattle.clu_name_rules.specs.Lengths.{constant_length}
+use Rattle.clu_name_rules.proofs.lengths.long_constants.Given as goal
+
+abbrev pub invariant-loop-constant : goal.invariant-loop-constant
+invariant-loop-constant l = l.long.items ≡ map (λ c. nat_lt 65536 (constant_length c)) (take l.constant-index l.constants)
