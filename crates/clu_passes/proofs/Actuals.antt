@@ -124,13 +124,13 @@ module _ (t : Tables) (scope : Scope) (library : List Specification) (refused : 
   module _ (shaped : HaveForms nodes) (tree : IsTree nodes) (are : AreTables f t) where
     -- ---- types that are known
 
-    record Known (c : ℕ) : Type 0 where
+    pub record Known (c : ℕ) : Type 0 where
       pub id : TypeId
       pub value : type_id (value_in r c) ≡ Some id
       pub type : type_settled scope (item f c).type ≡ type_at (types_of types) id
       pub less : id.0 < length types
 
-    type_known : (c : ℕ) → is_type (kind_at nodes c) ≡ true → IsKnown r c → Known c
+    pub type_known : (c : ℕ) → is_type (kind_at nodes c) ≡ true → IsKnown r c → Known c
     type_known c is known = by (value_in r c) refl known (so.value_within t scope library refused shaped tree are c) agrees
       where
         agrees : Agrees (told (types_of types) r.constants.now (value_in r c)) (settled_type (type_settled scope (item f c).type))

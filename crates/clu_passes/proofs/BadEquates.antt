@@ -23,14 +23,14 @@ use Rattle.clu_checking.specs.ExceptionRules.{v26_in}
 use Rattle.clu_checking.specs.Wanted.{wanted, wants_type, first_name_at}
 use Rattle.clu_checking.specs.Rules.{violates, least}
 use Rattle.clu_checking.specs.Refusals.{right_side, is_bad_by, is_bad_of}
-use Rattle.clu_passes.specs.Trees.{IsFileOfTree}
+use Rattle.clu_passes.specs.Trees.{IsFileOfTree, is_of_constant}
 use Rattle.clu_passes.specs.Bad.{AreBadBy}
-use Rattle.clu_passes.proofs.InEquates.{is_of_constant, in_constants}
+use Rattle.clu_passes.proofs.InEquates.{in_constants}
 use denote.Enum.Bare.{same_true}
 
 -- ---- lists
 
-any_same : (g h : ℕ → Bool) (a len : ℕ) → ((n : ℕ) → a ≤ n → n < a + len → g n ≡ h n) → list_any g (range_with_len a len) ≡ list_any h (range_with_len a len)
+pub any_same : (g h : ℕ → Bool) (a len : ℕ) → ((n : ℕ) → a ≤ n → n < a + len → g n ≡ h n) → list_any g (range_with_len a len) ≡ list_any h (range_with_len a len)
 any_same g h a zero same = refl
 any_same g h a (suc len) same =
     ap (λ (b : Bool). b || list_any g (range_with_len (a + 1) len)) (same a (omega arith) (omega arith))

@@ -30,7 +30,7 @@ use Rattle.clu_passes.proofs.Known.{is_known, are_known, any_turned, twice_is, n
 use Rattle.clu_passes.proofs.StandTwice.{IsItemOf, exceptions_are, arms_are, declared_are, selectors_are, components_are, names_before, stand_before, list_strict, list_loose}
 use Rattle.clu_passes.proofs.FileNames.{item_repeats, own_repeats}
 
-or_turned : (a b : Bool) → (a || b) ≡ (b || a)
+pub or_turned : (a b : Bool) → (a || b) ≡ (b || a)
 or_turned true true = refl
 or_turned true false = refl
 or_turned false true = refl

@@ -31,7 +31,7 @@ use Rattle.clu_passes.proofs.FactTypes.{IsTerm, term_of_type, bool_same, iterato
 
 -- ---- what is wanted
 
-object_wanted : (w : WantedThere) → wanting.is_object_wanted (wanted_told w) ≡ bound.is_object_wanted w
+pub object_wanted : (w : WantedThere) → wanting.is_object_wanted (wanted_told w) ≡ bound.is_object_wanted w
 object_wanted wanted.Object = refl
 object_wanted wanted.Objects = refl
 object_wanted wanted.LoopCall = refl

@@ -16,19 +16,8 @@ use Rattle.clu_syntax.specs.Rounds.{AreRounds, round_at}
 use Rattle.clu_syntax.specs.Slots.{Slot, one, any, slots, is_constant, is_right_side, fit, after, may_end}
 use Rattle.clu_syntax.specs.Splits.{is_of}
 use Rattle.clu_syntax.proofs.Slots.{children_fit}
+use Rattle.clu_passes.specs.Trees.{is_of_constant}
 use Rattle.clu_passes.proofs.Subtrees.{is_subtree, Pass, all_pass}
-
--- which kinds of nodes stand there
-abbrev pub is_of_constant : NodeKind → Bool
-is_of_constant kind.FieldE = true
-is_of_constant kind.FieldT = true
-is_of_constant kind.Results = true
-is_of_constant kind.Signals = true
-is_of_constant kind.Exc = true
-is_of_constant kind.TypeSet = true
-is_of_constant kind.Oper = true
-is_of_constant kind.Equate = true
-is_of_constant k = is_expression k || is_type k
 
 implied : (a b : Bool) → (not a || b) ≡ true → a ≡ true → b ≡ true
 implied true b e d = e
@@ -155,3 +144,11 @@ pub in_constants : (nodes : List Node) (rounds : List Round) → HaveForms nodes
     (n : ℕ) → (round_at rounds e).first ≤ n → n < e → is_of_constant (kind_at nodes n) ≡ true
 in_constants nodes rounds shaped order tree are e its at is =
     all_pass nodes is_of_constant (children_pass nodes shaped) (round_at rounds e).first e its.children (is_subtree nodes rounds tree are order e its at) (children_pass nodes shaped e its at is)
+
+-- and so is what stands below a Decl, which is its type
+pub in_declarations : (nodes : List Node) (rounds : List Round) → HaveForms nodes → IsPostOrder nodes → IsTree nodes → AreRounds nodes rounds → (e : ℕ) (its : Node) → slice_get nodes e ≡ Some its → its.kind ≡ kind.Decl →
+    (n : ℕ) → (round_at rounds e).first ≤ n → n < e → is_of_constant (kind_at nodes n) ≡ true
+in_declarations nodes rounds shaped order tree are e its at is =
+    let fits : AreFit (slots its.kind) = subst (λ (k : NodeKind). AreFit (slots k)) (sym is) (types, tt) in
+    all_pass nodes is_of_constant (children_pass nodes shaped) (round_at rounds e).first e its.children (is_subtree nodes rounds tree are order e its at)
+    (as_kinds nodes its.children (all_fit (slots its.kind) (map (kind_at nodes) its.children) fits (children_fit nodes shaped e its at)))

@@ -10,6 +10,7 @@ use Rattle.clu_tree.specs.declared.node.NodeKind.{NodeKind}
 use Rattle.clu_tree.specs.declared.node.NodeKind.TheVariants as kind
 use Rattle.clu_parser.specs.Trees.{Text}
 use Rattle.clu_syntax.specs.declared.round.Round.{Round}
+use Rattle.clu_syntax.specs.Kinds.{kind_of}
 use Rattle.clu_syntax.specs.Rounds.{AreRounds, round_at}
 use Rattle.clu_syntax.specs.Splits.{is_of}
 use Rattle.clu_syntax.specs.Syntax.{Identifier}
@@ -41,14 +42,14 @@ noted_size : (ds : List Declared) (k : ℕ) (own : List ℕ) → length (noted_f
 noted_size [] k own = refl
 noted_size (d ∷ ds) k own = noted_size ds (suc k) (noted d.node k own) ∙ size_if own d.node k (nat_lt d.node (length own) && nat_lt k (get_or own d.node 0))
 
-place_is : (ds : List Declared) (nodes n : ℕ) → n < nodes → get_or (own_places ds nodes) n (length ds) ≡ first_from 0 ds n (length ds)
+pub place_is : (ds : List Declared) (nodes n : ℕ) → n < nodes → get_or (own_places ds nodes) n (length ds) ≡ first_from 0 ds n (length ds)
 place_is ds nodes n l =
     let size : length (own_places ds nodes) ≡ nodes = noted_size ds 0 (replicate nodes (length ds)) ∙ length-replicate nodes (length ds) in
     same_Some (get_or (own_places ds nodes) n (length ds)) (get_or (own_places ds nodes) n 0)
     (sym (slice_get-get_or (own_places ds nodes) n (length ds) (omega (arith, size, l))) ∙ slice_get-get_or (own_places ds nodes) n 0 (omega (arith, size, l)))
     ∙ own_first ds nodes n l
 
-parted : (a v o m r : List Declared) → (a ++ ((v ++ o) ++ m)) ++ r ≡ (a ++ v) ++ (o ++ (m ++ r))
+pub parted : (a v o m r : List Declared) → (a ++ ((v ++ o) ++ m)) ++ r ≡ (a ++ v) ++ (o ++ (m ++ r))
 parted a v o m r =
     append_assoc a ((v ++ o) ++ m) r
     ∙ ap (λ (xs : List Declared). a ++ xs) (append_assoc (v ++ o) m r ∙ append_assoc v o (m ++ r))
@@ -61,7 +62,7 @@ module _ (t : Text) (f : File) (parsed : IsParsed t f.nodes) (are : AreRounds f.
   abbrev round : ℕ → Round
   round n = round_at f.rounds n
 
-  of_one : (n : ℕ) (name : Identifier) (own : ℕ) (e : Declared) → slice_get ds own ≡ Some e → e.node ≡ n → OpenOfOne ds n name e
+  pub of_one : (n : ℕ) (name : Identifier) (own : ℕ) (e : Declared) → slice_get ds own ≡ Some e → e.node ≡ n → OpenOfOne ds n name e
   of_one n name own e there is =
       subst (λ (l : List Declared). OpenOfOne l n name e) (sym same)
       (open_of_one t f.nodes f.rounds parsed are few n name e own (ap (λ (l : List Declared). slice_get l own) (sym same) ∙ there) is)
@@ -74,8 +75,8 @@ module _ (t : Text) (f : File) (parsed : IsParsed t f.nodes) (are : AreRounds f.
     Apart d = (d.node == n) ≡ false
 
     no_variable : (m : ℕ) → VariablesAre f.nodes f.rounds Apart m
-    no_variable m p outer k above there o name =
-        ne_eqb p n (λ is. true≢false (sym o ∙ ap (λ (its : Node). opens its.kind k) (same_Some outer node (sym there ∙ ap (slice_get f.nodes) is ∙ at)) ∙ closed k))
+    no_variable m p outer k above there is o first name =
+        ne_eqb p n (λ own. true≢false (sym o ∙ ap (λ (its : Node). opens its.kind k) (same_Some outer node (sym there ∙ ap (slice_get f.nodes) own ∙ at)) ∙ closed k))
 
     before_is : (m : ℕ) → m < n → AllOf Apart (declared_at f.nodes f.rounds m (slice_get f.nodes m))
     before_is m less =
@@ -84,9 +85,9 @@ module _ (t : Text) (f : File) (parsed : IsParsed t f.nodes) (are : AreRounds f.
     none_before : NoneOf n (declared_to f.nodes f.rounds n ++ variables)
     none_before =
         all_both Apart (declared_to f.nodes f.rounds n) variables (all_to f.nodes f.rounds Apart n before_is)
-        (of_variables f.nodes f.rounds Apart n (no_variable n) node.kind (round n).parent refl (node_at f.nodes (round n).parent) refl)
+        (of_variables f.nodes f.rounds Apart n (no_variable n) node.kind (ap kind_of at) (round n).parent refl (node_at f.nodes (round n).parent) refl)
 
-    own_redefined : (scope : ℕ × ℕ) → scope_of node.kind (kind_at_parent f.nodes (round n).parent) n (round n) ≡ Some scope → (its : List Identifier) → own_names node.kind node ≡ its → stands_twice its ≡ false →
+    pub own_redefined : (scope : ℕ × ℕ) → scope_of node.kind (kind_at_parent f.nodes (round n).parent) n (round n) ≡ Some scope → (its : List Identifier) → own_names node.kind node ≡ its → stands_twice its ≡ false →
         list_any (rules_of.is_redefined f n) its ≡ has_redefined ds (first_from 0 ds n (length ds)) (map (λ name. found ds name n) its)
     own_redefined scope is its own_is once =
         let inside : n < length f.nodes = slice_get_within f.nodes n node at in

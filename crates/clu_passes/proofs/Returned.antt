@@ -1,24 +1,23 @@
 -- V30 by what is known of types and by the parts of routines.
-use Rattle.std.proofs.Common.{◌≡◌, ◌∙◌, ◌<◌, ℕ, suc, ◌+◌, add-one, Bool, true, false, ◌&&◌, if◌then◌else◌, List, [], ◌∷◌, length, drop, Option, Some, None, inl, inr, refl, sym, ap, ap₂, subst}
+use Rattle.std.proofs.Common.{◌≡◌, ◌∙◌, ◌<◌, ℕ, suc, Bool, true, false, ◌&&◌, if◌then◌else◌, List, [], ◌∷◌, length, Option, Some, None, refl, sym, ap, ap₂, subst}
 use Rattle.std.specs.Prelude.{slice_get, ◌==◌, not}
 use Rattle.std.specs.List.{AllByRecursion}
 use Rattle.clu_tree.specs.declared.node.Node.{Node}
 use Rattle.clu_tree.specs.declared.node.NodeKind.{NodeKind}
 use Rattle.clu_tree.specs.declared.node.NodeKind.TheVariants as kind
 use Rattle.clu_tree.specs.Nodes.{IsTree}
-use Rattle.clu_parser.specs.Shape as shape
-use Rattle.clu_parser.specs.Shape.{Part, HaveForms, HasForm, IsFormOf, forms, parts_of}
+use Rattle.clu_parser.specs.Shape.{HaveForms}
 use Rattle.clu_types.specs.CluType.{CluType, no_types}
 use Rattle.clu_types.specs.declared.term.TypeId.{TypeId}
 use Rattle.clu_types.specs.declared.term.Term.{Term}
 use Rattle.clu_syntax.specs.Kinds.{kind_at, is_expression, is_type}
 use Rattle.clu_syntax.specs.Rounds.{round_at}
 use Rattle.clu_syntax.specs.Slots.{any, slots}
-use Rattle.clu_syntax.specs.Splits.{is_of, leading, after_run, parts, children_of}
+use Rattle.clu_syntax.specs.Splits.{leading, after_run, parts, children_of}
 use Rattle.clu_syntax.specs.Items.{Item, types_at, expressions_at}
 use Rattle.clu_syntax.specs.Nodes.{before, item_at, statement_of, routine_of}
-use Rattle.clu_parts.specs.Slots.{Slot, several, at_most_one, may_stand, slots_of, Stand, AreParts, AreBefore}
-use Rattle.clu_parts.proofs.Fitting.{fitted, children_before, on_option, run_is, first_of, some_of, some_slot}
+use Rattle.clu_parts.specs.Slots.{AreParts, AreBefore}
+use Rattle.clu_parts.proofs.Fitting.{children_before}
 use Rattle.clu_settle.proofs.Shapes.{all_parts, parts_of_first}
 use Rattle.clu_meaning.specs.Scoping.{Scope}
 use Rattle.clu_checking.specs.Specifications.{Specification}
@@ -31,7 +30,7 @@ use Rattle.clu_checking.specs.ExpressionRules.{count, all_may_fit}
 use Rattle.clu_checking.specs.StatementRules as statements
 use Rattle.clu_checking.specs.StatementRules.{fit, v30, v30_in}
 use Rattle.clu_bindings.specs.Inside.{type_inside}
-use Rattle.clu_declares.proofs.Below.{before_is, item_there, same_kind, and_false}
+use Rattle.clu_declares.proofs.Below.{before_is, item_there, same_kind}
 use Rattle.clu_declares.proofs.Facts.{There, there, all_drop}
 use Rattle.clu_head.specs.There.{is_there}
 use Rattle.clu_type_rules.specs.declared.known.Known.{Known}
@@ -47,124 +46,7 @@ use Rattle.clu_passes.proofs.FactNodes as so
 use Rattle.clu_passes.proofs.FactTypes.{may_same}
 use Rattle.clu_passes.proofs.Leaving.{found, in_procedure}
 use Rattle.clu_passes.proofs.OwnPlaces.{there_is}
-
--- ---- the results of a routine stand behind its parameters and arguments
-
-abbrev results_here : NodeKind → Bool
-results_here = may_stand 2 (parts_of shape.results)
-
-abbrev rest_slots : List Slot
-rest_slots =
-    at_most_one (may_stand 2 (parts_of shape.signals)) ∷ at_most_one (may_stand 2 (parts_of shape.demands)) ∷ several (may_stand 2 (parts_of shape.equates)) ∷
-    several (may_stand 2 (parts_of shape.owns)) ∷ several (may_stand 2 (parts_of shape.statements)) ∷ []
-
-abbrev result_slots : List Slot
-result_slots = at_most_one results_here ∷ rest_slots
-
-abbrev decl_slots : List Slot
-decl_slots = several (may_stand 2 (parts_of shape.decls)) ∷ result_slots
-
-same_parms : (j : NodeKind) → may_stand 2 (parts_of shape.parms) j ≡ is_of kind.Parm j
-same_parms kind.File = refl
-same_parms _ = refl
-
-parms_apart : (j : NodeKind) → (is_of kind.Parm j && first_of decl_slots j) ≡ false
-parms_apart kind.File = refl
-parms_apart _ = refl
-
-same_decls : (j : NodeKind) → may_stand 2 (parts_of shape.decls) j ≡ is_of kind.Decl j
-same_decls kind.File = refl
-same_decls _ = refl
-
-decls_apart : (j : NodeKind) → (is_of kind.Decl j && first_of result_slots j) ≡ false
-decls_apart kind.File = refl
-decls_apart _ = refl
-
-same_results : (j : NodeKind) → results_here j ≡ is_of kind.Results j
-same_results kind.File = refl
-same_results _ = refl
-
-no_results : (j : NodeKind) → (some_of rest_slots j && is_of kind.Results j) ≡ false
-no_results kind.File = refl
-no_results _ = refl
-
-module _ (nodes : List Node) where
-  -- a run of another kind holds none
-  none_before : (k j : NodeKind) → ((i : NodeKind) → is_of j i ≡ true → is_of k i ≡ false) → (cs : List ℕ) → child_of_kind nodes k cs ≡ child_of_kind nodes k (after_run nodes j cs)
-  unfolding leading
-  none_before k j apart [] = refl
-  none_before k j apart (c ∷ cs) = by (is_of j (kind_at nodes c)) refl (none_before k j apart cs)
-    where
-      by : (b : Bool) → is_of j (kind_at nodes c) ≡ b → child_of_kind nodes k cs ≡ child_of_kind nodes k (after_run nodes j cs) → child_of_kind nodes k (c ∷ cs) ≡ child_of_kind nodes k (after_run nodes j (c ∷ cs))
-      by true e rest =
-          let counted : leading nodes j (c ∷ cs) ≡ suc (leading nodes j cs) = ap (λ (b : Bool). if b then leading nodes j cs + 1 else 0) e ∙ add-one (leading nodes j cs) in
-          ap (λ (b : Bool). if◌then◌else◌ {A = Option ℕ} b (Some c) (child_of_kind nodes k cs)) (apart (kind_at nodes c) e)
-          ∙ rest ∙ ap (λ (m : ℕ). child_of_kind nodes k (drop m (c ∷ cs))) (sym counted)
-      by false e rest =
-          let none : leading nodes j (c ∷ cs) ≡ 0 = ap (λ (b : Bool). if b then leading nodes j cs + 1 else 0) e in
-          ap (λ (m : ℕ). child_of_kind nodes k (drop m (c ∷ cs))) (sym none)
-
-  none_of_kind : (k : NodeKind) (p : NodeKind → Bool) → ((j : NodeKind) → (p j && is_of k j) ≡ false) → (n : ℕ) (cs : List ℕ) → AreParts nodes p n cs → child_of_kind nodes k cs ≡ None
-  none_of_kind k p apart n [] ps = refl
-  none_of_kind k p apart n (c ∷ cs) ps =
-      ap (λ (b : Bool). if◌then◌else◌ {A = Option ℕ} b (Some c) (child_of_kind nodes k cs)) (and_false (p (kind_at nodes c)) (is_of k (kind_at nodes c)) (apart (kind_at nodes c)) ps.0.1)
-      ∙ none_of_kind k p apart n cs ps.1
-
-  abbrev children_in : Option ℕ → List ℕ
-  children_in (Some n) = children_of (slice_get nodes n)
-  children_in None = []
-
-  not_at_head : (c : ℕ) (cs : List ℕ) (b : Bool) → is_of kind.Results (kind_at nodes c) ≡ b → child_of_kind nodes kind.Results (c ∷ cs) ≡ None → children_in (child_of_kind nodes kind.Results (c ∷ cs)) ≡ parts nodes kind.Results (c ∷ cs)
-  not_at_head c cs true e none =
-      ap (λ (b : Bool). children_in (if◌then◌else◌ {A = Option ℕ} b (Some c) (child_of_kind nodes kind.Results cs))) e
-      ∙ ap (λ (b : Bool). if◌then◌else◌ {A = List ℕ} b (children_of (slice_get nodes c)) []) (sym e)
-  not_at_head c cs false e none =
-      ap children_in none
-      ∙ ap (λ (b : Bool). if◌then◌else◌ {A = List ℕ} b (children_of (slice_get nodes c)) []) (sym e)
-
-  without_results : (n : ℕ) (cs : List ℕ) → Stand nodes n rest_slots cs → children_in (child_of_kind nodes kind.Results cs) ≡ parts nodes kind.Results cs
-  without_results n [] s = refl
-  without_results n (c ∷ cs) s =
-      not_at_head c cs (is_of kind.Results (kind_at nodes c)) refl
-      (none_of_kind kind.Results (some_of rest_slots) no_results n (c ∷ cs) (some_slot nodes n rest_slots (c ∷ cs) s))
-
-  with_results : (n c : ℕ) (cs : List ℕ) → is_of kind.Results (kind_at nodes c) ≡ true → children_in (child_of_kind nodes kind.Results (c ∷ cs)) ≡ parts nodes kind.Results (c ∷ cs)
-  with_results n c cs e =
-      ap (λ (b : Bool). children_in (if◌then◌else◌ {A = Option ℕ} b (Some c) (child_of_kind nodes kind.Results cs))) e
-      ∙ ap (λ (b : Bool). if◌then◌else◌ {A = List ℕ} b (children_of (slice_get nodes c)) []) (sym e)
-
-  at_rest : (n : ℕ) (cs : List ℕ) → Stand nodes n result_slots cs → children_in (child_of_kind nodes kind.Results cs) ≡ parts nodes kind.Results cs
-  at_rest n cs s =
-      on_option nodes n (λ cs. children_in (child_of_kind nodes kind.Results cs) ≡ parts nodes kind.Results cs) results_here rest_slots
-      (λ cs s. without_results n cs s)
-      (λ c rest is s. with_results n c rest (sym (same_results (kind_at nodes c)) ∙ is.1)) cs s
-
-  parm_is_none : (i : NodeKind) → is_of kind.Parm i ≡ true → is_of kind.Results i ≡ false
-  parm_is_none i e = ap (is_of kind.Results) (same_kind kind.Parm i e)
-
-  decl_is_none : (i : NodeKind) → is_of kind.Decl i ≡ true → is_of kind.Results i ≡ false
-  decl_is_none i e = ap (is_of kind.Results) (same_kind kind.Decl i e)
-
-  abbrev rest_of : List ℕ → List ℕ
-  rest_of cs = after_run nodes kind.Decl (after_run nodes kind.Parm cs)
-
-  results_are : (n : ℕ) (cs : List ℕ) → Stand nodes n (several (may_stand 2 (parts_of shape.parms)) ∷ decl_slots) cs → children_in (child_of_kind nodes kind.Results cs) ≡ parts nodes kind.Results (rest_of cs)
-  results_are n cs s =
-      let p = run_is nodes n kind.Parm (may_stand 2 (parts_of shape.parms)) decl_slots cs same_parms parms_apart s in
-      let d = run_is nodes n kind.Decl (may_stand 2 (parts_of shape.decls)) result_slots (after_run nodes kind.Parm cs) same_decls decls_apart p.rest in
-      ap children_in (none_before kind.Results kind.Parm parm_is_none cs ∙ none_before kind.Results kind.Decl decl_is_none (after_run nodes kind.Parm cs))
-      ∙ at_rest n (rest_of cs) d.rest
-
-  module _ (shaped : HaveForms nodes) (tree : IsTree nodes) where
-    pub results_of_routine : (r : ℕ) (x : There nodes r kind.Routine) → children_in (child_of_kind nodes kind.Results x.node.children) ≡ parts nodes kind.Results (rest_of x.node.children)
-    results_of_routine r x =
-        let h : HasForm nodes x.node = shaped r x.node x.at in
-        let stands : (form : List Part) → h.form ≡ form → Stand nodes r (slots_of form) x.node.children = λ form e. subst (λ (form : List Part). Stand nodes r (slots_of form) x.node.children) e (fitted nodes tree r x.node x.at h) in
-        results_are r x.node.children (elim (subst (λ (k : NodeKind). IsFormOf h.form (forms k)) x.is h.of_kind) [
-          | inl e ↦ stands _ e
-          | inr (inl e) ↦ stands _ e
-          | inr (inr never) ↦ absurd never
-        ])
+use Rattle.clu_passes.proofs.RoutineParts.{children_in, rest_of, results_of_routine}
 
 module _ (k : Known) (scope : Scope) (library : List Specification) (refused : List ℕ) where
   abbrev nodes : List Node

@@ -13,7 +13,7 @@ use Rattle.clu_bindings.specs.Tables.{between, items_at}
 use Rattle.clu_bindings.specs.Files.{bound_in}
 use Rattle.clu_passes.specs.Tables.{AreNames}
 
-between_is : {A : Type 0} (items : List A) (from to : ℕ) → from ≤ to → to ≤ length items → between items from to ≡ take (to - from) (drop from items)
+pub between_is : {A : Type 0} (items : List A) (from to : ℕ) → from ≤ to → to ≤ length items → between items from to ≡ take (to - from) (drop from items)
 between_is items from to a b =
     ap (λ (t : Bool). if t && nat_le to (length items) then take (to - from) (drop from items) else []) (le-leb from to a)
     ∙ ap (λ (t : Bool). if t then take (to - from) (drop from items) else []) (le-leb to (length items) b)

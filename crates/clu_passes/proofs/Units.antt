@@ -34,7 +34,7 @@ pub all_both : (P : Declared → Type 0) (xs ys : List Declared) → AllOf P xs 
 all_both P [] ys a b = b
 all_both P (x ∷ xs) ys a b = (a.0, all_both P xs ys a.1 b)
 
-all_here : (P : Declared → Type 0) (ds : List Declared) → AllOf P ds → (j : ℕ) (d : Declared) → slice_get ds j ≡ Some d → P d
+pub all_here : (P : Declared → Type 0) (ds : List Declared) → AllOf P ds → (j : ℕ) (d : Declared) → slice_get ds j ≡ Some d → P d
 all_here P [] ps j d at = absurd (none-some d at)
 all_here P (x ∷ ds) ps zero d at = subst P (same_Some x d at) ps.0
 all_here P (x ∷ ds) ps (suc j) d at = all_here P ds ps.1 j d at
@@ -52,7 +52,7 @@ module _ (nodes : List Node) (rounds : List Round) (P : Declared → Type 0) (n 
   above = kind_at_parent nodes round.parent
 
   abbrev pub VariablesAre : Type 0
-  VariablesAre = (p : ℕ) (outer : Node) (k : NodeKind) → round.parent ≡ Some p → slice_get nodes p ≡ Some outer → opens outer.kind k ≡ true → (name : Identifier) → P (record { name = name; node = p; from = round.body_first; to = round.body_last; unit = round.unit })
+  VariablesAre = (p : ℕ) (outer : Node) (k : NodeKind) → round.parent ≡ Some p → slice_get nodes p ≡ Some outer → kind_at nodes n ≡ k → opens outer.kind k ≡ true → is_first n outer.children ≡ true → (name : Identifier) → P (record { name = name; node = p; from = round.body_first; to = round.body_last; unit = round.unit })
 
   abbrev pub OwnsAre : Type 0
   OwnsAre = (node : Node) → slice_get nodes n ≡ Some node → (scope : ℕ × ℕ) → scope_of node.kind above n round ≡ Some scope → (name : Identifier) → P (record { name = name; node = n; from = scope.0; to = scope.1; unit = round.unit })
@@ -60,21 +60,21 @@ module _ (nodes : List Node) (rounds : List Round) (P : Declared → Type 0) (n 
   abbrev pub ModulesAre : Type 0
   ModulesAre = (node : Node) → slice_get nodes n ≡ Some node → is_module above node.kind ≡ true → (name : Identifier) → P (record { name = name; node = n; from = 0; to = 4294967295; unit = None })
 
-  pub of_variables : VariablesAre → (k : NodeKind) (o : Option ℕ) → round.parent ≡ o → (outer : Option Node) → node_at nodes o ≡ outer → AllOf P (variable_of n k round o outer)
-  of_variables are k None e outer f = tt
-  of_variables are k (Some p) e None f = tt
-  of_variables are k (Some p) e (Some its) f = by (opens its.kind k) refl (is_first n its.children)
+  pub of_variables : VariablesAre → (k : NodeKind) → kind_at nodes n ≡ k → (o : Option ℕ) → round.parent ≡ o → (outer : Option Node) → node_at nodes o ≡ outer → AllOf P (variable_of n k round o outer)
+  of_variables are k is None e outer f = tt
+  of_variables are k is (Some p) e None f = tt
+  of_variables are k is (Some p) e (Some its) f = by (opens its.kind k) refl (is_first n its.children) refl
     where
-      by : (b : Bool) → opens its.kind k ≡ b → (c : Bool) → AllOf P (if b && c then declared_as p round.unit (Some (round.body_first, round.body_last)) (variable_names its.kind its.names) else [])
-      by true o true = all_as P p round.unit (round.body_first, round.body_last) (variable_names its.kind its.names) (are p its k e f o)
-      by true o false = tt
-      by false o c = tt
+      by : (b : Bool) → opens its.kind k ≡ b → (c : Bool) → is_first n its.children ≡ c → AllOf P (if b && c then declared_as p round.unit (Some (round.body_first, round.body_last)) (variable_names its.kind its.names) else [])
+      by true o true first = all_as P p round.unit (round.body_first, round.body_last) (variable_names its.kind its.names) (are p its k e f is o first)
+      by true o false first = tt
+      by false o c first = tt
 
-  of_owns : OwnsAre → (node : Node) → slice_get nodes n ≡ Some node → (o : Option (ℕ × ℕ)) → scope_of node.kind above n round ≡ o → AllOf P (declared_as n round.unit o (own_names node.kind node))
+  pub of_owns : OwnsAre → (node : Node) → slice_get nodes n ≡ Some node → (o : Option (ℕ × ℕ)) → scope_of node.kind above n round ≡ o → AllOf P (declared_as n round.unit o (own_names node.kind node))
   of_owns are node at None e = tt
   of_owns are node at (Some scope) e = all_as P n round.unit scope (own_names node.kind node) (are node at scope e)
 
-  of_modules : ModulesAre → (node : Node) → slice_get nodes n ≡ Some node → (b : Bool) → is_module above node.kind ≡ b → AllOf P (if b then module_named n node.names else [])
+  pub of_modules : ModulesAre → (node : Node) → slice_get nodes n ≡ Some node → (b : Bool) → is_module above node.kind ≡ b → AllOf P (if b then module_named n node.names else [])
   of_modules are node at false e = tt
   of_modules are node at true e = by node.names
     where
@@ -91,7 +91,7 @@ module _ (nodes : List Node) (rounds : List Round) (P : Declared → Type 0) (n 
   of_node vs os ms (Some node) at =
       all_both P (variable_of n node.kind round round.parent (node_at nodes round.parent) ++ own_at above n node round) (module_at above n node)
       (all_both P (variable_of n node.kind round round.parent (node_at nodes round.parent)) (own_at above n node round)
-      (of_variables vs node.kind round.parent refl (node_at nodes round.parent) refl)
+      (of_variables vs node.kind (ap kind_of at) round.parent refl (node_at nodes round.parent) refl)
       (of_owns os node at (scope_of node.kind above n round) refl))
       (of_modules ms node at (is_module above node.kind) refl)
 
@@ -223,7 +223,7 @@ module _ (t : Text) (nodes : List Node) (rounds : List Round) (parsed : IsParsed
 
   each_is : AreEach nodes rounds Is
   each_is = record {
-    variables = λ n p outer k above at o name alone. (let its : HasUnit n = has_unit n (inner_below n p outer above at (no_file outer.kind (inner_opens outer.kind k o))) in absurd (none_alone (round_at rounds n).unit its.0 its.1 alone));
+    variables = λ n p outer k above at is o first name alone. (let its : HasUnit n = has_unit n (inner_below n p outer above at (no_file outer.kind (inner_opens outer.kind k o))) in absurd (none_alone (round_at rounds n).unit its.0 its.1 alone));
     owns = λ n node at scope e name alone. (let its : HasUnit n = has_unit n (ap is_inner (ap kind_of at) ∙ inner_scope node.kind (kind_at_parent nodes (round_at rounds n).parent) n (round_at rounds n) scope e) in absurd (none_alone (round_at rounds n).unit its.0 its.1 alone));
     modules = λ n node at e name alone. ap is_definition (ap kind_of at) ∙ defined (kind_at_parent nodes (round_at rounds n).parent) node.kind e;
   }

@@ -373,7 +373,7 @@ module _ (t : Text) (nodes : List Node) (rounds : List Round) (parsed : IsParsed
 
     each_holds : AreEach nodes rounds HoldsUnit
     each_holds = record {
-      variables = λ n p outer k above at o name u e m l h.
+      variables = λ n p outer k above at is o first name u e m l h.
           (let i : is_inner (kind_at nodes n) ≡ true = opened_inner n p outer k above at o in
           let w : IsWithin u n = within n u i e in
           scope_holds u n ((round n).body_first, (round n).body_last) w.of_module w.body m l h);
@@ -390,7 +390,7 @@ module _ (t : Text) (nodes : List Node) (rounds : List Round) (parsed : IsParsed
 
     each_owns : AreEach nodes rounds OwnsUnit
     each_owns = record {
-      variables = λ n p outer k above at o name u e.
+      variables = λ n p outer k above at is o first name u e.
           (let i : is_inner (kind_at nodes n) ≡ true = opened_inner n p outer k above at o in
           let q : HasParent nodes n = parent_at n i in
           let same : q.parent ≡ p = same_Some q.parent p (sym (around_child t nodes rounds parsed are n (parent_at n i)).parent ∙ above) in

@@ -1,12 +1,16 @@
 pub mod Bad
 pub mod ConstantTables
+pub mod Constructed
 pub mod Counted
+pub mod Counting
 pub mod FactTables
 pub mod Marks
 pub mod Notes
 pub mod Owns
 pub mod ParameterKinds
 pub mod Routines
+pub mod SeenTypes
 pub mod Tables
 pub mod Told
 pub mod Trees
+pub mod Turns

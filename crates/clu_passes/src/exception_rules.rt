@@ -1,0 +1,24 @@
+//! That the rules on exceptions, as `clu_type_rules` asks them of tables, are those of the definitions, where each table is what
+//! its own definition says.
+
+ghost use Rattle.std.specs.Prelude.{◌≡◌, ℕ, Bool, List, false};
+ghost use Rattle.std.specs.List.{AllByRecursion};
+ghost use Rattle.clu_tree.specs.declared.node.NodeKind.TheVariants as kind;
+ghost use Rattle.clu_tree.specs.Nodes.{IsTree};
+ghost use Rattle.clu_parser.specs.Shape.{HaveForms};
+ghost use Rattle.clu_types.specs.Arena.{IsArena};
+ghost use Rattle.clu_syntax.specs.Items.{Item};
+ghost use Rattle.clu_meaning.specs.Scoping.{Scope};
+ghost use Rattle.clu_checking.specs.Specifications.{Specification};
+ghost use Rattle.clu_checking.specs.ExceptionRules.{v26};
+ghost use Rattle.clu_type_rules.specs.declared.known.Known.{Known};
+ghost use Rattle.clu_type_rules.specs.Known.{children, kind_in};
+ghost use Rattle.clu_type_rules.specs.Objects.{names};
+ghost use Rattle.clu_type_rules.specs.ExceptionRules.{is_other_failure};
+ghost use Rattle.clu_passes.specs.ConstantTables.{file_with};
+ghost use Rattle.clu_passes.specs.SeenTypes.{AreOutside};
+
+/// V26 of an exception of a heading, of whose types none is lost.
+pub fn v26_of_exceptions()
+    ensures { (k : Known) (scope : Scope) (library : List Specification) (refused : List ℕ) → HaveForms k.tables.file.syntax.now → IsTree k.tables.file.syntax.now → IsArena k.tables.types.now → (lost : ℕ → Bool) → AreOutside (file_with k.tables.file scope library refused) k lost → (bad : ℕ → Bool) (items : ℕ → Item) (n : ℕ) → kind_in k n ≡ kind.Exc → AllByRecursion (λ c. lost c ≡ false) (children k n) → v26 (file_with k.tables.file scope library refused) bad n ≡ is_other_failure k items n (names k n) }
+{}

@@ -1,0 +1,56 @@
+//! That the tables which the code makes of a file are those which the rules read: fields of `AreTables`, each of what is said of
+//! the call that makes its table.
+
+ghost use Rattle.std.specs.Prelude.{◌≡◌, ◌<◌, ◌↔◌, ℕ, Bool, true, List, Some, is_some, length, map, nat_lt, slice_get};
+ghost use Rattle.clu_base.specs.declared.constants.Const.{Const};
+ghost use Rattle.clu_parser.specs.Trees.{Text};
+ghost use Rattle.clu_types.specs.declared.term.Term.{Term};
+ghost use Rattle.clu_types.specs.declared.term.TypeId.{TypeId};
+ghost use Rattle.clu_types.specs.Arena.{type_at, types_of};
+ghost use Rattle.clu_syntax.specs.Rounds.{AreRounds};
+ghost use Rattle.clu_syntax.specs.Syntax.{Identifier};
+ghost use Rattle.clu_names.specs.declared.binding.Names.{Names};
+ghost use Rattle.clu_names.specs.Denotes.{bound_to, starts_to};
+ghost use Rattle.clu_names.specs.Scopes.{declarations};
+ghost use Rattle.clu_meaning.specs.Scoping.{Scope};
+ghost use Rattle.clu_specs.specs.Constants.{constant_text};
+ghost use Rattle.clu_specs.specs.Texts.{type_text};
+ghost use Rattle.clu_checking.specs.Files.{File, equate_named, meaning, scope_in};
+ghost use Rattle.clu_checking.specs.ConstantRules.{is_long_text};
+ghost use Rattle.clu_settle.specs.declared.settling.Values.{Values};
+ghost use Rattle.clu_settle.specs.Circular.{is_circular};
+ghost use Rattle.clu_settle.specs.Meant.{meanings_of};
+ghost use Rattle.clu_settle.specs.Names.{AreMeanings};
+ghost use Rattle.clu_settle.specs.Settled.{AreSettled};
+ghost use Rattle.clu_settle.specs.Values.{constant_at};
+ghost use Rattle.clu_declares.specs.Declares.{AreFew, IsParsed};
+ghost use Rattle.clu_head.specs.Refused.{is_set};
+ghost use Rattle.clu_name_rules.specs.Lengths.{constant_length, lengths_of};
+ghost use Rattle.clu_passes.specs.ConstantTables.{is_equated};
+ghost use Rattle.clu_passes.specs.Marks.{AreMarks};
+ghost use Rattle.clu_passes.specs.Tables.{AreNames};
+
+/// `names`: what `names_of` of clu_names gives.
+pub fn names_told()
+    ensures { (f : File) → f.scope.declarations ≡ declarations f.nodes f.rounds → (names : Names) → names.declared.items ≡ declarations f.nodes f.rounds → names.bound.items ≡ bound_to f.nodes names.declared.items (length f.nodes) → names.starts.items ≡ starts_to f.nodes names.declared.items (length f.nodes) → AreNames f names }
+{}
+
+/// `values`: those that `settle` of clu_settle gives.
+pub fn values_told()
+    ensures { (t : Text) (f : File) → IsParsed t f.nodes → AreRounds f.nodes f.rounds → AreFew f.nodes f.rounds → f.scope ≡ scope_in f.nodes f.rounds → (names : Names) → AreNames f names → (all : Values) → all.meanings.items ≡ meanings_of f.nodes f.rounds names.declared.items → ((scope : Scope) → AreMeanings f.nodes scope all.meanings.items → AreSettled f.nodes scope all.types all.constants.items all.values.items) → AreSettled f.nodes f.scope all.types all.constants.items all.values.items }
+{}
+
+/// `marks`: the bits that `circular_equates` of clu_settle gives.
+pub fn marks_told()
+    ensures { (f : File) → AreRounds f.nodes f.rounds → (names : Names) → AreNames f names → (marks : List Bool) → (length f.rounds ≡ length f.nodes → (k : ℕ) → k < length names.declared.items → (slice_get marks k ≡ Some true) ↔ (is_circular f.nodes f.rounds names.declared.items k ≡ true)) → AreMarks f marks }
+{}
+
+/// `long_types`: the bits that `long_types` of clu_name_rules gives.
+pub fn long_types_told()
+    ensures { (types : List Term) (bits : List Bool) → bits ≡ map (nat_lt 65536) (lengths_of types) → (id : TypeId) → id.0 < length types → is_set (slice_get bits id.0) ≡ is_long_text (type_text (type_at (types_of types) id)) }
+{}
+
+/// `long_constants`: the bits that `long_constants` of clu_name_rules gives.
+pub fn long_constants_told()
+    ensures { (constants : List Const) (bits : List Bool) → bits ≡ map (λ c. nat_lt 65536 (constant_length c)) constants → (k : ℕ) → k < length constants → is_set (slice_get bits k) ≡ is_long_text (constant_text (constant_at constants k)) }
+{}
