@@ -4,6 +4,7 @@ pub mod Constructed
 pub mod Counted
 pub mod Counting
 pub mod FactTables
+pub mod Firsts
 pub mod Marks
 pub mod Notes
 pub mod Owns

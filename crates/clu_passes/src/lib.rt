@@ -3,6 +3,7 @@
 #![tactic(auto)]
 
 mod asking;
+mod bindings;
 mod circles;
 mod constant_rules;
 mod exception_rules;
@@ -20,10 +21,11 @@ mod turns;
 mod types;
 
 pub use asking::{bad_settled, least_asked};
+pub use bindings::{equates_said, names_mean, parameters_declared, places_said, wanted_said};
 pub use circles::{circle_by_mark, circular_by_nodes, circular_found, v7_by_marks};
 pub use constant_rules::{v8_by_tables, v9_by_tables, v10_by_tables, v19_by_tables, v31_by_tables};
-pub use exception_rules::v26_of_exceptions;
-pub use expression_rules::{selectors_by_count, tags_by_count, v17_by_tables};
+pub use exception_rules::{v25_by_tables, v26_of_exceptions, v27_by_tables};
+pub use expression_rules::{selectors_by_count, tags_by_count, v13_by_facts, v17_by_tables};
 pub use fact_rules::{
     v11_by_facts, v12_by_facts, v16_by_facts, v21_by_facts, v24_by_tables, v30_by_facts,
     v32_by_facts, v36_by_facts,
