@@ -1,8 +1,8 @@
-//! What operators give, and where a text is too long.
+//! What operators give.
 
 use crate::rows::parts;
-use clu_base::{Bytes, Const, Memory};
-use clu_fold::{fold, fold_prefix, infix_operator, is_long, prefix_operator, text_length};
+use clu_base::{Bytes, Const};
+use clu_fold::{fold, fold_prefix, infix_operator, prefix_operator};
 use std::alloc::Global;
 use std::fmt::Write;
 use std::test::Fail;
@@ -77,27 +77,4 @@ pub fn put_fold(alloc: Global, text: &mut String, given: &str) -> Result<(), Fai
         Some((operator, right)) => put_infix(alloc, text, first, operator, right),
         None => put_prefix(alloc, text, first, rest),
     }
-}
-
-/// The length of the constant that a row writes.
-fn length(alloc: Global, text: &str) -> Result<u64, Fail> {
-    let constant = constant(alloc, text)?;
-    Ok(text_length(&constant))
-}
-
-/// Whether a string of so many bytes is long.
-fn is_string_long(alloc: Global, count: usize) -> Result<bool, Memory> {
-    let bytes = vec![in alloc; b'x'; count]?;
-    Ok(is_long(&Const::Str(Bytes::from_vec(bytes))))
-}
-
-#[test]
-fn measures_texts(rt: HostRuntime) -> Result<(), Fail> {
-    let alloc = rt.alloc();
-    let number = length(alloc, "-9223372036854775808")?;
-    let character = length(alloc, "'a")?;
-    let below = is_string_long(alloc, 32_767)?;
-    let at = is_string_long(alloc, 32_768)?;
-    assert!(rt; number == 20 && character == 3 && !below && at);
-    Ok(())
 }

@@ -18,7 +18,9 @@ use Rattle.clu_syntax.proofs.Classes.{defined_kind}
 use Rattle.clu_name_rules.specs.Closed.{IsClosed, ends_as_named, has_long_name, is_definition}
 use Rattle.clu_type_rules.specs.Asked.{rules_of_rest}
 use Rattle.clu_check_mod.specs.Modules.{IsClosedAt, definition_of}
-use Rattle.clu_check_mod.specs.Walks.{AreClosed, IsClosedNode, IsPassed}
+use Rattle.clu_check_mod.specs.declared.rules.Walk.{Walk}
+use Rattle.clu_check_mod.specs.declared.rules.Walk.TheVariants as walk
+use Rattle.clu_check_mod.specs.Walks.{AreClosed, IsClosedNode, IsPassed, rules_of}
 use Rattle.clu_check_mod.proofs.Modules.{IsModule, are_modules}
 
 one_passed : (node : Node) (r : Rule) → (r ≡ rule.LiteralRange → IsFalse (has_long_name node)) → (r ≡ rule.EndName → IsTrue (is_definition node.kind) → IsTrue (ends_as_named node)) → IsPassed node r
@@ -53,9 +55,12 @@ closed_cluster node rules are passed is =
     record { lengths = all 0 rule.Token (omega arith); end = all 2 rule.Token (omega arith) is }
 
 -- so the walk over the rest leaves a node, where it finds nothing
-pub closed_node : (nodes : List Node) (n : ℕ) (node : Node) (in_heading : Bool) (rules : List Rule) → slice_get nodes n ≡ Some node → rules ≡ rules_of_rest node.kind in_heading → All (IsPassed node) rules → IsClosedNode nodes n
-closed_node nodes n node in_heading rules at are passed m found is = let this : node ≡ m = cc in subst IsClosed this (by node.kind refl (subst (λ (x : Node). IsTrue (is_definition x.kind)) (sym this) is))
+pub closed_node : (nodes : List Node) (n : ℕ) (node : Node) (w : Walk) (in_heading : Bool) (rules : List Rule) → slice_get nodes n ≡ Some node → w ≡ walk.Rest → rules ≡ rules_of w node.kind in_heading → All (IsPassed node) rules → IsClosedNode nodes n
+closed_node nodes n node w in_heading rules at rest has passed m found is = let this : node ≡ m = cc in subst IsClosed this (by node.kind refl (subst (λ (x : Node). IsTrue (is_definition x.kind)) (sym this) is))
   where
+    are : rules ≡ rules_of_rest node.kind in_heading
+    are = has ∙ ap (λ (x : Walk). rules_of x node.kind in_heading) rest
+
     by : (kind : NodeKind) → node.kind ≡ kind → IsTrue (is_definition kind) → IsClosed node
     by k.Routine e is = closed_routine node rules (are ∙ ap (λ (j : NodeKind). rules_of_rest j in_heading) e) passed (ap is_definition e)
     by k.Cluster e is = closed_cluster node rules (are ∙ ap (λ (j : NodeKind). rules_of_rest j in_heading) e) passed (ap is_definition e)

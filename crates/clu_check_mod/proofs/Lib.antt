@@ -1,4 +1,6 @@
 pub mod Closed
+pub mod Finding
+pub mod Looking
 pub mod Modules
 pub mod OwnSpecs
 pub mod Places

@@ -1,3 +1,5 @@
+pub mod Asking
+pub mod Bad
 pub mod Modules
 pub mod Refusals
 pub mod Walks

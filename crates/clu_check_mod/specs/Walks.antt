@@ -1,12 +1,23 @@
 -- What the walks over a file show of it.
-use Rattle.std.specs.Prelude.{◌≡◌, ℕ, List, Some, IsTrue, IsFalse, slice_get}
+use Rattle.std.specs.Prelude.{◌≡◌, ℕ, Bool, List, Option, Some, IsTrue, IsFalse, find, slice_get}
+use Rattle.clu_base.specs.declared.rules.Refused.{Refused}
 use Rattle.clu_base.specs.declared.rules.Rule.{Rule}
 use Rattle.clu_base.specs.declared.rules.Rule.TheVariants as rule
 use Rattle.clu_tree.specs.declared.node.Node.{Node}
+use Rattle.clu_tree.specs.declared.node.NodeKind.{NodeKind}
 use Rattle.clu_tree.specs.Nodes.{modules}
+use Rattle.clu_syntax.specs.Items.{Item}
+use Rattle.clu_syntax.specs.Kinds.{kind_at}
+use Rattle.clu_syntax.specs.Rounds.{round_at}
 use Rattle.clu_types.specs.declared.spec.Spec.{Spec}
 use Rattle.clu_name_rules.specs.Closed.{IsClosed, ends_as_named, has_long_name, is_definition}
+use Rattle.clu_type_rules.specs.Asked.{rules_of_headings, rules_of_rest}
+use Rattle.clu_type_rules.specs.declared.known.Known.{Known}
+use Rattle.clu_check_mod.specs.Asking.{is_violated}
+use Rattle.clu_type_rules.specs.Walking.{first_fault, first_of}
 use Rattle.clu_check_mod.specs.Modules.{AreOf}
+use Rattle.clu_check_mod.specs.declared.rules.Walk.{Walk}
+use Rattle.clu_check_mod.specs.declared.rules.Walk.TheVariants as walk
 use Rattle.clu_check_mod.specs.declared.walk.Extent.{Extent}
 use Rattle.clu_check_mod.specs.declared.walk.Extent.TheVariants as extent
 
@@ -28,3 +39,22 @@ AreClosed nodes = (n : ℕ) → IsClosedNode nodes n
 -- cluster
 abbrev pub IsFound : List Node → Extent → List Spec → Type 0
 IsFound nodes asked own = AreOf nodes (modules nodes) own × (asked ≡ extent.Whole → AreClosed nodes)
+
+-- which rules a walk asks at a node of this kind, which belongs to a heading or doesn't
+abbrev pub rules_of : Walk → NodeKind → Bool → List Rule
+rules_of walk.Headings = rules_of_headings
+rules_of walk.Rest = rules_of_rest
+
+module _ (k : Known) (bad : List Bool) (items : ℕ → Item) where
+  -- the least rule that the node violates of those that the walk asks there
+  abbrev pub fault_at : Walk → ℕ → Option Rule
+  fault_at w n = find (is_violated k bad items n) (rules_of w (kind_at k.tables.file.syntax.now n) (round_at k.tables.file.rounds.now n).heading)
+
+  -- the first fault on a walk
+  abbrev pub first_on : Walk → Option Refused
+  first_on w = first_fault (fault_at w) 0 k.tables.file.syntax.now
+
+  -- of so much of the file
+  abbrev pub first_in : Extent → Option Refused
+  first_in extent.Headings = first_on walk.Headings
+  first_in extent.Whole = first_of (first_on walk.Headings) (first_on walk.Rest)

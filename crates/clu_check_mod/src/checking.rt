@@ -7,7 +7,7 @@ ghost use Rattle.clu_check_mod.specs.Modules.{AreOf, BeginWithOwn, IsClosedAt};
 ghost use Rattle.clu_check_mod.specs.Refusals.{IsOfTree};
 ghost use Rattle.clu_check_mod.specs.Walks.{AreClosed, IsFound};
 
-use crate::bad::{By, bad_of, refused_nodes};
+use crate::bad::{bad_of_all, refused_nodes};
 use crate::errors::CheckError;
 use crate::notes::{Constants, constants_of, denoted, operations};
 use crate::specifications::{add_others, own_specs};
@@ -112,7 +112,7 @@ fn ask(
         disagrees: disagrees.as_slice(),
         unmet: unmet.as_slice(),
     };
-    let bad = bad_of(alloc, By::All(&known), lists.circles.order.as_slice())?;
+    let bad = bad_of_all(alloc, &known, lists.circles.order.as_slice())?;
     ask_rules(&known, bad.as_slice(), extent)
 }
 

@@ -2,7 +2,8 @@
 //! is a tree.
 
 ghost use Rattle.std.specs.Prelude.{◌≡◌};
-ghost use Rattle.clu_type_rules.specs.Asked.{rules_at, rules_if, rules_of_headings, rules_of_rest};
+ghost use Rattle.clu_type_rules.specs.Asked.{rules_at, rules_if};
+ghost use Rattle.clu_check_mod.specs.Walks.{rules_of};
 
 use clu_base::Rule;
 use clu_tree::NodeKind;
@@ -269,8 +270,7 @@ pub fn rules_at(kind: NodeKind) -> &'static [Rule]
 /// The rules that a walk asks at a node of this kind, which belongs to a heading or doesn't. At the node of a module, routine or
 /// cluster the first walk asks V6 and V33 alone, of names and exports.
 pub fn rules_asked(walk: Walk, kind: NodeKind, in_heading: bool) -> &'static [Rule]
-    ensures headings { walk ≡ Walk.Headings → result.now ≡ rules_of_headings kind in_heading }
-    ensures rest { walk ≡ Walk.Rest → result.now ≡ rules_of_rest kind in_heading }
+    ensures { result.now ≡ rules_of walk kind in_heading }
 {
     match walk {
         Walk::Headings => match kind {

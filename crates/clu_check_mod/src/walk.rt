@@ -1,9 +1,11 @@
 //! The two walks: which refusal comes first.
 
-ghost use Rattle.std.specs.Prelude.{◌≡◌, ◌≤◌, IfErr, IfSome, None, OnOk, Some, slice_get};
+ghost use Rattle.std.specs.Prelude.{◌≡◌, ◌≤◌, ℕ, IfErr, IfSome, None, OnOk, Some, slice_get};
 ghost use Rattle.clu_base.specs.Rules.{number_of};
-ghost use Rattle.clu_check_mod.specs.Refusals.{IsOfTree};
-ghost use Rattle.clu_check_mod.specs.Walks.{AreClosed, IsClosedNode};
+ghost use Rattle.clu_syntax.specs.Items.{Item};
+ghost use Rattle.clu_name_rules.specs.Components.{HaveAscending};
+ghost use Rattle.clu_check_mod.specs.Refusals.{IsOfTree, IsTold};
+ghost use Rattle.clu_check_mod.specs.Walks.{AreClosed, IsClosedNode, fault_at, first_on, first_in};
 
 use crate::asking::least;
 use crate::errors::CheckError;
@@ -24,6 +26,7 @@ pub enum Extent {
 #[tactic(auto, using(crate::proofs::Closed::closed_node))]
 fn fault_at(k: &Known<'_>, bad: &[bool], walk: Walk, n: u32, node: &Node) -> Option<Rule>
     requires { slice_get k.now.tables.file.syntax.now n ≡ Some node.now }
+    ensures exact { (items : ℕ → Item) → HaveAscending k.now.tables.types.now → result ≡ fault_at k.now bad.now items walk n }
     ensures number { IfSome result (λ rule. 4 ≤ number_of rule) }
     ensures closed { walk ≡ Walk.Rest → result ≡ None → IsClosedNode k.now.tables.file.syntax.now n }
 {
@@ -33,8 +36,9 @@ fn fault_at(k: &Known<'_>, bad: &[bool], walk: Walk, n: u32, node: &Node) -> Opt
 
 /// One walk: refused at the first node that violates a rule which the walk asks there. Nodes come after their children, in the
 /// order of the text.
-#[tactic(auto, using(crate::proofs::Places::refused_at, crate::proofs::Closed::closed_more, crate::proofs::Closed::closed_all))]
+#[tactic(auto, using(crate::proofs::Places::refused_at, crate::proofs::Closed::closed_more, crate::proofs::Closed::closed_all, crate::proofs::Finding::walk_here, crate::proofs::Finding::walk_end))]
 fn walk_nodes(k: &Known<'_>, bad: &[bool], walk: Walk) -> Result<(), CheckError>
+    ensures exact { (items : ℕ → Item) → HaveAscending k.now.tables.types.now → IsTold result (first_on k.now bad.now items walk) }
     ensures closed { walk ≡ Walk.Rest → OnOk result (AreClosed k.now.tables.file.syntax.now) }
     ensures refused { IfErr result (IsOfTree k.now.tables.file.syntax.now) }
 {
@@ -50,7 +54,9 @@ fn walk_nodes(k: &Known<'_>, bad: &[bool], walk: Walk) -> Result<(), CheckError>
 }
 
 /// The walk over the headings, and if so much is asked, the walk over the rest.
+#[tactic(auto, using(crate::proofs::Finding::told_at_once, crate::proofs::Finding::told_then))]
 pub fn ask_rules(k: &Known<'_>, bad: &[bool], extent: Extent) -> Result<(), CheckError>
+    ensures exact { (items : ℕ → Item) → HaveAscending k.now.tables.types.now → IsTold result (first_in k.now bad.now items extent) }
     ensures closed { extent ≡ Extent.Whole → OnOk result (AreClosed k.now.tables.file.syntax.now) }
     ensures refused { IfErr result (IsOfTree k.now.tables.file.syntax.now) }
 {

@@ -14,7 +14,8 @@ use Rattle.clu_syntax.specs.Kinds.{is_expression}
 use Rattle.clu_syntax.specs.Roles.{has_no_name}
 use Rattle.clu_syntax.specs.Syntax.{Identifier, real, Expression, a_name, a_literal, an_index, Constants, no_constants, constant_and, TypeExpression, a_simple_type, Restriction, is_in, TypeSet, a_type_set, Equate, an_equate, a_set_equate, Equates, no_equates, equate_and}
 use Rattle.clu_meaning.specs.Scoping.{Meaning, is_equate, is_type_set, is_type_parameter, is_constant_parameter, is_local, is_own_of_routine, is_own_of_cluster, is_routine_of_cluster, is_module}
-use Rattle.clu_meaning.specs.Settling.{Value, settled_type, settled_constant, settled_parameter, settled}
+use Rattle.clu_meaning.specs.Settling.{Value, settled_type, settled_constant, settled_parameter}
+use Rattle.clu_checking.specs.Settled.{value_settled}
 use Rattle.clu_checking.specs.Specifications.{Form, of_routine, of_cluster, Specification}
 use Rattle.clu_checking.specs.Files.{File, item, kind_in, is_kind, is_kind_at, stands_in, parent, parent_of, names, round, meaning, is_of_module, equate_named}
 use Rattle.clu_checking.specs.Equates.{set_named, is_bad_name}
@@ -100,7 +101,7 @@ module _ (f : File) where
   is_no_constant_index _ = true
 
   abbrev pub is_no_value : ℕ → Bool
-  is_no_value n = not (is_constant_value (settled f.scope (item f n).constant))
+  is_no_value n = not (is_constant_value (value_settled f.scope (item f n).constant))
 
   abbrev pub is_no_constant : NodeKind → ℕ → Bool
   is_no_constant kind.Literal n = false
@@ -122,7 +123,7 @@ module _ (f : File) where
 
   abbrev pub is_no_type_side : NodeKind → ℕ → Bool
   is_no_type_side kind.TypeSet n = true
-  is_no_type_side k n = not (is_type_value (settled f.scope (item f n).constant)) && not (is_real_literal (item f n).expression)
+  is_no_type_side k n = not (is_type_value (value_settled f.scope (item f n).constant)) && not (is_real_literal (item f n).expression)
 
   abbrev pub is_bad_rep : ℕ → Bool
   is_bad_rep n = is_rep_equate (parent f n) && is_no_type_side (kind_in f n) n
@@ -133,12 +134,12 @@ module _ (f : File) where
   is_right_side n = stands_in f kind.Equate n && not (is_kind f kind.TypeSet n)
 
   abbrev pub is_too_long : (Value → Bool) → ℕ → Bool
-  is_too_long test n = is_right_side n && test (settled f.scope (item f n).constant)
+  is_too_long test n = is_right_side n && test (value_settled f.scope (item f n).constant)
 
   -- ---- names of types
 
   abbrev pub names_no_type : ℕ → Identifier → Meaning → Bool
-  names_no_type n name (is_equate c) = not (is_type_value (settled f.scope c))
+  names_no_type n name (is_equate c) = not (is_type_value (value_settled f.scope c))
   names_no_type n name is_type_set = true
   names_no_type n name (is_type_parameter k) = false
   names_no_type n name is_module = is_module_routine n name

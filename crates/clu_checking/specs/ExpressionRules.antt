@@ -11,7 +11,8 @@ use Rattle.clu_syntax.specs.Kinds.{is_type}
 use Rattle.clu_syntax.specs.Syntax.{Identifier, Expression, an_infix, a_name, an_index, fields, elements, elements_from, an_up, a_down, Expressions, Components, no_components, component_and}
 use Rattle.clu_meaning.specs.Constants.{Sugar, is_cand, is_cor, sugar}
 use Rattle.clu_meaning.specs.Scoping.{Meaning, is_equate, is_type_set, is_type_parameter, is_module}
-use Rattle.clu_meaning.specs.Settling.{settled, type_settled}
+use Rattle.clu_meaning.specs.Settling.{type_settled}
+use Rattle.clu_checking.specs.Settled.{value_settled}
 use Rattle.clu_checking.specs.Files.{File, item, kind_in, parent, names, meaning, is_of_module, equate_named}
 use Rattle.clu_checking.specs.Equates.{is_set_name}
 use Rattle.clu_checking.specs.Headings.{own_type}
@@ -158,7 +159,7 @@ module _ (f : File) where
 
   -- modules that are no routines are clusters, and stream is a type
   abbrev pub names_no_object : ℕ → Identifier → Meaning → Bool
-  names_no_object n name (is_equate c) = is_type_value (settled f.scope c) || is_set_name f n name
+  names_no_object n name (is_equate c) = is_type_value (value_settled f.scope c) || is_set_name f n name
   names_no_object n name is_type_set = true
   names_no_object n name (is_type_parameter k) = true
   names_no_object n name is_module = not (is_module_routine f n name)

@@ -1,6 +1,7 @@
 -- When a file is accepted, and which refusal comes first.
 pub mod Specifications
 pub mod Files
+pub mod Settled
 pub mod Equates
 pub mod Headings
 pub mod Operations

@@ -7,7 +7,8 @@ use Rattle.clu_types.specs.CluType.{CluType, null_type, bool_type, int_type, cha
 use Rattle.clu_syntax.specs.Syntax.{Identifier, Literal, nil, true_literal, false_literal, integer, real, character, string, Expression, an_infix, a_prefix, a_paren, a_literal, a_name, an_index, a_get, a_call, fields, elements, elements_from, an_operation, a_force, an_up, a_down, Constants}
 use Rattle.clu_meaning.specs.Constants.{Sugar, is_cand, is_cor, is_operation, is_negated, sugar, prefix_name}
 use Rattle.clu_meaning.specs.Scoping.{Meaning, is_equate, is_type_set, is_type_parameter, is_constant_parameter, is_local, is_own_of_routine, is_own_of_cluster, is_routine_of_cluster, is_module}
-use Rattle.clu_meaning.specs.Settling.{Value, settled_type, settled_constant, settled_parameter, settled, type_settled, actuals_settled}
+use Rattle.clu_meaning.specs.Settling.{Value, settled_type, settled_constant, settled_parameter, type_settled, actuals_settled}
+use Rattle.clu_checking.specs.Settled.{value_settled}
 use Rattle.clu_checking.specs.Specifications.{Form, of_routine, of_cluster, Specification}
 use Rattle.clu_checking.specs.Files.{File, meaning}
 use Rattle.clu_checking.specs.Equates.{is_set_name}
@@ -102,7 +103,7 @@ module _ (f : File) where
   type_of_meaning n name (is_local t) = known_inside f n t
   type_of_meaning n name (is_own_of_routine t) = known_inside f n t
   type_of_meaning n name (is_own_of_cluster t) = known_inside f n t
-  type_of_meaning n name (is_equate c) = value_type n (settled f.scope c)
+  type_of_meaning n name (is_equate c) = value_type n (value_settled f.scope c)
   type_of_meaning n name (is_constant_parameter k) = parameter_type f n k
   type_of_meaning n name is_routine_of_cluster = found_type (own_found n name)
   type_of_meaning n name is_module = found_type (module_found name no_actuals)
@@ -113,7 +114,7 @@ module _ (f : File) where
 
   -- brackets after the name hold actuals, and no index: it is a module's, or stands for a type or a type set
   abbrev pub takes_actuals_by : ℕ → Identifier → Meaning → Bool
-  takes_actuals_by n name (is_equate c) = is_type_value (settled f.scope c) || is_set_name f n name
+  takes_actuals_by n name (is_equate c) = is_type_value (value_settled f.scope c) || is_set_name f n name
   takes_actuals_by n name is_type_set = true
   takes_actuals_by n name (is_type_parameter k) = true
   takes_actuals_by n name is_module = true
@@ -140,7 +141,7 @@ module _ (f : File) where
   -- ---- up and down
 
   abbrev pub rep_value : Meaning → Option CluType
-  rep_value (is_equate c) = representation_of (settled f.scope c)
+  rep_value (is_equate c) = representation_of (value_settled f.scope c)
   rep_value _ = None
 
   -- the representation of the cluster round a node, unless it is refused where it stands

@@ -14,7 +14,8 @@ use Rattle.clu_syntax.specs.declared.round.Role.TheVariants as role
 use Rattle.clu_syntax.specs.Splits.{first_name}
 use Rattle.clu_syntax.specs.Roles.{has_no_name}
 use Rattle.clu_syntax.specs.Syntax.{Identifier, Expression, a_name, an_index, Constants, no_constants, constant_and, TypeExpression, a_named_type}
-use Rattle.clu_meaning.specs.Settling.{Value, settled_type, settled_constant, settled_parameter, unsettled, settled}
+use Rattle.clu_meaning.specs.Settling.{Value, settled_type, settled_constant, settled_parameter, unsettled}
+use Rattle.clu_checking.specs.Settled.{value_settled}
 use Rattle.clu_checking.specs.Specifications.{Specification}
 use Rattle.clu_checking.specs.Files.{File, item, kind_in, round, parent, children, children_at, names, is_kind, is_kind_at, is_of_module}
 use Rattle.clu_checking.specs.Headings.{parameter_type, kind_of_type, specification}
@@ -143,7 +144,7 @@ module _ (f : File) where
   -- as many actuals as kinds, each of its kind
   abbrev pub kinds_fit : ℕ → List (Option ParamKind) → Constants → Bool
   kinds_fit n [] no_constants = true
-  kinds_fit n (k ∷ ks) (constant_and c cs) = same_kind k (value_kind n (settled f.scope c)) && kinds_fit n ks cs
+  kinds_fit n (k ∷ ks) (constant_and c cs) = same_kind k (value_kind n (value_settled f.scope c)) && kinds_fit n ks cs
   kinds_fit n _ _ = false
 
   abbrev pub has_fitting_kinds : Named → Bool

@@ -3,3 +3,8 @@ pub mod Ranked
 pub mod Constants
 pub mod Counting
 pub mod Inside
+pub mod Labels
+pub mod Led
+pub mod Asking
+pub mod OfRoutines
+pub mod Owning

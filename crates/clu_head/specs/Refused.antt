@@ -1,5 +1,5 @@
 -- Nodes that are refused, by a bit for each node, and how many stand before each number.
-use Rattle.std.specs.Prelude.{ℕ, zero, suc, ◌+◌, Bool, true, false, List, [], ◌∷◌, ◌++◌, length, slice_get, nat_lt, if◌then◌else◌, Option, Some, None}
+use Rattle.std.specs.Prelude.{ℕ, zero, suc, ◌+◌, Bool, false, List, [], ◌∷◌, ◌++◌, slice_get, nat_lt, if◌then◌else◌, Option, Some, None}
 use Rattle.clu_syntax.specs.declared.round.Round.{Round}
 
 abbrev pub is_set : Option Bool → Bool

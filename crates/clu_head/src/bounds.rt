@@ -1,7 +1,8 @@
 //! The declarations that the names of a node denote.
 
-ghost use Rattle.std.specs.Prelude.{◌≡◌, length};
-ghost use Rattle.clu_names.specs.Denotes.{bound_to, starts_to};
+ghost use Rattle.std.specs.Prelude.{◌≡◌, length, slice_get};
+ghost use Rattle.clu_names.specs.Denotes.{bound_at, bound_to, starts_to};
+ghost use Rattle.clu_head.specs.Sets.{first_in, second_in};
 
 use clu_names::Names;
 use clu_tree::Tree;
@@ -10,6 +11,7 @@ use clu_tree::Tree;
 pub fn first_bound(tree: &Tree, names: &Names, n: u32) -> Option<usize>
     requires bound { names.now.bound.items ≡ bound_to tree.now names.now.declared.items (length tree.now) }
     requires starts { names.now.starts.items ≡ starts_to tree.now names.now.declared.items (length tree.now) }
+    ensures { result ≡ first_in (bound_at names.now.declared.items n (slice_get tree.now n)) }
 {
     if n < tree.len() {
         match names.of(tree, n) {
@@ -25,6 +27,7 @@ pub fn first_bound(tree: &Tree, names: &Names, n: u32) -> Option<usize>
 pub fn second_bound(tree: &Tree, names: &Names, n: u32) -> Option<usize>
     requires bound { names.now.bound.items ≡ bound_to tree.now names.now.declared.items (length tree.now) }
     requires starts { names.now.starts.items ≡ starts_to tree.now names.now.declared.items (length tree.now) }
+    ensures { result ≡ second_in (bound_at names.now.declared.items n (slice_get tree.now n)) }
 {
     if n < tree.len() {
         match names.of(tree, n) {

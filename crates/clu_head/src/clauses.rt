@@ -1,58 +1,202 @@
 //! What where clauses and type sets ask, in the order of the text.
 
+ghost use Rattle.std.specs.Prelude.{◌≡◌, ◌++◌, [], map, IfOk, OnOk, slice_get, length};
+ghost use Rattle.clu_tree.specs.declared.node.NodeKind.{NodeKind};
+ghost use Rattle.clu_head.specs.There.{is_there};
+ghost use Rattle.clu_head.specs.Asking.{count_of, unit_in, variable_of, asked_by_opers, asked_of_parameter, asked_by_parts, asked_by_restriction, asked_by_restrictions, asked_at, restricted_in, restrictions_in, untyped, asking_node, demanded, demanded_by, demands_by, demands_by_all, names_in};
+ghost use Rattle.clu_head.specs.Asked.{demands_at, demands_to, starts_to};
+
 use crate::asked::Asked;
 use crate::head::Demanded;
 use crate::known::{Known, is_at, type_in, value_of};
+use crate::parts::{had_operations, restrictions_of, set_operations};
 use crate::refusals::is_refused;
 use crate::restricted::restricted_in;
 use crate::variables::Unchanged;
 use clu_base::{Bytes, Memory};
-use clu_syntax::{Restriction, Round};
-use clu_tree::NodeKind;
+use clu_syntax::Round;
+use clu_tree::{Node, NodeKind};
 use clu_types::{TypeArena, TypeId};
 use std::alloc::Global;
 
 /// The type set of an `in` clause.
 #[derive(Clone, Copy)]
-struct InSet {
+pub struct InSet {
     /// The Restrict that asks.
-    node: u32,
+    pub node: u32,
     /// The number of the set's variable.
-    variable: u32,
+    pub variable: u32,
 }
 
-/// Who asks of a parameter: an `in` clause, whose parameter is put in for the variable of its set, or each Oper itself.
+/// An Oper, and who asks by it of which parameter: the Oper itself, or an `in` clause, whose parameter is put in for the
+/// variable of its set.
 #[derive(Clone, Copy)]
-struct Clause {
+pub struct Asking {
+    pub oper: u32,
+    pub parameter: u32,
+    pub set: Option<InSet>,
+}
+
+// ---- who asks
+
+fn count_of(counts: &[u32], unit: Option<u32>) -> u32
+    ensures { result ≡ count_of counts.now unit }
+{
+    match unit {
+        Some(unit) => match counts.get(unit as usize) {
+            Some(count) => *count,
+            None => 0,
+        },
+        None => 0,
+    }
+}
+
+fn unit_of(rounds: &[Round], n: u32) -> Option<u32>
+    ensures { result ≡ unit_in (slice_get rounds.now n) }
+{
+    match rounds.get(n as usize) {
+        Some(round) => round.unit,
+        None => None,
+    }
+}
+
+/// The number of the variable of the type set n: it is a parameter after those of its module.
+#[tactic(auto, unfolding(crate::specs::Asking::variable_of))]
+fn variable_of(known: Known<'_>, n: u32) -> u32
+    ensures { result ≡ variable_of known.entry.counts.now known.entry.rounds.now n }
+{
+    let count = count_of(known.counts, unit_of(known.rounds, n));
+    n.saturating_add(1).saturating_add(count)
+}
+
+fn push_opers(
+    all: &mut Vec<Asking>,
     parameter: u32,
     set: Option<InSet>,
+    mut opers: &[u32],
+) -> Result<(), Memory>
+    ensures { OnOk result (all.new.items ≡ all.old.items ++ asked_by_opers parameter set opers.entry.now) }
+{
+    while let [oper, more @ ..] = opers {
+        all.push(Asking {
+            oper: *oper,
+            parameter,
+            set,
+        })?;
+        opers = more;
+    }
+    Ok(())
 }
 
-/// The node that asks what stands at the Oper n.
-fn asking(clause: Clause, n: u32) -> u32 {
-    match clause.set {
+/// Appends what the Restrict n asks of a parameter, by the type set that it names or by its operations.
+#[tactic(auto, unfolding(crate::specs::Asking::asked_of_parameter))]
+fn push_of_parameter(
+    known: Known<'_>,
+    all: &mut Vec<Asking>,
+    n: u32,
+    parameter: u32,
+    set: Option<u32>,
+) -> Result<(), Memory>
+    ensures { OnOk result (all.new.items ≡ all.old.items ++ asked_of_parameter known.entry.syntax.now known.entry.rounds.now known.entry.counts.now n parameter set) }
+{
+    match set {
+        Some(of) => {
+            let variable = variable_of(known, of);
+            let set = Some(InSet { node: n, variable });
+            push_opers(all, parameter, set, set_operations(known.syntax, of))
+        }
+        None => push_opers(all, parameter, None, had_operations(known.syntax, n)),
+    }
+}
+
+/// The same, if it restricts one.
+fn push_by_parts(
+    known: Known<'_>,
+    all: &mut Vec<Asking>,
+    n: u32,
+    parameter: Option<u32>,
+    set: Option<u32>,
+) -> Result<(), Memory>
+    ensures { OnOk result (all.new.items ≡ all.old.items ++ asked_by_parts known.entry.syntax.now known.entry.rounds.now known.entry.counts.now n parameter set) }
+{
+    match parameter {
+        Some(parameter) => push_of_parameter(known, all, n, parameter, set),
+        None => Ok(()),
+    }
+}
+
+/// Appends what the Restrict n asks; nothing if it restricts no type parameter.
+#[tactic(auto, unfolding(crate::specs::Asking::asked_by_restriction))]
+fn push_restriction(known: Known<'_>, all: &mut Vec<Asking>, n: u32) -> Result<(), Memory>
+    ensures { OnOk result (all.new.items ≡ all.old.items ++ asked_by_restriction known.entry.syntax.now known.entry.rounds.now known.entry.counts.now known.entry.restricted.now n) }
+{
+    let restricted = restricted_in(known.restricted, n);
+    push_by_parts(known, all, n, restricted.parameter, restricted.set)
+}
+
+fn push_restrictions(
+    known: Known<'_>,
+    all: &mut Vec<Asking>,
+    mut restrictions: &[u32],
+) -> Result<(), Memory>
+    ensures { OnOk result (all.new.items ≡ all.old.items ++ asked_by_restrictions known.entry.syntax.now known.entry.rounds.now known.entry.counts.now known.entry.restricted.now restrictions.entry.now) }
+{
+    while let [n, more @ ..] = restrictions {
+        push_restriction(known, all, *n)?;
+        restrictions = more;
+    }
+    Ok(())
+}
+
+/// By which Opers the node n asks: of the variable of its own, if it is a TypeSet, and by its restrictions.
+#[tactic(auto, unfolding(crate::specs::Asking::asked_at))]
+fn asked_at(known: Known<'_>, n: u32) -> Result<Vec<Asking>, Memory>
+    ensures { IfOk result (λ all. all.items ≡ asked_at known.entry.syntax.now known.entry.rounds.now known.entry.counts.now known.entry.restricted.now n) }
+{
+    let mut all = Vec::new(known.alloc);
+    let variable = variable_of(known, n);
+    push_opers(&mut all, variable, None, set_operations(known.syntax, n))?;
+    push_restrictions(known, &mut all, restrictions_of(known.syntax, n))?;
+    Ok(all)
+}
+
+// ---- what they ask
+
+/// The node that asks.
+fn asking_node(asking: Asking) -> u32
+    ensures { result ≡ asking_node asking.oper asking.set }
+{
+    match asking.set {
         Some(set) => set.node,
-        None => n,
+        None => asking.oper,
+    }
+}
+
+#[tactic(auto, unfolding(crate::specs::Asking::demanded))]
+fn demanded(asking: Asking, wanted: Option<TypeId>, operation: Bytes) -> Demanded
+    ensures { result ≡ demanded asking wanted operation }
+{
+    Demanded {
+        node: asking_node(asking),
+        parameter: asking.parameter,
+        operation,
+        wanted,
+        in_set: asking.set.is_some(),
     }
 }
 
 fn push_names(
     alloc: Global,
     demands: &mut Vec<Demanded>,
-    clause: Clause,
-    n: u32,
-    names: &[Bytes],
+    asking: Asking,
     wanted: Option<TypeId>,
-) -> Result<(), Memory> {
-    for name in names {
-        let operation = name.copy(alloc)?;
-        demands.push(Demanded {
-            node: asking(clause, n),
-            parameter: clause.parameter,
-            operation,
-            wanted,
-            in_set: clause.set.is_some(),
-        })?;
+    mut names: &[Bytes],
+) -> Result<(), Memory>
+    ensures { OnOk result (demands.new.items ≡ demands.old.items ++ demanded_by asking wanted names.entry.now) }
+{
+    while let [name, more @ ..] = names {
+        demands.push(demanded(asking, wanted, name.copy(alloc)?))?;
+        names = more;
     }
     Ok(())
 }
@@ -66,239 +210,132 @@ fn wanted_at(known: Known<'_>, n: u32) -> Option<TypeId> {
     }
 }
 
-/// A type as a clause asks for it.
+/// A type as it is asked for.
 fn wanted_by(
     known: Known<'_>,
     types: &mut TypeArena,
     unchanged: &mut Unchanged,
-    clause: Clause,
+    asking: Asking,
     t: TypeId,
 ) -> Result<Option<TypeId>, Memory> {
-    match clause.set {
-        Some(set) => unchanged.put(known.alloc, types, set.variable, clause.parameter, t),
+    match asking.set {
+        Some(set) => unchanged.put(known.alloc, types, set.variable, asking.parameter, t),
         None => Ok(Some(t)),
     }
 }
 
-/// The same of the type at a node.
+/// The same of the type at the first of these nodes.
 fn wanted_in(
     known: Known<'_>,
     types: &mut TypeArena,
     unchanged: &mut Unchanged,
-    clause: Clause,
-    declared: u32,
+    asking: Asking,
+    nodes: &[u32],
 ) -> Result<Option<TypeId>, Memory> {
-    match wanted_at(known, declared) {
-        Some(t) => wanted_by(known, types, unchanged, clause, t),
-        None => Ok(None),
+    match nodes {
+        [declared, ..] => match wanted_at(known, *declared) {
+            Some(t) => wanted_by(known, types, unchanged, asking, t),
+            None => Ok(None),
+        },
+        [] => Ok(None),
     }
 }
 
-/// Appends what a clause asks by the Oper n.
-fn push_operation(
+/// Appends what is asked by an Oper.
+fn push_oper(
     known: Known<'_>,
     types: &mut TypeArena,
     unchanged: &mut Unchanged,
     demands: &mut Vec<Demanded>,
-    clause: Clause,
-    n: u32,
-) -> Result<(), Memory> {
-    if is_at(known.syntax.tree(), n, NodeKind::Oper) {
-        let operation = known.syntax.operation(n);
-        let wanted = wanted_in(known, types, unchanged, clause, operation.declared)?;
-        push_names(known.alloc, demands, clause, n, operation.names, wanted)
-    } else {
-        Ok(())
-    }
-}
-
-fn push_operations(
-    known: Known<'_>,
-    types: &mut TypeArena,
-    unchanged: &mut Unchanged,
-    demands: &mut Vec<Demanded>,
-    clause: Clause,
-    operations: &[u32],
-) -> Result<(), Memory> {
-    for n in operations {
-        push_operation(known, types, unchanged, demands, clause, *n)?;
-    }
+    asking: Asking,
+    oper: &Node,
+) -> Result<(), Memory>
+    ensures { OnOk result (map untyped demands.new.items ≡ map untyped demands.old.items ++ demanded_by asking None oper.now.names) }
+{
+    let wanted = wanted_in(known, types, unchanged, asking, oper.children.as_slice())?;
+    push_names(known.alloc, demands, asking, wanted, oper.names.as_slice())?;
     Ok(())
 }
 
-fn count_of(counts: &[u32], unit: Option<u32>) -> u32 {
-    match unit {
-        Some(unit) => match counts.get(unit as usize) {
-            Some(count) => *count,
-            None => 0,
-        },
-        None => 0,
-    }
-}
-
-fn unit_of(rounds: &[Round], n: u32) -> Option<u32> {
-    match rounds.get(n as usize) {
-        Some(round) => round.unit,
-        None => None,
-    }
-}
-
-/// The number of the variable of the type set n: it is a parameter after those of its module.
-fn variable_of(known: Known<'_>, n: u32) -> u32 {
-    let count = count_of(known.counts, unit_of(known.rounds, n));
-    n.saturating_add(1).saturating_add(count)
-}
-
-/// Appends what a clause asks by the TypeSet n.
-fn push_set(
-    known: Known<'_>,
-    types: &mut TypeArena,
-    unchanged: &mut Unchanged,
-    demands: &mut Vec<Demanded>,
-    clause: Clause,
-    n: u32,
-) -> Result<(), Memory> {
-    if is_at(known.syntax.tree(), n, NodeKind::TypeSet) {
-        let operations = known.syntax.type_set(n).operations;
-        push_operations(known, types, unchanged, demands, clause, operations)
-    } else {
-        Ok(())
-    }
-}
-
-/// Appends what the Restrict n asks by its operations.
-fn push_has(
-    known: Known<'_>,
-    types: &mut TypeArena,
-    unchanged: &mut Unchanged,
-    demands: &mut Vec<Demanded>,
-    clause: Clause,
-    n: u32,
-) -> Result<(), Memory> {
-    if is_at(known.syntax.tree(), n, NodeKind::Restrict) {
-        match known.syntax.restriction(n) {
-            Restriction::Has { operations, .. } => {
-                push_operations(known, types, unchanged, demands, clause, operations)
-            }
-            _ => Ok(()),
-        }
-    } else {
-        Ok(())
-    }
-}
-
-/// Appends what the Restrict n asks of a parameter, by the type set that it names or by its operations.
+/// The same of its node, if it is one.
+#[tactic(auto, unfolding(crate::specs::Asking::demands_by))]
 fn push_asked(
     known: Known<'_>,
     types: &mut TypeArena,
     unchanged: &mut Unchanged,
     demands: &mut Vec<Demanded>,
-    parameter: u32,
-    set: Option<u32>,
-    n: u32,
-) -> Result<(), Memory> {
-    match set {
-        Some(of) => {
-            let set = Some(InSet {
-                node: n,
-                variable: variable_of(known, of),
-            });
-            let clause = Clause { parameter, set };
-            push_set(known, types, unchanged, demands, clause, of)
-        }
-        None => {
-            let clause = Clause {
-                parameter,
-                set: None,
-            };
-            push_has(known, types, unchanged, demands, clause, n)
-        }
+    asking: Asking,
+) -> Result<(), Memory>
+    ensures { OnOk result (map untyped demands.new.items ≡ map untyped demands.old.items ++ demands_by known.entry.syntax.now asking) }
+{
+    if is_at(known.syntax.tree(), asking.oper, NodeKind::Oper) {
+        let oper = known.syntax.tree().node(asking.oper);
+        push_oper(known, types, unchanged, demands, asking, oper)
+    } else {
+        Ok(())
     }
 }
 
-/// Appends what the Restrict n asks; nothing if it restricts no type parameter.
-fn push_restriction(
+#[tactic(auto, unfolding(crate::specs::Asking::demands_by_all))]
+fn push_all_asked(
     known: Known<'_>,
     types: &mut TypeArena,
     unchanged: &mut Unchanged,
     demands: &mut Vec<Demanded>,
-    n: u32,
-) -> Result<(), Memory> {
-    let restricted = restricted_in(known.restricted, n);
-    match restricted.parameter {
-        Some(parameter) => push_asked(
-            known,
-            types,
-            unchanged,
-            demands,
-            parameter,
-            restricted.set,
-            n,
-        ),
-        None => Ok(()),
-    }
-}
-
-fn push_restrictions(
-    known: Known<'_>,
-    types: &mut TypeArena,
-    unchanged: &mut Unchanged,
-    demands: &mut Vec<Demanded>,
-    restrictions: &[u32],
-) -> Result<(), Memory> {
-    for n in restrictions {
-        push_restriction(known, types, unchanged, demands, *n)?;
+    mut all: &[Asking],
+) -> Result<(), Memory>
+    ensures { OnOk result (map untyped demands.new.items ≡ map untyped demands.old.items ++ demands_by_all known.entry.syntax.now all.entry.now) }
+{
+    while let [asking, more @ ..] = all {
+        push_asked(known, types, unchanged, demands, *asking)?;
+        all = more;
     }
     Ok(())
 }
 
-/// The restrictions of the node n, if it is a Routine or a Cluster.
-fn restrictions_of<'a>(known: Known<'a>, n: u32) -> &'a [u32] {
-    if is_at(known.syntax.tree(), n, NodeKind::Routine) {
-        known.syntax.routine(n).restrictions
-    } else if is_at(known.syntax.tree(), n, NodeKind::Cluster) {
-        known.syntax.cluster(n).restrictions
-    } else {
-        &[]
-    }
-}
-
-/// Appends what the node n asks: of the variable of its own, if it is a TypeSet, and by its restrictions.
+/// Appends what the node n asks.
+#[tactic(auto, unfolding(crate::specs::Asked::demands_at))]
 fn push_node(
     known: Known<'_>,
     types: &mut TypeArena,
     unchanged: &mut Unchanged,
     demands: &mut Vec<Demanded>,
     n: u32,
-) -> Result<(), Memory> {
-    let own = Clause {
-        parameter: variable_of(known, n),
-        set: None,
-    };
-    push_set(known, types, unchanged, demands, own, n)?;
-    push_restrictions(known, types, unchanged, demands, restrictions_of(known, n))
+) -> Result<(), Memory>
+    ensures { OnOk result (map untyped demands.new.items ≡ map untyped demands.old.items ++ demands_at known.entry.syntax.now known.entry.rounds.now known.entry.counts.now known.entry.restricted.now n) }
+{
+    let all = asked_at(known, n)?;
+    push_all_asked(known, types, unchanged, demands, all.as_slice())
 }
 
+#[tactic(auto, unfolding(crate::specs::Asked::demands_to, crate::specs::Asked::starts_to))]
 fn push_all(
     known: Known<'_>,
     types: &mut TypeArena,
     unchanged: &mut Unchanged,
-    asked: &mut Asked,
-) -> Result<(), Memory> {
+    starts: &mut Vec<usize>,
+    demands: &mut Vec<Demanded>,
+) -> Result<(), Memory>
+    requires starts { starts.old.items ≡ [] }
+    requires demands { demands.old.items ≡ [] }
+    ensures starts { OnOk result (starts.new.items ≡ starts_to (demands_at known.entry.syntax.now known.entry.rounds.now known.entry.counts.now known.entry.restricted.now) (length known.entry.syntax.now)) }
+    ensures demands { OnOk result (map untyped demands.new.items ≡ demands_to (demands_at known.entry.syntax.now known.entry.rounds.now known.entry.counts.now known.entry.restricted.now) (length known.entry.syntax.now)) }
+{
     for n in 0..known.syntax.tree().len() {
-        asked.starts.push(asked.demands.len())?;
-        push_node(known, types, unchanged, &mut asked.demands, n)?;
+        starts.push(demands.len())?;
+        push_node(known, types, unchanged, demands, n)?;
     }
     Ok(())
 }
 
 /// What the nodes of the tree ask. The only error is that memory runs out.
-pub fn asked_of(known: Known<'_>, types: &mut TypeArena) -> Result<Asked, Memory> {
-    let mut asked = Asked {
-        demands: Vec::new(known.alloc),
-        starts: Vec::new(known.alloc),
-    };
+pub fn asked_of(known: Known<'_>, types: &mut TypeArena) -> Result<Asked, Memory>
+    ensures starts { IfOk result (λ asked. asked.starts.items ≡ starts_to (demands_at known.entry.syntax.now known.entry.rounds.now known.entry.counts.now known.entry.restricted.now) (length known.entry.syntax.now)) }
+    ensures demands { IfOk result (λ asked. map untyped asked.demands.items ≡ demands_to (demands_at known.entry.syntax.now known.entry.rounds.now known.entry.counts.now known.entry.restricted.now) (length known.entry.syntax.now)) }
+{
+    let mut starts = Vec::new(known.alloc);
+    let mut demands = Vec::new(known.alloc);
     let mut unchanged = Unchanged::new(known.alloc);
-    push_all(known, types, &mut unchanged, &mut asked)?;
-    Ok(asked)
+    push_all(known, types, &mut unchanged, &mut starts, &mut demands)?;
+    Ok(Asked { demands, starts })
 }

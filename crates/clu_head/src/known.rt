@@ -1,14 +1,18 @@
 //! What heads are made from.
 
-ghost use Rattle.std.specs.Prelude.{◌≡◌, ◌<◌, ℕ, IsTrue, length, slice_get};
+ghost use Rattle.std.specs.Prelude.{◌≡◌, ◌<◌, ℕ, IsTrue, IfOk, Some, length, slice_get};
 ghost use Rattle.clu_syntax.specs.Kinds.{kind_at};
 ghost use Rattle.clu_syntax.specs.Splits.{is_of};
 ghost use Rattle.clu_syntax.specs.Items.{Item};
 ghost use Rattle.clu_syntax.specs.Nodes.{item_at};
 ghost use Rattle.clu_syntax.specs.Views.{type_told};
+ghost use Rattle.clu_types.specs.Arena.{Grows};
 ghost use Rattle.clu_settle.specs.Lists.{type_id, value_of};
 ghost use Rattle.clu_head.specs.There.{is_there};
-ghost use Rattle.clu_head.specs.Seen.{is_cvt, is_cvt_word, seen_type};
+ghost use Rattle.clu_head.specs.Seen.{is_cvt, is_cvt_word};
+ghost use Rattle.clu_head.specs.Outside.{type_outside};
+ghost use Rattle.clu_head.specs.Terms.{IsNumbered};
+ghost use Rattle.clu_head.specs.OwnTypes.{number_at};
 
 use crate::restricted::Restricted;
 use clu_base::Memory;
@@ -33,7 +37,8 @@ pub struct Known<'a> {
     pub counts: &'a [u32],
 }
 
-fn is_of(kind: NodeKind, other: NodeKind) -> bool
+/// Whether the second kind is the first.
+pub fn is_of(kind: NodeKind, other: NodeKind) -> bool
     ensures same { result ≡ is_of kind other }
     ensures kind { IsTrue result → other ≡ kind }
 {
@@ -76,9 +81,13 @@ fn is_cvt_type(of: TypeExpression<'_>) -> bool
 
 /// Whether the word `cvt` stands at the node n.
 fn is_cvt(syntax: &Syntax, n: u32) -> bool
-    ensures { n < length syntax.now → result ≡ is_cvt (item_at syntax.now n).type }
+    ensures { result ≡ is_cvt (item_at syntax.now n).type }
 {
-    n < syntax.tree().len() && is_cvt_type(syntax.type_expression(n))
+    if n < syntax.tree().len() {
+        is_cvt_type(syntax.type_expression(n))
+    } else {
+        false
+    }
 }
 
 /// The type that a value is, if it is one that is known.
@@ -102,7 +111,10 @@ pub fn value_of(values: &[Value], n: u32) -> Value
 }
 
 /// The number of a type, if its parts are of the arena.
-pub fn interned(types: &mut TypeArena, term: Term) -> Result<Option<TypeId>, Memory> {
+pub fn interned(types: &mut TypeArena, term: Term) -> Result<Option<TypeId>, Memory>
+    ensures numbered { IfOk result (λ found. IsNumbered types.old types.new (Some term) found) }
+    ensures kept { Grows types.old types.new }
+{
     if types.holds(&term) {
         Ok(Some(types.intern(term)?))
     } else {
@@ -111,7 +123,9 @@ pub fn interned(types: &mut TypeArena, term: Term) -> Result<Option<TypeId>, Mem
 }
 
 /// The number of the parameter at a place among those of its module.
-pub fn number_at(place: usize) -> u32 {
+pub fn number_at(place: usize) -> u32
+    ensures { result ≡ number_at place }
+{
     if place < 0xffff_ffff {
         place as u32 + 1
     } else {
@@ -120,8 +134,9 @@ pub fn number_at(place: usize) -> u32 {
 }
 
 /// The type at the node n as callers see it, where `cvt` stands for the cluster round it, if there is one. None if it is lost.
+#[tactic(auto, unfolding(crate::specs::Outside::type_outside))]
 pub fn type_outside(known: Known<'_>, own: Option<TypeId>, n: u32) -> Option<TypeId>
-    ensures { n < length known.entry.syntax.now → result ≡ seen_type own (item_at known.entry.syntax.now n).type (value_of known.entry.values.now n) }
+    ensures { result ≡ type_outside own known.entry.syntax.now known.entry.values.now n }
 {
     if is_cvt(known.syntax, n) {
         own

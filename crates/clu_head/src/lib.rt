@@ -13,6 +13,7 @@ mod known;
 mod listed;
 mod lists;
 mod parameter_kinds;
+mod parts;
 mod refusals;
 mod restricted;
 mod routines;

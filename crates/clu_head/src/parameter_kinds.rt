@@ -1,13 +1,18 @@
 //! The kinds of the parameters of modules, and a module's type with its own parameters.
 
-ghost use Rattle.std.specs.Prelude.{◌≡◌};
-ghost use Rattle.clu_head.specs.ParameterKinds.{kind_of_term, kind_of_type};
+ghost use Rattle.std.specs.Prelude.{◌≡◌, ◌++◌, IfOk, OnOk, slice_get};
+ghost use Rattle.clu_syntax.specs.Kinds.{is_type, kind_at};
+ghost use Rattle.clu_syntax.specs.Splits.{type_of};
+ghost use Rattle.clu_types.specs.Arena.{Grows};
+ghost use Rattle.clu_head.specs.Outside.{times};
+ghost use Rattle.clu_head.specs.OwnTypes.{is_type_parameter, IsOwnActual, AreOwn, IsOwnType};
+ghost use Rattle.clu_head.specs.ParameterKinds.{kind_of_term, kind_of_type, kind_declared, kinds_in, kinds_at, kinds_of};
 
-use crate::known::{interned, is_at, number_at, type_in, value_of};
+use crate::known::{interned, is_of, number_at, type_in, value_of};
 use clu_base::{Bytes, Memory, Sequence};
 use clu_settle::Value;
-use clu_syntax::Syntax;
-use clu_tree::NodeKind;
+use clu_syntax::{Syntax, is_type};
+use clu_tree::{Node, NodeKind, Tree};
 use clu_types::{Actual, ParamKind, Term, TypeArena, TypeId};
 use std::alloc::Global;
 
@@ -42,43 +47,105 @@ pub fn kind_of_type(types: &TypeArena, of: Option<TypeId>) -> Option<ParamKind>
 }
 
 /// The kind of a parameter that is declared with the type at a node, if it is no type parameter.
-fn kind_of_parameter(
-    types: &TypeArena,
-    values: &[Value],
-    declared: Option<u32>,
-) -> Option<ParamKind> {
+fn kind_declared(types: &TypeArena, values: &[Value], declared: Option<u32>) -> Option<ParamKind>
+    ensures { result ≡ kind_declared types.now values.now declared }
+{
     match declared {
         Some(n) => kind_of_type(types, type_in(value_of(values, n))),
         None => Some(ParamKind::OfType),
     }
 }
 
+/// Appends the kind, once for each name.
 fn push_times(
     kinds: &mut Vec<Option<ParamKind>>,
-    names: &[Bytes],
+    mut names: &[Bytes],
     kind: Option<ParamKind>,
-) -> Result<(), Memory> {
-    for _ in names {
+) -> Result<(), Memory>
+    ensures { OnOk result (kinds.new.items ≡ kinds.old.items ++ times kind names.entry.now) }
+{
+    while let [_, more @ ..] = names {
         kinds.push(kind)?;
+        names = more;
     }
     Ok(())
 }
 
-/// Appends those of the Parm n.
+/// Whether a type stands at the node n.
+fn is_type_at(tree: &Tree, n: u32) -> bool
+    ensures { result ≡ is_type (kind_at tree.now n) }
+{
+    if n < tree.len() {
+        is_type(tree.node(n).kind)
+    } else {
+        false
+    }
+}
+
+/// The first of these nodes, if it is a type.
+fn type_of(tree: &Tree, nodes: &[u32]) -> Option<u32>
+    ensures { result ≡ type_of tree.now nodes.now }
+{
+    match nodes {
+        [] => None,
+        [n, ..] => { if is_type_at(tree, *n) { Some(*n) } else { None } }
+    }
+}
+
+/// Appends those of a node, if it is a Parm.
+fn push_kinds_of(
+    tree: &Tree,
+    types: &TypeArena,
+    values: &[Value],
+    kinds: &mut Vec<Option<ParamKind>>,
+    node: &Node,
+) -> Result<(), Memory>
+    ensures { OnOk result (kinds.new.items ≡ kinds.old.items ++ kinds_in types.now values.now tree.now node.now) }
+{
+    if is_of(NodeKind::Parm, node.kind) {
+        let declared = type_of(tree, node.children.as_slice());
+        push_times(
+            kinds,
+            node.names.as_slice(),
+            kind_declared(types, values, declared),
+        )
+    } else {
+        Ok(())
+    }
+}
+
+/// The same of the node n.
 fn push_kinds(
-    syntax: &Syntax,
+    tree: &Tree,
     types: &TypeArena,
     values: &[Value],
     kinds: &mut Vec<Option<ParamKind>>,
     n: u32,
-) -> Result<(), Memory> {
-    if is_at(syntax.tree(), n, NodeKind::Parm) {
-        let parameter = syntax.parameter(n);
-        let kind = kind_of_parameter(types, values, parameter.declared);
-        push_times(kinds, parameter.names, kind)
+) -> Result<(), Memory>
+    ensures { OnOk result (kinds.new.items ≡ kinds.old.items ++ kinds_at types.now values.now tree.now (slice_get tree.now n)) }
+{
+    if n < tree.len() {
+        push_kinds_of(tree, types, values, kinds, tree.node(n))
     } else {
         Ok(())
     }
+}
+
+#[tactic(auto, unfolding(crate::specs::ParameterKinds::kinds_of))]
+fn push_all_kinds(
+    tree: &Tree,
+    types: &TypeArena,
+    values: &[Value],
+    kinds: &mut Vec<Option<ParamKind>>,
+    mut parameters: &[u32],
+) -> Result<(), Memory>
+    ensures { OnOk result (kinds.new.items ≡ kinds.old.items ++ kinds_of types.now values.now tree.now parameters.entry.now) }
+{
+    while let [n, more @ ..] = parameters {
+        push_kinds(tree, types, values, kinds, *n)?;
+        parameters = more;
+    }
+    Ok(())
 }
 
 /// The kinds of actuals for the parameters of these Parms, by the values of the nodes of their tree; None for a parameter that
@@ -89,15 +156,17 @@ pub fn kinds(
     types: &TypeArena,
     values: &[Value],
     parameters: &[u32],
-) -> Result<Sequence<Option<ParamKind>>, Memory> {
+) -> Result<Sequence<Option<ParamKind>>, Memory>
+    ensures { IfOk result (λ kinds. kinds ≡ kinds_of types.now values.now syntax.now parameters.now) }
+{
     let mut kinds = Vec::new(alloc);
-    for n in parameters {
-        push_kinds(syntax, types, values, &mut kinds, *n)?;
-    }
+    push_all_kinds(syntax.tree(), types, values, &mut kinds, parameters)?;
     Ok(Sequence::from_vec(kinds))
 }
 
-fn is_type(kind: Option<ParamKind>) -> bool {
+fn is_type_parameter(kind: Option<ParamKind>) -> bool
+    ensures { result ≡ is_type_parameter kind }
+{
     match kind {
         Some(ParamKind::OfType) => true,
         _ => false,
@@ -105,26 +174,16 @@ fn is_type(kind: Option<ParamKind>) -> bool {
 }
 
 /// The parameter of this kind and number as an actual for itself.
-fn own_actual(
-    types: &mut TypeArena,
-    kind: Option<ParamKind>,
-    number: u32,
-) -> Result<Actual, Memory> {
-    if is_type(kind) {
+#[tactic(auto, using(crate::proofs::Owning::own_type_parameter, crate::proofs::Owning::own_constant))]
+fn own_actual(types: &mut TypeArena, kind: Option<ParamKind>, number: u32) -> Result<Actual, Memory>
+    ensures own { IfOk result (λ a. IsOwnActual types.new kind number a) }
+    ensures kept { Grows types.old types.new }
+{
+    if is_type_parameter(kind) {
         Ok(Actual::Of(types.intern(Term::Param(number))?))
     } else {
         Ok(Actual::ConstParam(number))
     }
-}
-
-fn push_own(
-    types: &mut TypeArena,
-    actuals: &mut Vec<Actual>,
-    kind: Option<ParamKind>,
-) -> Result<(), Memory> {
-    let own = own_actual(types, kind, number_at(actuals.len()))?;
-    actuals.push(own)?;
-    Ok(())
 }
 
 /// Parameters of these kinds as actuals for themselves.
@@ -132,10 +191,14 @@ fn own_actuals(
     alloc: Global,
     types: &mut TypeArena,
     kinds: &[Option<ParamKind>],
-) -> Result<Sequence<Actual>, Memory> {
+) -> Result<Sequence<Actual>, Memory>
+    ensures own { IfOk result (λ actuals. AreOwn types.new 0 kinds.now actuals) }
+    ensures kept { Grows types.old types.new }
+{
     let mut actuals = Vec::new(alloc);
     for kind in kinds {
-        push_own(types, &mut actuals, *kind)?;
+        let own = own_actual(types, *kind, number_at(actuals.len()))?;
+        actuals.push(own)?;
     }
     Ok(Sequence::from_vec(actuals))
 }
@@ -147,8 +210,12 @@ pub fn own_type(
     types: &mut TypeArena,
     name: &Bytes,
     kinds: &[Option<ParamKind>],
-) -> Result<Option<TypeId>, Memory> {
+) -> Result<Option<TypeId>, Memory>
+    ensures own { IfOk result (λ found. IsOwnType types.new name.now kinds.now found) }
+    ensures kept { Grows types.old types.new }
+{
     let actuals = own_actuals(alloc, types, kinds)?;
     let name = name.copy(alloc)?;
-    interned(types, Term::Cluster(name, actuals))
+    let found = interned(types, Term::Cluster(name, actuals))?;
+    Ok(found)
 }

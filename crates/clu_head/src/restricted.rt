@@ -1,7 +1,8 @@
 //! What each restriction of a where clause restricts: a type parameter, and by which type set, if it names one.
 
-ghost use Rattle.std.specs.Prelude.{◌≡◌, ◌<◌, length};
+ghost use Rattle.std.specs.Prelude.{◌≡◌, ◌<◌, length, slice_get};
 ghost use Rattle.clu_names.specs.Denotes.{bound_to, starts_to};
+ghost use Rattle.clu_head.specs.Asking.{restricted_in};
 
 use crate::bounds::{first_bound, second_bound};
 use crate::known::is_at;
@@ -125,7 +126,9 @@ pub fn restricted_of(
 }
 
 /// What is restricted at the node n.
-pub fn restricted_in(restricted: &[Restricted], n: u32) -> Restricted {
+pub fn restricted_in(restricted: &[Restricted], n: u32) -> Restricted
+    ensures { result ≡ restricted_in (slice_get restricted.now n) }
+{
     match restricted.get(n as usize) {
         Some(one) => *one,
         None => Restricted {

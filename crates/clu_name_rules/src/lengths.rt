@@ -5,9 +5,11 @@ ghost use Rattle.std.specs.Prelude.{◌≡◌, IfOk, map, nat_lt};
 ghost use Rattle.clu_name_rules.specs.Lengths.{with_more, digits_in, integer_length, constant_length, length_of, with_type, types_length, with_field, fields_length, with_signal, signals_length, heading_length, actual_length, with_actual, actuals_length, term_length, lengths_of};
 
 use clu_base::{Const, Memory};
-use clu_fold::LONGEST_TEXT;
 use clu_types::{Actual, Exception, Field, Heading, Term, TypeArena, TypeId};
 use std::alloc::Global;
+
+/// The longest text that an equated value may have, in bytes.
+const LONGEST_TEXT: u64 = 65_536;
 
 // ---- constants
 

@@ -1,1 +1,13 @@
 pub mod Ascending
+pub mod Bundling
+pub mod Naming
+pub mod Asks
+pub mod Pushing
+pub mod Founds
+pub mod Showing
+pub mod Keeping
+pub mod Wishing
+pub mod InPlace
+pub mod Narrowing
+pub mod Needs
+pub mod Selecting

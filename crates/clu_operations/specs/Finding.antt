@@ -1,5 +1,5 @@
--- What was found, by its place.
-use Rattle.std.specs.Prelude.{◌≡◌, ℕ, List, [], ◌∷◌, ◌++◌, length, slice_get, Option, Some, None}
+-- What was found, by its place, and what it keeps while more is found.
+use Rattle.std.specs.Prelude.{◌≡◌, ℕ, ◌<◌, ◌≤◌, List, [], ◌∷◌, ◌++◌, length, slice_get, IfSome, Option, Some, None}
 use Rattle.clu_types.specs.declared.term.TypeId.{TypeId}
 use Rattle.clu_bindings.specs.Tables.{between}
 use Rattle.clu_operations.specs.declared.found.Asked.{Asked}
@@ -29,3 +29,41 @@ pub record IsOneMore (old new : Finding) (of : Option TypeId) (from : ℕ) (id :
   pub wished : new.wished ≡ old.wished
   pub given : new.given ≡ old.given
   pub shown : new.shown ≡ old.shown
+
+-- ---- numbers that are there: of so many types, names and things that are asked
+
+abbrev pub IsBelowIf : ℕ → Option TypeId → Type 0
+IsBelowIf types of = IfSome of (λ id. id.0 < types)
+
+abbrev pub IsAskedBelow : ℕ → ℕ → Asked → Type 0
+IsAskedBelow types names a = (a.of.0 < types) × (a.wanted.0 < types) × (a.operation.0 < names)
+
+abbrev pub AreAskedBelow : ℕ → ℕ → List Asked → Type 0
+AreAskedBelow types names [] = Unit {0}
+AreAskedBelow types names (a ∷ asked) = IsAskedBelow types names a × AreAskedBelow types names asked
+
+abbrev pub IsFoundBelow : ℕ → ℕ → Found → Type 0
+IsFoundBelow types asked found = IsBelowIf types found.of × (found.to ≤ asked)
+
+abbrev pub AreFoundBelow : ℕ → ℕ → List Found → Type 0
+AreFoundBelow types asked [] = Unit {0}
+AreFoundBelow types asked (found ∷ founds) = IsFoundBelow types asked found × AreFoundBelow types asked founds
+
+-- all numbers are there, where there are so many types
+pub record AreWithin (types : ℕ) (finding : Finding) : Type 0 where
+  pub founds : AreFoundBelow types (length finding.asked.items) finding.founds.items
+  pub asked : AreAskedBelow types (length finding.words) finding.asked.items
+
+-- ---- more is found
+
+module _ {A : Type 0} where
+  -- the items stay, and more may have come after them
+  abbrev pub Extends : List A → List A → Type 0
+  Extends old new = (more : List A) × (new ≡ old ++ more)
+
+-- what was found stays
+pub record Follows (old new : Finding) : Type 0 where
+  pub words : Extends old.words new.words
+  pub founds : Extends old.founds.items new.founds.items
+  pub asked : Extends old.asked.items new.asked.items
+  pub given : new.given ≡ old.given

@@ -1,10 +1,14 @@
+pub mod Asked
 pub mod Asking
 pub mod Builtins
 pub mod Bundles
 pub mod ByName
 pub mod Clauses
 pub mod Finding
+pub mod Found
 pub mod Modules
 pub mod Operations
 pub mod Shapes
+pub mod Told
+pub mod Wished
 pub mod Words

@@ -1,5 +1,5 @@
 -- The parts of modules: a module itself, and the routines of a cluster by their places.
-use Rattle.std.specs.Prelude.{◌≡◌, ◌||◌, Bool, ℕ, ◌-◌, nat_lt, List, [], slice_get, if◌then◌else◌, Option, Some, None}
+use Rattle.std.specs.Prelude.{◌≡◌, ◌<◌, ◌||◌, Bool, ℕ, ◌-◌, nat_lt, List, [], length, slice_get, if◌then◌else◌, Option, Some, None}
 use Rattle.std.specs.Option.{option_map}
 use Rattle.clu_types.specs.declared.term.TypeId.{TypeId}
 use Rattle.clu_types.specs.declared.spec.Demand.{Demand}
@@ -66,6 +66,16 @@ routine_named inside name routines = if_seen inside (first_named routine_name na
 abbrev pub IsNamed : Module → List ℕ → Bool → Option ℕ → Type 0
 IsNamed (own its) name inside place = AreAscending routine_name (routines_in its.form) → item_at (routines_in its.form) place ≡ routine_named inside name (routines_in its.form)
 IsNamed (kept its) name inside place = AreAscending operation_name (operations_in its.form) → item_at (operations_in its.form) place ≡ first_named operation_name name (operations_in its.form)
+
+-- so many operations of the library there are; a routine of the file is none where it is not there
+abbrev pub IsPlaceIn : Module → ℕ → Type 0
+IsPlaceIn (own its) place = Unit {0}
+IsPlaceIn (kept its) place = place < length (operations_in its.form)
+
+-- the names of routines ascend
+abbrev pub HasAscending : Module → Type 0
+HasAscending (own its) = AreAscending routine_name (routines_in its.form)
+HasAscending (kept its) = AreAscending operation_name (operations_in its.form)
 
 -- ---- a part of a module of the file: its type, none of a cluster, and what it asks
 

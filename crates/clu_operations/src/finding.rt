@@ -1,6 +1,6 @@
 //! What was found so far: operations of types and modules with actual parameters, each once.
 
-ghost use Rattle.std.specs.Prelude.{◌≡◌, IfOk};
+ghost use Rattle.std.specs.Prelude.{◌≡◌, length, IfOk};
 ghost use Rattle.clu_operations.specs.Finding.{found_at, asked_by, IsOneMore};
 ghost use Rattle.clu_operations.specs.Words.{named};
 
@@ -61,6 +61,13 @@ impl Finding {
         let found = self.found(id);
         let asked = self.asked.as_slice().get(found.from..found.to);
         asked.unwrap_or(&[])
+    }
+
+    /// How much is asked so far.
+    pub fn asked_count(&self) -> usize
+        ensures { result ≡ length self.now.asked.items }
+    {
+        self.asked.as_slice().len()
     }
 
     /// The number of a name, if it is kept.

@@ -5,6 +5,7 @@
 mod asking;
 mod builtins;
 mod bundles;
+mod callees;
 mod clauses;
 mod finding;
 mod found;

@@ -1,8 +1,8 @@
 //! The parts of modules: a module itself, and the routines of a cluster.
 
-ghost use Rattle.std.specs.Prelude.{◌≡◌, true, false, option_copied, option_map, slice_get};
+ghost use Rattle.std.specs.Prelude.{◌≡◌, ◌<◌, true, false, length, option_copied, option_map, slice_get, IfSome};
 ghost use Rattle.std.specs.List.Sorted.{IsPartitionPoint};
-ghost use Rattle.clu_operations.specs.Modules.{module_seen, known_of, routines_in, operations_in, routine_name, operation_name, if_seen, routine_named, IsNamed, part_seen, of_routine, whole, own_part, operation_at, kept_routine, cluster_demands, kept_demands};
+ghost use Rattle.clu_operations.specs.Modules.{module_seen, known_of, routines_in, operations_in, routine_name, operation_name, if_seen, routine_named, IsNamed, IsPlaceIn, part_seen, of_routine, whole, own_part, operation_at, kept_routine, cluster_demands, kept_demands};
 ghost use Rattle.clu_operations.specs.ByName.{AreAscending, is_below, if_named, first_named, item_at};
 
 use clu_base::Bytes;
@@ -99,7 +99,8 @@ fn place_among_kept(operations: &[OpSpec], name: &Bytes) -> usize
 }
 
 fn kept_if_named(operations: &[OpSpec], place: usize, name: &Bytes) -> Option<usize>
-    ensures { item_at operations.now result ≡ if_named operation_name name.now (slice_get operations.now place) }
+    ensures named { item_at operations.now result ≡ if_named operation_name name.now (slice_get operations.now place) }
+    ensures there { IfSome result (λ found. found < length operations.now) }
 {
     if operations.get(place)?.name == *name {
         Some(place)
@@ -110,14 +111,16 @@ fn kept_if_named(operations: &[OpSpec], place: usize, name: &Bytes) -> Option<us
 
 /// The place of the operation of this name in a cluster of the library, of which only those that are exported are known.
 fn kept_named(operations: &[OpSpec], name: &Bytes) -> Option<usize>
-    ensures { AreAscending operation_name operations.now → item_at operations.now result ≡ first_named operation_name name.now operations.now }
+    ensures named { AreAscending operation_name operations.now → item_at operations.now result ≡ first_named operation_name name.now operations.now }
+    ensures there { IfSome result (λ place. place < length operations.now) }
 {
     kept_if_named(operations, place_among_kept(operations, name), name)
 }
 
 /// The place of the routine of this name in a cluster, if it is exported or seen from inside.
 pub fn part_named(known: Known<'_>, name: &Bytes, inside: bool) -> Option<usize>
-    ensures { IsNamed (module_seen known.entry) name.now inside result }
+    ensures named { IsNamed (module_seen known.entry) name.now inside result }
+    ensures there { IfSome result (IsPlaceIn (module_seen known.entry)) }
 {
     match known {
         Known::Own(head) => own_named(routines_in(&head.form), name, inside),

@@ -1,29 +1,61 @@
 //! The operations that types have at a node, and modules with actual parameters, each found once.
 
-ghost use Rattle.std.specs.Prelude.{◌≡◌, option_copied, IfOk};
+ghost use Rattle.std.specs.Prelude.{◌≡◌, List, length, option_copied, option_map, option_and_then, IfOk, IfSome, OnOk, Some};
+ghost use Rattle.clu_types.specs.CluType.{CluType, Actuals};
+ghost use Rattle.clu_types.specs.Arena.{type_at, types_of, actuals_at, ActualsBelow, Grows};
+ghost use Rattle.clu_operations.specs.Found.{Finds, ModuleBelow, IsModuleShown, ModuleShowsMore};
+ghost use Rattle.clu_operations.specs.Modules.{module_seen, HasAscending};
 ghost use Rattle.clu_operations.specs.Operations.{instance_at, name_round, is_inside};
+ghost use Rattle.clu_operations.specs.Told.{module_told};
+ghost use Rattle.clu_operations.specs.Wished.{cluster_given, told_in, told_by, told_of, AreReady};
 
 use crate::builtins::builtin_found;
+use crate::callees::{Callee, part_found};
 use crate::clauses::given;
 use crate::finding::Finding;
 use crate::found::{FoundId, View, Wished};
 use crate::modules::{Known, Part, known_of, part_named};
-use crate::parts::{Callee, part_found};
 use crate::shapes::{Shape, cluster_name, shape_of};
 use crate::words::NameId;
-use clu_base::{Bytes, Memory};
+use clu_base::{Bytes, Memory, Sequence};
 use clu_bindings::{Headed, ModuleId};
 use clu_demands::{Instance, instance_of};
-use clu_types::{TypeArena, TypeId};
+use clu_types::{Actual, TypeArena, TypeId};
 use std::alloc::Global;
 
 fn instance(alloc: Global, types: &TypeArena, of: TypeId) -> Result<Option<Instance>, Memory>
-    ensures { IfOk result (λ found. found ≡ instance_at types.now of) }
+    ensures found { IfOk result (λ found. found ≡ instance_at types.now of) }
+    ensures given { IfOk result (λ found. option_map (λ its. actuals_at (types_of types.now) its.actuals) found ≡ cluster_given (type_at (types_of types.now) of)) }
+    ensures within { IfOk result (λ found. IfSome found (λ its. ActualsBelow (length types.now) its.actuals)) }
 {
     if types.contains(of) {
         instance_of(alloc, types.view(of))
     } else {
         Ok(None)
+    }
+}
+
+/// The routine of this name.
+fn routine_part(known: Known<'_>, name: &Bytes, inside: bool) -> Option<Part>
+    ensures { HasAscending (module_seen known.entry) → (types : List CluType) (given : Actuals) → option_and_then (module_told types given (module_seen known.entry)) result ≡ told_in types inside (module_seen known.entry) (Some name.now) given }
+{
+    match part_named(known, name, inside) {
+        Some(place) => Some(Part::Routine(place)),
+        None => None,
+    }
+}
+
+fn part_numbered(
+    finding: &Finding,
+    known: Known<'_>,
+    operation: NameId,
+    inside: bool,
+) -> Option<Part>
+    ensures { HasAscending (module_seen known.entry) → (types : List CluType) (given : Actuals) → option_and_then (module_told types given (module_seen known.entry)) result ≡ told_by types inside (module_seen known.entry) finding.now.words (Some operation) given }
+{
+    match finding.words.name(operation) {
+        Some(name) => routine_part(known, name, inside),
+        None => None,
     }
 }
 
@@ -33,13 +65,72 @@ fn part_of(
     known: Known<'_>,
     operation: Option<NameId>,
     inside: bool,
-) -> Option<Part> {
+) -> Option<Part>
+    ensures { HasAscending (module_seen known.entry) → (types : List CluType) (given : Actuals) → option_and_then (module_told types given (module_seen known.entry)) result ≡ told_by types inside (module_seen known.entry) finding.now.words operation given }
+{
     match operation {
-        Some(operation) => {
-            let name = finding.words.name(operation)?;
-            Some(Part::Routine(part_named(known, name, inside)?))
-        }
+        Some(operation) => part_numbered(finding, known, operation, inside),
         None => Some(Part::Itself),
+    }
+}
+
+fn instance_found(
+    alloc: Global,
+    types: &mut TypeArena,
+    finding: &mut Finding,
+    id: ModuleId,
+    part: Part,
+    actuals: &Sequence<Actual>,
+    known: Known<'_>,
+) -> Result<Option<FoundId>, Memory>
+    ensures found { ModuleBelow (length types.old) (module_seen known.entry) → IsModuleShown (types_of types.old) finding.old id (module_seen known.entry) → ActualsBelow (length types.old) actuals.now → IfOk result (Finds (length types.old) types.new finding.old finding.new (module_told (types_of types.old) (actuals_at (types_of types.old) actuals.now) (module_seen known.entry) part)) }
+    ensures shown { ModuleBelow (length types.old) (module_seen known.entry) → IsModuleShown (types_of types.old) finding.old id (module_seen known.entry) → ActualsBelow (length types.old) actuals.now → OnOk result (ModuleShowsMore (types_of types.old) finding.old finding.new id (module_seen known.entry)) }
+    ensures kept { Grows types.old types.new }
+{
+    let actuals = actuals.as_slice();
+    let callee = Callee { id, part, actuals };
+    part_found(alloc, types, finding, callee, known)
+}
+
+/// A part of a module with the actual parameters of a type.
+fn find_part(
+    alloc: Global,
+    types: &mut TypeArena,
+    finding: &mut Finding,
+    id: ModuleId,
+    known: Known<'_>,
+    part: Part,
+    of: TypeId,
+) -> Result<Option<FoundId>, Memory>
+    ensures found { ModuleBelow (length types.old) (module_seen known.entry) → IsModuleShown (types_of types.old) finding.old id (module_seen known.entry) → IfOk result (Finds (length types.old) types.new finding.old finding.new (option_and_then (λ given. module_told (types_of types.old) given (module_seen known.entry) part) (cluster_given (type_at (types_of types.old) of)))) }
+    ensures shown { ModuleBelow (length types.old) (module_seen known.entry) → IsModuleShown (types_of types.old) finding.old id (module_seen known.entry) → OnOk result (ModuleShowsMore (types_of types.old) finding.old finding.new id (module_seen known.entry)) }
+    ensures kept { Grows types.old types.new }
+{
+    let instance = instance(alloc, types, of)?;
+    match instance {
+        Some(instance) => {
+            instance_found(alloc, types, finding, id, part, &instance.actuals, known)
+        }
+        None => Ok(None),
+    }
+}
+
+fn find_known(
+    alloc: Global,
+    types: &mut TypeArena,
+    finding: &mut Finding,
+    id: ModuleId,
+    known: Known<'_>,
+    inside: bool,
+    wished: Wished,
+) -> Result<Option<FoundId>, Memory>
+    ensures found { HasAscending (module_seen known.entry) → ModuleBelow (length types.old) (module_seen known.entry) → IsModuleShown (types_of types.old) finding.old id (module_seen known.entry) → IfOk result (Finds (length types.old) types.new finding.old finding.new (option_and_then (told_by (types_of types.old) inside (module_seen known.entry) finding.old.words wished.operation) (cluster_given (type_at (types_of types.old) wished.of)))) }
+    ensures shown { HasAscending (module_seen known.entry) → ModuleBelow (length types.old) (module_seen known.entry) → IsModuleShown (types_of types.old) finding.old id (module_seen known.entry) → OnOk result (ModuleShowsMore (types_of types.old) finding.old finding.new id (module_seen known.entry)) }
+    ensures kept { Grows types.old types.new }
+{
+    match part_of(finding, known, wished.operation, inside) {
+        Some(part) => find_part(alloc, types, finding, id, known, part, wished.of),
+        None => Ok(None),
     }
 }
 
@@ -47,26 +138,18 @@ fn find_in(
     headed: Headed<'_>,
     types: &mut TypeArena,
     finding: &mut Finding,
-    module: ModuleId,
+    id: ModuleId,
     inside: bool,
     wished: Wished,
-) -> Result<Option<FoundId>, Memory> {
-    let alloc = headed.file.alloc;
-    let Some(known) = known_of(headed, module) else {
-        return Ok(None);
-    };
-    let Some(part) = part_of(finding, known, wished.operation, inside) else {
-        return Ok(None);
-    };
-    let Some(instance) = instance(alloc, types, wished.of)? else {
-        return Ok(None);
-    };
-    let callee = Callee {
-        module,
-        part,
-        actuals: instance.actuals.as_slice(),
-    };
-    part_found(alloc, types, finding, callee, known)
+) -> Result<Option<FoundId>, Memory>
+    ensures found { AreReady headed.entry types.old finding.old → IfOk result (Finds (length types.old) types.new finding.old finding.new (told_of headed.entry (types_of types.old) finding.old.words id inside wished)) }
+    ensures ready { AreReady headed.entry types.old finding.old → OnOk result (AreReady headed.entry types.new finding.new) }
+    ensures kept { Grows types.old types.new }
+{
+    match known_of(headed, id) {
+        Some(known) => find_known(headed.file.alloc, types, finding, id, known, inside, wished),
+        None => Ok(None),
+    }
 }
 
 fn find(
@@ -80,8 +163,8 @@ fn find(
             Some(name) => builtin_found(headed.file.alloc, types, finding, wished.of, name),
             None => Ok(None),
         },
-        View::Inside(module) => find_in(headed, types, finding, module, true, wished),
-        View::Outside(module) => find_in(headed, types, finding, module, false, wished),
+        View::Inside(id) => find_in(headed, types, finding, id, true, wished),
+        View::Outside(id) => find_in(headed, types, finding, id, false, wished),
     }
 }
 

@@ -1,47 +1,56 @@
 //! The parts of modules with actual parameters put in: their types, and what they ask.
 
+ghost use Rattle.std.specs.Prelude.{◌≡◌, ◌<◌, List, length, flat_map, option_map, slice_get, IfOk, OnOk, Option, Some};
+ghost use Rattle.clu_types.specs.CluType.{CluType, CluTypes};
+ghost use Rattle.clu_types.specs.Arena.{type_at, types_of, actuals_at, ActualsBelow, Grows};
+ghost use Rattle.clu_types.specs.Substituted.{substituted, type_put};
+ghost use Rattle.clu_types.specs.declared.term.TypeId.{TypeId};
+ghost use Rattle.clu_specs.specs.Specifications.{DemandsBelow, OpBelow, SpecHolds};
+ghost use Rattle.clu_demands.specs.Meeting.{op_type};
+ghost use Rattle.clu_operations.specs.Asked.{AsksMore};
+ghost use Rattle.clu_operations.specs.Bundles.{bundle_type, nth_type, unless_refused, IsPut};
+ghost use Rattle.clu_operations.specs.Finding.{IsBelowIf};
+ghost use Rattle.clu_operations.specs.Found.{Finds};
+ghost use Rattle.clu_operations.specs.Modules.{Shows, part_seen, kept_routine};
+ghost use Rattle.clu_operations.specs.Told.{asked_of, demand_told, part_told, kept_demand_told, kept_told};
+
 use crate::asking::push_asked;
-use crate::bundles::{bundled, part_bundle, put_in, shown_by};
+use crate::bundles::{bundled, put_in};
 use crate::finding::Finding;
 use crate::found::FoundId;
-use crate::modules::{Known, OwnPart, Part, kept_demands, kept_routine, own_part};
+use crate::modules::{OwnPart, Part, kept_demands, kept_routine};
 use clu_base::{Bytes, Memory};
-use clu_bindings::ModuleId;
 use clu_demands::{carried_type, is_whole_op, type_actual};
-use clu_head::{Demanded, Head};
-use clu_types::{Actual, Demand, Spec, Term, TypeArena, TypeId};
+use clu_head::Demanded;
+use clu_types::{Actual, Demand, OpSpec, Spec, Term, TypeArena, TypeId};
 use std::alloc::Global;
 
-/// A part of a module, with actual parameters.
-#[derive(Clone, Copy)]
-pub struct Callee<'a> {
-    pub module: ModuleId,
-    pub part: Part,
-    pub actuals: &'a [Actual],
-}
-
 /// The type that is put in for a type parameter; it stays where no type is.
-fn put_of(types: &mut TypeArena, actuals: &[Actual], parameter: u32) -> Result<TypeId, Memory> {
+fn put_of(types: &mut TypeArena, actuals: &[Actual], parameter: u32) -> Result<TypeId, Memory>
+    ensures of_type { IfOk result (λ id. type_at (types_of types.new) id ≡ type_put (actuals_at (types_of types.old) actuals.now) parameter) }
+    ensures within { ActualsBelow (length types.old) actuals.now → IfOk result (λ id. id.0 < length types.new) }
+    ensures kept { Grows types.old types.new }
+{
     match type_actual(actuals, parameter) {
         Some(of) => Ok(of),
         None => types.intern(Term::Param(parameter)),
     }
 }
 
-/// Appends that an operation is asked of the type that is put in for a parameter; nothing, if the wanted type is refused.
-fn push_demand(
+/// Appends that an operation is asked of the type that is put in for a parameter.
+fn push_wanted(
     alloc: Global,
     types: &mut TypeArena,
     finding: &mut Finding,
     actuals: &[Actual],
     parameter: u32,
     operation: &Bytes,
-    wanted: Option<TypeId>,
+    wanted: TypeId,
     in_set: bool,
-) -> Result<(), Memory> {
-    let Some(wanted) = wanted else {
-        return Ok(());
-    };
+) -> Result<(), Memory>
+    ensures asks { ActualsBelow (length types.old) actuals.now → wanted.0 < length types.old → OnOk result (AsksMore types.new finding.old finding.new (asked_of (actuals_at (types_of types.old) actuals.now) parameter operation.now in_set (Some (type_at (types_of types.old) wanted)))) }
+    ensures kept { Grows types.old types.new }
+{
     let of = put_of(types, actuals, parameter)?;
     push_asked(
         alloc,
@@ -54,27 +63,37 @@ fn push_demand(
     )
 }
 
-// ---- modules of the file
-
-/// What such a part shows, as a bundle.
-fn shown_of(
+/// The same; nothing, if the wanted type is refused.
+fn push_demand(
     alloc: Global,
     types: &mut TypeArena,
     finding: &mut Finding,
-    callee: Callee<'_>,
-    head: &Head,
-    part: OwnPart<'_>,
-) -> Result<Option<TypeId>, Memory> {
-    if callee.actuals.is_empty() {
-        return Ok(Some(part_bundle(alloc, types, part)?));
+    actuals: &[Actual],
+    parameter: u32,
+    operation: &Bytes,
+    wanted: Option<TypeId>,
+    in_set: bool,
+) -> Result<(), Memory>
+    ensures asks { ActualsBelow (length types.old) actuals.now → IsBelowIf (length types.old) wanted → OnOk result (AsksMore types.new finding.old finding.new (asked_of (actuals_at (types_of types.old) actuals.now) parameter operation.now in_set (option_map (type_at (types_of types.old)) wanted))) }
+    ensures kept { Grows types.old types.new }
+{
+    match wanted {
+        Some(wanted) => push_wanted(
+            alloc, types, finding, actuals, parameter, operation, wanted, in_set,
+        ),
+        None => Ok(()),
     }
-    if !finding.shown.contains_key(&callee.module) {
-        let shown = shown_by(alloc, types, head)?;
-        finding.shown.insert(callee.module, shown)?;
-    }
-    match finding.shown.get(&callee.module) {
-        Some(shown) => shown.put(alloc, types, callee.part, callee.actuals),
-        None => Ok(None),
+}
+
+// ---- modules of the file
+
+fn bundled_if(types: &TypeArena, bundle: Option<TypeId>, at: usize) -> Option<TypeId>
+    ensures of_type { (all : CluTypes) → IsBelowIf (length types.now) bundle → option_map (type_at (types_of types.now)) bundle ≡ Some (bundle_type all) → option_map (type_at (types_of types.now)) result ≡ nth_type all at }
+    ensures within { IsBelowIf (length types.now) result }
+{
+    match bundle {
+        Some(bundle) => bundled(types, bundle, at),
+        None => None,
     }
 }
 
@@ -84,11 +103,40 @@ fn shown_at(
     bundle: Option<TypeId>,
     at: usize,
     of: Option<TypeId>,
-) -> Option<TypeId> {
+) -> Option<TypeId>
+    ensures of_type { (all : CluTypes) → IsBelowIf (length types.now) bundle → option_map (type_at (types_of types.now)) bundle ≡ Some (bundle_type all) → option_map (type_at (types_of types.now)) result ≡ unless_refused of (nth_type all at) }
+    ensures within { IsBelowIf (length types.now) result }
+{
     match of {
-        Some(_) => bundled(types, bundle?, at),
+        Some(_) => bundled_if(types, bundle, at),
         None => None,
     }
+}
+
+/// Appends what the demand at a place asks, of which the bundle has the wanted type.
+fn push_shown(
+    alloc: Global,
+    types: &mut TypeArena,
+    finding: &mut Finding,
+    actuals: &[Actual],
+    demand: &Demanded,
+    shown: Option<TypeId>,
+    at: usize,
+) -> Result<(), Memory>
+    ensures asks { (source : List CluType) (shows : Shows) → ActualsBelow (length types.old) actuals.now → IsPut types.old (actuals_at (types_of types.old) actuals.now) source shows shown → slice_get shows.demands at ≡ Some demand.now → OnOk result (AsksMore types.new finding.old finding.new (demand_told source (actuals_at (types_of types.old) actuals.now) demand.now)) }
+    ensures kept { Grows types.old types.new }
+{
+    let wanted = shown_at(types, shown, at, demand.wanted);
+    push_demand(
+        alloc,
+        types,
+        finding,
+        actuals,
+        demand.parameter,
+        &demand.operation,
+        wanted,
+        demand.in_set,
+    )
 }
 
 fn push_own(
@@ -98,86 +146,136 @@ fn push_own(
     actuals: &[Actual],
     demands: &[Demanded],
     shown: Option<TypeId>,
-) -> Result<(), Memory> {
+) -> Result<(), Memory>
+    ensures asks { (source : List CluType) (of : Option TypeId) → ActualsBelow (length types.old) actuals.now → IsPut types.old (actuals_at (types_of types.old) actuals.now) source (record { of = of; demands = demands.now }) shown → OnOk result (AsksMore types.new finding.old finding.new (flat_map (demand_told source (actuals_at (types_of types.old) actuals.now)) demands.now)) }
+    ensures kept { Grows types.old types.new }
+{
     for at in 0..demands.len() {
-        let Demanded {
-            parameter,
-            operation,
-            wanted,
-            in_set,
-            ..
-        } = &demands[at];
-        let wanted = shown_at(types, shown, at, *wanted);
-        push_demand(
-            alloc, types, finding, actuals, *parameter, operation, wanted, *in_set,
-        )?;
+        push_shown(alloc, types, finding, actuals, &demands[at], shown, at)?;
     }
     Ok(())
 }
 
-fn own_found(
+fn count_of(part: OwnPart<'_>) -> usize
+    ensures { result ≡ length (part_seen part.entry).demands }
+{
+    part.demands.len()
+}
+
+/// Keeps a part of a module of the file, of which the bundle has the types.
+pub fn keep_own(
     alloc: Global,
     types: &mut TypeArena,
     finding: &mut Finding,
-    callee: Callee<'_>,
-    head: &Head,
-) -> Result<Option<FoundId>, Memory> {
-    let Some(part) = own_part(&head.form, callee.part) else {
-        return Ok(None);
-    };
-    let shown = shown_of(alloc, types, finding, callee, head, part)?;
-    let from = finding.asked.len();
-    push_own(alloc, types, finding, callee.actuals, part.demands, shown)?;
-    let of = shown_at(types, shown, part.demands.len(), part.of);
-    Ok(Some(finding.keep(of, from)?))
+    actuals: &[Actual],
+    part: OwnPart<'_>,
+    shown: Option<TypeId>,
+) -> Result<FoundId, Memory>
+    ensures found { (source : List CluType) → ActualsBelow (length types.old) actuals.now → IsPut types.old (actuals_at (types_of types.old) actuals.now) source (part_seen part.entry) shown → IfOk result (λ id. Finds (length types.old) types.new finding.old finding.new (Some (part_told source (actuals_at (types_of types.old) actuals.now) (part_seen part.entry))) (Some id)) }
+    ensures shown { (source : List CluType) → ActualsBelow (length types.old) actuals.now → IsPut types.old (actuals_at (types_of types.old) actuals.now) source (part_seen part.entry) shown → OnOk result (finding.new.shown ≡ finding.old.shown) }
+    ensures kept { Grows types.old types.new }
+{
+    let from = finding.asked_count();
+    push_own(alloc, types, finding, actuals, part.demands, shown)?;
+    let of = shown_at(types, shown, count_of(part), part.of);
+    finding.keep(of, from)
 }
 
 // ---- modules of the library
 
-fn kept_type(
+fn routine_type(
     alloc: Global,
     types: &mut TypeArena,
-    callee: Callee<'_>,
-    spec: &Spec,
-) -> Result<Option<TypeId>, Memory> {
-    let Some(routine) = kept_routine(&spec.form, callee.part) else {
-        return Ok(None);
-    };
-    if is_whole_op(&spec.types, routine) && types.holds_actuals(callee.actuals) {
-        Ok(Some(carried_type(alloc, types, &spec.types, routine, callee.actuals)?))
+    from: &TypeArena,
+    routine: &OpSpec,
+    actuals: &[Actual],
+) -> Result<Option<TypeId>, Memory>
+    ensures of_type { OpBelow (length from.now) routine.now → ActualsBelow (length types.old) actuals.now → IfOk result (λ of. option_map (type_at (types_of types.new)) of ≡ Some (substituted (actuals_at (types_of types.old) actuals.now) (op_type (types_of from.now) routine.now))) }
+    ensures within { IfOk result (IsBelowIf (length types.new)) }
+    ensures kept { Grows types.old types.new }
+{
+    if is_whole_op(from, routine) && types.holds_actuals(actuals) {
+        Ok(Some(carried_type(alloc, types, from, routine, actuals)?))
     } else {
         Ok(None)
     }
 }
 
-fn kept_found(
+fn kept_type(
     alloc: Global,
     types: &mut TypeArena,
-    finding: &mut Finding,
-    callee: Callee<'_>,
+    actuals: &[Actual],
     spec: &Spec,
-) -> Result<FoundId, Memory> {
-    let of = kept_type(alloc, types, callee, spec)?;
-    let from = finding.asked.len();
-    let actuals = callee.actuals;
-    for demand in kept_demands(&spec.form, callee.part) {
-        let Demand { param, op, wanted } = demand;
-        let wanted = put_in(alloc, types, &spec.types, *wanted, actuals)?;
-        push_demand(alloc, types, finding, actuals, *param, op, wanted, false)?;
+    part: Part,
+) -> Result<Option<TypeId>, Memory>
+    ensures of_type { SpecHolds spec.now → ActualsBelow (length types.old) actuals.now → IfOk result (λ of. option_map (type_at (types_of types.new)) of ≡ option_map (λ op. substituted (actuals_at (types_of types.old) actuals.now) (op_type (types_of spec.now.types) op)) (kept_routine spec.now.form part)) }
+    ensures within { IfOk result (IsBelowIf (length types.new)) }
+    ensures kept { Grows types.old types.new }
+{
+    match kept_routine(&spec.form, part) {
+        Some(routine) => routine_type(alloc, types, &spec.types, routine, actuals),
+        None => Ok(None),
     }
-    finding.keep(of, from)
 }
 
-/// The part of a module with actual parameters.
-pub fn part_found(
+/// Appends what a demand with types of another arena asks.
+fn push_kept(
     alloc: Global,
     types: &mut TypeArena,
     finding: &mut Finding,
-    callee: Callee<'_>,
-    known: Known<'_>,
-) -> Result<Option<FoundId>, Memory> {
-    match known {
-        Known::Own(head) => own_found(alloc, types, finding, callee, head),
-        Known::Kept(spec) => Ok(Some(kept_found(alloc, types, finding, callee, spec)?)),
+    actuals: &[Actual],
+    from: &TypeArena,
+    demand: &Demand,
+) -> Result<(), Memory>
+    ensures asks { demand.now.wanted.0 < length from.now → ActualsBelow (length types.old) actuals.now → OnOk result (AsksMore types.new finding.old finding.new (kept_demand_told (types_of from.now) (actuals_at (types_of types.old) actuals.now) demand.now)) }
+    ensures kept { Grows types.old types.new }
+{
+    let wanted = put_in(alloc, types, from, demand.wanted, actuals)?;
+    push_demand(
+        alloc,
+        types,
+        finding,
+        actuals,
+        demand.param,
+        &demand.op,
+        wanted,
+        false,
+    )
+}
+
+fn push_all_kept(
+    alloc: Global,
+    types: &mut TypeArena,
+    finding: &mut Finding,
+    actuals: &[Actual],
+    from: &TypeArena,
+    demands: &[Demand],
+) -> Result<(), Memory>
+    ensures asks { DemandsBelow (length from.now) demands.now → ActualsBelow (length types.old) actuals.now → OnOk result (AsksMore types.new finding.old finding.new (flat_map (kept_demand_told (types_of from.now) (actuals_at (types_of types.old) actuals.now)) demands.now)) }
+    ensures kept { Grows types.old types.new }
+{
+    for demand in demands {
+        push_kept(alloc, types, finding, actuals, from, demand)?;
     }
+    Ok(())
+}
+
+/// A part of a module of the library with actual parameters.
+pub fn kept_found(
+    alloc: Global,
+    types: &mut TypeArena,
+    finding: &mut Finding,
+    actuals: &[Actual],
+    spec: &Spec,
+    part: Part,
+) -> Result<FoundId, Memory>
+    ensures found { SpecHolds spec.now → ActualsBelow (length types.old) actuals.now → IfOk result (λ id. Finds (length types.old) types.new finding.old finding.new (Some (kept_told spec.now (actuals_at (types_of types.old) actuals.now) part)) (Some id)) }
+    ensures shown { SpecHolds spec.now → ActualsBelow (length types.old) actuals.now → OnOk result (finding.new.shown ≡ finding.old.shown) }
+    ensures kept { Grows types.old types.new }
+{
+    let of = kept_type(alloc, types, actuals, spec, part)?;
+    let from = finding.asked_count();
+    let demands = kept_demands(&spec.form, part);
+    push_all_kept(alloc, types, finding, actuals, &spec.types, demands)?;
+    finding.keep(of, from)
 }

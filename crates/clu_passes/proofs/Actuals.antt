@@ -30,6 +30,7 @@ use Rattle.clu_syntax.specs.Nodes.{before, item_at, expression_of, type_expressi
 use Rattle.clu_meaning.specs.Scoping as means
 use Rattle.clu_meaning.specs.Scoping.{Scope}
 use Rattle.clu_meaning.specs.Settling.{Value as Settled, settled, settled_type, type_settled, value_of_constant}
+use Rattle.clu_checking.specs.Settled.{value_settled}
 use Rattle.clu_checking.specs.Specifications.{Specification}
 use Rattle.clu_checking.specs.Files.{File, item, kind_in, node_names, is_of_module, meaning}
 use Rattle.clu_checking.specs.Headings as headings
@@ -51,7 +52,6 @@ use Rattle.clu_bindings.specs.declared.meaning.Meaning.{Meaning}
 use Rattle.clu_bindings.specs.declared.meaning.Meaning.TheVariants as meant
 use Rattle.clu_bindings.specs.declared.wanted.Wanted.{Wanted as WantedThere}
 use Rattle.clu_bindings.specs.declared.wanted.Wanted.TheVariants as wanted
-use Rattle.clu_bindings.specs.Readers as read
 use Rattle.clu_bindings.specs.Readers.{value_in, wanted_in, meaning_in, children_in, declared_parameter}
 use Rattle.clu_bindings.specs.Named as named
 use Rattle.clu_bindings.specs.Wanted.{is_object_wanted}
@@ -99,7 +99,7 @@ some_there (t ∷ ts) zero less = (t, refl)
 some_there (t ∷ ts) (suc i) less = some_there ts i (omega (arith, less))
 
 -- by the number of a type
-type_kind : (ts : List Term) → IsArena ts → (id : TypeId) → id.0 < length ts → kind_of_type (type_at (types_of ts) id) ≡ head.kind_of_type ts (Some id)
+pub type_kind : (ts : List Term) → IsArena ts → (id : TypeId) → id.0 < length ts → kind_of_type (type_at (types_of ts) id) ≡ head.kind_of_type ts (Some id)
 type_kind ts arena id less =
     let t = some_there ts id.0 less in
     ap kind_of_type (type_found ts arena id t.0 t.1 less) ∙ term_kind (types_of ts) t.0 ∙ ap head.kind_in (sym t.1)
@@ -194,9 +194,9 @@ module _ (t : Tables) (scope : Scope) (library : List Specification) (refused : 
       fit_same n m (k ∷ ks) [] parts known = refl
       fit_same n m (k ∷ ks) (c ∷ cs) parts known =
           let rest : Constants = constants_at (before m (item_at nodes)) cs in
-          ap (λ (i : Item). wants.same_kind k (wants.value_kind f n (settled scope i.constant)) && wants.kinds_fit f n ks rest) (before_is nodes m c parts.0.0)
+          ap (λ (i : Item). wants.same_kind k (wants.value_kind f n (value_settled scope i.constant)) && wants.kinds_fit f n ks rest) (before_is nodes m c parts.0.0)
           ∙ ap (λ (given : Option ParamKind). wants.same_kind k given && wants.kinds_fit f n ks rest)
-          (value_kind n (value_in r c) (settled scope (item f c).constant) known.0 (so.value_within t scope library refused shaped tree are c) (so.value_agrees t scope library refused shaped tree are c known.0 parts.0.1))
+          (value_kind n (value_in r c) (value_settled scope (item f c).constant) known.0 (so.value_within t scope library refused shaped tree are c) (so.value_agrees t scope library refused shaped tree are c known.0 parts.0.1))
           ∙ ap (λ (b : Bool). b && wants.kinds_fit f n ks rest) (same_same k (named.value_kind r types n (value_in r c)))
           ∙ ap (λ (b : Bool). named.same_kind k (named.value_kind r types n (value_in r c)) && b) (fit_same n m ks cs parts.1 known.1)
 

@@ -1,5 +1,5 @@
 -- The bits of names that stand twice, told of a file.
-use Rattle.std.proofs.Common.{◌≡◌, ◌∙◌, ℕ, suc, ◌<◌, Bool, true, false, ◌&&◌, ◌||◌, not, if◌then◌else◌, List, [], ◌∷◌, ◌++◌, length, fold, slice_get, is_none, bytes_eq, Option, Some, None, refl, sym, ap}
+use Rattle.std.proofs.Common.{◌≡◌, ◌∙◌, ℕ, suc, ◌<◌, Bool, true, false, ◌&&◌, ◌||◌, not, if◌then◌else◌, List, [], ◌∷◌, ◌++◌, length, fold, slice_get, is_none, bytes_eq, Option, Some, None, refl, sym, ap, ap₂}
 use Rattle.std.specs.List.{list_any}
 use Rattle.std.proofs.lemmas.Bool.{true≢false, ne_eqb, lt-ltb, and_parts}
 use Rattle.std.proofs.lemmas.Option.{none-some, same_Some, slice_get_within}
@@ -12,8 +12,8 @@ use Rattle.clu_syntax.specs.Syntax.{Identifier}
 use Rattle.clu_names.specs.declared.scopes.Declared.{Declared}
 use Rattle.clu_names.specs.Latest.{is_local}
 use Rattle.clu_settle.specs.Names.{names_of}
-use Rattle.clu_checking.specs.Files.{File, kind_in, is_kind, parent, children, children_at, names}
-use Rattle.clu_checking.specs.NameRules.{stands_twice, stands_before, before_in}
+use Rattle.clu_checking.specs.Files.{File, kind_in, is_kind, parent, children_at, names}
+use Rattle.clu_checking.specs.NameRules.{stands_twice, stands_before, siblings_before, before_in}
 use Rattle.clu_checking.specs.NameRules as rules_of
 use Rattle.clu_checking.specs.ExpressionRules.{v17, v17_at}
 use Rattle.clu_head.specs.Refused.{is_set}
@@ -27,7 +27,7 @@ use Rattle.clu_passes.specs.Notes.{has, each_once, HaveParents, DeclareModules, 
 use Rattle.clu_passes.proofs.AtNodes.{kids_are, names_are}
 use Rattle.clu_passes.proofs.Noted.{seen, repeats, bits_are, names_apart, same_word, stand_twice, IsStrict}
 use Rattle.clu_passes.proofs.Known.{is_known, are_known, any_turned, twice_is, nodes_known}
-use Rattle.clu_passes.proofs.StandTwice.{IsItemOf, exceptions_are, arms_are, declared_are, selectors_are, components_are, names_before, stand_before, list_strict, list_loose}
+use Rattle.clu_passes.proofs.StandTwice.{IsItemOf, all_names, exceptions_are, arms_are, declared_are, selectors_are, components_are, own_before, names_before, stand_before, list_strict, list_loose}
 use Rattle.clu_passes.proofs.FileNames.{item_repeats, own_repeats}
 
 pub or_turned : (a b : Bool) → (a || b) ≡ (b || a)
@@ -91,16 +91,14 @@ module _ (f : File) (parents : HaveParents f) (modules : DeclareModules f) (bits
 
   -- ---- items of a list
 
-  before_same : (item : NodeKind) (cs : List ℕ) → names_before all f.nodes item cs ≡ rules_of.names_before f item cs
-  before_same item [] = refl
-  before_same item (c ∷ cs) = by (before_same item cs) (is_kind f item c)
-    where
-      by : names_before all f.nodes item cs ≡ rules_of.names_before f item cs → (b : Bool) →
-          (if b then names_of (slice_get f.nodes c) ++ names_before all f.nodes item cs else names_before all f.nodes item cs) ≡ (if b then names f c ++ rules_of.names_before f item cs else rules_of.names_before f item cs)
-      by rest true = ap (λ (xs : List Identifier). xs ++ names_before all f.nodes item cs) (names_are f c) ∙ ap (λ (xs : List Identifier). names f c ++ xs) rest
-      by rest false = rest
+  -- a name of the node is one of an item before it
+  abbrev pub own_stands_before : (ℕ → List Identifier) → NodeKind → ℕ → Bool
+  own_stands_before own item n = list_any (λ x. list_any (bytes_eq x) (own_before all f.nodes own item (siblings_before f n))) (own n)
 
-  module _ (item : NodeKind) (k : ListKind) (is : IsItemOf item k) (n : ℕ) (kind_is : kind_in f n ≡ item) (other : is_of kind.File item ≡ false) (plain : is_definition item ≡ false) (none : own_names f.nodes item n ≡ []) where
+  module _ (own : List Node → ℕ → List Identifier) (item : NodeKind) (k : ListKind) (is : IsItemOf own item k) (n : ℕ) (kind_is : kind_in f n ≡ item) (other : is_of kind.File item ≡ false) (plain : is_definition item ≡ false) (none : own_names f.nodes item n ≡ []) (known : are_known all (own f.nodes n) ≡ true) where
+    abbrev its_names : List Identifier
+    its_names = own f.nodes n
+
     less : n < size
     less = inside n (ap (is_of kind.File) kind_is ∙ other)
 
@@ -112,17 +110,11 @@ module _ (f : File) (parents : HaveParents f) (modules : DeclareModules f) (bits
       abbrev cs : List ℕ
       cs = children_of (slice_get f.nodes p)
 
-      abbrev its_names : List Identifier
-      its_names = names_of (slice_get f.nodes n)
-
       there : has n cs ≡ true
       there = ap (has n) (kids_are f p) ∙ parents.below p n above
 
       once : each_once cs ≡ true
       once = ap each_once (kids_are f p) ∙ parents.once p
-
-      known : are_known all its_names ≡ true
-      known = nodes_known f.nodes size n less
 
       only : (m : ℕ) → (m ≡ p → ⊥) → has n (children_of (slice_get f.nodes m)) ≡ false
       only m apart = by (has n (children_of (slice_get f.nodes m))) refl
@@ -131,46 +123,72 @@ module _ (f : File) (parents : HaveParents f) (modules : DeclareModules f) (bits
           by false is = refl
           by true is = absurd (apart (same_Some m p (sym (parents.above m n (ap (has n) (sym (kids_are f m)) ∙ is)) ∙ above)))
 
-      twice_told : stand_twice all its_names ≡ stands_twice (names f n)
-      twice_told = twice_is all its_names known ∙ ap stands_twice (names_are f n)
+      abbrev before_it : List ℕ → List Identifier
+      before_it cs = own_before all f.nodes (own f.nodes) item (before_in cs n)
 
-      before_told : stand_before all f.nodes item k is p cs n ≡ stands_before f item n
+      before_told : stand_before all f.nodes own item k is p cs n ≡ own_stands_before (own f.nodes) item n
       before_told =
-          any_known all (λ x. list_any (λ y. same_word all y x) (names_before all f.nodes item (before_in cs n))) (λ x. list_any (bytes_eq x) (names_before all f.nodes item (before_in cs n)))
-          (λ x is. any_turned all x is (names_before all f.nodes item (before_in cs n))) its_names known
-          ∙ ap (λ (xs : List Identifier). list_any (λ x. list_any (bytes_eq x) xs) its_names) (before_same item (before_in cs n))
-          ∙ ap (λ (cs : List ℕ). list_any (λ x. list_any (bytes_eq x) (rules_of.names_before f item (before_in cs n))) its_names) (kids_are f p)
-          ∙ ap (λ (xs : List Identifier). list_any (λ x. list_any (bytes_eq x) (rules_of.names_before f item (before_in (children f p) n))) xs) (names_are f n)
-          ∙ ap (λ (o : Option ℕ). list_any (λ x. list_any (bytes_eq x) (rules_of.names_before f item (before_in (children_at f o) n))) (names f n)) (sym above)
+          any_known all (λ x. list_any (λ y. same_word all y x) (before_it cs)) (λ x. list_any (bytes_eq x) (before_it cs))
+          (λ x is. any_turned all x is (before_it cs)) its_names known
+          ∙ ap (λ (cs : List ℕ). list_any (λ x. list_any (bytes_eq x) (before_it cs)) its_names) (kids_are f p)
+          ∙ ap (λ (o : Option ℕ). list_any (λ x. list_any (bytes_eq x) (before_it (children_at f o))) its_names) (sym above)
 
       by_list : (stands : Bool) → ((before : List Note) → ((x : List ℕ) → seen before (listed_name all p k x) ≡ false) → repeats before n ≡ false → repeats (fold (with_item all f.nodes p) before cs) n ≡ stands) → is_set (slice_get bits n) ≡ stands
       by_list stands law =
           bits_told n less (ap is_definition kind_is ∙ plain)
           ∙ item_repeats all f.nodes n (ap (λ (j : NodeKind). own_names f.nodes j n) kind_is ∙ none) k p only stands law size (has_children p n there)
 
-      strict_told : IsStrict k → is_set (slice_get bits n) ≡ (stands_twice (names f n) || stands_before f item n)
+      strict_told : IsStrict k → is_set (slice_get bits n) ≡ (stands_twice its_names || own_stands_before (own f.nodes) item n)
       strict_told strict =
-          by_list (stand_before all f.nodes item k is p cs n || stand_twice all its_names) (λ before fresh none. list_strict all f.nodes item k is p n kind_is cs there once before fresh none strict)
-          ∙ or_turned (stand_before all f.nodes item k is p cs n) (stand_twice all its_names)
-          ∙ ap (λ (b : Bool). b || stand_before all f.nodes item k is p cs n) twice_told
-          ∙ ap (λ (b : Bool). stands_twice (names f n) || b) before_told
+          by_list (stand_before all f.nodes own item k is p cs n || stand_twice all its_names) (λ before fresh none. list_strict all f.nodes own item k is p n kind_is cs there once before fresh none strict)
+          ∙ or_turned (stand_before all f.nodes own item k is p cs n) (stand_twice all its_names)
+          ∙ ap (λ (b : Bool). b || stand_before all f.nodes own item k is p cs n) (twice_is all its_names known)
+          ∙ ap (λ (b : Bool). stands_twice its_names || b) before_told
 
-      loose_told : ((b : Bool) → is_refused k b ≡ not b) → is_set (slice_get bits n) ≡ stands_before f item n
-      loose_told loose = by_list (stand_before all f.nodes item k is p cs n) (λ before fresh none. list_loose all f.nodes item k is p n kind_is cs there once before fresh none loose) ∙ before_told
+      loose_told : ((b : Bool) → is_refused k b ≡ not b) → is_set (slice_get bits n) ≡ own_stands_before (own f.nodes) item n
+      loose_told loose = by_list (stand_before all f.nodes own item k is p cs n) (λ before fresh none. list_loose all f.nodes own item k is p n kind_is cs there once before fresh none loose) ∙ before_told
 
-    item_strict : IsStrict k → is_set (slice_get bits n) ≡ (stands_twice (names f n) || stands_before f item n)
+    pub item_strict : IsStrict k → is_set (slice_get bits n) ≡ (stands_twice its_names || own_stands_before (own f.nodes) item n)
     item_strict strict = by (parent f n) refl
       where
-        by : (o : Option ℕ) → parent f n ≡ o → is_set (slice_get bits n) ≡ (stands_twice (names f n) || stands_before f item n)
+        by : (o : Option ℕ) → parent f n ≡ o → is_set (slice_get bits n) ≡ (stands_twice its_names || own_stands_before (own f.nodes) item n)
         by None above = absurd (has_parent above)
         by (Some p) above = strict_told p above strict
 
-    item_loose : ((b : Bool) → is_refused k b ≡ not b) → is_set (slice_get bits n) ≡ stands_before f item n
+    item_loose : ((b : Bool) → is_refused k b ≡ not b) → is_set (slice_get bits n) ≡ own_stands_before (own f.nodes) item n
     item_loose loose = by (parent f n) refl
       where
-        by : (o : Option ℕ) → parent f n ≡ o → is_set (slice_get bits n) ≡ stands_before f item n
+        by : (o : Option ℕ) → parent f n ≡ o → is_set (slice_get bits n) ≡ own_stands_before (own f.nodes) item n
         by None above = absurd (has_parent above)
         by (Some p) above = loose_told p above loose
+
+  -- ---- items that have all names of their nodes
+
+  pub node_known : (n : ℕ) (item : NodeKind) → kind_in f n ≡ item → is_of kind.File item ≡ false → are_known all (all_names f.nodes n) ≡ true
+  node_known n item kind_is other = nodes_known f.nodes size n (inside n (ap (is_of kind.File) kind_is ∙ other))
+
+  before_same : (item : NodeKind) (cs : List ℕ) → names_before all f.nodes item cs ≡ rules_of.names_before f item cs
+  before_same item [] = refl
+  before_same item (c ∷ cs) = by (before_same item cs) (is_kind f item c)
+    where
+      by : names_before all f.nodes item cs ≡ rules_of.names_before f item cs → (b : Bool) →
+          (if b then names_of (slice_get f.nodes c) ++ names_before all f.nodes item cs else names_before all f.nodes item cs) ≡ (if b then names f c ++ rules_of.names_before f item cs else rules_of.names_before f item cs)
+      by rest true = ap (λ (xs : List Identifier). xs ++ names_before all f.nodes item cs) (names_are f c) ∙ ap (λ (xs : List Identifier). names f c ++ xs) rest
+      by rest false = rest
+
+  all_before : (item : NodeKind) (n : ℕ) → own_stands_before (all_names f.nodes) item n ≡ stands_before f item n
+  all_before item n =
+      ap (λ (xs : List Identifier). list_any (λ x. list_any (bytes_eq x) xs) (all_names f.nodes n)) (before_same item (siblings_before f n))
+      ∙ ap (λ (xs : List Identifier). list_any (λ x. list_any (bytes_eq x) (rules_of.names_before f item (siblings_before f n))) xs) (names_are f n)
+
+  all_strict : (item : NodeKind) (k : ListKind) → IsItemOf all_names item k → (n : ℕ) → kind_in f n ≡ item → is_of kind.File item ≡ false → is_definition item ≡ false → own_names f.nodes item n ≡ [] → IsStrict k → is_set (slice_get bits n) ≡ (stands_twice (names f n) || stands_before f item n)
+  all_strict item k is n kind_is other plain none strict =
+      item_strict all_names item k is n kind_is other plain none (node_known n item kind_is other) strict
+      ∙ ap₂ (λ (a b : Bool). a || b) (ap stands_twice (names_are f n)) (all_before item n)
+
+  all_loose : (item : NodeKind) (k : ListKind) → IsItemOf all_names item k → (n : ℕ) → kind_in f n ≡ item → is_of kind.File item ≡ false → is_definition item ≡ false → own_names f.nodes item n ≡ [] → ((b : Bool) → is_refused k b ≡ not b) → is_set (slice_get bits n) ≡ stands_before f item n
+  all_loose item k is n kind_is other plain none loose =
+      item_loose all_names item k is n kind_is other plain none (node_known n item kind_is other) loose ∙ all_before item n
 
   -- ---- names that are a list by themselves
 
@@ -187,15 +205,15 @@ module _ (f : File) (parents : HaveParents f) (modules : DeclareModules f) (bits
   -- ---- by kind
 
   pub items_told : (n : ℕ) (k : NodeKind) → kind_in f n ≡ k → is_listed_item k ≡ true → is_set (slice_get bits n) ≡ (stands_twice (names f n) || stands_before f k n)
-  items_told n kind.Decl is h = item_strict kind.Decl list.Declared declared_are n is refl refl refl (λ b. refl)
-  items_told n kind.FieldT is h = item_strict kind.FieldT list.Selectors selectors_are n is refl refl refl (λ b. refl)
-  items_told n kind.FieldE is h = item_strict kind.FieldE list.Components components_are n is refl refl refl (λ b. refl)
+  items_told n kind.Decl is h = all_strict kind.Decl list.Declared declared_are n is refl refl refl (λ b. refl)
+  items_told n kind.FieldT is h = all_strict kind.FieldT list.Selectors selectors_are n is refl refl refl (λ b. refl)
+  items_told n kind.FieldE is h = all_strict kind.FieldE list.Components components_are n is refl refl refl (λ b. refl)
   items_told n _ is h = absurd (true≢false (sym h))
 
   -- an exception, and a when arm
   pub arms_told : (n : ℕ) (k : NodeKind) → kind_in f n ≡ k → is_arm k ≡ true → is_set (slice_get bits n) ≡ stands_before f k n
-  arms_told n kind.Exc is h = item_loose kind.Exc list.Exceptions exceptions_are n is refl refl refl (λ b. refl)
-  arms_told n kind.When is h = item_loose kind.When list.WhenArms arms_are n is refl refl refl (λ b. refl)
+  arms_told n kind.Exc is h = all_loose kind.Exc list.Exceptions exceptions_are n is refl refl refl (λ b. refl)
+  arms_told n kind.When is h = all_loose kind.When list.WhenArms arms_are n is refl refl refl (λ b. refl)
   arms_told n _ is h = absurd (true≢false (sym h))
 
   pub names_told : (n : ℕ) (k : NodeKind) → kind_in f n ≡ k → is_own_list k ≡ true → is_set (slice_get bits n) ≡ stands_twice (names f n)

@@ -1,5 +1,5 @@
 -- What stands at a node, what is wanted there, and names of bad equates, by tables.
-use Rattle.std.proofs.Common.{◌≡◌, ◌∙◌, ◌⊎◌, ℕ, zero, suc, ◌-◌, Bool, true, false, ◌&&◌, if◌then◌else◌, List, [], ◌∷◌, length, map, drop, Option, Some, None, inl, inr, refl, sym, ap, subst, rules, arith}
+use Rattle.std.proofs.Common.{◌≡◌, ◌∙◌, ◌⊎◌, ℕ, zero, suc, ◌-◌, Bool, true, false, ◌&&◌, if◌then◌else◌, List, [], ◌∷◌, length, map, drop, Option, Some, None, inl, inr, refl, sym, ap, subst, arith}
 use Rattle.std.specs.Prelude.{All, ◌==◌, get_or, not, slice_get}
 use Rattle.std.proofs.lemmas.Bool.{true≢false}
 use Rattle.std.proofs.lemmas.Option.{none-some, same_Some}
@@ -7,8 +7,6 @@ use Rattle.std.proofs.lemmas.List.Elements.{All-head, All-tail}
 use Rattle.clu_tree.specs.declared.node.Node.{Node}
 use Rattle.clu_tree.specs.declared.node.NodeKind.{NodeKind}
 use Rattle.clu_tree.specs.declared.node.NodeKind.TheVariants as kind
-use Rattle.clu_tree.specs.contracts.node.NodeKind.{the_type}
-use denote.Enum.Bare.{same_true}
 use Rattle.clu_tree.specs.Nodes.{IsTree}
 use Rattle.clu_parser.specs.Shape.{HaveForms}
 use Rattle.clu_types.specs.declared.spec.ParamKind.{ParamKind}
@@ -25,7 +23,7 @@ use Rattle.clu_syntax.proofs.Enough.{enough}
 use Rattle.clu_names.specs.declared.scopes.Declared.{Declared}
 use Rattle.clu_names.specs.Denotes.{found, names_in, bound_at}
 use Rattle.clu_meaning.specs.Scoping.{Scope, declaration_at}
-use Rattle.clu_meaning.specs.Settling.{Value as Settled, value_of_constant, settled}
+use Rattle.clu_checking.specs.Settled.{value_settled}
 use Rattle.clu_checking.specs.Specifications.{Specification}
 use Rattle.clu_checking.specs.Files as checking
 use Rattle.clu_checking.specs.Files.{File, item, is_kind, node_names, node_children, children, children_at, parent, is_of_module, equate_of, equate_named}
@@ -172,10 +170,8 @@ module _ (t : Tables) (scope : Scope) (library : List Specification) (refused : 
 
     -- ---- values
 
-    pub value_agrees : (n : ℕ) → IsKnown r n → is_constant nodes n ≡ true → Agrees (told (types_of t.types.now) r.constants.now (value_in r n)) (settled scope (item f n).constant)
-    value_agrees n known is =
-        subst (λ (s : Settled). Agrees (told (types_of t.types.now) r.constants.now (value_in r n)) s) (are.steps n is known)
-        (subst (λ (v : Value). Agrees (told (types_of t.types.now) r.constants.now v) (value_of_constant scope (settled scope) (item f n).constant)) (sym (value_same r.values.now n)) (are.values.each n is))
+    pub value_agrees : (n : ℕ) → IsKnown r n → is_constant nodes n ≡ true → Agrees (told (types_of t.types.now) r.constants.now (value_in r n)) (value_settled scope (item f n).constant)
+    value_agrees n known is = subst (λ (v : Value). Agrees (told (types_of t.types.now) r.constants.now v) (value_settled scope (item f n).constant)) (sym (value_same r.values.now n)) (are.values.each n is)
 
     pub value_within : (n : ℕ) → IsWithin (length t.types.now) (length r.constants.now) (value_in r n)
     value_within n = (within_at (TypeWithin (length t.types.now)) r.values.now n are.values.within.0 tt, within_at (ConstantWithin (length r.constants.now)) r.values.now n are.values.within.1 tt)

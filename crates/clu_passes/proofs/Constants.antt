@@ -29,7 +29,8 @@ use Rattle.clu_names.specs.declared.scopes.Declared.{Declared}
 use Rattle.clu_names.specs.Denotes.{found, names_in, bound_at}
 use Rattle.clu_meaning.specs.Scoping as means
 use Rattle.clu_meaning.specs.Scoping.{Scope}
-use Rattle.clu_meaning.specs.Settling.{Value as Settled, settled}
+use Rattle.clu_meaning.specs.Settling.{Value as Settled}
+use Rattle.clu_checking.specs.Settled.{value_settled}
 use Rattle.clu_checking.specs.Specifications.{Specification}
 use Rattle.clu_checking.specs.Files as checking
 use Rattle.clu_checking.specs.Files.{File, item, is_kind, kind_in, node_names, names, parent, meaning, equate_named}
@@ -211,7 +212,7 @@ module _ (t : Tables) (scope : Scope) (library : List Specification) (refused : 
         ∙ ap (λ (its : Option Node). of_tables.is_no_constant_index r (children_of its)) (sym x.at)
 
     no_value : (n : ℕ) → IsKnown r n → is_expression (kind_at nodes n) ≡ true → rules_of.is_no_value f n ≡ not (of_tables.is_constant_value (value_in r n))
-    no_value n known e = ap not (constant_value types_there r.constants.now (value_in r n) (settled scope (item f n).constant) known (so.value_agrees t scope library refused shaped tree are n known (expression_is_constant nodes n e)))
+    no_value n known e = ap not (constant_value types_there r.constants.now (value_in r n) (value_settled scope (item f n).constant) known (so.value_agrees t scope library refused shaped tree are n known (expression_is_constant nodes n e)))
 
     no_constant : (n : ℕ) → IsKnown r n → (k : NodeKind) → kind_at nodes n ≡ k → rules_of.is_no_constant f k n ≡ of_tables.is_no_constant r k n
     no_constant n known kind.Literal is = refl
@@ -257,13 +258,13 @@ module _ (t : Tables) (scope : Scope) (library : List Specification) (refused : 
 
     too_long_constant : (n : ℕ) → IsKnown r n → rules_of.is_too_long f rules_of.is_long_constant n ≡ (of_tables.is_right_side r n && of_tables.is_long_constant t.long_constants.now (value_in r n))
     too_long_constant n known =
-        guarded (rules_of.is_right_side f n) (of_tables.is_right_side r n) (rules_of.is_long_constant (settled scope (item f n).constant)) (of_tables.is_long_constant t.long_constants.now (value_in r n)) (side_same n)
-        (λ h. long_constant (value_in r n) (settled scope (item f n).constant) known (so.value_within t scope library refused shaped tree are n) (so.value_agrees t scope library refused shaped tree are n known (are.sides n h)))
+        guarded (rules_of.is_right_side f n) (of_tables.is_right_side r n) (rules_of.is_long_constant (value_settled scope (item f n).constant)) (of_tables.is_long_constant t.long_constants.now (value_in r n)) (side_same n)
+        (λ h. long_constant (value_in r n) (value_settled scope (item f n).constant) known (so.value_within t scope library refused shaped tree are n) (so.value_agrees t scope library refused shaped tree are n known (are.sides n h)))
 
     too_long_type : (n : ℕ) → IsKnown r n → rules_of.is_too_long f rules_of.is_long_type n ≡ (of_tables.is_right_side r n && of_tables.is_long_type t.long_types.now (value_in r n))
     too_long_type n known =
-        guarded (rules_of.is_right_side f n) (of_tables.is_right_side r n) (rules_of.is_long_type (settled scope (item f n).constant)) (of_tables.is_long_type t.long_types.now (value_in r n)) (side_same n)
-        (λ h. long_type (value_in r n) (settled scope (item f n).constant) known (so.value_within t scope library refused shaped tree are n) (so.value_agrees t scope library refused shaped tree are n known (are.sides n h)))
+        guarded (rules_of.is_right_side f n) (of_tables.is_right_side r n) (rules_of.is_long_type (value_settled scope (item f n).constant)) (of_tables.is_long_type t.long_types.now (value_in r n)) (side_same n)
+        (λ h. long_type (value_in r n) (value_settled scope (item f n).constant) known (so.value_within t scope library refused shaped tree are n) (so.value_agrees t scope library refused shaped tree are n known (are.sides n h)))
 
     -- ---- the right side of `rep`
 
@@ -283,7 +284,7 @@ module _ (t : Tables) (scope : Scope) (library : List Specification) (refused : 
     side_known : (items : ℕ → Item) (n : ℕ) → IsKnown r n → (k : NodeKind) → kind_at nodes n ≡ k → (is_of kind.TypeSet k ≡ false → is_constant nodes n ≡ true) → rules_of.is_no_type_side f k n ≡ of_tables.is_no_type_side r items k n
     side_known items n known kind.TypeSet is is_so = refl
     side_known items n known _ is is_so =
-        ap (λ (b : Bool). not b && not (rules_of.is_real_literal (item f n).expression)) (type_value types_there r.constants.now (value_in r n) (settled scope (item f n).constant) known (so.value_agrees t scope library refused shaped tree are n known (is_so refl)))
+        ap (λ (b : Bool). not b && not (rules_of.is_real_literal (item f n).expression)) (type_value types_there r.constants.now (value_in r n) (value_settled scope (item f n).constant) known (so.value_agrees t scope library refused shaped tree are n known (is_so refl)))
         ∙ ap (λ (b : Bool). not (of_tables.is_type_value (value_in r n)) && not b) (real_is items nodes n)
 
     bad_rep : (items : ℕ → Item) (n : ℕ) → IsKnown r n → rules_of.is_bad_rep f n ≡ of_tables.is_bad_rep r items n
@@ -293,8 +294,8 @@ module _ (t : Tables) (scope : Scope) (library : List Specification) (refused : 
 
     -- ---- names of types
 
-    equated_value : (c : ℕ) → IsKnown r c → is_constant nodes c ≡ true → typing.is_type_value (settled scope (item f c).constant) ≡ of_tables.is_type_value (value_in r c)
-    equated_value c known is_so = type_value types_there r.constants.now (value_in r c) (settled scope (item f c).constant) known (so.value_agrees t scope library refused shaped tree are c known is_so)
+    equated_value : (c : ℕ) → IsKnown r c → is_constant nodes c ≡ true → typing.is_type_value (value_settled scope (item f c).constant) ≡ of_tables.is_type_value (value_in r c)
+    equated_value c known is_so = type_value types_there r.constants.now (value_in r c) (value_settled scope (item f c).constant) known (so.value_agrees t scope library refused shaped tree are c known is_so)
 
     no_type_same : (n : ℕ) (name : Identifier) (meant : Meaning) (m : means.Meaning) → IsEquateKnown r meant → Means nodes meant m → is_routine r (module_of meant) ≡ rules_of.is_module_routine f n name → rules_of.names_no_type f n name m ≡ of_tables.names_no_type r meant
     no_type_same n name (meant.Equate c) m known is routine = ap (rules_of.names_no_type f n name) is.1 ∙ ap not (equated_value c known is.0)

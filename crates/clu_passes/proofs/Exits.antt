@@ -48,7 +48,7 @@ use Rattle.clu_passes.proofs.Noted.{or_false, any_same}
 use Rattle.clu_passes.proofs.OneName.{OneName, exit_name}
 use Rattle.clu_passes.proofs.OwnPlaces.{there_is}
 use Rattle.clu_passes.proofs.RightSides.{no_parent}
-use Rattle.clu_passes.proofs.StandTwice.{arms_are, names_before}
+use Rattle.clu_passes.proofs.StandTwice.{all_names, arms_are, names_before}
 
 -- ---- searches
 
@@ -84,31 +84,31 @@ or_turned false false = refl
 
 -- ---- the parts of an Except
 
-abbrev whens_here : NodeKind → Bool
+abbrev pub whens_here : NodeKind → Bool
 whens_here = may_stand 2 (parts_of shape.whens)
 
 abbrev others_here : NodeKind → Bool
 others_here = may_stand 2 (parts_of shape.others)
 
-abbrev other_slots : List Slot
+abbrev pub other_slots : List Slot
 other_slots = at_most_one others_here ∷ []
 
-abbrev arm_slots : List Slot
+abbrev pub arm_slots : List Slot
 arm_slots = several whens_here ∷ other_slots
 
-same_whens : (j : NodeKind) → whens_here j ≡ is_of kind.When j
+pub same_whens : (j : NodeKind) → whens_here j ≡ is_of kind.When j
 same_whens kind.File = refl
 same_whens _ = refl
 
-whens_apart : (j : NodeKind) → (is_of kind.When j && first_of other_slots j) ≡ false
+pub whens_apart : (j : NodeKind) → (is_of kind.When j && first_of other_slots j) ≡ false
 whens_apart kind.File = refl
 whens_apart _ = refl
 
-others_no_when : (j : NodeKind) → (some_of other_slots j && is_of kind.When j) ≡ false
+pub others_no_when : (j : NodeKind) → (some_of other_slots j && is_of kind.When j) ≡ false
 others_no_when kind.File = refl
 others_no_when _ = refl
 
-statement_no_when : (j : NodeKind) → (is_child shape.statement j && is_of kind.When j) ≡ false
+pub statement_no_when : (j : NodeKind) → (is_child shape.statement j && is_of kind.When j) ≡ false
 statement_no_when kind.File = refl
 statement_no_when _ = refl
 
@@ -120,12 +120,12 @@ arm_is_arm : (j : NodeKind) → (some_of arm_slots j && not (is_arm j)) ≡ fals
 arm_is_arm kind.File = refl
 arm_is_arm _ = refl
 
-resignal_no_when : (j : NodeKind) → (not (is_of kind.When j) || no_form (forms kind.Resignal) j) ≡ true
+pub resignal_no_when : (j : NodeKind) → (not (is_of kind.When j) || no_form (forms kind.Resignal) j) ≡ true
 unfolding no_form
 resignal_no_when kind.File = refl
 resignal_no_when _ = refl
 
-not_true : (b : Bool) → not b ≡ true → b ≡ false
+pub not_true : (b : Bool) → not b ≡ true → b ≡ false
 not_true true e = absurd (true≢false (sym e))
 not_true false e = refl
 
@@ -169,7 +169,7 @@ module _ (all : List (List ℕ)) (nodes : List Node) where
 
   -- ---- the arms of an Except as the definition has them
 
-  when_names : (n c : ℕ) → IsPart nodes (is_of kind.When) n c → (before n (item_at nodes) c).when.names ≡ names_at c
+  pub when_names : (n c : ℕ) → IsPart nodes (is_of kind.When) n c → (before n (item_at nodes) c).when.names ≡ names_at c
   when_names n c p =
       let x = there nodes c kind.When refl (same_kind kind.When (kind_at nodes c) p.1) in
       ap (λ (i : Item). i.when.names) (before_is nodes n c p.0)
@@ -205,7 +205,7 @@ module _ (all : List (List ℕ)) (nodes : List Node) where
 
   -- ---- the statement stands first
 
-  starts_told : (n p : ℕ) (cs : List ℕ) → Stand nodes p (just (is_child shape.statement) ∷ arm_slots) cs → IsIn n cs → starts n cs ≡ not (is_arm (kind_at nodes n))
+  pub starts_told : (n p : ℕ) (cs : List ℕ) → Stand nodes p (just (is_child shape.statement) ∷ arm_slots) cs → IsIn n cs → starts n cs ≡ not (is_arm (kind_at nodes n))
   starts_told n p cs s =
       on_head nodes p (λ cs. IsIn n cs → starts n cs ≡ not (is_arm (kind_at nodes n))) (is_child shape.statement) arm_slots
       (λ c rest is s i. first_or_later c rest is s i) cs s
@@ -239,7 +239,7 @@ module _ (k : Known) (scope : Scope) (library : List Specification) (refused : L
     abbrev guarded_by : (ℕ → Bool) → ℕ → Bool
     guarded_by asked n = some_guard t f parsed are asked n
 
-    except_stands : (n : ℕ) (x : There nodes n kind.Except) → Stand nodes n (just (is_child shape.statement) ∷ arm_slots) x.node.children
+    pub except_stands : (n : ℕ) (x : There nodes n kind.Except) → Stand nodes n (just (is_child shape.statement) ∷ arm_slots) x.node.children
     except_stands n x =
         let h : HasForm nodes x.node = parsed.forms n x.node x.at in
         elim (subst (λ (k : NodeKind). IsFormOf h.form (forms k)) x.is h.of_kind) [
@@ -284,7 +284,7 @@ module _ (k : Known) (scope : Scope) (library : List Specification) (refused : L
         let its : is_of kind.Module q.node.kind ≡ true = module_of_cluster nodes parsed.tree q.parent q.node q.at (parsed.forms q.parent q.node q.at) n q.child is in
         through asked n q (other_above n q kind.Module its refl) ∙ module_free asked q.parent (kind_above n q kind.Module its)))
 
-    routine_free : (asked : ℕ → Bool) (n : ℕ) → kind_at nodes n ≡ kind.Routine → guarded_by asked n ≡ false
+    pub routine_free : (asked : ℕ → Bool) (n : ℕ) → kind_at nodes n ≡ kind.Routine → guarded_by asked n ≡ false
     routine_free asked n is = free asked n (λ q.
         elim (or_cases (is_of kind.Module q.node.kind) (is_of kind.Cluster q.node.kind) (round_routine nodes parsed.tree q.parent q.node q.at (parsed.forms q.parent q.node q.at) n q.child is)) [
           | inl its ↦ through asked n q (other_above n q kind.Module its refl) ∙ module_free asked q.parent (kind_above n q kind.Module its)
@@ -301,8 +301,8 @@ module _ (k : Known) (scope : Scope) (library : List Specification) (refused : L
 
       asked_is : (e : ℕ) → asked e ≡ list_any (bytes_eq name) (whens_in words nodes (children_of (slice_get nodes e)))
       asked_is e =
-          ap (λ (o : Option ℕ). is_some (first_named k list.WhenArms (Some e) o)) (word_found f k.tables firsts kind.When list.WhenArms arms_are refl refl name numbered)
-          ∙ item_found f k.tables firsts kind.When list.WhenArms arms_are refl refl e name numbered
+          ap (λ (o : Option ℕ). is_some (first_named k list.WhenArms (Some e) o)) (word_found f k.tables firsts all_names kind.When list.WhenArms arms_are refl refl name numbered)
+          ∙ item_found f k.tables firsts all_names kind.When list.WhenArms arms_are refl refl e name numbered
 
       -- ---- along the guards
 

@@ -11,7 +11,7 @@ use Rattle.clu_syntax.specs.Kinds.{kind_at, is_expression}
 use Rattle.clu_syntax.specs.Splits.{children_of}
 use Rattle.clu_meaning.specs.Scoping.{Scope}
 use Rattle.clu_checking.specs.Specifications.{Specification}
-use Rattle.clu_checking.specs.Files.{File, item, node_children, children}
+use Rattle.clu_checking.specs.Files.{File, item, node_children}
 use Rattle.clu_checking.specs.Typing as checking
 use Rattle.clu_checking.specs.ExpressionRules.{is_other_than}
 use Rattle.clu_checking.specs.ExpressionRules as expressions

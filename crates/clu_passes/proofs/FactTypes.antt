@@ -65,6 +65,11 @@ module _ (terms : List Term) where
   may_same (Some id) None is wanted within = absurd is
   may_same (Some id) (Some t) is wanted within = ap (λ (x : CluType). fits x (type_at (types_of terms) wanted)) is.1 ∙ sym (included id wanted is.0 within)
 
+  -- as far as the type that is wanted is known
+  pub may_known : (given : Option TypeId) (t : Option CluType) → IsType terms given t → (wanted : Option TypeId) (w : CluType) → IsType terms wanted (Some w) → may_fit t w ≡ may_be terms given wanted
+  may_known given t is None w wanted_is = absurd wanted_is
+  may_known given t is (Some id) w wanted_is = ap (may_fit t) wanted_is.1 ∙ may_same given t is id wanted_is.0
+
   pub all_may_same : (given : List (Option TypeId)) (ts : List (Option CluType)) → AreTypes terms given ts → (ids : List TypeId) → AreBelow (length terms) ids → rules_of.all_may_fit ts (types_at (types_of terms) ids) ≡ all_may_be terms given ids
   all_may_same [] [] are [] within = refl
   all_may_same [] [] are (id ∷ ids) within = refl

@@ -1,9 +1,7 @@
 -- Which names of a file stand twice, by what is noted of all its nodes.
-use Rattle.std.proofs.Common.{◌≡◌, ◌∙◌, ◌⊎◌, ℕ, zero, suc, ◌<◌, ◌≤◌, Bool, true, false, ◌&&◌, ◌||◌, ◌==◌, List, [], ◌∷◌, fold, slice_get, Option, Some, None, inl, inr, refl, sym, ap, arith}
-use Rattle.std.specs.List.{list_any}
-use Rattle.std.proofs.lemmas.Bool.{eqb-true, ne_eqb, cases_lt, true≢false}
+use Rattle.std.proofs.Common.{◌≡◌, ◌∙◌, ◌⊎◌, ℕ, zero, suc, ◌<◌, ◌≤◌, Bool, true, false, ◌||◌, ◌==◌, List, [], ◌∷◌, fold, slice_get, Option, Some, None, inl, inr, refl, ap, arith}
+use Rattle.std.proofs.lemmas.Bool.{eqb-true, ne_eqb, cases_lt}
 use Rattle.clu_tree.specs.declared.node.Node.{Node}
-use Rattle.clu_tree.specs.declared.node.NodeKind.{NodeKind}
 use Rattle.clu_syntax.specs.Kinds.{kind_at}
 use Rattle.clu_syntax.specs.Splits.{children_of}
 use Rattle.clu_settle.specs.Names.{names_of}
@@ -12,8 +10,8 @@ use Rattle.clu_name_rules.specs.declared.repeated.ListKind.TheVariants as list
 use Rattle.clu_name_rules.specs.declared.repeated.Listed.{Listed}
 use Rattle.clu_name_rules.specs.Repeated.{same, Note, list_of, item_names, own_names, listed_name, with_names, with_item_of, with_item, with_node, with_nodes}
 use Rattle.clu_passes.specs.Notes.{has}
-use Rattle.clu_passes.proofs.Noted.{or_false, seen, repeats, IsStrict, stand_twice, are_seen, seen_names, names_apart, names_strict}
-use Rattle.clu_passes.proofs.StandTwice.{any_none, is_list, never_names, names_elsewhere, seen_other, item_apart, items_apart}
+use Rattle.clu_passes.proofs.Noted.{or_false, seen, repeats, IsStrict, stand_twice, seen_names, names_apart, names_strict}
+use Rattle.clu_passes.proofs.StandTwice.{any_none, never_names, names_elsewhere, seen_other, item_apart, items_apart}
 
 module _ (all : List (List ℕ)) (nodes : List Node) where
   abbrev names_at : ℕ → List (List ℕ)

@@ -262,7 +262,7 @@ module _ (t : Text) (f : File) (parsed : IsParsed t f.nodes) (are : AreRounds f.
   is_statement_of n p = is_kind f kind.Except p && starts n (children f p)
 
   module _ (n p : ℕ) (outer : Node) (at : slice_get nodes p ≡ Some outer) (child : IsIn n outer.children) where
-    one_same : (e : ℕ) → is_guarded_by f n e ≡ (is_guarded_by f p e || (p == e && is_statement_of n e))
+    pub one_same : (e : ℕ) → is_guarded_by f n e ≡ (is_guarded_by f p e || (p == e && is_statement_of n e))
     one_same e = by (children f e) refl
       where
         by : (cs : List ℕ) → children f e ≡ cs → (is_kind f kind.Except e && guards f n cs) ≡ ((is_kind f kind.Except e && guards f p cs) || (p == e && (is_kind f kind.Except e && starts n cs)))
@@ -287,7 +287,7 @@ module _ (t : Text) (f : File) (parsed : IsParsed t f.nodes) (are : AreRounds f.
 
   -- nothing guards the root
   module _ (n : ℕ) (last : length nodes - 1 ≤ n) where
-    not_guarded : (e : ℕ) → is_guarded_by f n e ≡ false
+    pub not_guarded : (e : ℕ) → is_guarded_by f n e ≡ false
     not_guarded e = by (children f e) refl
       where
         by : (cs : List ℕ) → children f e ≡ cs → (is_kind f kind.Except e && guards f n cs) ≡ false

@@ -1,6 +1,6 @@
 -- The declarations of one node follow one another in the order of its names, so the names that are bound to a declaration before
 -- their own are told by the place of the first.
-use Rattle.std.proofs.Common.{◌≡◌, ◌∙◌, ℕ, zero, suc, ◌+◌, ◌<◌, nat_lt, ◌==◌, Bool, true, false, ◌&&◌, ◌||◌, if◌then◌else◌, List, [], ◌∷◌, ◌++◌, length, map, slice_get, bytes_eq, Option, Some, refl, sym, ap, subst, arith, append_assoc, length-append, eq-eqb, lt-ltb}
+use Rattle.std.proofs.Common.{◌≡◌, ◌∙◌, ℕ, suc, ◌+◌, ◌<◌, ◌==◌, Bool, true, false, ◌&&◌, ◌||◌, if◌then◌else◌, List, [], ◌∷◌, ◌++◌, length, map, slice_get, bytes_eq, Option, Some, refl, sym, ap, subst, arith, append_assoc, length-append, eq-eqb, lt-ltb}
 use Rattle.std.specs.List.{AllByRecursion, list_any}
 use Rattle.std.proofs.lemmas.Bool.{or_parts, and_from, and_right}
 use Rattle.std.proofs.lemmas.Option.{slice_get_within}

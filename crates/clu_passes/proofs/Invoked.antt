@@ -63,7 +63,7 @@ counted : (types : List CluType) (ids : List TypeId) → count (types_at types i
 counted types [] = refl
 counted types (id ∷ ids) = ap suc (counted types ids)
 
-lengths : (terms : List Term) (ids : List (Option TypeId)) (ts : List (Option CluType)) → AreTypes terms ids ts → length ts ≡ length ids
+pub lengths : (terms : List Term) (ids : List (Option TypeId)) (ts : List (Option CluType)) → AreTypes terms ids ts → length ts ≡ length ids
 lengths terms [] [] are = refl
 lengths terms [] (t ∷ ts) are = absurd are
 lengths terms (id ∷ ids) [] are = absurd are

@@ -51,7 +51,7 @@ module _ {A : Type 0} (f : ℕ → A) where
 -- ---- lists one behind the other
 
 module _ {A : Type 0} (f : ℕ → List A) where
-  joined_suc : (n : ℕ) → joined_to f (suc n) ≡ joined_to f n ++ f n
+  pub joined_suc : (n : ℕ) → joined_to f (suc n) ≡ joined_to f n ++ f n
   unfolding joined_to
   joined_suc n = refl
 
@@ -60,7 +60,7 @@ module _ {A : Type 0} (f : ℕ → List A) where
     pub size : length starts ≡ m
     pub at : (n : ℕ) → n < m → slice_get starts n ≡ Some (length (joined_to f n))
 
-  begins_with : (n k : ℕ) → (rest : List A) × (joined_to f (n + k) ≡ joined_to f n ++ rest)
+  pub begins_with : (n k : ℕ) → (rest : List A) × (joined_to f (n + k) ≡ joined_to f n ++ rest)
   begins_with n zero = ([], ap (joined_to f) (omega arith) ∙ sym (append-nil (joined_to f n)))
   begins_with n (suc k) =
       let before = begins_with n k in (

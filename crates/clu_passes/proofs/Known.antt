@@ -1,5 +1,5 @@
 -- Names are one word just if they are equal, where all of them are numbered.
-use Rattle.std.proofs.Common.{◌≡◌, ◌∙◌, ◌⊎◌, ℕ, zero, suc, ◌+◌, ◌<◌, ◌≤◌, nat_lt, Bool, true, false, not, ◌&&◌, ◌||◌, ◌==◌, cond, List, [], ◌∷◌, ◌++◌, length, position, slice_get, if◌then◌else◌, bytes_eq, Option, Some, None, inl, inr, refl, sym, ap, arith}
+use Rattle.std.proofs.Common.{◌≡◌, ◌∙◌, ◌⊎◌, ℕ, zero, suc, ◌+◌, ◌<◌, ◌≤◌, nat_lt, Bool, true, false, not, ◌&&◌, ◌||◌, ◌==◌, cond, List, [], ◌∷◌, ◌++◌, length, slice_get, if◌then◌else◌, bytes_eq, Some, None, inl, inr, refl, sym, ap, arith}
 use Rattle.std.specs.Prelude.{unwrap_or}
 use Rattle.std.specs.List.{list_any, prefix_len}
 use Rattle.std.proofs.lemmas.Bool.{true≢false, eqb-true, eqb-false, eq-eqb, ne_eqb, cases_lt, lt-ltb, le-ltb, and_parts, and_from, or_left, or_right}
@@ -71,7 +71,7 @@ module _ (all : List (List ℕ)) where
       by true is = eq-eqb (number_of all a) (number_of all b) (ap (number_of all) ((bytes_eq-Decides a b).0 is))
       by false is = ne_eqb (number_of all a) (number_of all b) (λ e. true≢false (sym ((bytes_eq-Decides a b).1 (same_place all a b known (sym (number_is a) ∙ e ∙ number_is b))) ∙ is))
 
-  equal_turned : (a b : ℕ) → (a == b) ≡ (b == a)
+  pub equal_turned : (a b : ℕ) → (a == b) ≡ (b == a)
   equal_turned a b = by (a == b) refl
     where
       by : (t : Bool) → (a == b) ≡ t → t ≡ (b == a)

@@ -52,7 +52,7 @@ use Rattle.clu_passes.proofs.Leaving.{found}
 use Rattle.clu_passes.proofs.OneName.{OneName, signal_name, exception_name}
 use Rattle.clu_passes.proofs.OwnPlaces.{there_is}
 use Rattle.clu_passes.proofs.RoutineParts.{children_in, rest_of, signals_of_routine}
-use Rattle.clu_passes.proofs.StandTwice.{exceptions_are, names_before}
+use Rattle.clu_passes.proofs.StandTwice.{all_names, exceptions_are, names_before}
 
 -- ---- what a heading lists, by the names that are written there
 
@@ -132,12 +132,12 @@ module _ (k : Known) (scope : Scope) (library : List Specification) (refused : L
   module _ (shaped : HaveForms nodes) (tree : IsTree nodes) (are : AreItems f k.tables) (stand : StandInRoutines f) (routines : AreRoutineParts f table) where
     -- ---- the names of exceptions
 
-    record ItsName (r c : ℕ) : Type 0 where
-      its : Identifier
-      one : names_at c ≡ its ∷ []
-      written : (items r c).exception.name ≡ its
+    pub record ItsName (r c : ℕ) : Type 0 where
+      pub its : Identifier
+      pub one : names_at c ≡ its ∷ []
+      pub written : (items r c).exception.name ≡ its
 
-    its_name : (r c : ℕ) → IsPart nodes (is_of kind.Exc) r c → ItsName r c
+    pub its_name : (r c : ℕ) → IsPart nodes (is_of kind.Exc) r c → ItsName r c
     its_name r c p =
         let is : kind_at nodes c ≡ kind.Exc = same_kind kind.Exc (kind_at nodes c) p.1 in
         let x : There nodes c kind.Exc = there nodes c kind.Exc refl is in
@@ -169,8 +169,8 @@ module _ (k : Known) (scope : Scope) (library : List Specification) (refused : L
     found_in : (name : Identifier) → is_known words name ≡ true → (o : Option ℕ) → is_some (first_named k list.Exceptions o (of_tables.number_of k name)) ≡ list_any (bytes_eq name) (names_before words nodes kind.Exc (children_in nodes o))
     found_in name is None = refl
     found_in name is (Some s) =
-        ap (λ (o : Option ℕ). is_some (first_named k list.Exceptions (Some s) o)) (word_found f k.tables are kind.Exc list.Exceptions exceptions_are refl refl name is)
-        ∙ item_found f k.tables are kind.Exc list.Exceptions exceptions_are refl refl s name is
+        ap (λ (o : Option ℕ). is_some (first_named k list.Exceptions (Some s) o)) (word_found f k.tables are all_names kind.Exc list.Exceptions exceptions_are refl refl name is)
+        ∙ item_found f k.tables are all_names kind.Exc list.Exceptions exceptions_are refl refl s name is
 
     by_routine : (n : ℕ) (name : Identifier) → is_known words name ≡ true → is_failure name ≡ false → (o : Option ℕ) → (round_at f.rounds n).routine ≡ o →
         is_some (listed_objects (signals_of f (routine_at f o)) name) ≡ is_some (first_named k list.Exceptions (signals_in (parts_in table o)) (of_tables.number_of k name))

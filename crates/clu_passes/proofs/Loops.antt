@@ -119,7 +119,7 @@ module _ (k : Known) (scope : Scope) (library : List Specification) (refused : L
         ∙ ap (λ (i : Item). is_other_than_iterator f (statements.invoked_by f i.expression)) (before_is nodes n c is.0)
         ∙ called c (sym (same_call (kind_at nodes c)) ∙ is.1) all.0) cs s
 
-    behind_decls : (n : ℕ) (x : There nodes n kind.For) → Stand nodes n call_body (after_run nodes kind.Decl x.node.children)
+    pub behind_decls : (n : ℕ) (x : There nodes n kind.For) → Stand nodes n call_body (after_run nodes kind.Decl x.node.children)
     behind_decls n x =
         let h : HasForm nodes x.node = shaped n x.node x.at in
         elim (subst (λ (k : NodeKind). IsFormOf h.form (forms k)) x.is h.of_kind) [

@@ -28,7 +28,7 @@ use Rattle.clu_settle.proofs.Shapes.{any_fits, first_part}
 use Rattle.clu_meaning.specs.Scoping.{Scope}
 use Rattle.clu_meaning.specs.Settling.{type_settled}
 use Rattle.clu_checking.specs.Specifications.{Specification}
-use Rattle.clu_checking.specs.Files.{File, item, children}
+use Rattle.clu_checking.specs.Files.{File, item}
 use Rattle.clu_checking.specs.Operations.{may_fit}
 use Rattle.clu_checking.specs.Typing as typing
 use Rattle.clu_checking.specs.Invocations as wanting
@@ -72,11 +72,11 @@ elements_same types _ = refl
 
 -- ---- parts are types of the arena
 
-abbrev IsBelow : ℕ → Option TypeId → Type 0
+abbrev pub IsBelow : ℕ → Option TypeId → Type 0
 IsBelow n (Some id) = id.0 < n
 IsBelow n None = Unit {0}
 
-abbrev AreFieldsBelow : ℕ → Option (List Field) → Type 0
+abbrev pub AreFieldsBelow : ℕ → Option (List Field) → Type 0
 AreFieldsBelow n (Some fs) = FieldsBelow n fs
 AreFieldsBelow n None = Unit {0}
 
@@ -90,7 +90,7 @@ element_below n (term.Array of) parts = parts
 element_below n (term.Sequence of) parts = parts
 element_below n _ parts = tt
 
-component_below : (n : ℕ) (fs : List Field) (name : Identifier) → FieldsBelow n fs → IsBelow n (component_type fs name)
+pub component_below : (n : ℕ) (fs : List Field) (name : Identifier) → FieldsBelow n fs → IsBelow n (component_type fs name)
 component_below n [] name below = tt
 component_below n (field ∷ fs) name below = by (bytes_eq field.name name) (component_below n fs name below.1)
   where

@@ -1,6 +1,6 @@
 -- The bits of modules and routines: a module before this one has its name, or an export of a cluster stands twice.
-use Rattle.std.proofs.Common.{◌≡◌, ◌∙◌, ◌⊎◌, ℕ, zero, suc, ◌+◌, ◌<◌, ◌≤◌, nat_lt, ◌==◌, ◌&&◌, ◌||◌, not, Bool, true, false, if◌then◌else◌, List, [], ◌∷◌, ◌++◌, length, fold, slice_get, is_none, bytes_eq, Option, Some, None, inl, inr, refl, sym, ap, ap₂, arith}
-use Rattle.std.specs.List.{AllByRecursion, list_any}
+use Rattle.std.proofs.Common.{◌≡◌, ◌∙◌, ◌⊎◌, ℕ, zero, suc, ◌<◌, ◌≤◌, nat_lt, ◌==◌, ◌&&◌, ◌||◌, not, Bool, true, false, if◌then◌else◌, List, [], ◌∷◌, ◌++◌, length, fold, slice_get, is_none, bytes_eq, Option, Some, None, inl, inr, refl, sym, ap, ap₂, arith}
+use Rattle.std.specs.List.{list_any}
 use Rattle.std.proofs.lemmas.Bool.{true≢false, ne_eqb, lt-ltb, le-ltb, cases_lt, eqb-true, and_parts}
 use Rattle.std.proofs.lemmas.List.Folds.{list_any-append}
 use Rattle.std.proofs.lemmas.Grind.{fold-append}
@@ -26,7 +26,7 @@ use Rattle.clu_head.specs.Refused.{is_set}
 use Rattle.clu_name_rules.specs.declared.repeated.ListKind.{ListKind}
 use Rattle.clu_name_rules.specs.declared.repeated.ListKind.TheVariants as list
 use Rattle.clu_name_rules.specs.Words.{words_to}
-use Rattle.clu_name_rules.specs.Repeated.{same, Note, list_of, item_names, own_names as own_listed, listed_name, with_name, with_names, with_item, with_item_of, with_module, with_node, with_nodes, notes_of, exports_at, first_in}
+use Rattle.clu_name_rules.specs.Repeated.{Note, list_of, item_names, own_names as own_listed, listed_name, with_name, with_names, with_item, with_item_of, with_module, with_nodes, notes_of, exports_at, first_in}
 use Rattle.clu_passes.specs.Notes.{AreRepeated}
 use Rattle.clu_passes.proofs.FileNames.{unseen, own_repeats}
 use Rattle.clu_passes.proofs.Known.{is_known, are_known, turned_is, nodes_known}

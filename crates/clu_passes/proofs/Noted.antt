@@ -1,8 +1,8 @@
 -- What is noted one after the other says which names stand twice.
-use Rattle.std.proofs.Common.{◌≡◌, ◌∙◌, ℕ, zero, suc, nat_lt, Bool, true, false, not, ◌&&◌, ◌||◌, ◌==◌, if◌then◌else◌, ◌⊎◌, ◌<◌, ◌≤◌, inl, inr, arith, get_or, List, [], ◌∷◌, length, fold, set, replicate, slice_get, is_some, Option, Some, None, refl, sym, ap}
+use Rattle.std.proofs.Common.{◌≡◌, ◌∙◌, ℕ, zero, suc, nat_lt, Bool, true, false, not, ◌&&◌, ◌||◌, ◌==◌, if◌then◌else◌, ◌⊎◌, ◌<◌, ◌≤◌, inl, inr, arith, get_or, List, [], ◌∷◌, length, set, replicate, slice_get, is_some, Option, Some, None, refl, sym, ap}
 use Rattle.std.specs.List.{list_any}
 use Rattle.std.specs.Bool.{Decides}
-use Rattle.std.proofs.lemmas.Bool.{true≢false, eq-eqb, eqb-true, eqb-false, cases_lt, lt-ltb, le-ltb}
+use Rattle.std.proofs.lemmas.Bool.{eq-eqb, eqb-true, eqb-false, cases_lt, lt-ltb, le-ltb}
 use Rattle.std.proofs.lemmas.Bool.Decides.{Decides-like, Decides-and, Decides-eqb}
 use Rattle.std.proofs.lemmas.List.{length-set, length-replicate, get_or-set_same, get_or-set_other, set_past}
 use Rattle.clu_head.specs.Refused.{is_set}
@@ -78,7 +78,7 @@ kind_decided _ _ = (λ e. cc, λ e. cc)
 join : {A B C D : Type 0} (f : A → B → C → D) {a a' : A} {b b' : B} {c c' : C} → a ≡ a' → b ≡ b' → c ≡ c' → f a b c ≡ f a' b' c'
 join f p q r = cc
 
-listed_decided : (a b : Listed) → Decides (same a b) (a ≡ b)
+pub listed_decided : (a b : Listed) → Decides (same a b) (a ≡ b)
 listed_decided a b =
     Decides-like _ (λ e. join (λ (l : ℕ) (k : ListKind) (w : ℕ). let x : Listed = record { list = l; kind = k; word = w } in x) e.0 e.1.0 e.1.1)
     (λ e. (ap (λ (x : Listed). x.list) e, (ap (λ (x : Listed). x.kind) e, ap (λ (x : Listed). x.word) e)))

@@ -81,7 +81,7 @@ module _ (f : File) (shaped : HaveForms f.nodes) (names : Names) (are : AreNames
   first_same n [] some = absurd (some refl)
   first_same n (name ∷ rest) some = refl
 
-  named_by : (n : ℕ) (node : Node) → slice_get f.nodes n ≡ Some node → node.kind ≡ kind.Name → declaration_in names n ≡ found ds (first_name node.names) n
+  pub named_by : (n : ℕ) (node : Node) → slice_get f.nodes n ≡ Some node → node.kind ≡ kind.Name → declaration_in names n ≡ found ds (first_name node.names) n
   named_by n node at is =
       ap (λ (xs : List (Option ℕ)). optional (slice_get xs 0)) (bound_is f names are n)
       ∙ ap (λ (its : Option Node). optional (slice_get (bound_at ds n its) 0)) at

@@ -8,7 +8,6 @@ use Rattle.clu_tree.specs.declared.node.NodeKind.TheVariants as kind
 use Rattle.clu_tree.specs.Nodes.{IsTree}
 use Rattle.clu_parser.specs.Shape.{HaveForms}
 use Rattle.clu_types.specs.CluType.{CluType, no_types}
-use Rattle.clu_types.specs.declared.term.TypeId.{TypeId}
 use Rattle.clu_types.specs.declared.term.Term.{Term}
 use Rattle.clu_syntax.specs.Kinds.{kind_at, is_expression, is_type}
 use Rattle.clu_syntax.specs.Rounds.{round_at}
@@ -40,10 +39,10 @@ use Rattle.clu_type_rules.specs.Routines.{child_of_kind, parts_in, is_in_procedu
 use Rattle.clu_type_rules.specs.Known as known
 use Rattle.clu_type_rules.specs.Known.{type_at, parts_round}
 use Rattle.clu_type_rules.specs.StatementRules.{children_at, results_in, results_round, are_included, fit_values, gives_other}
-use Rattle.clu_passes.specs.FactTables.{typed, IsType, AreFacts, AreResults}
+use Rattle.clu_passes.specs.FactTables.{typed, AreFacts, AreResults}
 use Rattle.clu_passes.specs.Routines.{StandInRoutines, AreParts as AreRoutineParts}
 use Rattle.clu_passes.proofs.FactNodes as so
-use Rattle.clu_passes.proofs.FactTypes.{may_same}
+use Rattle.clu_passes.proofs.FactTypes.{may_known}
 use Rattle.clu_passes.proofs.Leaving.{found, in_procedure}
 use Rattle.clu_passes.proofs.OwnPlaces.{there_is}
 use Rattle.clu_passes.proofs.RoutineParts.{children_in, rest_of, results_of_routine}
@@ -84,10 +83,6 @@ module _ (k : Known) (scope : Scope) (library : List Specification) (refused : L
   none_fit others its n [] = refl
   none_fit others its n (v ∷ vs) = ap (λ (m : ℕ). m == 0 && true) (lengths its (v ∷ vs))
 
-  may_known : (g : Option TypeId) (t : Option CluType) → IsType terms g t → (o : Option TypeId) (w : CluType) → IsType terms o (Some w) → may_fit t w ≡ may_be terms g o
-  may_known g t g_is None w is = absurd is
-  may_known g t g_is (Some id) w is = ap (may_fit t) is.1 ∙ may_same terms g t g_is id is.0
-
   module _ (shaped : HaveForms nodes) (tree : IsTree nodes) (lost : ℕ → Bool) (facts : AreFacts f terms k.facts.now lost) (given : AreResults f k lost) (stand : StandInRoutines f) (routines : AreRoutineParts f table) where
     value_may : (others : ℕ → Item) (n r : ℕ) → (round_at f.rounds n).routine ≡ Some r → (v t : ℕ) → v < n → is_expression (kind_at nodes v) ≡ true → lost v ≡ false → t < r → is_type (kind_at nodes t) ≡ true → lost t ≡ false →
         may_fit (type_of f (items n v).expression) (headings.type_inside f r (items r t).type) ≡ may_be terms (type_at k v) (type_inside k.tables.file others n t)
@@ -95,7 +90,7 @@ module _ (k : Known) (scope : Scope) (library : List Specification) (refused : L
         ap (λ (i : Item). may_fit (type_of f i.expression) (headings.type_inside f r (items r t).type)) (before_is nodes n v v_before)
         ∙ ap (λ (its : Option CluType). may_fit its (headings.type_inside f r (items r t).type)) (sym (so.an_expression k scope library refused v v_is))
         ∙ ap (λ (i : Item). may_fit (typed f v) (headings.type_inside f r i.type)) (before_is nodes r t t_before)
-        ∙ may_known (type_at k v) (typed f v) (facts.types v v_here) (type_inside k.tables.file others n t) (headings.type_inside f r (item f t).type) (given.types others n r t e t_is t_here)
+        ∙ may_known terms (type_at k v) (typed f v) (facts.types v v_here) (type_inside k.tables.file others n t) (headings.type_inside f r (item f t).type) (given.types others n r t e t_is t_here)
 
     included_same : (others : ℕ → Item) (n r : ℕ) → (round_at f.rounds n).routine ≡ Some r → (vs : List ℕ) → AreParts nodes is_expression n vs → Here lost vs → (ts : List ℕ) → AreParts nodes is_type r ts → Here lost ts →
         all_may_fit (types_of f (expressions_at (items n) vs)) (headings.results_inside f r (types_at (items r) ts)) ≡ are_included k others n vs ts

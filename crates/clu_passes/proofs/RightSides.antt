@@ -1,7 +1,5 @@
 -- What stands in an equate is a constant or a type set.
-use Rattle.std.proofs.Common.{◌≡◌, ◌∙◌, ◌⊎◌, ℕ, ◌+◌, ◌-◌, ◌<◌, ◌≤◌, Bool, true, false, List, [], ◌∷◌, length, map, get_or, if◌then◌else◌, Option, Some, None, inl, inr, refl, sym, ap, subst, arith, rules}
-use Rattle.std.specs.Prelude.{slice_get}
-use Rattle.std.specs.List.{AllByRecursion}
+use Rattle.std.proofs.Common.{◌≡◌, ◌∙◌, ◌⊎◌, ℕ, ◌-◌, ◌<◌, ◌≤◌, Bool, true, false, List, [], ◌∷◌, length, map, get_or, if◌then◌else◌, Option, Some, None, inl, inr, refl, sym, ap, subst, arith, rules}
 use Rattle.std.proofs.lemmas.Bool.{true≢false, cases_lt}
 use Rattle.std.proofs.lemmas.Option.{slice_get_within}
 use Rattle.clu_tree.specs.declared.node.Node.{Node}
@@ -13,7 +11,7 @@ use Rattle.clu_parser.specs.Order.{IsPostOrder}
 use Rattle.clu_parser.specs.Shape.{HaveForms}
 use Rattle.clu_syntax.specs.declared.round.Round.{Round}
 use Rattle.clu_syntax.specs.Kinds.{kind_at, kind_of}
-use Rattle.clu_syntax.specs.Rounds.{AreRounds, round_at, outside}
+use Rattle.clu_syntax.specs.Rounds.{AreRounds, round_at}
 use Rattle.clu_syntax.specs.Slots.{Slot, one, slots, is_right_side, fit, after, may_end}
 use Rattle.clu_syntax.specs.Splits.{is_of}
 use Rattle.clu_syntax.proofs.Slots.{children_fit}

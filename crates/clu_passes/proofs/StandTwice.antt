@@ -1,5 +1,5 @@
 -- Which names stand twice in a list or at a node, by what is noted of all nodes.
-use Rattle.std.proofs.Common.{◌≡◌, ◌∙◌, ◌⊎◌, ℕ, zero, suc, ◌<◌, ◌≤◌, Bool, true, false, not, ◌&&◌, ◌||◌, ◌==◌, if◌then◌else◌, List, [], ◌∷◌, ◌++◌, length, fold, slice_get, is_some, Option, Some, None, inl, inr, refl, sym, ap, arith, rules}
+use Rattle.std.proofs.Common.{◌≡◌, ◌∙◌, ◌⊎◌, ℕ, Bool, true, false, not, ◌&&◌, ◌||◌, ◌==◌, if◌then◌else◌, List, [], ◌∷◌, ◌++◌, fold, slice_get, is_some, Option, Some, None, inl, inr, refl, sym, ap, rules}
 use Rattle.std.specs.List.{list_any}
 use Rattle.std.proofs.lemmas.Bool.{true≢false, eq-eqb, eqb-true, ne_eqb, and_parts, not-true, or_left, or_right}
 use Rattle.std.proofs.lemmas.List.Folds.{list_any-append}
@@ -15,7 +15,7 @@ use Rattle.clu_settle.specs.Names.{names_of}
 use Rattle.clu_name_rules.specs.declared.repeated.ListKind.{ListKind}
 use Rattle.clu_name_rules.specs.declared.repeated.ListKind.TheVariants as list
 use Rattle.clu_name_rules.specs.declared.repeated.Listed.{Listed}
-use Rattle.clu_name_rules.specs.Repeated.{same, Note, first_in, put_first, list_of, is_refused, item_names, own_names, listed_name, with_name, with_names, with_item_of, with_item, with_node, with_nodes}
+use Rattle.clu_name_rules.specs.Repeated.{same, Note, first_in, put_first, list_of, is_refused, tags_at, item_names, listed_name, with_name, with_names, with_item_of, with_item}
 use Rattle.clu_passes.specs.Notes.{has, each_once}
 use Rattle.clu_passes.proofs.Noted.{or_false, any_same, seen, repeats, IsStrict, same_word, stand_twice, are_seen, same_listed, same_kind, seen_names, names_apart, names_strict, is_other, names_loose}
 use denote.Enum.Bare.{same_true}
@@ -42,15 +42,19 @@ before_none n (c ∷ cs) = by (before_none n cs) (c == n) refl
     by rest true is = refl
     by rest false is = ap (λ (b : Bool). b || has n (before_in cs n)) is ∙ rest
 
--- the kind of a list in which items of one kind stand, by all their names
+-- the kind of a list in which items of one kind stand, each by names of its own
 abbrev pub is_list : ListKind → Option ListKind → Bool
 is_list k (Some other) = same_kind other k
 is_list k None = false
 
-pub record IsItemOf (item : NodeKind) (k : ListKind) : Type 0 where
+pub record IsItemOf (own : List Node → ℕ → List (List ℕ)) (item : NodeKind) (k : ListKind) : Type 0 where
   pub its : list_of item ≡ Some k
   pub only : (other : NodeKind) → is_of item other ≡ false → is_list k (list_of other) ≡ false
-  pub names : (nodes : List Node) (n : ℕ) → item_names nodes k n ≡ names_of (slice_get nodes n)
+  pub names : (nodes : List Node) (n : ℕ) → item_names nodes k n ≡ own nodes n
+
+-- most items have all names of their nodes
+abbrev pub all_names : List Node → ℕ → List (List ℕ)
+all_names nodes n = names_of (slice_get nodes n)
 
 only_exception : (other : NodeKind) → is_of kind.Exc other ≡ false → is_list list.Exceptions (list_of other) ≡ false
 only_exception kind.Exc h = h
@@ -68,23 +72,30 @@ only_component : (other : NodeKind) → is_of kind.FieldE other ≡ false → is
 only_component kind.FieldE h = h
 only_component _ h = refl
 
+only_tags : (other : NodeKind) → is_of kind.TagArm other ≡ false → is_list list.Tags (list_of other) ≡ false
+only_tags kind.TagArm h = h
+only_tags _ h = refl
+
 only_arm : (other : NodeKind) → is_of kind.When other ≡ false → is_list list.WhenArms (list_of other) ≡ false
 only_arm kind.When h = h
 only_arm _ h = refl
 
-pub arms_are : IsItemOf kind.When list.WhenArms
+pub tags_are : IsItemOf tags_at kind.TagArm list.Tags
+tags_are = record { its = refl; only = only_tags; names = λ nodes n. refl }
+
+pub arms_are : IsItemOf all_names kind.When list.WhenArms
 arms_are = record { its = refl; only = only_arm; names = λ nodes n. refl }
 
-pub exceptions_are : IsItemOf kind.Exc list.Exceptions
+pub exceptions_are : IsItemOf all_names kind.Exc list.Exceptions
 exceptions_are = record { its = refl; only = only_exception; names = λ nodes n. refl }
 
-pub declared_are : IsItemOf kind.Decl list.Declared
+pub declared_are : IsItemOf all_names kind.Decl list.Declared
 declared_are = record { its = refl; only = only_declared; names = λ nodes n. refl }
 
-pub selectors_are : IsItemOf kind.FieldT list.Selectors
+pub selectors_are : IsItemOf all_names kind.FieldT list.Selectors
 selectors_are = record { its = refl; only = only_selector; names = λ nodes n. refl }
 
-pub components_are : IsItemOf kind.FieldE list.Components
+pub components_are : IsItemOf all_names kind.FieldE list.Components
 components_are = record { its = refl; only = only_component; names = λ nodes n. refl }
 
 pub never_names : (other : NodeKind) → is_list list.Names (list_of other) ≡ false
@@ -148,9 +159,12 @@ module _ (all : List (List ℕ)) (nodes : List Node) where
       ∙ ap (λ (b : Bool). b || seen before (listed_name all top k x)) (any_none (λ y. same (listed_name all top j y) (listed_name all top k x)) (λ y. names_of_others top top j k x y none) (item_names nodes j c))
 
   -- the names of the items of one kind
+  abbrev pub own_before : (ℕ → List (List ℕ)) → NodeKind → List ℕ → List (List ℕ)
+  own_before own item [] = []
+  own_before own item (c ∷ cs) = if is_of item (kind_at nodes c) then own c ++ own_before own item cs else own_before own item cs
+
   abbrev pub names_before : NodeKind → List ℕ → List (List ℕ)
-  names_before item [] = []
-  names_before item (c ∷ cs) = if is_of item (kind_at nodes c) then names_at c ++ names_before item cs else names_before item cs
+  names_before item cs = own_before names_at item cs
 
   turn : (a b s : Bool) → (a || (b || s)) ≡ ((b || a) || s)
   turn true true s = refl
@@ -188,49 +202,49 @@ module _ (all : List (List ℕ)) (nodes : List Node) where
         | inr k ↦ inr k
       ]
 
-  module _ (item : NodeKind) (k : ListKind) (is : IsItemOf item k) (top : ℕ) where
+  module _ (own : List Node → ℕ → List (List ℕ)) (item : NodeKind) (k : ListKind) (is : IsItemOf own item k) (top : ℕ) where
     abbrev at : List ℕ → Listed
     at x = listed_name all top k x
 
     abbrev are_there : List ℕ → List (List ℕ) → Bool
     are_there x names = list_any (λ y. same_word all y x) names
 
-    seen_item : (c : ℕ) → is_of item (kind_at nodes c) ≡ true → (before : List Note) (x : List ℕ) → seen (step top before c) (at x) ≡ (are_there x (names_at c) || seen before (at x))
+    seen_item : (c : ℕ) → is_of item (kind_at nodes c) ≡ true → (before : List Note) (x : List ℕ) → seen (step top before c) (at x) ≡ (are_there x (own nodes c) || seen before (at x))
     seen_item c here before x =
         let kind_is : kind_at nodes c ≡ item = same_true the_type (search rules) (kind_at nodes c) item here in
         ap (λ (j : NodeKind). seen (with_item_of all nodes (list_of j) top c before) (at x)) kind_is
         ∙ ap (λ (o : Option ListKind). seen (with_item_of all nodes o top c before) (at x)) is.its
         ∙ ap (λ (names : List (List ℕ)). seen (with_names all top k c names before) (at x)) (is.names nodes c)
-        ∙ seen_names all top k c (names_at c) before (at x)
-        ∙ ap (λ (b : Bool). b || seen before (at x)) (any_same (λ y. same (at y) (at x)) (λ y. same_word all y x) (λ y. same_listed all top k y x) (names_at c))
+        ∙ seen_names all top k c (own nodes c) before (at x)
+        ∙ ap (λ (b : Bool). b || seen before (at x)) (any_same (λ y. same (at y) (at x)) (λ y. same_word all y x) (λ y. same_listed all top k y x) (own nodes c))
 
-    pub seen_items : (cs : List ℕ) (before : List Note) (x : List ℕ) → seen (fold (step top) before cs) (at x) ≡ (are_there x (names_before item cs) || seen before (at x))
+    pub seen_items : (cs : List ℕ) (before : List Note) (x : List ℕ) → seen (fold (step top) before cs) (at x) ≡ (are_there x (own_before (own nodes) item cs) || seen before (at x))
     seen_items [] before x = refl
     seen_items (c ∷ cs) before x = seen_items cs (step top before c) x ∙ by (is_of item (kind_at nodes c)) refl
       where
         by : (b : Bool) → is_of item (kind_at nodes c) ≡ b →
-            (are_there x (names_before item cs) || seen (step top before c) (at x)) ≡ (are_there x (if b then names_at c ++ names_before item cs else names_before item cs) || seen before (at x))
+            (are_there x (own_before (own nodes) item cs) || seen (step top before c) (at x)) ≡ (are_there x (if b then own nodes c ++ own_before (own nodes) item cs else own_before (own nodes) item cs) || seen before (at x))
         by true here =
-            ap (λ (b : Bool). are_there x (names_before item cs) || b) (seen_item c here before x)
-            ∙ turn (are_there x (names_before item cs)) (are_there x (names_at c)) (seen before (at x))
-            ∙ ap (λ (b : Bool). b || seen before (at x)) (sym (list_any-append (λ y. same_word all y x) (names_at c) (names_before item cs)))
-        by false other = ap (λ (b : Bool). are_there x (names_before item cs) || b) (seen_other k top (list_of (kind_at nodes c)) (is.only (kind_at nodes c) other) c before x)
+            ap (λ (b : Bool). are_there x (own_before (own nodes) item cs) || b) (seen_item c here before x)
+            ∙ turn (are_there x (own_before (own nodes) item cs)) (are_there x (own nodes c)) (seen before (at x))
+            ∙ ap (λ (b : Bool). b || seen before (at x)) (sym (list_any-append (λ y. same_word all y x) (own nodes c) (own_before (own nodes) item cs)))
+        by false other = ap (λ (b : Bool). are_there x (own_before (own nodes) item cs) || b) (seen_other k top (list_of (kind_at nodes c)) (is.only (kind_at nodes c) other) c before x)
 
     -- a name of the node stands before it in the list
     abbrev pub stand_before : List ℕ → ℕ → Bool
-    stand_before cs n = list_any (λ x. are_there x (names_before item (before_in cs n))) (names_at n)
+    stand_before cs n = list_any (λ x. are_there x (own_before (own nodes) item (before_in cs n))) (own nodes n)
 
     module _ (n : ℕ) (kind_is : kind_at nodes n ≡ item) (cs : List ℕ) (there : has n cs ≡ true) (once : each_once cs ≡ true) (before : List Note) (fresh : (x : List ℕ) → seen before (at x) ≡ false) (none : repeats before n ≡ false) where
       abbrev others : List Note
       others = fold (step top) before (before_in cs n)
 
-      seen_is : (x : List ℕ) → seen others (at x) ≡ are_there x (names_before item (before_in cs n))
+      seen_is : (x : List ℕ) → seen others (at x) ≡ are_there x (own_before (own nodes) item (before_in cs n))
       seen_is x =
           seen_items (before_in cs n) before x
-          ∙ ap (λ (b : Bool). are_there x (names_before item (before_in cs n)) || b) (fresh x)
-          ∙ or_false (are_there x (names_before item (before_in cs n)))
+          ∙ ap (λ (b : Bool). are_there x (own_before (own nodes) item (before_in cs n)) || b) (fresh x)
+          ∙ or_false (are_there x (own_before (own nodes) item (before_in cs n)))
 
-      as_names : repeats (step top others n) n ≡ repeats (with_names all top k n (names_at n) others) n
+      as_names : repeats (step top others n) n ≡ repeats (with_names all top k n (own nodes n) others) n
       as_names =
           ap (λ (j : NodeKind). repeats (with_item_of all nodes (list_of j) top n others) n) kind_is
           ∙ ap (λ (o : Option ListKind). repeats (with_item_of all nodes o top n others) n) is.its
@@ -239,14 +253,14 @@ module _ (all : List (List ℕ)) (nodes : List Node) where
       none_so_far : repeats others n ≡ false
       none_so_far = items_apart top n (before_in cs n) (before_none n cs) before ∙ none
 
-      pub list_strict : IsStrict k → repeats (fold (step top) before cs) n ≡ (stand_before cs n || stand_twice all (names_at n))
+      pub list_strict : IsStrict k → repeats (fold (step top) before cs) n ≡ (stand_before cs n || stand_twice all (own nodes n))
       list_strict strict =
           at_item top n cs there once before
           ∙ as_names
-          ∙ names_strict all top k strict n (names_at n) others
-          ∙ ap (λ (b : Bool). (are_seen all top k others (names_at n) || stand_twice all (names_at n)) || b) none_so_far
-          ∙ or_false (are_seen all top k others (names_at n) || stand_twice all (names_at n))
-          ∙ ap (λ (b : Bool). b || stand_twice all (names_at n)) (any_same (λ x. seen others (at x)) (λ x. are_there x (names_before item (before_in cs n))) seen_is (names_at n))
+          ∙ names_strict all top k strict n (own nodes n) others
+          ∙ ap (λ (b : Bool). (are_seen all top k others (own nodes n) || stand_twice all (own nodes n)) || b) none_so_far
+          ∙ or_false (are_seen all top k others (own nodes n) || stand_twice all (own nodes n))
+          ∙ ap (λ (b : Bool). b || stand_twice all (own nodes n)) (any_same (λ x. seen others (at x)) (λ x. are_there x (own_before (own nodes) item (before_in cs n))) seen_is (own nodes n))
 
       others_are : (x : List ℕ) → is_other (first_in others (at x)) n ≡ seen others (at x)
       others_are x = by (first_in others (at x)) refl
@@ -262,7 +276,7 @@ module _ (all : List (List ℕ)) (nodes : List Node) where
       list_loose loose =
           at_item top n cs there once before
           ∙ as_names
-          ∙ names_loose all top k loose n (names_at n) others
-          ∙ ap (λ (b : Bool). list_any (λ x. is_other (first_in others (at x)) n) (names_at n) || b) none_so_far
-          ∙ or_false (list_any (λ x. is_other (first_in others (at x)) n) (names_at n))
-          ∙ any_same (λ x. is_other (first_in others (at x)) n) (λ x. are_there x (names_before item (before_in cs n))) (λ x. others_are x ∙ seen_is x) (names_at n)
+          ∙ names_loose all top k loose n (own nodes n) others
+          ∙ ap (λ (b : Bool). list_any (λ x. is_other (first_in others (at x)) n) (own nodes n) || b) none_so_far
+          ∙ or_false (list_any (λ x. is_other (first_in others (at x)) n) (own nodes n))
+          ∙ any_same (λ x. is_other (first_in others (at x)) n) (λ x. are_there x (own_before (own nodes) item (before_in cs n))) (λ x. others_are x ∙ seen_is x) (own nodes n)

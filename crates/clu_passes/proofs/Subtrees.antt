@@ -1,12 +1,12 @@
 -- The nodes from the first of a node up to it are those of its tree, so what each node passes to its children holds of them.
-use Rattle.std.proofs.Common.{◌≡◌, ◌∙◌, ◌⊎◌, ℕ, ◌+◌, ◌-◌, ◌<◌, ◌≤◌, Bool, true, false, List, [], ◌∷◌, length, map, Option, Some, None, inl, inr, refl, sym, ap, subst, arith}
+use Rattle.std.proofs.Common.{◌≡◌, ◌∙◌, ℕ, ◌+◌, ◌-◌, ◌<◌, ◌≤◌, Bool, true, List, [], ◌∷◌, length, map, Option, Some, inl, inr, sym, ap, subst, arith}
 use Rattle.std.specs.Prelude.{slice_get}
 use Rattle.std.specs.List.{AllByRecursion}
 use Rattle.std.proofs.lemmas.Bool.{cases_lt}
 use Rattle.std.proofs.lemmas.Option.{same_Some, slice_get_within}
 use Rattle.clu_tree.specs.declared.node.Node.{Node}
 use Rattle.clu_tree.specs.declared.node.NodeKind.{NodeKind}
-use Rattle.clu_tree.specs.Nodes.{IsTree, IsRoot}
+use Rattle.clu_tree.specs.Nodes.{IsTree}
 use Rattle.clu_parser.specs.Order.{IsForest, none, tree, IsPostOrder}
 use Rattle.clu_syntax.specs.declared.bodies.Part.{Part}
 use Rattle.clu_syntax.specs.declared.round.Round.{Round}

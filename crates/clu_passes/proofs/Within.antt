@@ -1,6 +1,6 @@
 -- What is declared in a module has its scope inside of it, so the declarations that a node has in their scope, but for modules,
 -- are those of one module.
-use Rattle.std.proofs.Common.{◌≡◌, ◌∙◌, ◌⊎◌, ℕ, zero, suc, ◌+◌, ◌-◌, ◌^◌, ◌<◌, ◌≤◌, min, Bool, true, false, ◌&&◌, ◌||◌, if◌then◌else◌, List, [], ◌∷◌, length, map, slice_get, bytes_eq, Option, Some, None, inl, inr, refl, sym, ap, subst, arith, eq-eqb}
+use Rattle.std.proofs.Common.{◌≡◌, ◌∙◌, ◌⊎◌, ℕ, zero, suc, ◌+◌, ◌^◌, ◌<◌, ◌≤◌, Bool, true, false, ◌&&◌, ◌||◌, if◌then◌else◌, List, [], ◌∷◌, length, map, slice_get, bytes_eq, Option, Some, None, inl, inr, refl, sym, ap, subst, arith, eq-eqb}
 use Rattle.std.specs.Prelude.{nat_le}
 use Rattle.std.specs.List.{AllByRecursion}
 use Rattle.std.proofs.lemmas.Bool.{true≢false, and_parts, cases_lt, leb-true}
@@ -12,7 +12,7 @@ use Rattle.clu_parser.specs.Order.{IsForest, none, tree}
 use Rattle.clu_parser.specs.Trees.{Text}
 use Rattle.clu_syntax.specs.declared.bodies.Part.{Part}
 use Rattle.clu_syntax.specs.declared.round.Round.{Round}
-use Rattle.clu_syntax.specs.Bodies.{after_heads, last_of_items, last_of_body, opened, begins, part_of, part_at, first_part, is_behind, behind_at, head_at, differ}
+use Rattle.clu_syntax.specs.Bodies.{after_heads, last_of_items, last_of_body, opened, begins, first_part, is_behind, behind_at, head_at, differ}
 use Rattle.clu_syntax.specs.Kinds.{kind_of, kind_at, is_head, is_outside}
 use Rattle.clu_syntax.specs.Rounds.{AreRounds, round_at, rounds_in, body_at, body_in, unit_in, child_part, child_round, round_in}
 use Rattle.clu_syntax.specs.Splits.{is_of}

@@ -14,7 +14,6 @@ use Rattle.clu_syntax.specs.Syntax.{Identifier, TypeExpression}
 use Rattle.clu_names.specs.Denotes.{found}
 use Rattle.clu_meaning.specs.Scoping as means
 use Rattle.clu_meaning.specs.Scoping.{Scope}
-use Rattle.clu_meaning.specs.Settling.{value_of_constant, settled}
 use Rattle.clu_checking.specs.Specifications.{Specification}
 use Rattle.clu_checking.specs.Files.{File, item, is_kind, parent, children, meaning, is_of_module, equate_named}
 use Rattle.clu_checking.specs.Equates.{is_set_name}
@@ -104,9 +103,8 @@ pub record AreTables (f : File) (t : Tables) : Type 0 where
   pub names : AreNames f t.file.names.now
   pub marks : AreMarks f t.circular.now
   pub arena : IsArena t.types.now
-  -- what is known of a value is so; as many steps of unfolding are enough as there are declarations
+  -- what is known of a value is so
   pub values : AreSettled f.nodes f.scope t.types.now t.file.constants.now t.file.values.now
-  pub steps : (n : ℕ) → is_constant f.nodes n ≡ true → IsKnown t.file n → value_of_constant f.scope (settled f.scope) (item f n).constant ≡ settled f.scope (item f n).constant
   -- the first name of a Name, of a type by its name and of a Restrict, and the word `rep`
   pub named : (n : ℕ) → kind_at f.nodes n ≡ kind.Name → IsMeant f t.file n (first_name_at f n)
   pub named_types : (n : ℕ) → kind_at f.nodes n ≡ kind.NameT → IsMeant f t.file n (first_name_at f n)

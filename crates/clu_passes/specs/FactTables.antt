@@ -1,10 +1,9 @@
 -- What is known of the nodes of a file is so, but where something is lost.
-use Rattle.std.specs.Prelude.{◌≡◌, ◌<◌, if◌then◌else◌, ℕ, Bool, true, false, List, [], ◌∷◌, length, is_some, codes, Option, Some, None}
+use Rattle.std.specs.Prelude.{◌≡◌, if◌then◌else◌, ℕ, Bool, true, false, List, [], ◌∷◌, is_some, codes, Option, Some, None}
 use Rattle.std.specs.List.{AllByRecursion}
 use Rattle.clu_types.specs.CluType.{CluType}
 use Rattle.clu_types.specs.declared.term.TypeId.{TypeId}
 use Rattle.clu_types.specs.declared.term.Term.{Term}
-use Rattle.clu_types.specs.Arena.{type_at, types_of}
 use Rattle.clu_syntax.specs.Kinds.{is_expression, is_type}
 use Rattle.clu_syntax.specs.Items.{Item}
 use Rattle.clu_checking.specs.Files.{File, item, kind_in, round, children, equate_named}
@@ -17,6 +16,7 @@ use Rattle.clu_typing.specs.declared.facts.Facts.{Facts}
 use Rattle.clu_typing.specs.declared.facts.Operation.{Operation}
 use Rattle.clu_typing.specs.declared.facts.Operation.TheVariants as operation
 use Rattle.clu_typing.specs.declared.facts.Invocation.{Invocation}
+pub use Rattle.clu_typing.specs.Typing.{IsType}
 use Rattle.clu_typing.specs.Facts.{type_of, invocations, arguments, operation_type, operations_at}
 use Rattle.clu_type_rules.specs.declared.known.Known.{Known}
 use Rattle.clu_type_rules.specs.ExpressionRules.{is_equate}
@@ -26,14 +26,8 @@ abbrev pub typed : File → ℕ → Option CluType
 typed f n = if is_expression (kind_in f n) then typing.type_of f (item f n).expression else None
 
 module _ (terms : List Term) where
-  -- both are nothing, or the number is that of the type
-  abbrev pub IsType : Option TypeId → Option CluType → Type 0
-  IsType (Some id) (Some t) = (id.0 < length terms) × (t ≡ type_at (types_of terms) id)
-  IsType None None = Unit {0}
-  IsType _ _ = ⊥
-
   abbrev pub AreTypes : List (Option TypeId) → List (Option CluType) → Type 0
-  AreTypes (id ∷ ids) (t ∷ ts) = IsType id t × AreTypes ids ts
+  AreTypes (id ∷ ids) (t ∷ ts) = IsType terms id t × AreTypes ids ts
   AreTypes [] [] = Unit {0}
   AreTypes _ _ = ⊥
 
@@ -41,8 +35,8 @@ module _ (terms : List Term) where
     -- an operation that was found, by its type
     abbrev pub IsFound : Operation → Option finding.Found → Type 0
     IsFound operation.Missing None = Unit {0}
-    IsFound (operation.Found id) (Some found) = IsType (operation_type facts (operation.Found id)) found.type
-    IsFound (operation.Object of) (Some found) = IsType (Some of) found.type
+    IsFound (operation.Found id) (Some found) = IsType terms (operation_type facts (operation.Found id)) found.type
+    IsFound (operation.Object of) (Some found) = IsType terms (Some of) found.type
     IsFound _ _ = ⊥
 
     abbrev pub AreFound : List Operation → List (Option finding.Found) → Type 0

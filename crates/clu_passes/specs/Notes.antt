@@ -1,5 +1,5 @@
 -- The names that stand twice, as they are noted of a file; and what its tree has.
-use Rattle.std.specs.Prelude.{◌≡◌, ◌&&◌, ◌==◌, not, Bool, true, false, ℕ, List, [], ◌∷◌, length, map, filter, slice_get, Option, Some, None}
+use Rattle.std.specs.Prelude.{◌≡◌, ◌&&◌, ◌==◌, not, Bool, true, false, ℕ, List, [], ◌∷◌, length, map, filter, slice_get, Some, None}
 use Rattle.std.specs.List.{list_any}
 use Rattle.clu_tree.specs.declared.node.NodeKind.{NodeKind}
 use Rattle.clu_tree.specs.declared.node.NodeKind.TheVariants as kind

@@ -2,6 +2,7 @@
 //! contracts are the laws.
 #![tactic(auto)]
 
+mod ascending;
 mod asking;
 mod bindings;
 mod circles;
@@ -13,38 +14,120 @@ mod heads;
 mod made_tables;
 mod module_rules;
 mod name_rules;
+mod noted_lists;
+mod operators;
 mod parsed;
+mod raise_rules;
+mod raised;
 mod refusals;
 mod repeated;
+mod result_rules;
 mod statement_rules;
+mod tag_rules;
 mod turns;
 mod types;
 
-pub use asking::{bad_settled, least_asked};
-pub use bindings::{equates_said, names_mean, parameters_declared, places_said, wanted_said};
-pub use circles::{circle_by_mark, circular_by_nodes, circular_found, v7_by_marks};
-pub use constant_rules::{v8_by_tables, v9_by_tables, v10_by_tables, v19_by_tables, v31_by_tables};
-pub use exception_rules::{v25_by_tables, v26_of_exceptions, v27_by_tables};
-pub use expression_rules::{selectors_by_count, tags_by_count, v13_by_facts, v17_by_tables};
-pub use fact_rules::{
-    v11_by_facts, v12_by_facts, v16_by_facts, v21_by_facts, v24_by_tables, v30_by_facts,
-    v32_by_facts, v36_by_facts,
-};
-pub use heads::{demands_listed, routines_headed, routines_listed};
-pub use made_tables::{long_constants_told, long_types_told, marks_told, names_told, values_told};
-pub use module_rules::{v33_by_tables, v34_by_nodes, v35_by_nodes};
-pub use name_rules::{
-    names_of_node, own_is_first, redefined_by_binding, strings_told, v4_by_tables, v5_by_tables,
-    v7_by_tables, v37_by_tables,
-};
-pub use parsed::{
-    declare_modules, found_strings, have_parents, have_routines, open_of_one, redefined_by_places,
-    right_sides,
-};
-pub use refusals::{refusal_said, refused_counted};
-pub use repeated::{
-    arms_repeated, defined_by_tables, items_repeated, names_repeated, v17_of_selectors,
-};
-pub use statement_rules::{stands_in_routine, v28_by_tables, v29_by_tables};
-pub use turns::{asked_in_turn, bad_in_turn, bits_read};
-pub use types::{kinds_told, type_seen, type_told};
+pub use ascending::components_ascend;
+pub use ascending::expressions_ascend;
+pub use ascending::names_ascend;
+pub use ascending::settled_ascend;
+pub use ascending::terms_ascend;
+pub use asking::bad_settled;
+pub use asking::least_asked;
+pub use bindings::equates_said;
+pub use bindings::names_mean;
+pub use bindings::parameters_declared;
+pub use bindings::places_said;
+pub use bindings::wanted_said;
+pub use circles::circle_by_mark;
+pub use circles::circular_by_nodes;
+pub use circles::circular_found;
+pub use circles::v7_by_marks;
+pub use constant_rules::v8_by_tables;
+pub use constant_rules::v9_by_tables;
+pub use constant_rules::v10_by_tables;
+pub use constant_rules::v19_by_tables;
+pub use constant_rules::v31_by_tables;
+pub use exception_rules::v25_by_tables;
+pub use exception_rules::v26_of_exceptions;
+pub use exception_rules::v27_by_tables;
+pub use expression_rules::selectors_by_count;
+pub use expression_rules::tags_by_count;
+pub use expression_rules::v13_by_facts;
+pub use expression_rules::v17_by_tables;
+pub use fact_rules::v11_by_facts;
+pub use fact_rules::v12_by_facts;
+pub use fact_rules::v16_by_facts;
+pub use fact_rules::v21_by_facts;
+pub use fact_rules::v24_by_tables;
+pub use fact_rules::v30_by_facts;
+pub use fact_rules::v32_by_facts;
+pub use fact_rules::v36_by_facts;
+pub use heads::asked_in_pieces;
+pub use heads::demands_listed;
+pub use heads::demands_told;
+pub use heads::head_parts_below;
+pub use heads::head_types_told;
+pub use heads::heading_types_told;
+pub use heads::kinds_listed;
+pub use heads::own_type_told;
+pub use heads::routines_headed;
+pub use heads::routines_listed;
+pub use heads::sets_named;
+pub use heads::types_seen;
+pub use made_tables::long_constants_told;
+pub use made_tables::long_types_told;
+pub use made_tables::marks_told;
+pub use made_tables::names_told;
+pub use made_tables::values_told;
+pub use module_rules::v33_by_tables;
+pub use module_rules::v34_by_nodes;
+pub use module_rules::v35_by_nodes;
+pub use name_rules::names_of_node;
+pub use name_rules::own_is_first;
+pub use name_rules::redefined_by_binding;
+pub use name_rules::strings_told;
+pub use name_rules::v4_by_tables;
+pub use name_rules::v5_by_tables;
+pub use name_rules::v7_by_tables;
+pub use name_rules::v37_by_tables;
+pub use noted_lists::node_read;
+pub use noted_lists::nodes_noted;
+pub use noted_lists::nodes_read;
+pub use operators::applied_typed;
+pub use operators::constants_typed;
+pub use operators::operators_said;
+pub use operators::results_typed;
+pub use parsed::declare_modules;
+pub use parsed::found_strings;
+pub use parsed::have_parents;
+pub use parsed::have_routines;
+pub use parsed::open_of_one;
+pub use parsed::redefined_by_places;
+pub use parsed::right_sides;
+pub use raise_rules::v23_by_facts;
+pub use raise_rules::v26_of_exits;
+pub use raise_rules::v26_of_resignals;
+pub use raise_rules::v26_of_signals;
+pub use raised::raises_by_rows;
+pub use raised::raises_judged;
+pub use raised::raises_told;
+pub use refusals::refusal_said;
+pub use refusals::refused_counted;
+pub use repeated::arms_repeated;
+pub use repeated::defined_by_tables;
+pub use repeated::items_repeated;
+pub use repeated::names_repeated;
+pub use repeated::v17_of_selectors;
+pub use result_rules::v14_by_facts;
+pub use result_rules::v15_by_facts;
+pub use statement_rules::stands_in_routine;
+pub use statement_rules::v28_by_tables;
+pub use statement_rules::v29_by_tables;
+pub use tag_rules::v22_by_facts;
+pub use turns::asked_in_turn;
+pub use turns::bad_in_turn;
+pub use turns::bits_read;
+pub use types::kinds_told;
+pub use types::type_seen;
+pub use types::type_told;

@@ -17,8 +17,7 @@ use crate::known::{Known, routine_round, term};
 use crate::objects::{Objects, fit_types, split_declarations, take_objects};
 use clu_base::Bytes;
 use clu_bindings::{File, type_inside, type_outside};
-use clu_name_rules::{is_kind, is_repeated};
-use clu_syntax::is_type;
+use clu_name_rules::{is_kind, is_repeated, leading_type};
 use clu_tree::NodeKind;
 use clu_types::{Term, TypeId};
 use clu_typing::{Raise, RaisesId};
@@ -208,22 +207,12 @@ fn arm_misfits(k: &Known<'_>, n: u32) -> bool
     }
 }
 
-/// The first of these nodes, if it is a type.
-fn first_type(f: File<'_>, children: &[u32]) -> Option<u32>
-    ensures { result ≡ type_of f.entry.syntax.now children.now }
-{
-    match children {
-        [t, ..] => { if is_type(f.kind(*t)) { Some(*t) } else { None } }
-        [] => None,
-    }
-}
-
 /// Whether the variable of the others arm n, if it has one, takes a string.
 fn takes_string(k: &Known<'_>, n: u32) -> bool
     ensures { (items : ℕ → Item) → result ≡ takes_string k.now items n (type_of k.now.tables.file.syntax.now (children k.now n)) }
 {
     let f = k.tables.file;
-    match first_type(f, f.children(n)) {
+    match leading_type(f, f.children(n)) {
         Some(t) => may_name_string(k, type_inside(f, n, t)),
         None => true,
     }

@@ -1,1 +1,4 @@
+pub mod Absent
 pub mod Ascending
+pub mod Sets
+pub mod Forced

@@ -1,2 +1,11 @@
+pub mod Applied
 pub mod Facts
+pub mod Invoked
+pub mod Invoking
+pub mod Nodes
+pub mod Operators
 pub mod Raised
+pub mod Raises
+pub mod Sets
+pub mod Stands
+pub mod Typing

@@ -1,11 +1,26 @@
 //! The operation for which a node stands, found in the type of its operand (CLU Reference Manual, section 10).
 
-use crate::facts::{Facts, Operation, operation_of};
+ghost use Rattle.std.specs.Prelude.{◌≡◌, ◌++◌, ℕ, true, false, IfOk, codes, slice_get};
+ghost use Rattle.clu_syntax.specs.Items.{Item};
+ghost use Rattle.clu_syntax.specs.Views.{expression_told};
+ghost use Rattle.clu_syntax.specs.Kinds.{is_expression};
+ghost use Rattle.clu_settle.specs.Names.{names_of};
+ghost use Rattle.clu_bindings.specs.Readers.{kind_in, meaning_in};
+ghost use Rattle.clu_bindings.specs.Inside.{own_type};
+ghost use Rattle.clu_operations.specs.Words.{number_with};
+ghost use Rattle.clu_typing.specs.Facts.{type_found};
+ghost use Rattle.clu_typing.specs.Nodes.{has_actuals};
+ghost use Rattle.clu_typing.specs.Applied.{only, result_of, results_of};
+ghost use Rattle.clu_typing.specs.Invoking.{IsSought};
+ghost use Rattle.clu_typing.specs.Stands.{infix_stands, index_stands, operation_stands, name_stands, field_stands, stands_by, expression_stands, stands_at, IsUse, IsUseOf, IsBehind, IsNegation, IsInvoked, IsNamed, IsApplied};
+
+use crate::facts::{Operation, operation_of, type_found};
+use crate::nodes::{first_settled, first_type, has_actuals};
 use crate::operators::{infix_operation, is_negated, prefix_operation};
 use clu_base::{Bytes, Memory};
-use clu_bindings::{Headed, Meaning, own_type, type_of_value};
-use clu_operations::{NameId, module_found, operation_found};
-use clu_syntax::{Expression, Operator, Statement, is_expression};
+use clu_bindings::{Headed, Meaning, own_type};
+use clu_operations::{Finding, NameId, module_found, operation_found};
+use clu_syntax::{Expression, Operator, is_expression};
 use clu_tree::NodeKind;
 use clu_types::{Term, TypeArena, TypeId};
 
@@ -28,21 +43,31 @@ pub enum Applied {
     Named(Option<Use>),
 }
 
-fn only(types: &[TypeId]) -> Option<TypeId> {
+fn only(types: &[TypeId]) -> Option<TypeId>
+    ensures { result ≡ only types.now }
+{
     match types {
         [one] => Some(*one),
         _ => None,
     }
 }
 
+fn results_of(term: &Term) -> &[TypeId]
+    ensures { result.now ≡ results_of term.now }
+{
+    match term {
+        Term::Proc(heading) | Term::Iter(heading) => heading.results.as_slice(),
+        _ => &[],
+    }
+}
+
 /// The only result of a routine; another number of results, and what is no routine, gives none.
-pub fn result_of(types: &TypeArena, of: Option<TypeId>) -> Option<TypeId> {
+pub fn result_of(types: &TypeArena, of: Option<TypeId>) -> Option<TypeId>
+    ensures { result ≡ result_of types.now of }
+{
     let of = of?;
     if types.contains(of) {
-        match types.view(of) {
-            Term::Proc(heading) | Term::Iter(heading) => only(heading.results.as_slice()),
-            _ => None,
-        }
+        only(results_of(types.view(of)))
     } else {
         None
     }
@@ -52,11 +77,13 @@ pub fn result_of(types: &TypeArena, of: Option<TypeId>) -> Option<TypeId> {
 pub fn module_operation(
     headed: Headed<'_>,
     types: &mut TypeArena,
-    facts: &mut Facts,
+    finding: &mut Finding,
     of: Option<TypeId>,
-) -> Result<Operation, Memory> {
+) -> Result<Operation, Memory>
+    ensures { IfOk result (IsSought of) }
+{
     match of {
-        Some(of) => Ok(operation_of(module_found(headed, types, &mut facts.finding, of)?)),
+        Some(of) => Ok(operation_of(module_found(headed, types, finding, of)?)),
         None => Ok(Operation::Missing),
     }
 }
@@ -64,12 +91,14 @@ pub fn module_operation(
 fn used(
     headed: Headed<'_>,
     types: &mut TypeArena,
-    facts: &mut Facts,
+    finding: &mut Finding,
     n: u32,
     of: TypeId,
     name: NameId,
-) -> Result<Use, Memory> {
-    let found = operation_found(headed, types, &mut facts.finding, n, of, name)?;
+) -> Result<Use, Memory>
+    ensures { IfOk result (IsUse of name) }
+{
+    let found = operation_found(headed, types, finding, n, of, name)?;
     Ok(Use {
         of,
         name,
@@ -77,17 +106,66 @@ fn used(
     })
 }
 
-/// The operation of this name of the type of the node `operand`.
+// ---- operations that are invoked
+
+/// The operation `not` of what a comparison gives, if that has a type.
+fn negation(
+    headed: Headed<'_>,
+    types: &mut TypeArena,
+    finding: &mut Finding,
+    n: u32,
+    of: Option<TypeId>,
+) -> Result<Option<Use>, Memory>
+    ensures { IfOk result (IsUseOf of (number_with finding.old.words (codes "not"))) }
+{
+    match of {
+        Some(of) => {
+            let words = &mut finding.words;
+            let name = words.number_of(headed.file.alloc, b"not".as_slice())?;
+            Ok(Some(used(headed, types, finding, n, of, name)?))
+        }
+        None => Ok(None),
+    }
+}
+
+/// What is invoked behind an operation: behind a comparison with `~` it is `not`.
+fn behind(
+    headed: Headed<'_>,
+    types: &mut TypeArena,
+    finding: &mut Finding,
+    n: u32,
+    first: Use,
+    negated: bool,
+) -> Result<Option<Use>, Memory>
+    ensures behind { IfOk result (IsBehind negated) }
+    ensures negation { IfOk result (IsNegation negated (result_of types.old (type_found finding.old first.operation)) (number_with finding.old.words (codes "not"))) }
+{
+    if negated {
+        let of = result_of(types, type_found(finding, first.operation));
+        negation(headed, types, finding, n, of)
+    } else {
+        Ok(None)
+    }
+}
+
+/// The operation of this name of an operand of this type.
 fn invoked(
     headed: Headed<'_>,
     types: &mut TypeArena,
-    facts: &mut Facts,
+    finding: &mut Finding,
     n: u32,
     name: NameId,
-    operand: u32,
-) -> Result<Applied, Memory> {
-    match facts.type_of(operand) {
-        Some(of) => Ok(Applied::Invoked(used(headed, types, facts, n, of, name)?, None)),
+    negated: bool,
+    of: Option<TypeId>,
+) -> Result<Applied, Memory>
+    ensures { IfOk result (IsInvoked of name negated) }
+{
+    match of {
+        Some(of) => {
+            let first = used(headed, types, finding, n, of, name)?;
+            let second = behind(headed, types, finding, n, first, negated)?;
+            Ok(Applied::Invoked(first, second))
+        }
         None => Ok(Applied::Nothing),
     }
 }
@@ -95,163 +173,214 @@ fn invoked(
 fn by_word(
     headed: Headed<'_>,
     types: &mut TypeArena,
-    facts: &mut Facts,
+    finding: &mut Finding,
     n: u32,
     word: &str,
-    operand: u32,
-) -> Result<Applied, Memory> {
-    let words = &mut facts.finding.words;
+    negated: bool,
+    of: Option<TypeId>,
+) -> Result<Applied, Memory>
+    ensures { IfOk result (IsInvoked of (number_with finding.old.words word.now) negated) }
+{
+    let words = &mut finding.words;
     let name = words.number_of(headed.file.alloc, word.as_bytes())?;
-    invoked(headed, types, facts, n, name, operand)
+    invoked(headed, types, finding, n, name, negated, of)
 }
 
 /// The operation whose name is a front and a selector.
 fn selected(
     headed: Headed<'_>,
     types: &mut TypeArena,
-    facts: &mut Facts,
+    finding: &mut Finding,
     n: u32,
     front: &str,
     selector: &Bytes,
-    operand: u32,
-) -> Result<Applied, Memory> {
-    let words = &mut facts.finding.words;
+    of: Option<TypeId>,
+) -> Result<Applied, Memory>
+    ensures { IfOk result (IsInvoked of (number_with finding.old.words (front.now ++ selector.now)) false) }
+{
+    let words = &mut finding.words;
     let name = words.number_behind(headed.file.alloc, front.as_bytes(), selector)?;
-    invoked(headed, types, facts, n, name, operand)
-}
-
-/// A comparison, and behind it the operation `not` of what this gives.
-fn negated(
-    headed: Headed<'_>,
-    types: &mut TypeArena,
-    facts: &mut Facts,
-    n: u32,
-    applied: Applied,
-) -> Result<Applied, Memory> {
-    let Applied::Invoked(compared, _) = applied else {
-        return Ok(applied);
-    };
-    let Some(of) = result_of(types, facts.operation_type(compared.operation)) else {
-        return Ok(applied);
-    };
-    let words = &mut facts.finding.words;
-    let name = words.number_of(headed.file.alloc, b"not".as_slice())?;
-    let second = used(headed, types, facts, n, of, name)?;
-    Ok(Applied::Invoked(compared, Some(second)))
+    invoked(headed, types, finding, n, name, false, of)
 }
 
 fn infix(
     headed: Headed<'_>,
     types: &mut TypeArena,
-    facts: &mut Facts,
+    finding: &mut Finding,
     n: u32,
     operator: Operator,
-    left: u32,
-) -> Result<Applied, Memory> {
+    of: Option<TypeId>,
+) -> Result<Applied, Memory>
+    ensures { IfOk result (IsApplied finding.old.words (infix_stands operator of)) }
+{
     match infix_operation(operator) {
-        Some(word) => {
-            let applied = by_word(headed, types, facts, n, word, left)?;
-            if is_negated(operator) {
-                negated(headed, types, facts, n, applied)
-            } else {
-                Ok(applied)
-            }
-        }
+        Some(word) => by_word(headed, types, finding, n, word, is_negated(operator), of),
         None => Ok(Applied::Nothing),
     }
 }
 
+fn index(
+    headed: Headed<'_>,
+    types: &mut TypeArena,
+    finding: &mut Finding,
+    n: u32,
+    of: Option<TypeId>,
+) -> Result<Applied, Memory>
+    ensures { IfOk result (IsApplied finding.old.words (index_stands (has_actuals headed.entry.file n) of)) }
+{
+    if has_actuals(headed.file, n) {
+        Ok(Applied::Nothing)
+    } else {
+        by_word(headed, types, finding, n, "fetch", false, of)
+    }
+}
+
+// ---- operations that are named
+
 fn named(
     headed: Headed<'_>,
     types: &mut TypeArena,
-    facts: &mut Facts,
+    finding: &mut Finding,
     n: u32,
-    of: TypeId,
+    of: Option<TypeId>,
     name: &Bytes,
-) -> Result<Applied, Memory> {
-    let name = facts.finding.words.number(headed.file.alloc, name)?;
-    let used = used(headed, types, facts, n, of, name)?;
-    Ok(Applied::Named(Some(used)))
+) -> Result<Applied, Memory>
+    ensures { IfOk result (IsNamed of (number_with finding.old.words name.now)) }
+{
+    match of {
+        Some(of) => {
+            let name = finding.words.number(headed.file.alloc, name)?;
+            let used = used(headed, types, finding, n, of, name)?;
+            Ok(Applied::Named(Some(used)))
+        }
+        None => Ok(Applied::Named(None)),
+    }
+}
+
+/// The operation of a type that is written out.
+fn of_type(
+    headed: Headed<'_>,
+    types: &mut TypeArena,
+    finding: &mut Finding,
+    n: u32,
+    of: Option<TypeId>,
+    name: &Bytes,
+) -> Result<Applied, Memory>
+    ensures { IfOk result (IsApplied finding.old.words (operation_stands of name.now)) }
+{
+    match of {
+        Some(_) => named(headed, types, finding, n, of, name),
+        None => Ok(Applied::Nothing),
+    }
 }
 
 /// The routine of the cluster round the node n that a Name denotes.
 fn own_named(
     headed: Headed<'_>,
     types: &mut TypeArena,
-    facts: &mut Facts,
+    finding: &mut Finding,
     n: u32,
     name: &Bytes,
-) -> Result<Applied, Memory> {
+) -> Result<Applied, Memory>
+    ensures { IfOk result (IsApplied finding.old.words (name_stands (meaning_in headed.entry.file n) (own_type headed.entry.file n) name.now)) }
+{
     match headed.file.meaning(n) {
-        Meaning::RoutineOfCluster => match own_type(headed.file, n) {
-            Some(own) => named(headed, types, facts, n, own, name),
-            None => Ok(Applied::Named(None)),
-        },
+        Meaning::RoutineOfCluster => {
+            named(headed, types, finding, n, own_type(headed.file, n), name)
+        }
         _ => Ok(Applied::Nothing),
     }
 }
 
+// ---- nodes
+
+/// That for which the expression of the node n stands.
+#[tactic(auto, unfolding(crate::specs::Stands::stands_by))]
 fn by_expression(
     headed: Headed<'_>,
     types: &mut TypeArena,
-    facts: &mut Facts,
+    known: &[Option<TypeId>],
+    finding: &mut Finding,
     n: u32,
-) -> Result<Applied, Memory> {
-    match headed.file.expression(n) {
-        Some(Expression::Infix { operator, left, .. }) => {
-            infix(headed, types, facts, n, operator, left)
+    expression: Expression<'_>,
+) -> Result<Applied, Memory>
+    ensures { (items : ℕ → Item) → IfOk result (IsApplied finding.old.words (stands_by headed.entry.file known.now n (expression_told items n expression.entry))) }
+{
+    let of = first_type(headed.file, known, n);
+    match expression {
+        Expression::Infix { operator, .. } => infix(headed, types, finding, n, operator, of),
+        Expression::Prefix { sign, .. } => {
+            by_word(headed, types, finding, n, prefix_operation(sign), false, of)
         }
-        Some(Expression::Prefix { sign, operand }) => {
-            by_word(headed, types, facts, n, prefix_operation(sign), operand)
+        Expression::Index { .. } => index(headed, types, finding, n, of),
+        Expression::Get { selector, .. } => {
+            selected(headed, types, finding, n, "get_", selector, of)
         }
-        Some(Expression::Index { of, .. }) => {
-            if headed.file.takes_actuals(of) {
-                Ok(Applied::Nothing)
-            } else {
-                by_word(headed, types, facts, n, "fetch", of)
-            }
+        Expression::Operation { operation, .. } => {
+            of_type(
+                headed,
+                types,
+                finding,
+                n,
+                first_settled(headed.file, n),
+                operation,
+            )
         }
-        Some(Expression::Get { of, selector }) => {
-            selected(headed, types, facts, n, "get_", selector, of)
-        }
-        Some(Expression::Operation { of, operation }) => {
-            match type_of_value(headed.file.value(of)) {
-                Some(of) => named(headed, types, facts, n, of, operation),
-                None => Ok(Applied::Nothing),
-            }
-        }
-        Some(Expression::Name(name)) => own_named(headed, types, facts, n, name),
+        Expression::Name(name) => own_named(headed, types, finding, n, name),
         _ => Ok(Applied::Nothing),
     }
 }
 
-fn by_statement(
+/// The same of the node n, if it is an expression.
+fn by_view(
     headed: Headed<'_>,
     types: &mut TypeArena,
-    facts: &mut Facts,
+    known: &[Option<TypeId>],
+    finding: &mut Finding,
     n: u32,
-) -> Result<Applied, Memory> {
-    match headed.file.statement(n) {
-        Some(Statement::SetField { of, selector, .. }) => {
-            selected(headed, types, facts, n, "set_", selector, of)
-        }
-        Some(Statement::SetIndex { of, .. }) => by_word(headed, types, facts, n, "store", of),
-        _ => Ok(Applied::Nothing),
+) -> Result<Applied, Memory>
+    ensures { is_expression (kind_in headed.entry.file n) ≡ true → (items : ℕ → Item) → IfOk result (IsApplied finding.old.words (expression_stands headed.entry.file known.now n items)) }
+{
+    match headed.file.expression(n) {
+        Some(expression) => by_expression(headed, types, known, finding, n, expression),
+        None => Ok(Applied::Nothing),
     }
 }
 
-/// For what the node n stands, by what is known of the nodes before it.
+/// The same of the node n, if it is a SetField.
+fn by_field(
+    headed: Headed<'_>,
+    types: &mut TypeArena,
+    finding: &mut Finding,
+    n: u32,
+    of: Option<TypeId>,
+) -> Result<Applied, Memory>
+    ensures { IfOk result (IsApplied finding.old.words (field_stands (names_of (slice_get headed.entry.file.syntax.now n)) of)) }
+{
+    match headed.file.names(n) {
+        [selector, ..] => selected(headed, types, finding, n, "set_", selector, of),
+        [] => Ok(Applied::Nothing),
+    }
+}
+
+/// For what the node n stands, by the types of the nodes before it. The operand is its first child.
+#[tactic(auto, unfolding(crate::specs::Stands::stands_as))]
 pub fn applied_at(
     headed: Headed<'_>,
     types: &mut TypeArena,
-    facts: &mut Facts,
+    known: &[Option<TypeId>],
+    finding: &mut Finding,
     n: u32,
-) -> Result<Applied, Memory> {
+) -> Result<Applied, Memory>
+    ensures { (items : ℕ → Item) → IfOk result (IsApplied finding.old.words (stands_at headed.entry.file known.now n items)) }
+{
+    let of = first_type(headed.file, known, n);
     match headed.file.kind(n) {
-        NodeKind::SetField | NodeKind::SetIndex => by_statement(headed, types, facts, n),
+        NodeKind::SetField => by_field(headed, types, finding, n, of),
+        NodeKind::SetIndex => by_word(headed, types, finding, n, "store", false, of),
         kind => {
             if is_expression(kind) {
-                by_expression(headed, types, facts, n)
+                by_view(headed, types, known, finding, n)
             } else {
                 Ok(Applied::Nothing)
             }

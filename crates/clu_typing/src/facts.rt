@@ -1,7 +1,7 @@
 //! What is known of the nodes of a file, as tables by node.
 
 ghost use Rattle.std.specs.Prelude.{◌≡◌};
-ghost use Rattle.clu_typing.specs.Facts.{type_of, invocations, arguments, operation_type, operations_at, raised_at};
+ghost use Rattle.clu_typing.specs.Facts.{type_of, invocations, arguments, operation_of, type_found, operation_type, operations_at, askers_at, raised_at};
 
 use crate::raising::{NOTHING, RaisesId, Raising};
 use clu_bindings::{items_of, optional_at};
@@ -70,17 +70,32 @@ pub struct Facts {
 }
 
 /// An operation that was looked for.
-pub fn operation_of(found: Option<FoundId>) -> Operation {
+pub fn operation_of(found: Option<FoundId>) -> Operation
+    ensures { result ≡ operation_of found }
+{
     match found {
         Some(found) => Operation::Found(found),
         None => Operation::Missing,
     }
 }
 
+/// The type of an operation; None if there is none, or if it is refused where it is declared.
+pub fn type_found(finding: &Finding, operation: Operation) -> Option<TypeId>
+    ensures { result ≡ type_found finding.now operation }
+{
+    match operation {
+        Operation::Missing => None,
+        Operation::Found(found) => finding.found(found).of,
+        Operation::Object(of) => Some(of),
+    }
+}
+
 impl Invocations {
     /// What asks something of types at the node n: its operations, and the module that it names, if its actual parameters
     /// are of the kinds that this takes.
-    pub fn askers_at(&self, n: u32) -> &[FoundId] {
+    pub fn askers_at(&self, n: u32) -> &[FoundId]
+        ensures { result.now ≡ askers_at self.now n }
+    {
         items_of(self.askers.as_slice(), self.asker_starts.as_slice(), n)
     }
 }
@@ -113,11 +128,7 @@ impl Facts {
     pub fn operation_type(&self, operation: Operation) -> Option<TypeId>
         ensures { result ≡ operation_type self.now operation }
     {
-        match operation {
-            Operation::Missing => None,
-            Operation::Found(found) => self.finding.found(found).of,
-            Operation::Object(of) => Some(of),
-        }
+        type_found(&self.finding, operation)
     }
 
     /// The operations that are invoked at the node n, and behind them those that are named there.

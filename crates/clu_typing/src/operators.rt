@@ -1,9 +1,15 @@
 //! The operations for which operators stand (CLU Reference Manual, section 10).
 
+ghost use Rattle.std.specs.Prelude.{◌≡◌, option_map};
+ghost use Rattle.clu_typing.specs.Operators.{infix_operation, is_negated, prefix_operation};
+
 use clu_syntax::{Operator, Sign};
 
 /// The operation of an operator; of a comparison with `~` that of the comparison, and none of `cand` and `cor`.
-pub fn infix_operation(operator: Operator) -> Option<&'static str> {
+#[tactic(auto, unfolding(crate::specs::Operators::infix_operation))]
+pub fn infix_operation(operator: Operator) -> Option<&'static str>
+    ensures { option_map (λ word. word.now) result ≡ infix_operation operator }
+{
     match operator {
         Operator::Power => Some("power"),
         Operator::Multiply => Some("mul"),
@@ -24,7 +30,9 @@ pub fn infix_operation(operator: Operator) -> Option<&'static str> {
 }
 
 /// Whether an operator is a comparison with `~`.
-pub fn is_negated(operator: Operator) -> bool {
+pub fn is_negated(operator: Operator) -> bool
+    ensures { result ≡ is_negated operator }
+{
     match operator {
         Operator::NotLess
         | Operator::NotAtMost
@@ -35,7 +43,10 @@ pub fn is_negated(operator: Operator) -> bool {
     }
 }
 
-pub fn prefix_operation(sign: Sign) -> &'static str {
+#[tactic(auto, unfolding(crate::specs::Operators::prefix_operation))]
+pub fn prefix_operation(sign: Sign) -> &'static str
+    ensures { result.now ≡ prefix_operation sign }
+{
     match sign {
         Sign::Not => "not",
         Sign::Minus => "minus",

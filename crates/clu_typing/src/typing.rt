@@ -1,35 +1,60 @@
 //! The types of expressions, each from the types of what stands in it. An expression that violates a rule may have none.
 
+ghost use Rattle.std.specs.Prelude.{◌≡◌, ◌<◌, ℕ, true, [], ◌∷◌, length, IfOk, Some};
+ghost use Rattle.clu_types.specs.Arena.{type_at, type_of, types_of, PartsBelow, Grows};
+ghost use Rattle.clu_syntax.specs.Items.{Item};
+ghost use Rattle.clu_syntax.specs.Kinds.{is_expression};
+ghost use Rattle.clu_syntax.specs.Views.{expression_told};
+ghost use Rattle.clu_syntax.specs.Words.{literal_told};
+ghost use Rattle.clu_bindings.specs.Readers.{kind_in, meaning_in};
+ghost use Rattle.clu_typing.specs.Typing.{IsType, literal_type, constant_type, IsValueType, applied_type, IsInfixType, wrong_type, force_term, force_type, IsForceType, IsIndexType, IsNameType, IsTypeBy, IsTypeHere, IsNodeType};
+
 use crate::applied::{Applied, module_operation, result_of};
-use crate::facts::Facts;
+use crate::facts::type_found;
+use crate::nodes::{first_settled, first_type, has_actuals, names_module};
 use clu_base::{Bytes, Const, Memory, Sequence};
 use clu_bindings::{
     Headed, Meaning, known_inside, own_type, parameter_type, representation, type_of_value,
 };
-use clu_head::interned;
+use clu_operations::Finding;
 use clu_settle::Value;
 use clu_syntax::{Expression, Literal, Operator, is_expression};
 use clu_types::{Exception, Heading, Term, TypeArena, TypeId};
 use std::alloc::Global;
 
-fn literal_type(types: &mut TypeArena, literal: Literal<'_>) -> Result<Option<TypeId>, Memory> {
+/// The type of a term.
+fn type_of(types: &mut TypeArena, term: Term) -> Result<Option<TypeId>, Memory>
+    requires { PartsBelow (length types.old) term }
+    ensures of_type { IfOk result (λ of. IsType types.new of (Some (type_of (types_of types.old) term))) }
+    ensures kept { Grows types.old types.new }
+{
+    Ok(Some(types.intern(term)?))
+}
+
+fn literal_type(types: &mut TypeArena, literal: Literal<'_>) -> Result<Option<TypeId>, Memory>
+    ensures of_type { IfOk result (λ of. IsType types.new of (literal_type (literal_told literal.entry))) }
+    ensures kept { Grows types.old types.new }
+{
     match literal {
-        Literal::Nil => interned(types, Term::Null),
-        Literal::True | Literal::False => interned(types, Term::Bool),
-        Literal::Integer(_) => interned(types, Term::Int),
+        Literal::Nil => type_of(types, Term::Null),
+        Literal::True | Literal::False => type_of(types, Term::Bool),
+        Literal::Integer(_) => type_of(types, Term::Int),
         Literal::Real(_) => Ok(None),
-        Literal::Character(_) => interned(types, Term::Char),
-        Literal::String(_) => interned(types, Term::Str),
+        Literal::Character(_) => type_of(types, Term::Char),
+        Literal::String(_) => type_of(types, Term::Str),
     }
 }
 
-fn constant_type(types: &mut TypeArena, constant: &Const) -> Result<Option<TypeId>, Memory> {
+fn constant_type(types: &mut TypeArena, constant: &Const) -> Result<Option<TypeId>, Memory>
+    ensures of_type { IfOk result (λ of. IsType types.new of (Some (constant_type constant.now))) }
+    ensures kept { Grows types.old types.new }
+{
     match constant {
-        Const::Null => interned(types, Term::Null),
-        Const::Bool(_) => interned(types, Term::Bool),
-        Const::Int(_) => interned(types, Term::Int),
-        Const::Char(_) => interned(types, Term::Char),
-        Const::Str(_) => interned(types, Term::Str),
+        Const::Null => type_of(types, Term::Null),
+        Const::Bool(_) => type_of(types, Term::Bool),
+        Const::Int(_) => type_of(types, Term::Int),
+        Const::Char(_) => type_of(types, Term::Char),
+        Const::Str(_) => type_of(types, Term::Str),
     }
 }
 
@@ -40,7 +65,10 @@ fn value_type(
     types: &mut TypeArena,
     n: u32,
     value: Value,
-) -> Result<Option<TypeId>, Memory> {
+) -> Result<Option<TypeId>, Memory>
+    ensures of_type { IfOk result (IsValueType types.old types.new headed.entry.file n value) }
+    ensures kept { Grows types.old types.new }
+{
     match value {
         Value::Constant(place) => match headed.file.constants.get(place) {
             Some(constant) => constant_type(types, constant),
@@ -55,29 +83,31 @@ fn value_type(
 fn module_type(
     headed: Headed<'_>,
     types: &mut TypeArena,
-    facts: &mut Facts,
+    finding: &mut Finding,
     n: u32,
 ) -> Result<Option<TypeId>, Memory> {
     let of = type_of_value(headed.file.value(n));
-    let operation = module_operation(headed, types, facts, of)?;
-    Ok(facts.operation_type(operation))
+    let operation = module_operation(headed, types, finding, of)?;
+    Ok(type_found(finding, operation))
 }
 
 fn name_type(
     headed: Headed<'_>,
     types: &mut TypeArena,
-    facts: &mut Facts,
+    finding: &mut Finding,
     applied: Applied,
     n: u32,
-) -> Result<Option<TypeId>, Memory> {
+) -> Result<Option<TypeId>, Memory>
+    ensures { IfOk result (IsNameType types.old types.new finding.old applied headed.entry.file n (meaning_in headed.entry.file n)) }
+{
     match headed.file.meaning(n) {
         Meaning::Local(t) | Meaning::OwnOfRoutine(t) | Meaning::OwnOfCluster(t) => Ok(known_inside(
             headed, n, t,
         )),
         Meaning::Equate(right) => value_type(headed, types, n, headed.file.value(right)),
         Meaning::ConstantParameter(number) => Ok(parameter_type(headed.file, types, n, number)),
-        Meaning::RoutineOfCluster => Ok(applied_type(types, facts, applied)),
-        Meaning::Module(_) => module_type(headed, types, facts, n),
+        Meaning::RoutineOfCluster => Ok(applied_type(types, finding, applied)),
+        Meaning::Module(_) => module_type(headed, types, finding, n),
         Meaning::TypeSet | Meaning::TypeParameter(_) => Ok(None),
     }
 }
@@ -85,54 +115,87 @@ fn name_type(
 // ---- expressions
 
 /// The type of that for which a node stands.
-fn applied_type(types: &TypeArena, facts: &Facts, applied: Applied) -> Option<TypeId> {
+fn applied_type(types: &TypeArena, finding: &Finding, applied: Applied) -> Option<TypeId>
+    ensures { result ≡ applied_type types.now finding.now applied }
+{
     match applied {
         Applied::Invoked(_, Some(last)) | Applied::Invoked(last, None) => {
-            result_of(types, facts.operation_type(last.operation))
+            result_of(types, type_found(finding, last.operation))
         }
-        Applied::Named(Some(used)) => facts.operation_type(used.operation),
+        Applied::Named(Some(used)) => type_found(finding, used.operation),
         Applied::Nothing | Applied::Named(None) => None,
     }
 }
 
 fn infix_type(
     types: &mut TypeArena,
-    facts: &Facts,
+    finding: &Finding,
     applied: Applied,
     operator: Operator,
-) -> Result<Option<TypeId>, Memory> {
+) -> Result<Option<TypeId>, Memory>
+    ensures of_type { IfOk result (IsInfixType types.old types.new finding.now applied operator) }
+    ensures kept { Grows types.old types.new }
+{
     match operator {
-        Operator::Cand | Operator::Cor => interned(types, Term::Bool),
-        _ => Ok(applied_type(types, facts, applied)),
+        Operator::Cand | Operator::Cor => type_of(types, Term::Bool),
+        _ => Ok(applied_type(types, finding, applied)),
     }
 }
 
-/// The type of the Index n with the first child `of`.
+/// The type of the Index n.
 fn index_type(
     headed: Headed<'_>,
     types: &mut TypeArena,
-    facts: &mut Facts,
+    finding: &mut Finding,
     applied: Applied,
-    of: u32,
     n: u32,
-) -> Result<Option<TypeId>, Memory> {
-    if !headed.file.takes_actuals(of) {
-        return Ok(applied_type(types, facts, applied));
+) -> Result<Option<TypeId>, Memory>
+    ensures { IfOk result (IsIndexType types.old types.new finding.old applied headed.entry.file n) }
+{
+    if !has_actuals(headed.file, n) {
+        return Ok(applied_type(types, finding, applied));
     }
-    match headed.file.meaning(of) {
-        Meaning::Module(_) => module_type(headed, types, facts, n),
-        _ => Ok(None),
+    if names_module(headed.file, n) {
+        module_type(headed, types, finding, n)
+    } else {
+        Ok(None)
     }
 }
 
-fn one(alloc: Global, of: TypeId) -> Result<Sequence<TypeId>, Memory> {
+fn one(alloc: Global, of: TypeId) -> Result<Sequence<TypeId>, Memory>
+    ensures { IfOk result (λ made. made ≡ of ∷ []) }
+{
     Ok(Sequence::from_vec(vec![in alloc; of]?))
 }
 
-fn wrong_type(alloc: Global) -> Result<Sequence<Exception>, Memory> {
+#[tactic(auto, unfolding(crate::specs::Typing::wrong_type))]
+fn wrong_type(alloc: Global) -> Result<Sequence<Exception>, Memory>
+    ensures { IfOk result (λ made. made ≡ wrong_type) }
+{
     let name = Bytes::from_slice(alloc, b"wrong_type".as_slice())?;
     let objects = Sequence::from_vec(Vec::new(alloc));
     Ok(Sequence::from_vec(vec![in alloc; Exception { name, objects }]?))
+}
+
+fn force_term(alloc: Global, any: TypeId, to: TypeId) -> Result<Term, Memory>
+    ensures { IfOk result (λ made. made ≡ force_term any to) }
+{
+    Ok(Term::Proc(Heading {
+        args: one(alloc, any)?,
+        results: one(alloc, to)?,
+        signals: wrong_type(alloc)?,
+    }))
+}
+
+/// The type of `force[to]`, where `to` is of the arena.
+fn force_known(alloc: Global, types: &mut TypeArena, to: TypeId) -> Result<Option<TypeId>, Memory>
+    requires { to.0 < length types.old }
+    ensures of_type { IfOk result (λ of. IsType types.new of (Some (force_type (type_at (types_of types.old) to)))) }
+    ensures kept { Grows types.old types.new }
+{
+    let any = types.intern(Term::Any)?;
+    let term = force_term(alloc, any, to)?;
+    type_of(types, term)
 }
 
 /// The type of `force[to]`.
@@ -140,44 +203,65 @@ fn force_type(
     alloc: Global,
     types: &mut TypeArena,
     to: Option<TypeId>,
-) -> Result<Option<TypeId>, Memory> {
+) -> Result<Option<TypeId>, Memory>
+    ensures of_type { IfOk result (IsForceType types.old types.new to) }
+    ensures kept { Grows types.old types.new }
+{
     let Some(to) = to else {
         return Ok(None);
     };
-    let any = types.intern(Term::Any)?;
-    let term = Term::Proc(Heading {
-        args: one(alloc, any)?,
-        results: one(alloc, to)?,
-        signals: wrong_type(alloc)?,
-    });
-    interned(types, term)
+    if types.contains(to) {
+        force_known(alloc, types, to)
+    } else {
+        Ok(None)
+    }
 }
 
+#[tactic(auto, unfolding(crate::specs::Typing::IsTypeBy))]
 fn expression_type(
     headed: Headed<'_>,
     types: &mut TypeArena,
-    facts: &mut Facts,
+    known: &[Option<TypeId>],
+    finding: &mut Finding,
     applied: Applied,
     n: u32,
     expression: Expression<'_>,
-) -> Result<Option<TypeId>, Memory> {
+) -> Result<Option<TypeId>, Memory>
+    ensures { (items : ℕ → Item) → IfOk result (IsTypeBy types.old types.new finding.old applied headed.entry known.now n (expression_told items n expression.entry)) }
+{
     let file = headed.file;
     match expression {
-        Expression::Infix { operator, .. } => infix_type(types, facts, applied, operator),
+        Expression::Infix { operator, .. } => infix_type(types, finding, applied, operator),
         Expression::Prefix { .. } | Expression::Get { .. } | Expression::Operation { .. } => {
-            Ok(applied_type(types, facts, applied))
+            Ok(applied_type(types, finding, applied))
         }
-        Expression::Paren { inside } => Ok(facts.type_of(inside)),
+        Expression::Paren { .. } => Ok(first_type(file, known, n)),
         Expression::Literal(literal) => literal_type(types, literal),
-        Expression::Name(_) => name_type(headed, types, facts, applied, n),
-        Expression::Index { of, .. } => index_type(headed, types, facts, applied, of, n),
-        Expression::Call { routine, .. } => Ok(result_of(types, facts.type_of(routine))),
-        Expression::Fields { of, .. }
-        | Expression::Elements { of, .. }
-        | Expression::ElementsFrom { of, .. } => Ok(type_of_value(file.value(of))),
-        Expression::Force { to } => force_type(file.alloc, types, type_of_value(file.value(to))),
+        Expression::Name(_) => name_type(headed, types, finding, applied, n),
+        Expression::Index { .. } => index_type(headed, types, finding, applied, n),
+        Expression::Call { .. } => Ok(result_of(types, first_type(file, known, n))),
+        Expression::Fields { .. } | Expression::Elements { .. } | Expression::ElementsFrom { .. } =>
+            { Ok(first_settled(file, n)) }
+        Expression::Force { .. } => force_type(file.alloc, types, first_settled(file, n)),
         Expression::Up { .. } => Ok(own_type(file, n)),
         Expression::Down { .. } => Ok(representation(headed, n)),
+    }
+}
+
+/// The same of the node n, if it is an expression.
+fn type_here(
+    headed: Headed<'_>,
+    types: &mut TypeArena,
+    known: &[Option<TypeId>],
+    finding: &mut Finding,
+    applied: Applied,
+    n: u32,
+) -> Result<Option<TypeId>, Memory>
+    ensures { is_expression (kind_in headed.entry.file n) ≡ true → (items : ℕ → Item) → IfOk result (IsTypeHere types.old types.new finding.old applied headed.entry known.now n items) }
+{
+    match headed.file.expression(n) {
+        Some(expression) => expression_type(headed, types, known, finding, applied, n, expression),
+        None => Ok(None),
     }
 }
 
@@ -185,15 +269,16 @@ fn expression_type(
 pub fn node_type(
     headed: Headed<'_>,
     types: &mut TypeArena,
-    facts: &mut Facts,
+    known: &[Option<TypeId>],
+    finding: &mut Finding,
     applied: Applied,
     n: u32,
-) -> Result<Option<TypeId>, Memory> {
-    if !is_expression(headed.file.kind(n)) {
-        return Ok(None);
-    }
-    match headed.file.expression(n) {
-        Some(expression) => expression_type(headed, types, facts, applied, n, expression),
-        None => Ok(None),
+) -> Result<Option<TypeId>, Memory>
+    ensures { (items : ℕ → Item) → IfOk result (IsNodeType types.old types.new finding.old applied headed.entry known.now n items) }
+{
+    if is_expression(headed.file.kind(n)) {
+        type_here(headed, types, known, finding, applied, n)
+    } else {
+        Ok(None)
     }
 }

@@ -1,11 +1,15 @@
-use Rattle.std.proofs.Common.{arith}
+use Rattle.std.proofs.Common.{arith, sym, ◌∙◌}
+use Rattle.clu_check_mod.specs.Asking.{is_violated}
 use Rattle.clu_check_mod.proofs.Closed.{passed_all, passed_more}
+use Rattle.clu_check_mod.proofs.Finding.{find_here, find_next, find_none}
 use Rattle.clu_check_mod.proofs.asking.least.Goals as goal
 
 pub loop-rule-preserved : goal.loop-rule-preserved
-loop-rule-preserved c node at =
-    passed_more node c.args.rules.now c.loop-rule.rule-index _ c.loop-rule-test.true (c.loop-rule.invariant node at) (λ e. c.violates.ensures.lengths e node at c.if-violates.false)
-    (λ e is. c.violates.ensures.end e node at is c.if-violates.false)
+loop-rule-preserved c = (
+  λ node at. passed_more node c.args.rules.now c.loop-rule.rule-index _ c.loop-rule-test.true (c.loop-rule.invariant.0 node at) (λ e. c.violates.ensures.lengths e node at c.if-violates.false)
+      (λ e is. c.violates.ensures.end e node at is c.if-violates.false),
+  λ items ascending. find_next (is_violated c.args.k.now c.args.bad.now items c.args.n) c.args.rules.now c.loop-rule.rule-index _ c.loop-rule-test.true (sym (c.violates.ensures.exact items ascending) ∙ c.if-violates.false) (c.loop-rule.invariant.1 items ascending),
+)
 
 pub returns-clause-passed : goal.returns-clause-passed
-returns-clause-passed c node at none = passed_all node c.args.rules.now c.loop-rule.rule-index (omega (arith, c.loop-rule-test.false)) (c.loop-rule.invariant node at)
+returns-clause-passed c node at none = passed_all node c.args.rules.now c.loop-rule.rule-index (omega (arith, c.loop-rule-test.false)) (c.loop-rule.invariant.0 node at)

@@ -1,4 +1,4 @@
-use Rattle.std.proofs.Common.{◌≡◌, ◌∙◌, sym, rules}
+use Rattle.std.proofs.Common.{◌∙◌, sym, rules}
 use Rattle.clu_tree.specs.contracts.node.NodeKind.{the_type}
 use Rattle.clu_head.proofs.known.is_of.Goals as goal
 use denote.Enum.Bare.{same_true}

@@ -1,0 +1,64 @@
+-- Bad equates by the rules that are asked, and the nodes at which types are refused.
+use Rattle.std.specs.Prelude.{ℕ, Bool, List, find, is_some, length, map}
+use Rattle.std.specs.List.{range_with_len}
+use Rattle.clu_names.specs.declared.scopes.Declared.{Declared}
+use Rattle.clu_syntax.specs.Items.{Item}
+use Rattle.clu_syntax.specs.Kinds.{kind_at}
+use Rattle.clu_types.specs.declared.term.Term.{Term}
+use Rattle.clu_bindings.specs.declared.file.File.{File}
+use Rattle.clu_name_rules.specs.declared.tables.Tables.{Tables}
+use Rattle.clu_type_rules.specs.declared.known.Known.{Known}
+use Rattle.clu_type_rules.specs.Asked.{rules_at}
+use Rattle.clu_type_rules.specs.Walking.{Asked, asked_equate, asked_arm, bad_in}
+use Rattle.clu_check_mod.specs.Asking.{is_violated, is_violated_of_types}
+use Rattle.clu_check_mod.specs.declared.bad.Asking.{Asking}
+use Rattle.clu_check_mod.specs.declared.bad.By.{By}
+use Rattle.clu_check_mod.specs.declared.bad.By.TheVariants as by
+
+abbrev pub file_by : By → File
+file_by (by.Types t) = t.now.file
+file_by (by.All k) = k.now.tables.file
+
+abbrev pub types_by : By → List Term
+types_by (by.Types t) = t.now.types.now
+types_by (by.All k) = k.now.tables.types.now
+
+abbrev pub state : Asking → Asked
+state a = record { bad = a.bad.items; faulty = a.faulty.items }
+
+-- ---- the node violates a rule
+
+module _ (items : ℕ → Item) where
+  -- one by which types are refused
+  unfoldable pub fault_of_types : Tables → List Bool → ℕ → Bool
+  fault_of_types t bad n = is_some (find (is_violated_of_types t bad items n) (rules_at (kind_at t.file.syntax.now n)))
+
+  -- or any
+  unfoldable pub fault_of_all : Known → List Bool → ℕ → Bool
+  fault_of_all k bad n = is_some (find (is_violated k bad items n) (rules_at (kind_at k.tables.file.syntax.now n)))
+
+  unfoldable pub fault_by : By → List Bool → ℕ → Bool
+  fault_by (by.Types t) bad n = fault_of_types t.now bad n
+  fault_by (by.All k) bad n = fault_of_all k.now bad n
+
+-- ---- bad equates, where equates are asked in this order of the places of their declarations
+
+module _ (its : By) (items : ℕ → Item) where
+  abbrev pub equates_by : List Declared → Asked → ℕ → Asked
+  equates_by declared = asked_equate (file_by its).syntax.now (file_by its).rounds.now (fault_by items its) declared
+
+  abbrev pub arms_by : Asked → ℕ → Asked
+  arms_by = asked_arm (file_by its).syntax.now (file_by its).rounds.now (fault_by items its)
+
+  abbrev pub bad_by : List ℕ → List Bool
+  bad_by order = bad_in (file_by its).syntax.now (file_by its).rounds.now (fault_by items its) (file_by its).names.now.declared.items order
+
+abbrev pub bad_of_types : Tables → (ℕ → Item) → List ℕ → List Bool
+bad_of_types t items order = bad_in t.file.syntax.now t.file.rounds.now (fault_of_types items t) t.file.names.now.declared.items order
+
+abbrev pub bad_of_all : Known → (ℕ → Item) → List ℕ → List Bool
+bad_of_all k items order = bad_in k.tables.file.syntax.now k.tables.file.rounds.now (fault_of_all items k) k.tables.file.names.now.declared.items order
+
+-- for each node whether a type is refused that stands there
+abbrev pub refused_of : Tables → (ℕ → Item) → List ℕ → List Bool
+refused_of t items order = map (fault_of_types items t (bad_of_types t items order)) (range_with_len 0 (length t.file.syntax.now))

@@ -1,0 +1,46 @@
+//! That the components of types ascend by name. Where a selector stands twice its neighbours are equal.
+
+ghost use Rattle.std.specs.Prelude.{◌≡◌, ℕ, true, List, slice_get, Some};
+ghost use Rattle.clu_base.specs.declared.constants.Const.{Const};
+ghost use Rattle.clu_types.specs.declared.term.Term.{Term};
+ghost use Rattle.clu_types.specs.declared.term.TypeId.{TypeId};
+ghost use Rattle.clu_types.specs.Arena.{IsArena, type_at, types_of};
+ghost use Rattle.clu_types.specs.CluType.{CluType};
+ghost use Rattle.clu_tree.specs.declared.node.Node.{Node};
+ghost use Rattle.clu_syntax.specs.Kinds.{is_type, kind_at};
+ghost use Rattle.clu_syntax.specs.Syntax.{TypeExpression, Expression};
+ghost use Rattle.clu_meaning.specs.Scoping.{Scope};
+ghost use Rattle.clu_meaning.specs.Settling.{type_settled};
+ghost use Rattle.clu_checking.specs.Files.{File};
+ghost use Rattle.clu_checking.specs.Typing.{type_of};
+ghost use Rattle.clu_settle.specs.declared.value.Value.{Value};
+ghost use Rattle.clu_settle.specs.Lists.{type_id, value_of};
+ghost use Rattle.clu_settle.specs.Settled.{AreSettled};
+ghost use Rattle.clu_name_rules.specs.Components.{AreAscending, fields_in};
+ghost use Rattle.clu_operations.specs.Builtins.{ComponentsAscend};
+ghost use Rattle.clu_passes.specs.Ascending.{Ascends, AscendsIf, SpecificationsAscend};
+
+/// Those of each type that a text names, and of the types of which it is made.
+pub fn settled_ascend()
+    ensures { (scope : Scope) (t : TypeExpression) → Ascends (type_settled scope t) }
+{}
+
+/// Those of a type that is known of a node, in the arena.
+pub fn components_ascend()
+    ensures { (nodes : List Node) (scope : Scope) (types : List Term) (constants : List Const) (values : List Value) → AreSettled nodes scope types constants values → IsArena types → (n : ℕ) → is_type (kind_at nodes n) ≡ true → (id : TypeId) → type_id (value_of values n) ≡ Some id → AreAscending (fields_in (slice_get types id.0)) }
+{}
+
+/// Those of the type of an expression, where they ascend in what the library shows.
+pub fn expressions_ascend()
+    ensures { (f : File) → SpecificationsAscend f.library → (e : Expression) → AscendsIf (type_of f e) }
+{}
+
+/// Where they ascend in a type, they do in its term.
+pub fn terms_ascend()
+    ensures { (types : List Term) → IsArena types → (id : TypeId) → Ascends (type_at (types_of types) id) → AreAscending (fields_in (slice_get types id.0)) }
+{}
+
+/// As the operations of built-in types ask it.
+pub fn names_ascend()
+    ensures { (t : CluType) → Ascends t → ComponentsAscend t }
+{}
