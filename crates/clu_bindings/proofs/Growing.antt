@@ -1,5 +1,5 @@
 -- Tables that grow by one entry, or by one list, at each step.
-use Rattle.std.proofs.Common.{◌≡◌, ◌∙◌, ℕ, suc, ◌+◌, List, [], ◌∷◌, ◌++◌, refl, ap, ap₂, sym, subst, add-one}
+use Rattle.std.proofs.Common.{◌≡◌, ◌∙◌, ℕ, ◌+◌, List, [], ◌∷◌, ◌++◌, ap, ap₂, sym, subst, add-one}
 use Rattle.clu_bindings.specs.Tables.{table_to, joined_to}
 
 pub table_next : {A : Type 0} (f : ℕ → A) (n : ℕ) (x : A) (old new : List A) → old ≡ table_to f n → x ≡ f n → new ≡ old ++ x ∷ [] → new ≡ table_to f (n + 1)

@@ -1,3 +1,4 @@
 pub mod Appending
 pub mod Growing
 pub mod Labelled
+pub mod Outlasting

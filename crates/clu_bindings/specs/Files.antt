@@ -1,5 +1,5 @@
 -- What a file has at a node, read from its tables. Of a node that isn't there all is nothing.
-use Rattle.std.specs.Prelude.{ℕ, Bool, false, List, [], slice_get, Option, Some, None}
+use Rattle.std.specs.Prelude.{ℕ, Bool, false, List, slice_get, Option, Some, None}
 use Rattle.clu_tree.specs.declared.node.Node.{Node}
 use Rattle.clu_tree.specs.declared.node.NodeKind.{NodeKind}
 use Rattle.clu_syntax.specs.declared.round.Round.{Round}

@@ -7,6 +7,7 @@ pub mod Modules
 pub mod Named
 pub mod Parameters
 pub mod Readers
+pub mod Reps
 pub mod Tables
 pub mod Wanted
 pub mod Wanting

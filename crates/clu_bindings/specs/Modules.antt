@@ -1,17 +1,20 @@
 -- The modules that a file may name, by name: its own before those of the library.
-use Rattle.std.specs.Prelude.{◌≡◌, ◌-◌, ◌^◌, ℕ, suc, min, Bool, true, false, not, if◌then◌else◌, List, [], ◌∷◌, bytes_eq, length, map, option_map, slice_get, take, Option, Some, None}
+use Rattle.std.specs.Prelude.{◌≡◌, ◌-◌, ◌^◌, ℕ, suc, min, Bool, true, false, not, if◌then◌else◌, List, [], ◌∷◌, ◌++◌, bytes_eq, map, option_map, take, Option, Some, None}
 use Rattle.std.specs.HashMap.{get}
 use Rattle.clu_tree.specs.declared.node.Node.{Node}
 use Rattle.clu_tree.specs.Nodes.{modules}
-use Rattle.clu_types.specs.declared.spec.ParamKind.{ParamKind}
 use Rattle.clu_types.specs.declared.spec.Form.{Form}
 use Rattle.clu_types.specs.declared.spec.Form.TheVariants as form
 use Rattle.clu_types.specs.declared.spec.Spec.{Spec}
+use Rattle.clu_types.specs.declared.term.Term.{Term}
 use Rattle.clu_syntax.specs.Syntax.{Identifier}
 use Rattle.clu_names.specs.Scopes.{is_stream}
+use Rattle.clu_settle.specs.declared.value.Value.{Value}
+use Rattle.clu_head.specs.ParameterKinds.{kinds_of}
 use Rattle.clu_bindings.specs.declared.bindings.Modules.{Modules}
 use Rattle.clu_bindings.specs.declared.bindings.ModuleKnown.{ModuleKnown}
 use Rattle.clu_bindings.specs.declared.meaning.ModuleId.{ModuleId}
+use Rattle.clu_bindings.specs.Headlines.{Headline, headline_at}
 
 -- the module of this name
 abbrev pub named : Modules → Identifier → Option ModuleId
@@ -60,3 +63,22 @@ kept_known s = record { kinds = map (λ k. Some k) s.kinds; is_routine = is_rout
 
 abbrev pub kept_in : List Spec → List (Identifier × ModuleKnown)
 kept_in library = map (λ s. (s.name, kept_known s)) library
+
+-- ---- those of a file
+
+module _ (types : List Term) (values : List Value) (nodes : List Node) where
+  abbrev pub own_known : Headline → ModuleKnown
+  own_known h = record { kinds = kinds_of types values nodes h.parameters; is_routine = h.is_routine }
+
+  abbrev pub own_headed : Option Headline → List (Identifier × ModuleKnown)
+  own_headed (Some h) = (h.name, own_known h) ∷ []
+  own_headed None = []
+
+  -- of these Module nodes
+  unfoldable pub own_in : List ℕ → List (Identifier × ModuleKnown)
+  own_in [] = []
+  own_in (n ∷ ns) = own_headed (headline_at nodes n) ++ own_in ns
+
+  -- all that it may name, as far as 32 bits count those of the library
+  abbrev pub modules_in : List Spec → List (Identifier × ModuleKnown)
+  modules_in library = own_in (modules nodes) ++ kept_in (take 4294967295 library)

@@ -92,6 +92,14 @@ module _ (f : File) where
   abbrev pub is_routine : Option ModuleId → Bool
   is_routine id = is_routine_known (known_in id)
 
+  abbrev pub module_at : Option ℕ → Option ModuleId
+  module_at (Some unit) = optional (slice_get f.bindings.now.modules.units.items unit)
+  module_at None = None
+
+  -- the module round a node
+  abbrev pub unit_module : ℕ → Option ModuleId
+  unit_module n = module_at (round_in n).unit
+
   -- the TypeSet for which the declaration at a place stands
   abbrev pub set_at : Option ℕ → Option ℕ
   set_at (Some place) = optional (slice_get f.bindings.now.sets.items place)

@@ -1,8 +1,10 @@
 //! The tables of what names denote and what is wanted, made in their order.
 
-ghost use Rattle.std.specs.Prelude.{◌≡◌, IfOk, length};
+ghost use Rattle.std.specs.Prelude.{◌≡◌, IfOk, List, length};
 ghost use Rattle.clu_names.specs.Denotes.{bound_to, starts_to};
-ghost use Rattle.clu_bindings.specs.Modules.{named};
+ghost use Rattle.clu_syntax.specs.Syntax.{Identifier};
+ghost use Rattle.clu_bindings.specs.declared.bindings.ModuleKnown.{ModuleKnown};
+ghost use Rattle.clu_bindings.specs.Modules.{named, AreModules, modules_in};
 ghost use Rattle.clu_bindings.specs.Parameters.{AreParameters};
 ghost use Rattle.clu_bindings.specs.Declaring.{declared_of};
 ghost use Rattle.clu_bindings.specs.Bindings.{placed, places_to, AreBindings};
@@ -95,7 +97,8 @@ fn tables_of(
     requires starts { names.now.starts.items ≡ starts_to syntax.now names.now.declared.items (length syntax.now) }
     requires parameters { AreParameters syntax.now rounds.now names.now.declared.items parameters }
     requires declared { declared.items ≡ declared_of syntax.now rounds.now (named modules) parameters.counts.items parameters.numbers.items names.now.declared.items }
-    ensures { IfOk result (λ all. AreBindings syntax.now rounds.now names.now values.now all.value) }
+    ensures tables { IfOk result (λ all. AreBindings syntax.now rounds.now names.now values.now all.value) }
+    ensures modules { IfOk result (λ all. (known : List (Identifier × ModuleKnown)) → AreModules modules known → AreModules all.value.modules known) }
 {
     let tree = syntax.tree();
     let meanings = meanings_of(alloc, tree, names, &modules, declared.as_slice())?;
@@ -137,7 +140,8 @@ pub fn bindings_of(
 ) -> Result<Box<Bindings>, Memory>
     requires bound { names.now.bound.items ≡ bound_to syntax.now names.now.declared.items (length syntax.now) }
     requires starts { names.now.starts.items ≡ starts_to syntax.now names.now.declared.items (length syntax.now) }
-    ensures { IfOk result (λ all. AreBindings syntax.now rounds.now names.now values.now all.value) }
+    ensures tables { IfOk result (λ all. AreBindings syntax.now rounds.now names.now values.now all.value) }
+    ensures modules { IfOk result (λ all. AreModules all.value.modules (modules_in types.old values.now syntax.now library.now)) }
 {
     let modules = modules_of(alloc, syntax, types, values, library)?;
     let parameters = parameters_of(alloc, syntax, rounds, names)?;
@@ -149,7 +153,8 @@ pub fn bindings_of(
         &parameters,
         &modules,
     )?;
-    tables_of(
+    let tables = tables_of(
         alloc, syntax, rounds, names, types, values, modules, parameters, declared,
-    )
+    )?;
+    Ok(tables)
 }

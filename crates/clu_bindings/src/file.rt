@@ -11,8 +11,9 @@ ghost use Rattle.clu_bindings.specs.declared.wanted.Wanted.TheVariants as wanted
 ghost use Rattle.clu_bindings.specs.Tables.{optional, items_at};
 ghost use Rattle.clu_settle.specs.Names.{names_of};
 ghost use Rattle.clu_bindings.specs.Inside.{is_refused};
+ghost use Rattle.clu_bindings.specs.Modules.{named};
 ghost use Rattle.clu_bindings.specs.Files.{bound_in, declaration_in, declaring_node, declared_by};
-ghost use Rattle.clu_bindings.specs.Readers.{children_in, place_in, meaning_in, module_in, set_at, wanted_in, takes_actuals, known_in, kinds_in, is_routine, declared_parameter};
+ghost use Rattle.clu_bindings.specs.Readers.{children_in, place_in, meaning_in, module_in, set_at, wanted_in, takes_actuals, known_in, kinds_in, is_routine, unit_module, declared_parameter};
 
 use crate::bindings::{Bindings, ModuleKnown};
 use crate::meaning::{Meaning, ModuleId};
@@ -230,12 +231,16 @@ impl<'a> File<'a> {
     }
 
     /// The module of this name; None of `stream` and of a name of no module.
-    pub fn module_named(self, name: &Bytes) -> Option<ModuleId> {
+    pub fn module_named(self, name: &Bytes) -> Option<ModuleId>
+        ensures { result ≡ named self.entry.bindings.now.modules name.now }
+    {
         self.bindings.modules.named(name)
     }
 
     /// The module of the file in which the node n stands.
-    pub fn unit_module(self, n: u32) -> Option<ModuleId> {
+    pub fn unit_module(self, n: u32) -> Option<ModuleId>
+        ensures { result ≡ unit_module self.entry n }
+    {
         let unit = self.round(n).unit?;
         optional_at(self.bindings.modules.units.as_slice(), unit as usize)
     }
@@ -267,7 +272,9 @@ impl<'a> File<'a> {
     }
 
     /// How many parameters the module of the Module node `unit` has.
-    pub fn parameter_count(self, unit: u32) -> u32 {
+    pub fn parameter_count(self, unit: u32) -> u32
+        ensures { result ≡ get_or self.entry.bindings.now.parameters.counts.items unit 0 }
+    {
         number_at(self.bindings.parameters.counts.as_slice(), unit as usize)
     }
 

@@ -1,15 +1,16 @@
 //! The modules that a file may name, by name: its own before those of the library.
 
-ghost use Rattle.std.specs.Prelude.{◌≡◌, ◌++◌, ◌∷◌, [], List, IfOk, OnOk, map, take, Some};
+ghost use Rattle.std.specs.Prelude.{◌≡◌, ◌++◌, ◌∷◌, [], List, IfOk, OnOk, map, set, take, Some};
 ghost use Rattle.std.specs.Str.{bytes_eq};
 ghost use Rattle.std.specs.HashMap.{get};
 ghost use Rattle.clu_syntax.specs.Syntax.{Identifier};
 ghost use Rattle.clu_names.specs.Scopes.{is_stream};
 ghost use Rattle.clu_bindings.specs.declared.bindings.ModuleKnown.{ModuleKnown};
-ghost use Rattle.clu_bindings.specs.Modules.{AreModules, is_new, with_name, with_module, is_routine_form, kept_known, kept_in};
+ghost use Rattle.clu_bindings.specs.Headlines.{headline_told, headline_at};
+ghost use Rattle.clu_bindings.specs.Modules.{AreModules, is_new, with_name, with_module, is_routine_form, kept_known, kept_in, own_known, own_headed, own_in, modules_in};
 
 use crate::bindings::{ModuleKnown, Modules};
-use crate::headline::headline_at;
+use crate::headline::{Headline, headline_at};
 use crate::meaning::ModuleId;
 use clu_base::{Bytes, Memory, Sequence};
 use clu_head::kinds;
@@ -86,6 +87,34 @@ fn push(
     Ok(module)
 }
 
+/// Appends the module that this is read of.
+fn push_own(
+    alloc: Global,
+    syntax: &Syntax,
+    types: &TypeArena,
+    values: &[Value],
+    modules: &mut Modules,
+    headline: Headline<'_>,
+) -> Result<ModuleId, Memory>
+    ensures { OnOk result ((all : List (Identifier × ModuleKnown)) → AreModules modules.old all → AreModules modules.new (all ++ (headline.entry.name.now, own_known types.now values.now syntax.now (headline_told headline.entry)) ∷ [])) }
+{
+    let known = ModuleKnown {
+        kinds: kinds(alloc, syntax, types, values, headline.parameters)?,
+        is_routine: headline.is_routine,
+    };
+    push(alloc, modules, headline.name, known)
+}
+
+/// Notes the module of the Module node n.
+fn set_unit(units: &mut [Option<ModuleId>], n: u32, its: ModuleId)
+    ensures { units.new ≡ set units.old n (Some its) }
+{
+    if (n as usize) < units.len() {
+        units[n as usize] = Some(its);
+    }
+}
+
+/// Appends the module of the node n, if it is a Module.
 fn push_module(
     alloc: Global,
     syntax: &Syntax,
@@ -93,19 +122,17 @@ fn push_module(
     values: &[Value],
     modules: &mut Modules,
     n: u32,
-) -> Result<(), Memory> {
-    let Some(headline) = headline_at(syntax, n) else {
-        return Ok(());
-    };
-    let known = ModuleKnown {
-        kinds: kinds(alloc, syntax, types, values, headline.parameters)?,
-        is_routine: headline.is_routine,
-    };
-    let module = push(alloc, modules, headline.name, known)?;
-    if (n as usize) < modules.units.len() {
-        modules.units[n as usize] = Some(module);
+) -> Result<(), Memory>
+    ensures { OnOk result ((all : List (Identifier × ModuleKnown)) → AreModules modules.old all → AreModules modules.new (all ++ own_headed types.now values.now syntax.now (headline_at syntax.now n))) }
+{
+    match headline_at(syntax, n) {
+        Some(headline) => {
+            let its = push_own(alloc, syntax, types, values, modules, headline)?;
+            set_unit(&mut modules.units, n, its);
+            Ok(())
+        }
+        None => Ok(()),
     }
-    Ok(())
 }
 
 fn push_modules(
@@ -114,11 +141,13 @@ fn push_modules(
     types: &TypeArena,
     values: &[Value],
     modules: &mut Modules,
-) -> Result<(), Memory> {
-    for n in syntax.tree().modules() {
+    nodes: &[u32],
+) -> Result<(), Memory>
+    ensures { OnOk result ((all : List (Identifier × ModuleKnown)) → AreModules modules.old all → AreModules modules.new (all ++ own_in types.now values.now syntax.now nodes.now)) }
+{
+    for n in nodes {
         push_module(alloc, syntax, types, values, modules, *n)?;
     }
-    modules.of_file = modules.count();
     Ok(())
 }
 
@@ -164,6 +193,19 @@ fn push_library(alloc: Global, modules: &mut Modules, library: &Specs) -> Result
     Ok(())
 }
 
+fn no_modules(alloc: Global, units: Vec<Option<ModuleId>>) -> Modules
+    ensures { AreModules result [] }
+{
+    let by_name = HashMap::new(alloc);
+    let known = Vec::new(alloc);
+    Modules {
+        by_name,
+        known,
+        of_file: 0,
+        units,
+    }
+}
+
 /// The modules of a file, and those of its library. The only error is that memory runs out.
 pub fn modules_of(
     alloc: Global,
@@ -171,14 +213,14 @@ pub fn modules_of(
     types: &TypeArena,
     values: &[Value],
     library: &Specs,
-) -> Result<Modules, Memory> {
-    let mut modules = Modules {
-        by_name: HashMap::new(alloc),
-        known: Vec::new(alloc),
-        of_file: 0,
-        units: vec![in alloc; None; syntax.tree().len() as usize]?,
-    };
-    push_modules(alloc, syntax, types, values, &mut modules)?;
+) -> Result<Modules, Memory>
+    ensures { IfOk result (λ modules. AreModules modules (modules_in types.now values.now syntax.now library.now)) }
+{
+    let units = vec![in alloc; None; syntax.tree().len() as usize]?;
+    let mut modules = no_modules(alloc, units);
+    let nodes = syntax.tree().modules();
+    push_modules(alloc, syntax, types, values, &mut modules, nodes)?;
+    modules.of_file = modules.count();
     push_library(alloc, &mut modules, library)?;
     Ok(modules)
 }

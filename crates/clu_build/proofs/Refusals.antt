@@ -7,11 +7,11 @@ use Rattle.clu_library.specs.Replacing.{NotReplaced}
 use Rattle.clu_library.specs.declared.errors.EnterError.{EnterError}
 use Rattle.clu_library.specs.declared.errors.EnterError.TheVariants as enter
 use Rattle.clu_library.specs.declared.program.Program.{Program}
-use Rattle.clu_link.specs.Causes.{IsRefusalOf}
-use Rattle.clu_link.specs.declared.errors.LinkError.{LinkError}
-use Rattle.clu_link.specs.declared.errors.LinkError.TheVariants as link
-use Rattle.clu_lower_expr.specs.declared.errors.LowerError.{LowerError}
-use Rattle.clu_lower_expr.specs.declared.errors.LowerError.TheVariants as lower
+use Rattle.clu_reach.specs.Causes.{IsRefusalOf}
+use Rattle.clu_reach.specs.declared.errors.LinkError.{LinkError}
+use Rattle.clu_reach.specs.declared.errors.LinkError.TheVariants as link
+use Rattle.clu_lower_types.specs.declared.errors.LowerError.{LowerError}
+use Rattle.clu_lower_types.specs.declared.errors.LowerError.TheVariants as lower
 use Rattle.rv_select.specs.declared.error.SelectError.{SelectError}
 use Rattle.rv_select.specs.declared.error.SelectError.TheVariants as select
 use Rattle.clu_types.specs.declared.spec.Spec.{Spec}

@@ -2,8 +2,8 @@
 use Rattle.std.specs.Prelude.{◌≡◌, ℕ, List}
 use Rattle.clu_library.specs.Contents.{Contents, spec_of, with_program}
 use Rattle.clu_library.specs.declared.program.Program.{Program}
-use Rattle.clu_link.specs.Causes.{HaveBodies}
-use Rattle.clu_link.specs.Starts.{MayStart}
+use Rattle.clu_reach.specs.Causes.{HaveBodies}
+use Rattle.clu_reach.specs.Starts.{MayStart}
 
 -- a program has this name and this start
 pub record IsCalled (name start : List ℕ) (p : Program) : Type 0 where

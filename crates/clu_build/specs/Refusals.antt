@@ -6,8 +6,8 @@ use Rattle.clu_library.specs.Staleness.{IsCause}
 use Rattle.clu_library.specs.Unmet.{IsLeastUnmet}
 use Rattle.clu_library.specs.declared.body.Body.{Body}
 use Rattle.clu_library.specs.declared.errors.EnterError.TheVariants as enter
-use Rattle.clu_link.specs.Causes.{HasBody}
-use Rattle.clu_link.specs.Starts.{IsBadStart}
+use Rattle.clu_reach.specs.Causes.{HasBody}
+use Rattle.clu_reach.specs.Starts.{IsBadStart}
 use Rattle.clu_specs.specs.Seen.{seen, spec_text}
 use Rattle.clu_types.specs.declared.spec.Spec.{Spec}
 use Rattle.clu_build.specs.Entering.{AreReplaced, names_of}

@@ -16,7 +16,7 @@ use clu_frames::{FlatRoutine, flatten};
 use clu_handlers::Regions;
 use clu_library::Body;
 use clu_lower_ctl::lower;
-use clu_lower_expr::Declarations;
+use clu_lower_types::Declarations;
 use clu_object::{ObjRoutine, Object, copy_texts};
 use clu_peep::{Peeped, peep};
 use clu_tree::NodeKind;

@@ -3,8 +3,8 @@
 use clu_base::{Bytes, Memory};
 use clu_frames::FrameError;
 use clu_library::EnterError;
-use clu_link::LinkError;
 use clu_lower_ctl::LowerError;
+use clu_reach::LinkError;
 use rv_select::SelectError;
 use std::alloc::{AllocError, AllocFailed};
 

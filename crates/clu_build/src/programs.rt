@@ -2,8 +2,8 @@
 
 ghost use Rattle.std.specs.Prelude.{◌≡◌, IfErr, IfOk, OnErr, OnOk};
 ghost use Rattle.clu_library.specs.Contents.{spec_of};
-ghost use Rattle.clu_link.specs.Causes.{HaveBodies};
-ghost use Rattle.clu_link.specs.Starts.{MayStart};
+ghost use Rattle.clu_reach.specs.Causes.{HaveBodies};
+ghost use Rattle.clu_reach.specs.Starts.{MayStart};
 ghost use Rattle.clu_build.specs.Programs.{IsCalled, IsLinked};
 ghost use Rattle.clu_build.specs.Refusals.{IsOfProgram};
 

@@ -1,3 +1,4 @@
+pub mod Answered
 pub mod Closed
 pub mod Finding
 pub mod Looking

@@ -4,13 +4,13 @@ use Rattle.std.specs.List.{range_with_len}
 use Rattle.clu_names.specs.declared.scopes.Declared.{Declared}
 use Rattle.clu_syntax.specs.Items.{Item}
 use Rattle.clu_syntax.specs.Kinds.{kind_at}
-use Rattle.clu_types.specs.declared.term.Term.{Term}
 use Rattle.clu_bindings.specs.declared.file.File.{File}
 use Rattle.clu_name_rules.specs.declared.tables.Tables.{Tables}
+use Rattle.clu_name_rules.specs.Constructors.{ValuesAscend}
 use Rattle.clu_type_rules.specs.declared.known.Known.{Known}
 use Rattle.clu_type_rules.specs.Asked.{rules_at}
 use Rattle.clu_type_rules.specs.Walking.{Asked, asked_equate, asked_arm, bad_in}
-use Rattle.clu_check_mod.specs.Asking.{is_violated, is_violated_of_types}
+use Rattle.clu_check_mod.specs.Asking.{KnownAscend, is_violated, is_violated_of_types}
 use Rattle.clu_check_mod.specs.declared.bad.Asking.{Asking}
 use Rattle.clu_check_mod.specs.declared.bad.By.{By}
 use Rattle.clu_check_mod.specs.declared.bad.By.TheVariants as by
@@ -19,9 +19,10 @@ abbrev pub file_by : By → File
 file_by (by.Types t) = t.now.file
 file_by (by.All k) = k.now.tables.file
 
-abbrev pub types_by : By → List Term
-types_by (by.Types t) = t.now.types.now
-types_by (by.All k) = k.now.tables.types.now
+-- the components and tags that the rules look for by their names ascend
+abbrev pub AscendBy : By → Type 0
+AscendBy (by.Types t) = ValuesAscend t.now
+AscendBy (by.All k) = KnownAscend k.now
 
 abbrev pub state : Asking → Asked
 state a = record { bad = a.bad.items; faulty = a.faulty.items }

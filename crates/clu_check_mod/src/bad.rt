@@ -5,9 +5,10 @@ ghost use Rattle.std.specs.Prelude.{◌≡◌, ℕ, IfOk, Some, fold, length, se
 ghost use Rattle.std.specs.List.{range_with_len};
 ghost use Rattle.clu_syntax.specs.Items.{Item};
 ghost use Rattle.clu_bindings.specs.Tables.{optional};
-ghost use Rattle.clu_name_rules.specs.Components.{HaveAscending};
+ghost use Rattle.clu_name_rules.specs.Constructors.{ValuesAscend};
 ghost use Rattle.clu_type_rules.specs.Walking.{answer, asked_in, looked_inside, noted};
-ghost use Rattle.clu_check_mod.specs.Bad.{arms_by, bad_by, bad_of_all, bad_of_types, equates_by, fault_by, fault_of_all, fault_of_types, file_by, refused_of, state, types_by};
+ghost use Rattle.clu_check_mod.specs.Asking.{KnownAscend};
+ghost use Rattle.clu_check_mod.specs.Bad.{AscendBy, arms_by, bad_by, bad_of_all, bad_of_types, equates_by, fault_by, fault_of_all, fault_of_types, file_by, refused_of, state};
 
 use crate::asking::{is_no_type, least};
 use crate::rules::rules_at;
@@ -38,7 +39,7 @@ fn file_of<'a>(by: By<'a>) -> File<'a>
 /// Whether the node n violates a rule by which types are refused, where `bad` says which equates that it names are bad.
 #[tactic(auto, unfolding(crate::specs::Bad::fault_of_types))]
 fn is_refused(t: &Tables<'_>, bad: &[bool], n: u32) -> bool
-    ensures { (items : ℕ → Item) → HaveAscending t.now.types.now → result ≡ fault_of_types items t.now bad.now n }
+    ensures { (items : ℕ → Item) → ValuesAscend t.now → result ≡ fault_of_types items t.now bad.now n }
 {
     is_no_type(t, bad, n, rules_at(t.file.kind(n)))
 }
@@ -46,7 +47,7 @@ fn is_refused(t: &Tables<'_>, bad: &[bool], n: u32) -> bool
 /// Whether it violates any rule.
 #[tactic(auto, unfolding(crate::specs::Bad::fault_of_all))]
 fn is_wrong(k: &Known<'_>, bad: &[bool], n: u32) -> bool
-    ensures { (items : ℕ → Item) → HaveAscending k.now.tables.types.now → result ≡ fault_of_all items k.now bad.now n }
+    ensures { (items : ℕ → Item) → KnownAscend k.now → result ≡ fault_of_all items k.now bad.now n }
 {
     least(k, bad, n, rules_at(k.tables.file.kind(n))).is_some()
 }
@@ -54,7 +55,7 @@ fn is_wrong(k: &Known<'_>, bad: &[bool], n: u32) -> bool
 /// Whether it violates one of those that are asked.
 #[tactic(auto, unfolding(crate::specs::Bad::fault_by))]
 fn is_faulty(by: By<'_>, bad: &[bool], n: u32) -> bool
-    ensures { (items : ℕ → Item) → HaveAscending (types_by by.entry) → result ≡ fault_by items by.entry bad.now n }
+    ensures { (items : ℕ → Item) → AscendBy by.entry → result ≡ fault_by items by.entry bad.now n }
 {
     match by {
         By::Types(t) => is_refused(t, bad, n),
@@ -83,8 +84,8 @@ fn note<T: Copy>(table: &mut [T], n: u32, item: T)
 impl Asking {
     /// Asks the node n, if it wasn't asked before, and says whether it violates a rule.
     fn ask(&mut self, by: By<'_>, n: u32) -> bool
-        ensures found { (items : ℕ → Item) → HaveAscending (types_by by.entry) → result ≡ answer (optional (slice_get self.old.faulty.items n)) (fault_by items by.entry self.old.bad.items n) }
-        ensures faulty { (items : ℕ → Item) → HaveAscending (types_by by.entry) → self.new.faulty.items ≡ noted (optional (slice_get self.old.faulty.items n)) self.old.faulty.items n (fault_by items by.entry self.old.bad.items n) }
+        ensures found { (items : ℕ → Item) → AscendBy by.entry → result ≡ answer (optional (slice_get self.old.faulty.items n)) (fault_by items by.entry self.old.bad.items n) }
+        ensures faulty { (items : ℕ → Item) → AscendBy by.entry → self.new.faulty.items ≡ noted (optional (slice_get self.old.faulty.items n)) self.old.faulty.items n (fault_by items by.entry self.old.bad.items n) }
         ensures bad { self.new.bad.items ≡ self.old.bad.items }
     {
         if let Some(is_faulty) = optional_at(self.faulty.as_slice(), n as usize) {
@@ -97,8 +98,8 @@ impl Asking {
 
     /// Asks all that stands in the node n, and says whether a rule is violated there.
     fn ask_inside(&mut self, by: By<'_>, n: u32) -> bool
-        ensures found { (items : ℕ → Item) → HaveAscending (types_by by.entry) → result ≡ (looked_inside (file_by by.entry).rounds.now (fault_by items by.entry) (state self.old) n).found }
-        ensures faulty { (items : ℕ → Item) → HaveAscending (types_by by.entry) → self.new.faulty.items ≡ (looked_inside (file_by by.entry).rounds.now (fault_by items by.entry) (state self.old) n).faulty }
+        ensures found { (items : ℕ → Item) → AscendBy by.entry → result ≡ (looked_inside (file_by by.entry).rounds.now (fault_by items by.entry) (state self.old) n).found }
+        ensures faulty { (items : ℕ → Item) → AscendBy by.entry → self.new.faulty.items ≡ (looked_inside (file_by by.entry).rounds.now (fault_by items by.entry) (state self.old) n).faulty }
         ensures bad { self.new.bad.items ≡ self.old.bad.items }
     {
         let mut is_bad = false;
@@ -112,7 +113,7 @@ impl Asking {
 
     /// Settles the node n by all that stands in it.
     fn settle(&mut self, by: By<'_>, n: u32)
-        ensures { (items : ℕ → Item) → HaveAscending (types_by by.entry) → state self.new ≡ asked_in (file_by by.entry).rounds.now (fault_by items by.entry) (state self.old) n }
+        ensures { (items : ℕ → Item) → AscendBy by.entry → state self.new ≡ asked_in (file_by by.entry).rounds.now (fault_by items by.entry) (state self.old) n }
     {
         if self.ask_inside(by, n) {
             note(self.bad.as_mut_slice(), n, true);
@@ -121,7 +122,7 @@ impl Asking {
 
     /// Settles the equate that is the declaration of this place, if it is one.
     fn settle_equate(&mut self, by: By<'_>, declared: &[Declared], place: usize)
-        ensures { (items : ℕ → Item) → HaveAscending (types_by by.entry) → state self.new ≡ equates_by by.entry items declared.now (state self.old) place }
+        ensures { (items : ℕ → Item) → AscendBy by.entry → state self.new ≡ equates_by by.entry items declared.now (state self.old) place }
     {
         if let Some(one) = declared.get(place) {
             if is_kind(file_of(by), NodeKind::Equate, one.node) {
@@ -132,7 +133,7 @@ impl Asking {
 
     /// Settles the equates of these places of declarations, each after those that it names.
     fn settle_equates(&mut self, by: By<'_>, declared: &[Declared], order: &[usize])
-        ensures { (items : ℕ → Item) → HaveAscending (types_by by.entry) → state self.new ≡ fold (equates_by by.entry items declared.now) (state self.old) order.now }
+        ensures { (items : ℕ → Item) → AscendBy by.entry → state self.new ≡ fold (equates_by by.entry items declared.now) (state self.old) order.now }
     {
         for place in order {
             self.settle_equate(by, declared, *place);
@@ -141,7 +142,7 @@ impl Asking {
 
     /// Settles the node n, if it is the declaration of an arm.
     fn settle_arm(&mut self, by: By<'_>, n: u32)
-        ensures { (items : ℕ → Item) → HaveAscending (types_by by.entry) → state self.new ≡ arms_by by.entry items (state self.old) n }
+        ensures { (items : ℕ → Item) → AscendBy by.entry → state self.new ≡ arms_by by.entry items (state self.old) n }
     {
         let f = file_of(by);
         if is_kind(f, NodeKind::Decl, n) && stands_in(f, NodeKind::When, n) {
@@ -151,7 +152,7 @@ impl Asking {
 
     /// Settles the declarations of arms.
     fn settle_arms(&mut self, by: By<'_>)
-        ensures { (items : ℕ → Item) → HaveAscending (types_by by.entry) → state self.new ≡ fold (arms_by by.entry items) (state self.old) (range_with_len 0 (length (file_by by.entry).syntax.now)) }
+        ensures { (items : ℕ → Item) → AscendBy by.entry → state self.new ≡ fold (arms_by by.entry items) (state self.old) (range_with_len 0 (length (file_by by.entry).syntax.now)) }
     {
         for n in 0..file_of(by).syntax.tree().len() {
             self.settle_arm(by, n);
@@ -162,7 +163,7 @@ impl Asking {
 /// For each node whether it is an Equate or a Decl of an arm in which a rule is violated. Circular equates are no part of the
 /// order, and are never asked. The only error is that memory runs out.
 fn bad_by(alloc: Global, by: By<'_>, order: &[usize]) -> Result<Vec<bool>, Memory>
-    ensures { IfOk result (λ bad. (items : ℕ → Item) → HaveAscending (types_by by.entry) → bad.items ≡ bad_by by.entry items order.now) }
+    ensures { IfOk result (λ bad. (items : ℕ → Item) → AscendBy by.entry → bad.items ≡ bad_by by.entry items order.now) }
 {
     let f = file_of(by);
     let nodes = f.syntax.tree().len() as usize;
@@ -179,7 +180,7 @@ fn bad_by(alloc: Global, by: By<'_>, order: &[usize]) -> Result<Vec<bool>, Memor
 /// The same by the rules by which types are refused.
 #[tactic(auto, unfolding(crate::specs::Bad::fault_by))]
 fn bad_of_types(alloc: Global, t: &Tables<'_>, order: &[usize]) -> Result<Vec<bool>, Memory>
-    ensures { IfOk result (λ bad. (items : ℕ → Item) → HaveAscending t.now.types.now → bad.items ≡ bad_of_types t.now items order.now) }
+    ensures { IfOk result (λ bad. (items : ℕ → Item) → ValuesAscend t.now → bad.items ≡ bad_of_types t.now items order.now) }
 {
     bad_by(alloc, By::Types(t), order)
 }
@@ -187,14 +188,14 @@ fn bad_of_types(alloc: Global, t: &Tables<'_>, order: &[usize]) -> Result<Vec<bo
 /// The same by all rules.
 #[tactic(auto, unfolding(crate::specs::Bad::fault_by))]
 pub fn bad_of_all(alloc: Global, k: &Known<'_>, order: &[usize]) -> Result<Vec<bool>, Memory>
-    ensures { IfOk result (λ bad. (items : ℕ → Item) → HaveAscending k.now.tables.types.now → bad.items ≡ bad_of_all k.now items order.now) }
+    ensures { IfOk result (λ bad. (items : ℕ → Item) → KnownAscend k.now → bad.items ≡ bad_of_all k.now items order.now) }
 {
     bad_by(alloc, By::All(k), order)
 }
 
 /// For each node whether a type is refused that stands there. The only error is that memory runs out.
 pub fn refused_nodes(alloc: Global, t: &Tables<'_>, order: &[usize]) -> Result<Vec<bool>, Memory>
-    ensures { IfOk result (λ refused. (items : ℕ → Item) → HaveAscending t.now.types.now → refused.items ≡ refused_of t.now items order.now) }
+    ensures { IfOk result (λ refused. (items : ℕ → Item) → ValuesAscend t.now → refused.items ≡ refused_of t.now items order.now) }
 {
     let bad = bad_of_types(alloc, t, order)?;
     let mut refused = Vec::new(alloc);

@@ -1,8 +1,10 @@
 //! The check of a file: all tables are made, and then the rules are asked.
 
-ghost use Rattle.std.specs.Prelude.{◌≡◌, All, IfErr, IfOk, OnOk, length};
+ghost use Rattle.std.specs.Prelude.{◌≡◌, All, IfErr, IfOk, OnOk, length, map, nat_lt};
 ghost use Rattle.clu_tree.specs.Nodes.{modules};
 ghost use Rattle.clu_names.specs.Denotes.{bound_to, starts_to};
+ghost use Rattle.clu_name_rules.specs.Lengths.{constant_length, lengths_of};
+ghost use Rattle.clu_check_mod.specs.Answered.{AreLists, AreValues, IsAnswer, IsFirst, IsFirstIn, IsFirstOf, IsFirstWith};
 ghost use Rattle.clu_check_mod.specs.Modules.{AreOf, BeginWithOwn, IsClosedAt};
 ghost use Rattle.clu_check_mod.specs.Refusals.{IsOfTree};
 ghost use Rattle.clu_check_mod.specs.Walks.{AreClosed, IsFound};
@@ -12,28 +14,28 @@ use crate::errors::CheckError;
 use crate::notes::{Constants, constants_of, denoted, operations};
 use crate::specifications::{add_others, own_specs};
 use crate::walk::{Extent, ask_rules};
-use clu_base::Memory;
+use clu_base::{Const, Memory};
 use clu_bindings::{File, Headed, bindings_of};
 use clu_circles::Circles;
 use clu_core::{Checked, OpRef};
-use clu_head::{counts_of, heads_of};
+use clu_head::{Heads, counts_of, heads_of};
 use clu_name_rules::{Items, Tables, Words, long_constants, long_types, own_places};
 use clu_names::{Names, names_of};
 use clu_settle::{Values, equate_circles, settle};
 use clu_syntax::{Round, Syntax, rounds};
-use clu_type_rules::{Known, Routines, disagreeing, unmet_of};
+use clu_type_rules::{Known, Routines, Unmet, disagreeing, unmet_of};
 use clu_types::{Spec, Specs, TypeArena, TypeId};
 use clu_typing::{Facts, facts_of};
 use std::alloc::Global;
 
 /// What is found of a file by its names alone.
 #[derive(Drop)]
-struct Lists {
-    circles: Circles,
-    own: Vec<usize>,
-    words: Box<Words>,
-    items: Box<Items>,
-    routines: Box<Routines>,
+pub struct Lists {
+    pub circles: Circles,
+    pub own: Vec<usize>,
+    pub words: Box<Words>,
+    pub items: Box<Items>,
+    pub routines: Box<Routines>,
 }
 
 fn lists_of(
@@ -44,6 +46,7 @@ fn lists_of(
 ) -> Result<Box<Lists>, Memory>
     requires bound { names.now.bound.items ≡ bound_to syntax.now names.now.declared.items (length syntax.now) }
     requires starts { names.now.starts.items ≡ starts_to syntax.now names.now.declared.items (length syntax.now) }
+    ensures { IfOk result (λ lists. AreLists syntax.now rounds.now names.now lists.value) }
 {
     let declared = names.declared.as_slice();
     let words = Words::of_tree(alloc, syntax.tree())?;
@@ -60,13 +63,30 @@ fn lists_of(
 
 /// Which texts are too long for an equated value.
 #[derive(Drop)]
-struct Long {
-    types: Vec<bool>,
-    constants: Vec<bool>,
+pub struct Long {
+    pub types: Vec<bool>,
+    pub constants: Vec<bool>,
+}
+
+fn long_of(alloc: Global, types: &TypeArena, constants: &[Const]) -> Result<Long, Memory>
+    ensures types { IfOk result (λ long. long.types.items ≡ map (nat_lt 65536) (lengths_of types.now)) }
+    ensures constants { IfOk result (λ long. long.constants.items ≡ map (λ c. nat_lt 65536 (constant_length c)) constants.now) }
+{
+    Ok(Long {
+        types: long_types(alloc, types)?,
+        constants: long_constants(alloc, constants)?,
+    })
 }
 
 fn tables<'a>(file: File<'a>, types: &'a TypeArena, lists: &'a Lists, long: &'a Long) -> Tables<'a>
-    ensures { result.file ≡ file.entry }
+    ensures file { result.file ≡ file.entry }
+    ensures types { result.types.now ≡ types.now }
+    ensures long_types { result.long_types.now ≡ long.now.types.items }
+    ensures long_constants { result.long_constants.now ≡ long.now.constants.items }
+    ensures circular { result.circular.now ≡ lists.now.circles.circular.items }
+    ensures own { result.own.now ≡ lists.now.own.items }
+    ensures words { result.words.now ≡ lists.now.words.value }
+    ensures items { result.items.now ≡ lists.now.items.value }
 {
     Tables {
         file,
@@ -89,6 +109,41 @@ struct Found {
     own: Vec<Spec>,
 }
 
+/// The file with its headings.
+fn headed_by<'a>(file: File<'a>, heads: &'a Heads, refused: &'a [usize]) -> Headed<'a>
+    ensures file { result.file ≡ file.entry }
+    ensures refused { result.refused.now ≡ refused.now }
+{
+    Headed {
+        file,
+        heads,
+        refused,
+    }
+}
+
+/// What the rules are asked of.
+fn known_of<'a>(
+    headed: Headed<'a>,
+    tables: Tables<'a>,
+    facts: &'a Facts,
+    lists: &'a Lists,
+    disagrees: &'a [bool],
+    unmet: &'a [Unmet],
+) -> Known<'a>
+    ensures headed { result.headed ≡ headed.entry }
+    ensures tables { result.tables ≡ tables.entry }
+    ensures routines { result.routines.now ≡ lists.now.routines.value }
+{
+    Known {
+        tables,
+        headed,
+        facts,
+        routines: &lists.routines,
+        disagrees,
+        unmet,
+    }
+}
+
 /// Asks the rules.
 fn ask(
     headed: Headed<'_>,
@@ -100,18 +155,20 @@ fn ask(
 ) -> Result<(), CheckError>
     ensures closed { extent ≡ Extent.Whole → OnOk result (AreClosed headed.entry.file.syntax.now) }
     ensures refused { IfErr result (IsOfTree headed.entry.file.syntax.now) }
+    ensures first { IsAnswer (IsFirstOf headed.entry lists.now long.now extent) result }
 {
     let alloc = headed.file.alloc;
     let unmet = unmet_of(headed, types, facts)?;
     let disagrees = disagreeing(alloc, &headed.heads.asked, headed.file.len())?;
-    let known = Known {
-        tables: tables(headed.file, types, lists, long),
+    let tables = tables(headed.file, types, lists, long);
+    let known = known_of(
         headed,
+        tables,
         facts,
-        routines: &lists.routines,
-        disagrees: disagrees.as_slice(),
-        unmet: unmet.as_slice(),
-    };
+        lists,
+        disagrees.as_slice(),
+        unmet.as_slice(),
+    );
     let bad = bad_of_all(alloc, &known, lists.circles.order.as_slice())?;
     ask_rules(&known, bad.as_slice(), extent)
 }
@@ -137,6 +194,7 @@ fn check_headed(
 ) -> Result<Box<Found>, CheckError>
     ensures found { IfOk result (λ found. IsFound headed.entry.file.syntax.now extent found.value.own.items) }
     ensures refused { IfErr result (IsOfTree headed.entry.file.syntax.now) }
+    ensures first { IsAnswer (IsFirstOf headed.entry lists.now long.now extent) result }
 {
     let alloc = headed.file.alloc;
     let mut facts = facts_of(headed, types)?;
@@ -158,12 +216,10 @@ fn check_file(
     requires starts { file.names.now.starts.items ≡ starts_to file.syntax.now file.names.now.declared.items (length file.syntax.now) }
     ensures found { IfOk result (λ found. IsFound file.entry.syntax.now extent found.value.own.items) }
     ensures refused { IfErr result (IsOfTree file.entry.syntax.now) }
+    ensures first { IsAnswer (IsFirstIn file.entry types.old lists.now extent) result }
 {
     let alloc = file.alloc;
-    let long = Long {
-        types: long_types(alloc, types)?,
-        constants: long_constants(alloc, file.constants)?,
-    };
+    let long = long_of(alloc, types, file.constants)?;
     let order = lists.circles.order.as_slice();
     let refused = refused_nodes(alloc, &tables(file, types, lists, &long), order)?;
     let heads = heads_of(
@@ -176,11 +232,7 @@ fn check_file(
         refused.as_slice(),
     )?;
     let counts = counts_of(alloc, refused.as_slice())?;
-    let headed = Headed {
-        file,
-        heads: &heads,
-        refused: counts.as_slice(),
-    };
+    let headed = headed_by(file, &heads, counts.as_slice());
     check_headed(headed, types, lists, &long, extent)
 }
 
@@ -198,22 +250,38 @@ fn check_settled(
     requires starts { names.now.starts.items ≡ starts_to syntax.now names.now.declared.items (length syntax.now) }
     ensures found { IfOk result (λ found. IsFound syntax.now extent found.value.own.items) }
     ensures refused { IfErr result (IsOfTree syntax.now) }
+    ensures first { IsAnswer (IsFirstWith syntax.now rounds.now names.now settled.old library.now extent) result }
 {
     let lists = lists_of(alloc, syntax, rounds, names)?;
     let types = &mut settled.types;
     let values = settled.values.as_slice();
     let bindings = bindings_of(alloc, syntax, rounds, names, types, values, library)?;
+    let constants = settled.constants.as_slice();
     let file = File {
         alloc,
         syntax,
         rounds,
         names,
         values,
-        constants: settled.constants.as_slice(),
+        constants,
         library,
         bindings: &bindings,
     };
     check_file(file, types, &lists, extent)
+}
+
+/// What constants and types come to.
+fn settled_of(
+    alloc: Global,
+    syntax: &Syntax,
+    rounds: &[Round],
+    names: &Names,
+) -> Result<Box<Values>, Memory>
+    requires bound { names.now.bound.items ≡ bound_to syntax.now names.now.declared.items (length syntax.now) }
+    requires starts { names.now.starts.items ≡ starts_to syntax.now names.now.declared.items (length syntax.now) }
+    ensures { IfOk result (λ all. AreValues syntax.now rounds.now names.now all.value) }
+{
+    Ok(Box::new(alloc, settle(alloc, syntax, rounds, names)?)?)
 }
 
 /// What is found of a file where no rule is violated, with what constants and types come to.
@@ -225,10 +293,11 @@ fn check_syntax(
 ) -> Result<(Box<Values>, Box<Found>), CheckError>
     ensures found { IfOk result (λ both. IsFound syntax.now extent both.1.value.own.items) }
     ensures refused { IfErr result (IsOfTree syntax.now) }
+    ensures first { IsAnswer (IsFirst syntax.now library.now extent) result }
 {
     let rounds = rounds(alloc, syntax.tree())?;
     let names = names_of(alloc, syntax.tree(), rounds.as_slice())?;
-    let mut settled = Box::new(alloc, settle(alloc, syntax, rounds.as_slice(), &names)?)?;
+    let mut settled = settled_of(alloc, syntax, rounds.as_slice(), &names)?;
     let found = check_settled(
         alloc,
         syntax,
@@ -279,6 +348,7 @@ pub fn check(alloc: Global, syntax: Syntax, library: &Specs) -> Result<Box<Check
     ensures specs { IfOk result (λ checked. BeginWithOwn syntax checked.value.specs.items) }
     ensures closed { OnOk result (All (IsClosedAt syntax) (modules syntax)) }
     ensures refused { IfErr result (IsOfTree syntax) }
+    ensures first { IsAnswer (IsFirst syntax library.now Extent.Whole) result }
 {
     let (mut settled, mut found) = check_syntax(alloc, &syntax, library, Extent::Whole)?;
     add_others(alloc, &mut found.own, library)?;
@@ -293,6 +363,7 @@ pub fn check(alloc: Global, syntax: Syntax, library: &Specs) -> Result<Box<Check
 pub fn specs_of(alloc: Global, syntax: &Syntax, library: &Specs) -> Result<Vec<Spec>, CheckError>
     ensures own { IfOk result (λ own. AreOf syntax.now (modules syntax.now) own.items) }
     ensures refused { IfErr result (IsOfTree syntax.now) }
+    ensures first { IsAnswer (IsFirst syntax.now library.now Extent.Headings) result }
 {
     let (_, found) = check_syntax(alloc, syntax, library, Extent::Headings)?;
     let Found { own, .. } = Box::into_inner(found);

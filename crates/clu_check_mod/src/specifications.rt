@@ -3,8 +3,8 @@
 ghost use Rattle.std.specs.Prelude.{◌≡◌, IfErr, IfOk, IfSome, List, OnOk, Some, slice_get};
 ghost use Rattle.clu_tree.specs.Nodes.{modules};
 ghost use Rattle.clu_tree.specs.declared.node.Node.{Node};
+ghost use Rattle.clu_check_mod.specs.Answered.{IsNoRefusal};
 ghost use Rattle.clu_check_mod.specs.Modules.{AreOf, BeginWithOwn, name_of};
-ghost use Rattle.clu_check_mod.specs.Refusals.{IsOfTree};
 
 use crate::errors::CheckError;
 use clu_base::{Bytes, Memory};
@@ -57,7 +57,7 @@ fn own_spec(
     n: u32,
 ) -> Result<Box<Spec>, CheckError>
     ensures named { IfOk result (λ spec. name_of tree.now n ≡ Some spec.value.name) }
-    ensures refused { IfErr result (IsOfTree tree.now) }
+    ensures refused { IfErr result IsNoRefusal }
 {
     if let Some(name) = name_of(tree, n) {
         if let Some(spec) = spec_by(alloc, types, head, name)? {
@@ -75,7 +75,7 @@ pub fn own_specs(
     heads: &[Head],
 ) -> Result<Vec<Spec>, CheckError>
     ensures own { IfOk result (λ own. AreOf tree.now (modules tree.now) own.items) }
-    ensures refused { IfErr result (IsOfTree tree.now) }
+    ensures refused { IfErr result IsNoRefusal }
 {
     let mut own = Vec::new(alloc);
     let numbers = tree.modules();

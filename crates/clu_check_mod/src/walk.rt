@@ -3,7 +3,7 @@
 ghost use Rattle.std.specs.Prelude.{◌≡◌, ◌≤◌, ℕ, IfErr, IfSome, None, OnOk, Some, slice_get};
 ghost use Rattle.clu_base.specs.Rules.{number_of};
 ghost use Rattle.clu_syntax.specs.Items.{Item};
-ghost use Rattle.clu_name_rules.specs.Components.{HaveAscending};
+ghost use Rattle.clu_check_mod.specs.Asking.{KnownAscend};
 ghost use Rattle.clu_check_mod.specs.Refusals.{IsOfTree, IsTold};
 ghost use Rattle.clu_check_mod.specs.Walks.{AreClosed, IsClosedNode, fault_at, first_on, first_in};
 
@@ -26,7 +26,7 @@ pub enum Extent {
 #[tactic(auto, using(crate::proofs::Closed::closed_node))]
 fn fault_at(k: &Known<'_>, bad: &[bool], walk: Walk, n: u32, node: &Node) -> Option<Rule>
     requires { slice_get k.now.tables.file.syntax.now n ≡ Some node.now }
-    ensures exact { (items : ℕ → Item) → HaveAscending k.now.tables.types.now → result ≡ fault_at k.now bad.now items walk n }
+    ensures exact { (items : ℕ → Item) → KnownAscend k.now → result ≡ fault_at k.now bad.now items walk n }
     ensures number { IfSome result (λ rule. 4 ≤ number_of rule) }
     ensures closed { walk ≡ Walk.Rest → result ≡ None → IsClosedNode k.now.tables.file.syntax.now n }
 {
@@ -38,7 +38,7 @@ fn fault_at(k: &Known<'_>, bad: &[bool], walk: Walk, n: u32, node: &Node) -> Opt
 /// order of the text.
 #[tactic(auto, using(crate::proofs::Places::refused_at, crate::proofs::Closed::closed_more, crate::proofs::Closed::closed_all, crate::proofs::Finding::walk_here, crate::proofs::Finding::walk_end))]
 fn walk_nodes(k: &Known<'_>, bad: &[bool], walk: Walk) -> Result<(), CheckError>
-    ensures exact { (items : ℕ → Item) → HaveAscending k.now.tables.types.now → IsTold result (first_on k.now bad.now items walk) }
+    ensures exact { (items : ℕ → Item) → KnownAscend k.now → IsTold result (first_on k.now bad.now items walk) }
     ensures closed { walk ≡ Walk.Rest → OnOk result (AreClosed k.now.tables.file.syntax.now) }
     ensures refused { IfErr result (IsOfTree k.now.tables.file.syntax.now) }
 {
@@ -56,7 +56,7 @@ fn walk_nodes(k: &Known<'_>, bad: &[bool], walk: Walk) -> Result<(), CheckError>
 /// The walk over the headings, and if so much is asked, the walk over the rest.
 #[tactic(auto, using(crate::proofs::Finding::told_at_once, crate::proofs::Finding::told_then))]
 pub fn ask_rules(k: &Known<'_>, bad: &[bool], extent: Extent) -> Result<(), CheckError>
-    ensures exact { (items : ℕ → Item) → HaveAscending k.now.tables.types.now → IsTold result (first_in k.now bad.now items extent) }
+    ensures exact { (items : ℕ → Item) → KnownAscend k.now → IsTold result (first_in k.now bad.now items extent) }
     ensures closed { extent ≡ Extent.Whole → OnOk result (AreClosed k.now.tables.file.syntax.now) }
     ensures refused { IfErr result (IsOfTree k.now.tables.file.syntax.now) }
 {

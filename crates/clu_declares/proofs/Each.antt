@@ -60,7 +60,7 @@ in_middle (x ∷ xs) ys zs j d e =
 
 -- ---- lists that grow
 
-grown_size : {X : Type 0} (g : ℕ → List X) (f : ℕ → X) → g 0 ≡ [] → ((n : ℕ) → g (suc n) ≡ g n ++ f n ∷ []) → (m : ℕ) → length (g m) ≡ m
+pub grown_size : {X : Type 0} (g : ℕ → List X) (f : ℕ → X) → g 0 ≡ [] → ((n : ℕ) → g (suc n) ≡ g n ++ f n ∷ []) → (m : ℕ) → length (g m) ≡ m
 grown_size g f e h zero = ap length e
 grown_size g f e h (suc m) = let before : length (g m) ≡ m = grown_size g f e h m in ap length (h m) ∙ length-append (g m) (f m ∷ []) ∙ omega (arith, before)
 
@@ -73,7 +73,7 @@ get_last : {X : Type 0} (xs : List X) (x : X) → slice_get (xs ++ x ∷ []) (le
 get_last [] x = refl
 get_last (y ∷ ys) x = get_last ys x
 
-grown : {X : Type 0} (g : ℕ → List X) (f : ℕ → X) → g 0 ≡ [] → ((n : ℕ) → g (suc n) ≡ g n ++ f n ∷ []) → (m n : ℕ) → n < m → slice_get (g m) n ≡ Some (f n)
+pub grown : {X : Type 0} (g : ℕ → List X) (f : ℕ → X) → g 0 ≡ [] → ((n : ℕ) → g (suc n) ≡ g n ++ f n ∷ []) → (m n : ℕ) → n < m → slice_get (g m) n ≡ Some (f n)
 grown g f e h zero n l = absurd (omega (arith, l))
 grown g f e h (suc m) n l =
     let size : length (g m) ≡ m = grown_size g f e h m in
@@ -84,11 +84,11 @@ grown g f e h (suc m) n l =
           ap (slice_get (g m ++ f m ∷ [])) (same ∙ sym size) ∙ get_last (g m) (f m) ∙ ap (λ (k : ℕ). Some (f k)) (sym same))
     ]
 
-none_declared : (nodes : List Node) (rounds : List Round) (ds : List Declared) → meant.declared_to nodes rounds ds 0 ≡ []
+pub none_declared : (nodes : List Node) (rounds : List Round) (ds : List Declared) → meant.declared_to nodes rounds ds 0 ≡ []
 unfolding meant.declared_to
 none_declared nodes rounds ds = refl
 
-more_declared : (nodes : List Node) (rounds : List Round) (ds : List Declared) (p : ℕ) → meant.declared_to nodes rounds ds (suc p) ≡ meant.declared_to nodes rounds ds p ++ meant.declared_at nodes rounds ds p (slice_get ds p) ∷ []
+pub more_declared : (nodes : List Node) (rounds : List Round) (ds : List Declared) (p : ℕ) → meant.declared_to nodes rounds ds (suc p) ≡ meant.declared_to nodes rounds ds p ++ meant.declared_at nodes rounds ds p (slice_get ds p) ∷ []
 unfolding meant.declared_to
 more_declared nodes rounds ds p = refl
 

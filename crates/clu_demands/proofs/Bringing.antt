@@ -20,11 +20,11 @@ use Rattle.clu_types.proofs.Parts.{ids_more, signals_more, types_same, signals_s
 
 -- ---- lists that get one item more at their end
 
-abbrev snoc : CluTypes → CluType → CluTypes
+abbrev pub snoc : CluTypes → CluType → CluTypes
 snoc no_types t = type_and t no_types
 snoc (type_and x ts) t = type_and x (snoc ts t)
 
-types_at-push : (ks : List CluType) (ids : List TypeId) (id : TypeId) → types_at ks (ids ++ id ∷ []) ≡ snoc (types_at ks ids) (type_at ks id)
+pub types_at-push : (ks : List CluType) (ids : List TypeId) (id : TypeId) → types_at ks (ids ++ id ∷ []) ≡ snoc (types_at ks ids) (type_at ks id)
 types_at-push ks [] id = refl
 types_at-push ks (x ∷ ids) id = ap (type_and (type_at ks x)) (types_at-push ks ids id)
 
@@ -32,7 +32,7 @@ types_put-push : (given : Actuals) (ts : CluTypes) (t : CluType) → types_subst
 types_put-push given no_types t = refl
 types_put-push given (type_and x ts) t = ap (type_and (substituted given x)) (types_put-push given ts t)
 
-below-push : (n : ℕ) (ids : List TypeId) (id : TypeId) → AreBelow n ids → id.0 < n → AreBelow n (ids ++ id ∷ [])
+pub below-push : (n : ℕ) (ids : List TypeId) (id : TypeId) → AreBelow n ids → id.0 < n → AreBelow n (ids ++ id ∷ [])
 below-push n [] id b lt = (lt, tt)
 below-push n (x ∷ ids) id b lt = (b.0, below-push n ids id b.1 lt)
 

@@ -5,7 +5,7 @@ use Rattle.clu_base.specs.Outside.{Files}
 use Rattle.clu_base.specs.declared.rules.Refused.{Refused}
 use Rattle.clu_base.specs.declared.rules.Rule.TheVariants as rule
 use Rattle.clu_base.specs.declared.tokens.Token.{Token}
-use Rattle.clu_link.specs.Starts.{IsBadStart}
+use Rattle.clu_reach.specs.Starts.{IsBadStart}
 use Rattle.clu_check_mod.specs.Modules.{AreOf, IsClosedAt}
 use Rattle.clu_check_mod.specs.Refusals.{IsOfTree}
 use Rattle.clu_check_mod.specs.declared.errors.CheckError.{CheckError}

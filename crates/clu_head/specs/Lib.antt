@@ -14,3 +14,4 @@ pub mod Terms
 pub mod Asking
 pub mod Asked
 pub mod Routines
+pub mod Restricting

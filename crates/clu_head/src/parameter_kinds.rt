@@ -83,7 +83,7 @@ fn is_type_at(tree: &Tree, n: u32) -> bool
 }
 
 /// The first of these nodes, if it is a type.
-fn type_of(tree: &Tree, nodes: &[u32]) -> Option<u32>
+pub fn type_of(tree: &Tree, nodes: &[u32]) -> Option<u32>
     ensures { result ≡ type_of tree.now nodes.now }
 {
     match nodes {

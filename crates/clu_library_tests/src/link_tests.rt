@@ -3,8 +3,9 @@
 use crate::scripts::step;
 use clu_base::{Bytes, Const, Memory, ObjConst, Sequence};
 use clu_library::{Body, Library};
-use clu_link::{LinkError, Linked, Traced, link, link_traced};
+use clu_link::{Linked, Traced, link, link_traced};
 use clu_object::{Hole, ObjRoutine, Object};
+use clu_reach::LinkError;
 use std::alloc::Global;
 use std::test::Fail;
 

@@ -1,4 +1,1 @@
-pub mod Keeping
-pub mod Sorts
 pub mod Zeros
-pub mod Later

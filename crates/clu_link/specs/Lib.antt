@@ -1,9 +1,3 @@
--- Numbers that a program has, what uses and parameters are, what an instance takes, what a program may start with, and why it
--- is refused.
-pub mod Causes
-pub mod Found
+-- Numbers that a program has, and what its image is when it starts.
+pub mod Images
 pub mod Numbers
-pub mod Parameters
-pub mod Starts
-pub mod Tables
-pub mod Uses

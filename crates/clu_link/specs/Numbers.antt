@@ -1,5 +1,5 @@
 -- Numbers that a program has. A number above 64 bits counts as the greatest of 64 bits.
-use Rattle.std.specs.Prelude.{ℕ, ◌/◌}
+use Rattle.std.specs.Prelude.{ℕ}
 use Rattle.clu_types.specs.declared.term.Term.{Term}
 use Rattle.clu_types.specs.declared.term.Term.TheVariants as term
 use Rattle.clu_wir.specs.Rooms.{plus, times}
@@ -14,7 +14,3 @@ type_number term.Any place = 0
 type_number (term.Proc heading) place = plus (even_number place) 1
 type_number (term.Iter heading) place = plus (even_number place) 1
 type_number _ place = even_number place
-
--- the bytes of a string of this length: its size and its bytes, in whole words
-abbrev pub string_bytes : ℕ → ℕ
-string_bytes length = times (plus (plus length 7 / 8) 1) 8

@@ -3,13 +3,11 @@
 ghost use Rattle.std.specs.Prelude.{◌≡◌, ◌≤◌, length, IfNone, IfSome};
 ghost use Rattle.clu_wir.specs.Numbers.{kind_number};
 ghost use Rattle.clu_wir.specs.Rooms.{plus, times};
-ghost use Rattle.clu_link.specs.Tables.{own_holes};
+ghost use Rattle.clu_reach.specs.Tables.{own_holes};
 
-use crate::bounds::{CELL, own_holes};
-use crate::errors::LinkError;
 use crate::places::Places;
-use crate::program::Program;
 use clu_object::{Hole, HoleKind, ObjRoutine};
+use clu_reach::{CELL, LinkError, Program, own_holes};
 use std::alloc::Global;
 
 /// The numbers that a LUI and an ADDI can give.

@@ -4,25 +4,22 @@ ghost use Rattle.std.specs.Prelude.{◌≡◌, ℕ, IfErr, IfOk, List, OnOk};
 ghost use Rattle.indexmap.specs.IndexMap.{keys};
 ghost use Rattle.clu_trace.specs.Maps.{Maps};
 ghost use Rattle.clu_library.specs.Contents.{Contents, spec_of};
-ghost use Rattle.clu_link.specs.Causes.{HaveBodies, IsRefusalOf};
-ghost use Rattle.clu_link.specs.Found.{AreKept, IsKept};
-ghost use Rattle.clu_link.specs.Starts.{AreUnset, MayStart};
+ghost use Rattle.clu_reach.specs.Causes.{HaveBodies, IsRefusalOf};
+ghost use Rattle.clu_reach.specs.Found.{AreKept};
+ghost use Rattle.clu_reach.specs.Starts.{MayStart};
+ghost use Rattle.clu_link.specs.Images.{AreUnset};
 
-use crate::collecting::collect;
-use crate::errors::LinkError;
-use crate::faults::of_step;
 use crate::filling::code_words;
-use crate::member::Member;
 use crate::places::{Places, lay_out};
-use crate::program::{Code, Program};
-use crate::reach::{Reached, RoutineName, reach, start_of};
 use crate::tables::fixed_part;
 use crate::texts::{Texts, collect_texts};
 use crate::tracing::map_of;
-use clu_base::{Bytes, Memory};
+use clu_base::Bytes;
 use clu_library::Library;
+use clu_reach::{
+    LinkError, Member, Program, Reached, collect, modules_of, of_step, reach, start_of,
+};
 use clu_trace::TraceMap;
-use indexmap::IndexMap;
 use rv_isa::Image;
 use std::alloc::Global;
 use std::boxed::Box;
@@ -156,45 +153,6 @@ fn made_of<'a>(alloc: Global, of: Box<Reached<'a>>) -> Result<Made<'a>, LinkErro
         program,
         places,
     })
-}
-
-/// The modules of routines, ascending, each once.
-#[tactic(auto, using(crate::proofs::Keeping::keepings))]
-fn modules_of(
-    alloc: Global,
-    routines: &IndexMap<RoutineName, Code<'_>>,
-) -> Result<Vec<Bytes>, LinkError>
-    ensures { (library : Contents) → AreKept library (keys routines.now) → IfOk result (λ modules. HaveBodies library modules.items) }
-{
-    let mut modules = all_modules_of(alloc, routines)?;
-    modules.sort()?;
-    modules.dedup();
-    Ok(modules)
-}
-
-/// The modules of routines in the order of these.
-fn all_modules_of(
-    alloc: Global,
-    routines: &IndexMap<RoutineName, Code<'_>>,
-) -> Result<Vec<Bytes>, Memory>
-    ensures { (library : Contents) → AreKept library (keys routines.now) → IfOk result (λ modules. HaveBodies library modules.items) }
-{
-    let mut modules = Vec::new(alloc);
-    for routine in routines.keys() {
-        add_module(alloc, &mut modules, routine)?;
-    }
-    Ok(modules)
-}
-
-/// Adds the module of a routine that is kept.
-#[tactic(auto, using(crate::proofs::Keeping::keepings))]
-fn add_module(alloc: Global, modules: &mut Vec<Bytes>, routine: &RoutineName) -> Result<(), Memory>
-    ensures { (library : Contents) → IsKept library routine.now → HaveBodies library modules.old.items → OnOk result (HaveBodies library modules.new.items) }
-{
-    if let RoutineName::Kept(module, _) = routine {
-        modules.push(module.copy(alloc)?)?;
-    }
-    Ok(())
 }
 
 /// The image of a program: its entry is the first word of the start part.

@@ -1,10 +1,8 @@
 //! Where the parts of a program lie: the code, after it the fixed part, after that the data.
 
-use crate::bounds::{CELL, DESCRIPTOR, OWN_VARIABLE, cells, string_bytes};
-use crate::errors::LinkError;
-use crate::program::Program;
 use crate::runtime::{RUNTIME_TABLE, regions_bytes};
 use crate::texts::Texts;
+use clu_reach::{CELL, DESCRIPTOR, LinkError, OWN_VARIABLE, Program, cells, string_bytes};
 use std::alloc::Global;
 
 /// The address of the first code word.

@@ -1,28 +1,16 @@
-//! What selection gives the linker beside the code of routines: the parts of the runtime, and the tables in which one of
-//! them searches.
+//! What selection gives the linker beside code: the tables of regions, in which a part of the runtime searches.
 
-use crate::errors::LinkError;
 use crate::places::Places;
-use crate::program::Program;
 use crate::texts::Texts;
 use clu_base::u64_add;
-use clu_object::{ObjRoutine, Region};
-use rv_select::{bind_part, regions_table, search_part, start_part, trap_part};
+use clu_object::Region;
+use clu_reach::{LinkError, Program};
+use rv_select::regions_table;
 use std::alloc::Global;
 
 /// The bytes of the runtime's table: the addresses of the strings `failure` and `unhandled exception: ` and of the start's
 /// descriptor, and for each of the six traps those of its name and of its object.
 pub const RUNTIME_TABLE: u64 = 120;
-
-/// The parts of the runtime, each at its number.
-pub fn runtime_parts(alloc: Global) -> Result<Vec<ObjRoutine>, LinkError> {
-    let mut parts = Vec::new(alloc);
-    parts.push(start_part(alloc)?)?;
-    parts.push(search_part(alloc)?)?;
-    parts.push(bind_part(alloc)?)?;
-    parts.push(trap_part(alloc)?)?;
-    Ok(parts)
-}
 
 /// The bytes of the table of regions.
 pub fn regions_bytes(alloc: Global, regions: &[Region]) -> Result<u64, LinkError> {

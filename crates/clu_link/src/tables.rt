@@ -1,13 +1,12 @@
 //! The bytes of the fixed part: strings, descriptors, link tables, the runtime's table and the regions tables,
 //! each at its place.
 
-use crate::errors::LinkError;
 use crate::places::Places;
-use crate::program::{Callable, Program};
 use crate::runtime::add_regions;
 use crate::texts::{Cell, Texts, TrapTexts};
 use crate::type_words::type_word;
 use clu_base::{Memory, u64_add};
+use clu_reach::{Callable, LinkError, Program};
 use clu_types::TypeId;
 use std::alloc::Global;
 

@@ -1,10 +1,8 @@
 //! The strings of a program, each once, and the words of its constants.
 
-use crate::errors::LinkError;
-use crate::parameters::constant_of;
-use crate::program::Program;
 use clu_base::{Bytes, Const, Memory};
 use clu_object::{ObjRoutine, Region};
+use clu_reach::{LinkError, Program, constant_of};
 use clu_types::Actual;
 use clu_wir::{TRAPS, Trap};
 use indexmap::IndexSet;

@@ -4,14 +4,10 @@
 ghost use Rattle.std.specs.Prelude.{◌↔◌, IsTrue, length};
 ghost use Rattle.clu_specs.specs.Uses.{TargetBelow};
 
-use crate::errors::LinkError;
-use crate::member::Member;
-use crate::origins::SET_UP;
-use crate::parameters::copied;
 use crate::places::Places;
-use crate::program::Program;
 use clu_base::{Bytes, Sequence};
 use clu_core::term;
+use clu_reach::{LinkError, Member, Program, SET_UP, copied};
 use clu_specs::{Target, use_text};
 use clu_trace::{Instance, TraceMap};
 use clu_types::{Term, TypeArena, TypeId};

@@ -4,9 +4,9 @@ ghost use Rattle.std.specs.Prelude.{◌<◌, length};
 ghost use Rattle.clu_syntax.specs.Parts.{AreBefore};
 
 use clu_lower_expr::{
-    Fixed, Lowering, Result, Variable, assign_named, is_call, lower_call, lower_expr, results_of,
-    type_of,
+    Lowering, Variable, assign_named, is_call, lower_call, lower_expr, results_of,
 };
+use clu_lower_types::{Fixed, Result, type_of};
 use clu_types::TypeId;
 use clu_wir::{WExpr, WStmt};
 

@@ -5,7 +5,8 @@ ghost use Rattle.std.specs.Prelude.{◌<◌, length};
 ghost use Rattle.clu_syntax.specs.Parts.{AreBefore, otherwise_parts};
 
 use crate::walk::{condition, otherwise, statements};
-use clu_lower_expr::{Fixed, Lowering, Result};
+use clu_lower_expr::Lowering;
+use clu_lower_types::{Fixed, Result};
 use clu_syntax::{Body, Clauses};
 use clu_wir::{WExpr, WStmt};
 

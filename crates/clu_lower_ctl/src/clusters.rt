@@ -13,9 +13,8 @@ use crate::own_variables::{declare_owns, set_up};
 use crate::routines::{body, nothing_fixed, specification};
 use clu_base::{Bytes, Sequence};
 use clu_core::{Checked, intern};
-use clu_lower_expr::{
-    Declarations, Fixed, LowerError, Lowering, Result, Sealed, lower_own_set_up, written_heading,
-};
+use clu_lower_expr::{Lowering, lower_own_set_up};
+use clu_lower_types::{Declarations, Fixed, LowerError, Result, Sealed, written_heading};
 use clu_specs::{Target, use_text};
 use clu_syntax::{Equated, RoutineKind};
 use clu_tree::NodeKind;

@@ -4,7 +4,8 @@ ghost use Rattle.std.specs.Prelude.{◌<◌, length};
 ghost use Rattle.clu_lower_ctl.specs.Inside.{AreNodes, IsNode};
 
 use crate::assigning::{assign_one, assign_results};
-use clu_lower_expr::{Fixed, Lowering, Result, denotes_any};
+use clu_lower_expr::Lowering;
+use clu_lower_types::{Fixed, Result, denotes_any};
 use clu_tree::NodeKind;
 
 /// The place of a declaration of a variable, and whether its type is any.

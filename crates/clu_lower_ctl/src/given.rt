@@ -6,7 +6,7 @@ ghost use Rattle.clu_lower_ctl.specs.Inside.{AreNodes, IsNode};
 
 use clu_base::Bytes;
 use clu_core::intern;
-use clu_lower_expr::{Fixed, LowerError, Result, denoted_type};
+use clu_lower_types::{Fixed, LowerError, Result, denoted_type};
 use clu_syntax::{Equated, Restriction, Syntax};
 use clu_tree::NodeKind;
 use clu_types::{Actual, Demand, Form, OpSpec, ParamKind, Spec, Term, TypeArena, TypeId};

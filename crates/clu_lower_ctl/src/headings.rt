@@ -6,7 +6,7 @@ ghost use Rattle.clu_syntax.specs.Parts.{AreBefore};
 ghost use Rattle.clu_lower_ctl.specs.Inside.{AreNodes, IsNode};
 
 use crate::own_variables::declare_owns;
-use clu_lower_expr::{Fixed, Result, denotes_any};
+use clu_lower_types::{Fixed, Result, denotes_any};
 use clu_tree::NodeKind;
 use clu_wir::HoleKind;
 

@@ -5,9 +5,8 @@ ghost use Rattle.std.specs.Prelude.{◌<◌, length};
 ghost use Rattle.clu_syntax.specs.Parts.{AreBefore};
 
 use clu_base::Bytes;
-use clu_lower_expr::{
-    Fixed, LowerError, Lowering, Operand, Result, bind_all, lower_all, text_of, type_of,
-};
+use clu_lower_expr::{Lowering, Operand, bind_all, lower_all};
+use clu_lower_types::{Fixed, LowerError, Result, text_of, type_of};
 use clu_wir::{HoleKind, WExpr, WStmt};
 
 /// The values of the statement n, bound to any where `any` says so once all of them are evaluated.

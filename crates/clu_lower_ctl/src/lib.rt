@@ -17,4 +17,4 @@ mod tagging;
 mod walk;
 
 pub use crate::routines::lower;
-pub use clu_lower_expr::{Declarations, LowerError, Result, declarations_of};
+pub use clu_lower_types::{Declarations, LowerError, Result, declarations_of};

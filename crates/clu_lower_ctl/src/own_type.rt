@@ -2,7 +2,8 @@
 
 use clu_base::Bytes;
 use clu_core::{intern, term};
-use clu_lower_expr::{LowerError, Lowering, Result, carried, text_of, texts_of};
+use clu_lower_expr::Lowering;
+use clu_lower_types::{LowerError, Result, carried, text_of, texts_of};
 use clu_types::{Exception, Heading, OpSpec, Term, TypeArena, TypeId};
 use indexmap::IndexMap;
 use std::alloc::Global;

@@ -6,7 +6,8 @@ ghost use Rattle.clu_lower_ctl.specs.Inside.{AreNodes, IsNode};
 
 use crate::assigning::assign_one;
 use crate::declaring::{Declared, declared_by, give_results, variables_of};
-use clu_lower_expr::{FLAG, Fixed, Lowering, OwnVariable, Result};
+use clu_lower_expr::{FLAG, Lowering};
+use clu_lower_types::{Fixed, OwnVariable, Result};
 use clu_syntax::Own;
 use clu_tree::NodeKind;
 use clu_wir::{HoleKind, WExpr, WStmt};

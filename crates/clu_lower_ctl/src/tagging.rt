@@ -10,9 +10,8 @@ use crate::declaring::{declare_one, declared_by};
 use crate::walk::{otherwise, statements};
 use clu_base::Bytes;
 use clu_core::{Checked, term};
-use clu_lower_expr::{
-    Fixed, LowerError, Lowering, Result, again, binary, bind, lower_expr, place_of, type_of,
-};
+use clu_lower_expr::{Lowering, again, binary, bind, lower_expr};
+use clu_lower_types::{Fixed, LowerError, Result, place_of, type_of};
 use clu_syntax::Body;
 use clu_tree::NodeKind;
 use clu_types::{Field, Term};

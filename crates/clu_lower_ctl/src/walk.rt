@@ -11,7 +11,8 @@ use crate::handlers::{except, resignal};
 use crate::leaving::{exit, give_results, signal};
 use crate::looping::{for_loop, while_loop};
 use crate::tagging::tagcase;
-use clu_lower_expr::{Fixed, Lowering, Result, lower_call, lower_expr, sugar_statement};
+use clu_lower_expr::{Lowering, lower_call, lower_expr, sugar_statement};
+use clu_lower_types::{Fixed, Result};
 use clu_syntax::{Body, Statement};
 use clu_wir::{WExpr, WStmt};
 

@@ -1,8 +1,8 @@
 //! The arms round the statement that is lowered, to which exits go.
 
-use crate::errors::{LowerError, Result};
 use crate::lowering::Lowering;
 use clu_base::Bytes;
+use clu_lower_types::{LowerError, Result};
 
 /// An arm round a statement, as an exit sees it.
 #[derive(Drop)]

@@ -1,67 +1,17 @@
 //! Binding of objects to names, results, components and objects of exceptions: where the declared type is any, an object
 //! of another type goes into a pair with the number of its type.
 
-ghost use Rattle.std.specs.Prelude.{◌<◌, length};
-
-use crate::errors::{LowerError, Result};
-use crate::fixed::Fixed;
 use crate::lowering::Lowering;
-use clu_base::Bytes;
-use clu_core::{Checked, term};
-use clu_specs::type_text;
-use clu_syntax::{SimpleType, Syntax, TypeExpression};
-use clu_types::{Term, TypeArena, TypeId};
+use clu_core::Checked;
+use clu_lower_types::{Result, is_any, text_of, type_of};
+use clu_types::{TypeArena, TypeId};
 use clu_wir::{WExpr, WStmt};
-use std::alloc::Global;
 
 /// The value of an expression, with its node.
 #[derive(Drop)]
 pub struct Operand {
     pub word: WExpr,
     pub node: u32,
-}
-
-/// Whether a type is any.
-pub fn is_any(types: &TypeArena, of: TypeId) -> bool {
-    matches!(term(types, of), Ok(Term::Any))
-}
-
-/// The type of an expression's node.
-pub fn type_of(c: &Checked, n: u32) -> Result<TypeId> {
-    match c.type_of.get(n as usize) {
-        Some(Some(of)) => Ok(*of),
-        _ => Err(LowerError::NotYet),
-    }
-}
-
-/// The type that a type's node denotes; `cvt` is the representation of the cluster round it.
-pub fn denoted_type(fixed: &Fixed, n: u32) -> Result<TypeId>
-    requires { n < length fixed.now.syntax.now }
-{
-    match fixed.c.denoted.get(n as usize) {
-        Some(Some(of)) => Ok(*of),
-        _ => match fixed.rep {
-            Some(rep) if is_cvt(fixed.syntax, n) => Ok(rep),
-            _ => Err(LowerError::NotYet),
-        },
-    }
-}
-
-/// Whether the type at a node is the word `cvt`.
-pub fn is_cvt(syntax: &Syntax, n: u32) -> bool
-    requires { n < length syntax.now }
-{
-    matches!(
-        syntax.type_expression(n),
-        TypeExpression::Simple(SimpleType::Cvt)
-    )
-}
-
-/// Whether a type's node denotes any.
-pub fn denotes_any(fixed: &Fixed, n: u32) -> Result<bool>
-    requires { n < length fixed.now.syntax.now }
-{
-    Ok(is_any(&fixed.c.types, denoted_type(fixed, n)?))
 }
 
 /// The word of an object of the type `of` where it is bound to type any if `to_any`, else to a type that includes its
@@ -124,31 +74,4 @@ fn bind_operand(
 pub fn type_number(out: &mut Lowering, types: &TypeArena, of: TypeId) -> Result<WExpr> {
     let text = text_of(out.alloc, types, of)?;
     out.type_number(text)
-}
-
-/// The text of a type.
-pub fn text_of(alloc: Global, types: &TypeArena, of: TypeId) -> Result<Bytes> {
-    if types.contains(of) {
-        Ok(type_text(alloc, types, of)?)
-    } else {
-        Err(LowerError::NotYet)
-    }
-}
-
-/// The texts of types.
-pub fn texts_of(alloc: Global, types: &TypeArena, listed: &[TypeId]) -> Result<Vec<Bytes>> {
-    let mut texts = Vec::new(alloc);
-    for of in listed {
-        texts.push(text_of(alloc, types, *of)?)?;
-    }
-    Ok(texts)
-}
-
-/// For each of these types whether it is any.
-pub fn which_are_any(alloc: Global, types: &TypeArena, listed: &[TypeId]) -> Result<Vec<bool>> {
-    let mut any = Vec::new(alloc);
-    for of in listed {
-        any.push(is_any(types, *of))?;
-    }
-    Ok(any)
 }

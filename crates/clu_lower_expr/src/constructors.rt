@@ -4,12 +4,11 @@
 ghost use Rattle.std.specs.Prelude.{◌<◌, length};
 ghost use Rattle.clu_syntax.specs.Parts.{AreOf};
 
-use crate::binding::{Operand, bind, is_any, type_of};
-use crate::errors::{LowerError, Result};
-use crate::fixed::Fixed;
+use crate::binding::{Operand, bind};
 use crate::lowering::Lowering;
 use clu_base::Bytes;
 use clu_core::{Checked, term};
+use clu_lower_types::{Fixed, LowerError, Result, is_any, place_of, type_of};
 use clu_tree::NodeKind;
 use clu_types::{Field, Term, TypeId};
 use clu_wir::{Primitive, WExpr, WOp, WStmt};
@@ -80,16 +79,6 @@ fn bind_again(
 ) -> Result<WExpr> {
     let of = type_of(c, operand.node)?;
     bind(out, &c.types, again(&operand.word)?, of, to_any, free)
-}
-
-/// The place of a selector.
-pub fn place_of(components: &[Field], name: &Bytes) -> Result<usize> {
-    for (place, component) in components.iter().enumerate() {
-        if component.name == *name {
-            return Ok(place);
-        }
-    }
-    Err(LowerError::NotYet)
 }
 
 /// The same word once more. The value of an expression is known, or in a slot.

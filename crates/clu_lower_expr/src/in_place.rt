@@ -1,9 +1,9 @@
 //! Operations of built-in types in the place of their calls: those that are values of their arguments, or put one word.
 
-use crate::errors::Result;
 use crate::lowering::Lowering;
 use clu_base::{Bytes, Const, Memory};
 use clu_core::{Checked, OpRef};
+use clu_lower_types::Result;
 use clu_rt_data::select_operation;
 use clu_rt_text::{in_place, operation_of};
 use clu_types::{TypeArena, TypeId};

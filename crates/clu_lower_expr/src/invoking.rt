@@ -3,15 +3,11 @@
 ghost use Rattle.std.specs.Prelude.{◌<◌, All, IfOk, length};
 
 use crate::binding::{Operand, bind_all};
-use crate::errors::{LowerError, Result};
-use crate::fixed::Fixed;
-use crate::headings::{any_formals, heading_of};
 use crate::in_place::{apply, apply_to, perform};
 use crate::lowering::Lowering;
-use crate::seen::Seen;
-use crate::uses::operation_of;
 use crate::walk::invoked;
 use clu_core::OpRef;
+use clu_lower_types::{Fixed, LowerError, Result, Seen, any_formals, heading_of, operation_of};
 use clu_syntax::{Expression, Syntax};
 use clu_types::TypeId;
 use clu_wir::{WExpr, WStmt};

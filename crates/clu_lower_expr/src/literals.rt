@@ -1,10 +1,10 @@
 //! The words of literals and of constants (CLU Reference Manual, section 5).
 
-use crate::errors::{LowerError, Result};
 use crate::lowering::Lowering;
 use clu_base::{Const, ObjConst};
 use clu_core::Checked;
 use clu_literal::{char_byte, string_bytes};
+use clu_lower_types::{LowerError, Result};
 use clu_syntax::Literal;
 use clu_wir::{HoleKind, WExpr};
 

@@ -5,9 +5,9 @@ ghost use Rattle.clu_lower_expr.specs.Bounds.{IsBounded, IsNamed};
 
 use crate::arms::OpenArm;
 use crate::bounds::is_bounded;
-use crate::errors::{LowerError, Result};
 use crate::variables::Variable;
 use clu_base::{Bytes, Const, ObjConst};
+use clu_lower_types::{LowerError, Result};
 use clu_types::TypeId;
 use clu_wir::{HoleKind, WExpr, WRoutine, WStmt};
 use indexmap::{IndexMap, IndexSet};

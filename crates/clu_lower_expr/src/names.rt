@@ -1,10 +1,9 @@
 //! Names: constants, routines as objects, and variables.
 
-use crate::errors::Result;
-use crate::fixed::Fixed;
 use crate::literals::named_constant;
 use crate::lowering::Lowering;
-use crate::uses::{node_operation, operation_of};
+use crate::uses::node_operation;
+use clu_lower_types::{Fixed, Result, operation_of};
 use clu_wir::WExpr;
 
 /// The word of what a Name stands for.

@@ -1,11 +1,10 @@
 //! Own variables: two words of the data each, the object's and whether the variable names one.
 
 use crate::binding::bind;
-use crate::errors::Result;
-use crate::fixed::{Fixed, OwnVariable};
 use crate::lowering::Lowering;
 use crate::uses::descriptor;
 use clu_base::Bytes;
+use clu_lower_types::{Fixed, OwnVariable, Result};
 use clu_types::TypeId;
 use clu_wir::{HoleKind, WExpr, WStmt};
 use std::boxed::Box;

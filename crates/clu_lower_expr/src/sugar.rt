@@ -2,17 +2,17 @@
 
 ghost use Rattle.std.specs.Prelude.{◌<◌, All, length};
 
-use crate::binding::{Operand, bind, is_any, type_of};
+use crate::binding::{Operand, bind};
 use crate::constructors::binary;
-use crate::errors::{LowerError, Result};
-use crate::fixed::Fixed;
 use crate::in_place::{apply, keep, perform};
 use crate::invoking::bind_operands;
 use crate::lowering::Lowering;
-use crate::seen::{Seen, seen_at, seen_of};
-use crate::uses::{node_operation, operation_of, type_operation};
+use crate::uses::{node_operation, type_operation};
 use crate::walk::lower_all;
 use clu_base::Bytes;
+use clu_lower_types::{
+    Fixed, LowerError, Result, Seen, is_any, operation_of, seen_at, seen_of, type_of,
+};
 use clu_types::TypeId;
 use clu_wir::{WExpr, WOp, WStmt};
 

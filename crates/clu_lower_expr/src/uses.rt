@@ -3,10 +3,10 @@
 ghost use Rattle.std.specs.Prelude.{◌↔◌, IsTrue, length};
 ghost use Rattle.clu_specs.specs.Uses.{TargetBelow};
 
-use crate::errors::{LowerError, Result};
 use crate::lowering::{Lowering, TypeOperation};
 use clu_base::Bytes;
 use clu_core::{Checked, OpRef, intern};
+use clu_lower_types::{LowerError, Result, operation_of};
 use clu_specs::{Target, use_text};
 use clu_types::{Term, TypeArena, TypeId};
 use clu_wir::{HoleKind, WExpr};
@@ -55,14 +55,6 @@ fn given_operation(out: &mut Lowering, param: u32, op: &Bytes) -> Result<WExpr> 
     let mut types = Box::new(out.alloc, TypeArena::new(out.alloc))?;
     let of = intern(&mut types, Term::Param(param))?;
     type_operation(out, &types, of, op.as_slice())
-}
-
-/// The operation that was found for a node.
-pub fn operation_of(c: &Checked, n: u32) -> Option<&OpRef> {
-    match c.op_of.get(n as usize) {
-        Some(Some(op)) => Some(op),
-        _ => None,
-    }
 }
 
 /// The descriptor of the operation of this name that a type has.

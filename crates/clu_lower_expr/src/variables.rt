@@ -1,8 +1,8 @@
 //! Variables of a routine: the slots that hold them.
 
-use crate::errors::Result;
 use crate::lowering::Lowering;
 use clu_base::Bytes;
+use clu_lower_types::Result;
 use clu_wir::{Trap, WExpr, WStmt};
 use std::boxed::Box;
 

@@ -4,18 +4,16 @@
 ghost use Rattle.std.specs.Prelude.{◌<◌, ◌≤◌, All, length};
 ghost use Rattle.clu_syntax.specs.Parts.{AreOf};
 
-use crate::binding::{Operand, bind_all, denoted_type, which_are_any};
+use crate::binding::{Operand, bind_all};
 use crate::constructors::{fill_array, fill_record};
-use crate::errors::Result;
-use crate::fixed::Fixed;
-use crate::headings::heading_of;
 use crate::invoking::{Call, Invoked, apply_invoked};
 use crate::literals::literal;
 use crate::lowering::{Lowering, only_word};
 use crate::names::name;
 use crate::sugar::{note_operator, sugar};
-use crate::uses::{force_of, node_operation, operation_of};
+use crate::uses::{force_of, node_operation};
 use clu_core::OpRef;
+use clu_lower_types::{Fixed, Result, denoted_type, heading_of, operation_of, which_are_any};
 use clu_syntax::{Expression, Operator};
 use clu_tree::NodeKind;
 use clu_wir::{WExpr, WStmt};

@@ -1,5 +1,5 @@
 -- Components that ascend by name: where the first of a name stands.
-use Rattle.std.proofs.Common.{◌≡◌, ◌∙◌, ℕ, zero, suc, ◌≤◌, ◌<◌, Bool, true, false, if◌then◌else◌, List, [], ◌∷◌, length, get_or, slice_get, Option, Some, None, refl, sym, ap, subst, arith}
+use Rattle.std.proofs.Common.{◌≡◌, ◌∙◌, ℕ, zero, suc, ◌≤◌, ◌<◌, Bool, true, false, if◌then◌else◌, List, [], ◌∷◌, length, get_or, slice_get, Some, None, refl, sym, ap, arith}
 use Rattle.std.specs.Str.{bytes_eq}
 use Rattle.std.specs.List.Sorted.{IsNonDecreasingBy, IsPartitionedBy, IsPartitionPoint}
 use Rattle.std.specs.Ordering.{ordering_index, is_eq, is_lt, nat_cmp}
@@ -11,12 +11,10 @@ use Rattle.std.proofs.lemmas.Cmp.{nat_list_cmp_total}
 use Rattle.std.proofs.lemmas.List.Sorted.{searchable_from_sorted}
 use Rattle.std.proofs.lemmas.Map.Text.{is_eq-slice_cmp}
 use Rattle.std.proofs.lemmas.Option.{none-some, same_Some}
-use Rattle.clu_types.specs.declared.term.TypeId.{TypeId}
 use Rattle.clu_types.specs.declared.term.Field.{Field}
 use Rattle.clu_types.specs.declared.term.Term.{Term}
 use Rattle.clu_types.specs.declared.term.Term.TheVariants as term
-use Rattle.clu_name_rules.specs.Components.{AreAscending, HaveAscending, component_type, components_of, fields_in, fields_of, is_below, type_if_named}
-use Rattle.clu_name_rules.specs.Constructors.{term_of}
+use Rattle.clu_name_rules.specs.Components.{AreAscending, component_type, components_of, fields_of, is_below, type_if_named}
 
 -- how a field's name stands to this one
 abbrev rank : List ℕ → Field → Ordering
@@ -79,11 +77,7 @@ pub found_at : (fields : List Field) (name : List ℕ) (i : ℕ) → AreAscendin
     → IsPartitionPoint (λ f. is_below name f ≡ true) (λ f. is_below name f ≡ false) fields i → type_if_named (slice_get fields i) name ≡ component_type fields name
 found_at fields name i up at = found fields name i (rises fields name up) at
 
--- ---- types whose components ascend
-
-pub known_ascend : (types : List Term) → HaveAscending types → (of : Option TypeId) (its : Term) → term_of types of ≡ Some its → AreAscending (fields_of its)
-known_ascend types up (Some id) its e = subst (λ (o : Option Term). AreAscending (fields_in o)) e (up id.0)
-known_ascend types up None its e = absurd (none-some its e)
+-- ---- components
 
 pub components_are : (its : Term) (fields : List Field) → components_of its ≡ Some fields → fields_of its ≡ fields
 components_are (term.Record fs) fields e = same_Some fs fields e

@@ -65,7 +65,3 @@ fields_in None = []
 
 abbrev pub AreAscending : List Field → Type 0
 AreAscending fields = IsSortedBy field_before fields
-
--- those of each type
-abbrev pub HaveAscending : List Term → Type 0
-HaveAscending types = (id : ℕ) → AreAscending (fields_in (slice_get types id))

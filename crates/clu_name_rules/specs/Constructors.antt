@@ -16,7 +16,7 @@ use Rattle.clu_head.specs.Refused.{is_set}
 use Rattle.clu_bindings.specs.Readers.{kind_in, children_in, value_in, wanted_in}
 use Rattle.clu_bindings.specs.Wanted.{is_object_wanted}
 use Rattle.clu_name_rules.specs.declared.tables.Tables.{Tables}
-use Rattle.clu_name_rules.specs.Components.{components_of, element_of, is_array, is_selector_of, leaves_some}
+use Rattle.clu_name_rules.specs.Components.{AreAscending, components_of, element_of, fields_in, is_array, is_selector_of, leaves_some}
 
 -- of a type, or of a constructor
 abbrev pub is_selector : NodeKind → Bool
@@ -61,6 +61,10 @@ module _ (t : Tables) where
   -- the term of the type at a node
   abbrev pub term_at : ℕ → Option Term
   term_at n = term_of t.types.now (type_id (value_in t.file n))
+
+  -- the components and tags of each of these types ascend by name
+  abbrev pub ValuesAscend : Type 0
+  ValuesAscend = (n : ℕ) → AreAscending (fields_in (term_at n))
 
   module _ (items : ℕ → Item) where
     -- a constructor of this kind isn't one of its type

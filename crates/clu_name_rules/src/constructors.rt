@@ -8,8 +8,8 @@ ghost use Rattle.clu_syntax.specs.Views.{expression_told};
 ghost use Rattle.clu_settle.specs.Names.{names_of};
 ghost use Rattle.clu_head.specs.Refused.{is_set};
 ghost use Rattle.clu_bindings.specs.Readers.{kind_in, children_in};
-ghost use Rattle.clu_name_rules.specs.Components.{HaveAscending, AreAscending, components_of, fields_of, leaves_some};
-ghost use Rattle.clu_name_rules.specs.Constructors.{is_selector, has_low, has_low_at, term_at, are_selectors, are_others, has_other_selectors, has_no_elements, is_of_other, is_of_other_if, has_no_constructor, v17};
+ghost use Rattle.clu_name_rules.specs.Components.{AreAscending, components_of, fields_of, leaves_some};
+ghost use Rattle.clu_name_rules.specs.Constructors.{ValuesAscend, is_selector, has_low, has_low_at, term_at, are_selectors, are_others, has_other_selectors, has_no_elements, is_of_other, is_of_other_if, has_no_constructor, v17};
 
 use crate::components::{are_selectors, components_of, element_of, is_array};
 use crate::tables::{Tables, is_repeated};
@@ -115,7 +115,7 @@ fn is_of_other(t: &Tables<'_>, n: u32, term: &Term, parts: &[u32]) -> bool
 
 /// The same of the type at its node; of one that is lost nothing is asked.
 fn is_of_other_at(t: &Tables<'_>, n: u32, of: u32, parts: &[u32]) -> bool
-    ensures { (items : ℕ → Item) → HaveAscending t.now.types.now → result ≡ is_of_other_if t.now items (kind_in t.now.file n) n (term_at t.now of) parts.now }
+    ensures { (items : ℕ → Item) → ValuesAscend t.now → result ≡ is_of_other_if t.now items (kind_in t.now.file n) n (term_at t.now of) parts.now }
 {
     match term_at(t, of) {
         Some(term) => is_of_other(t, n, term, parts),
@@ -125,7 +125,7 @@ fn is_of_other_at(t: &Tables<'_>, n: u32, of: u32, parts: &[u32]) -> bool
 
 /// The type stands first.
 fn has_no_constructor(t: &Tables<'_>, n: u32) -> bool
-    ensures { (items : ℕ → Item) → HaveAscending t.now.types.now → result ≡ has_no_constructor t.now items (kind_in t.now.file n) n (children_in t.now.file n) }
+    ensures { (items : ℕ → Item) → ValuesAscend t.now → result ≡ has_no_constructor t.now items (kind_in t.now.file n) n (children_in t.now.file n) }
 {
     match t.file.children(n) {
         [of, parts @ ..] => is_of_other_at(t, n, *of, parts),
@@ -137,7 +137,7 @@ fn has_no_constructor(t: &Tables<'_>, n: u32) -> bool
 /// has no such constructor (CLU Reference Manual, section 10.8). In `record[a, b: int]${a: 1}` at `record`.
 pub fn v17(t: &Tables<'_>, n: u32) -> bool
     ensures selectors { IsTrue (is_selector (kind_at t.now.file.syntax.now n)) → result ≡ is_set (slice_get t.now.items.now.repeated.items n) }
-    ensures exact { (items : ℕ → Item) → HaveAscending t.now.types.now → result ≡ v17 t.now items n }
+    ensures exact { (items : ℕ → Item) → ValuesAscend t.now → result ≡ v17 t.now items n }
 {
     match t.file.kind(n) {
         NodeKind::FieldT | NodeKind::FieldE => is_repeated(t, n),

@@ -15,8 +15,9 @@ use Rattle.clu_operations.specs.Asked.{AsksMore}
 use Rattle.clu_operations.specs.Asking.{Asks, asks_of, with_asked}
 use Rattle.clu_operations.specs.Finding.{Extends, IsAskedBelow, AreAskedBelow}
 use Rattle.clu_operations.specs.Told.{Ask, ask_told, asked_of}
-use Rattle.clu_operations.specs.Words.{with_name, number_with}
+use Rattle.clu_operations.specs.Words.{with_name, number_with, AreOnce}
 use Rattle.clu_operations.proofs.Naming.{extends_self, extends_on, length_extends, name_stays, kept_extends, number_named, number_below}
+use Rattle.clu_operations.proofs.Once.{once_with}
 
 -- ---- what is there
 
@@ -47,6 +48,7 @@ module _ (old new : List Term) (g : Grows old new) (names newer : List (List ℕ
 pub asks_none : (terms : List Term) (f : Finding) → AsksMore terms f f []
 asks_none terms f = record {
   words = extends_self f.words;
+  once = λ once. once;
   more = [];
   asked = sym (append-nil f.asked.items);
   told = refl;
@@ -67,6 +69,7 @@ asks_one (Ok x) old new f g of wanted name in_set parameter given grows founds w
     let there : (number_with f.words name).0 < length g.words = subst (λ (ws : List (List ℕ)). (number_with f.words name).0 < length ws) (sym names) (number_below f.words name) in
     record {
       words = subst (λ (ws : List (List ℕ)). Extends f.words ws) (sym names) (kept_extends f.words name);
+      once = λ once. subst (λ (ws : List (List ℕ)). AreOnce ws) (sym names) (once_with f.words name once);
       more = one ∷ [];
       asked = ap (λ (a : Asks). a.asked) e;
       told = join3 (λ (t : CluType) (o : List ℕ) (w : CluType). (let n : Ask = record { of = t; operation = o; wanted = w; in_set = in_set } in n) ∷ []) typed named (types_grown old new grows wanted wanted_in);
@@ -85,6 +88,7 @@ asks_on a b f g h xs ys grows m n =
     let kept : map (ask_told (types_of b) h.words) m.more ≡ xs = asks_stay a b grows g.words h.words n.words m.more m.below ∙ m.told in
     record {
       words = extends_on f.words g.words h.words m.words n.words;
+      once = λ once. n.once (m.once once);
       more = m.more ++ n.more;
       asked = n.asked ∙ ap (λ (l : List Asked). l ++ n.more) m.asked ∙ append_assoc f.asked.items m.more n.more;
       told = map-append (ask_told (types_of b) h.words) m.more n.more ∙ join (λ (p q : List Ask). p ++ q) kept n.told;

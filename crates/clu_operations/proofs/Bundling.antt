@@ -16,7 +16,7 @@ use Rattle.clu_types.proofs.Parts.{ids_more, types_same}
 use Rattle.clu_head.specs.declared.head.Demanded.{Demanded}
 use Rattle.clu_head.specs.declared.head.RoutineHead.{RoutineHead}
 use Rattle.clu_head.specs.declared.head.HeadForm.{HeadForm}
-use Rattle.clu_demands.proofs.Bringing.{typed_as}
+use Rattle.clu_demands.proofs.Bringing.{typed_as, snoc, types_at-push, below-push}
 use Rattle.clu_demands.proofs.Lists.{none_is_not, same_item}
 use Rattle.clu_operations.specs.declared.bundles.Shown.{Shown}
 use Rattle.clu_operations.specs.Finding.{IsBelowIf}
@@ -61,7 +61,7 @@ pub option_more : (m n : ℕ) → m ≤ n → (o : Option TypeId) → IsBelowIf 
 option_more m n le (Some id) lt = omega (arith, lt)
 option_more m n le None lt = tt
 
-wanted_more : (m n : ℕ) → m ≤ n → (demands : List Demanded) → WantedBelow m demands → WantedBelow n demands
+pub wanted_more : (m n : ℕ) → m ≤ n → (demands : List Demanded) → WantedBelow m demands → WantedBelow n demands
 wanted_more m n le [] b = tt
 wanted_more m n le (d ∷ demands) b = (option_more m n le d.wanted b.0, wanted_more m n le demands b.1)
 
@@ -124,18 +124,6 @@ part_bundled r old mid new ids null shows g null_in null_is is made below =
     typed_as r (types_of new) _ _ (ap bundle_type typed) (made ids_in)
 
 -- ---- the bundles of routines
-
-abbrev snoc : CluTypes → CluType → CluTypes
-snoc no_types t = type_and t no_types
-snoc (type_and x ts) t = type_and x (snoc ts t)
-
-types_at-push : (types : List CluType) (ids : List TypeId) (id : TypeId) → types_at types (ids ++ id ∷ []) ≡ snoc (types_at types ids) (type_at types id)
-types_at-push types [] id = refl
-types_at-push types (x ∷ ids) id = ap (type_and (type_at types x)) (types_at-push types ids id)
-
-below-push : (n : ℕ) (ids : List TypeId) (id : TypeId) → AreBelow n ids → id.0 < n → AreBelow n (ids ++ id ∷ [])
-below-push n [] id b lt = (lt, tt)
-below-push n (x ∷ ids) id b lt = (b.0, below-push n ids id b.1 lt)
 
 routines-push : (types : List CluType) (routines : List RoutineHead) (r : RoutineHead) → routine_types types (routines ++ r ∷ []) ≡ snoc (routine_types types routines) (part_type types (of_routine r))
 routines-push types [] r = refl

@@ -15,6 +15,7 @@ use Rattle.clu_operations.specs.Asked.{AsksMore}
 use Rattle.clu_operations.specs.Finding.{found_or_none, found_at, asked_by, IsOneMore, IsBelowIf, AreFoundBelow, AreAskedBelow, AreWithin, Extends, Follows}
 use Rattle.clu_operations.specs.Found.{Finds}
 use Rattle.clu_operations.specs.Told.{Ask, Told, ask_told, told}
+use Rattle.clu_operations.specs.Words.{AreOnce}
 use Rattle.clu_operations.proofs.Bundling.{option_more}
 use Rattle.clu_operations.proofs.Naming.{extends_self, length_extends}
 use Rattle.clu_operations.proofs.Asks.{asked_more, asked_behind}
@@ -39,11 +40,18 @@ between_behind {A} xs ys from to is all =
     let long : length (xs ++ ys) ≡ length xs + length ys = length-append xs ys in
     between_there (xs ++ ys) from to (omega (arith, is, all, long)) (omega (arith, all)) ∙ ap (λ (l : List A). take (to - from) l) (drop_at xs ys from (sym is)) ∙ take_all (to - from) ys (omega (arith, is, all, long))
 
+pub nothing_between : {A : Type 0} (items : List A) (at : ℕ) → between items at at ≡ []
+nothing_between {A} items at = by (nat_le at at && nat_le at (length items))
+  where
+    by : (b : Bool) → (if b then take (at - at) (drop at items) else []) ≡ []
+    by true = let none : at - at ≡ 0 = omega arith in ap (λ (n : ℕ). take n (drop at items)) none
+    by false = refl
+
 last_of : {A : Type 0} (xs : List A) (x : A) → slice_get (xs ++ x ∷ []) (length xs) ≡ Some x
 last_of [] x = refl
 last_of (y ∷ xs) x = last_of xs x
 
-last_found : (founds : List Found) (one : Found) (id : FoundId) → id.0 ≡ length founds → found_at (founds ++ one ∷ []) id ≡ one
+pub last_found : (founds : List Found) (one : Found) (id : FoundId) → id.0 ≡ length founds → found_at (founds ++ one ∷ []) id ≡ one
 last_found founds one id e = ap (λ (n : ℕ). found_or_none (slice_get (founds ++ one ∷ []) n)) e ∙ ap found_or_none (last_of founds one)
 
 -- ---- what is there
@@ -52,7 +60,7 @@ pub founds_more : (m n p q : ℕ) → m ≤ n → p ≤ q → (founds : List Fou
 founds_more m n p q le few [] b = tt
 founds_more m n p q le few (x ∷ founds) b = ((option_more m n le x.of b.0.0, omega (arith, b.0.1)), founds_more m n p q le few founds b.1)
 
-founds_behind : (n p : ℕ) (founds : List Found) (one : Found) → AreFoundBelow n p founds → IsBelowIf n one.of → one.to ≤ p → AreFoundBelow n p (founds ++ one ∷ [])
+pub founds_behind : (n p : ℕ) (founds : List Found) (one : Found) → AreFoundBelow n p founds → IsBelowIf n one.of → one.to ≤ p → AreFoundBelow n p (founds ++ one ∷ [])
 founds_behind n p [] one b of to = ((of, to), tt)
 founds_behind n p (x ∷ founds) one b of to = (b.0, founds_behind n p founds one b.1 of to)
 
@@ -85,6 +93,7 @@ module _ (before terms : List Term) (grows : Grows before terms) (f g h : Findin
   follows : Follows f h
   follows = record {
     words = subst (λ (ws : List (List ℕ)). Extends f.words ws) (sym one.words) more.words;
+    once = λ once. subst (λ (ws : List (List ℕ)). AreOnce ws) (sym one.words) (more.once once);
     founds = (this ∷ [], founds_are);
     asked = (more.more, asked_are);
     given = one.given ∙ more.given;
@@ -134,6 +143,7 @@ finds_after old now terms grows f g h words founds asked given wished it found s
   there = step.there;
   follows = record {
     words = subst (λ (ws : List (List ℕ)). Extends ws h.words) words step.follows.words;
+    once = λ once. step.follows.once (subst (λ (ws : List (List ℕ)). AreOnce ws) (sym words) once);
     founds = subst (λ (xs : List Found). Extends xs h.founds.items) (ap vec_items founds) step.follows.founds;
     asked = subst (λ (xs : List Asked). Extends xs h.asked.items) (ap vec_items asked) step.follows.asked;
     given = step.follows.given ∙ given;
@@ -156,7 +166,7 @@ pub finds_nothing : (old terms : List Term) → Grows old terms → (f g : Findi
 finds_nothing old terms grows f g words founds asked given wished it none = finds_after old terms terms grows f g g words founds asked given wished it None (record {
   tells = none;
   there = tt;
-  follows = record { words = extends_self g.words; founds = extends_self g.founds.items; asked = extends_self g.asked.items; given = refl };
+  follows = record { words = extends_self g.words; once = λ once. once; founds = extends_self g.founds.items; asked = extends_self g.asked.items; given = refl };
   within = λ w. w;
   wished = refl;
 })

@@ -11,3 +11,7 @@ pub mod InPlace
 pub mod Narrowing
 pub mod Needs
 pub mod Selecting
+pub mod Once
+pub mod Lasting
+pub mod Looking
+pub mod Entered

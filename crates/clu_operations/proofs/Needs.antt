@@ -14,14 +14,16 @@ use Rattle.clu_operations.specs.Asking.{Asks, asks_of, with_asked, with_needs}
 use Rattle.clu_operations.specs.Builtins.{routine_term, builtin_type, need_told}
 use Rattle.clu_operations.specs.Finding.{Extends, AreAskedBelow}
 use Rattle.clu_operations.specs.Told.{Ask, ask_told}
-use Rattle.clu_operations.specs.Words.{with_name, number_with}
+use Rattle.clu_operations.specs.Words.{with_name, number_with, AreOnce}
 use Rattle.clu_operations.specs.declared.finding.Finding.{Finding}
 use Rattle.clu_operations.specs.declared.found.Asked.{Asked}
 use Rattle.clu_operations.proofs.Naming.{extends_self, extends_on, length_extends, name_stays, kept_extends, number_named, number_below}
+use Rattle.clu_operations.proofs.Once.{once_with}
 
 -- these needs are asked behind what was asked before
 pub record AreAskedBehind (needs : List Need) (before after : Asks) : Type 0 where
   pub words : Extends before.names after.names
+  pub once : AreOnce before.names → AreOnce after.names
   pub more : List Asked
   pub asked : after.asked ≡ before.asked ++ more
   pub told : (types : List CluType) → map (ask_told types after.names) more ≡ map need_told (needs_at types needs)
@@ -36,6 +38,7 @@ one_behind need needs its after rest =
     name_stays (with_name its.names need.op) after.names rest.words (number_with its.names need.op).0 number ∙ number_named its.names need.op in
     record {
       words = extends_on its.names (with_name its.names need.op) after.names (kept_extends its.names need.op) rest.words;
+      once = λ once. rest.once (once_with its.names need.op once);
       more = asked ∷ rest.more;
       asked = rest.asked ∙ append_assoc its.asked (asked ∷ []) rest.more;
       told = λ types. ap₂ (λ (name : List ℕ) (others : List Ask). let one : Ask = record { of = type_at types need.of; operation = name; wanted = type_at types need.wanted; in_set = false } in one ∷ others) named (rest.told types);
@@ -43,7 +46,7 @@ one_behind need needs its after rest =
     }
 
 pub needs_behind : (needs : List Need) (its : Asks) → AreAskedBehind needs its (with_needs needs its)
-needs_behind [] its = record { words = extends_self its.names; more = []; asked = sym (append-nil its.asked); told = λ types. refl; below = λ n below. tt }
+needs_behind [] its = record { words = extends_self its.names; once = λ once. once; more = []; asked = sym (append-nil its.asked); told = λ types. refl; below = λ n below. tt }
 needs_behind (need ∷ needs) its = one_behind need needs its (with_needs (need ∷ needs) its) (needs_behind needs (with_asked need.of need.op need.wanted false its))
 
 -- ---- the types of needs stay while the arena grows
@@ -75,6 +78,7 @@ needs_asked old terms grows f g given needs same below pushed founds wished give
     subst (AreAskedBehind needs (asks_of f.words f.asked.items)) (sym asked) (needs_behind needs (asks_of f.words f.asked.items)) in
     record {
       words = behind.words;
+      once = behind.once;
       more = behind.more;
       asked = behind.asked;
       told = behind.told (types_of terms) ∙ ap (λ (needed : List Needed). map need_told needed) (needs_kept old terms grows needs below);

@@ -22,7 +22,7 @@ use Rattle.clu_builtin.specs.Names.{op_name}
 use Rattle.clu_builtin.specs.Operation.{Operation}
 use Rattle.clu_builtin.specs.Table.{Table, named, or_else, with_selector, of_selectors, parts_of, struct_operations, record_operations, operation}
 use Rattle.clu_builtin.specs.Rows.{slot_type, taken_types, given_types, row_operation, table_of, row_before}
-use Rattle.clu_operations.specs.Builtins.{selector_in, fields_with, type_with, narrowed_to, narrowed, IsPut, ArePut, IsOfWhole}
+use Rattle.clu_operations.specs.Builtins.{selector_in, fields_with, type_with, narrowed_to, narrowed, IsReplaced, AreReplaced, IsOfWhole}
 use Rattle.clu_operations.proofs.InPlace.{same_put}
 
 same_name : (m n : List ℕ) → bytes_eq m n ≡ true → m ≡ n
@@ -49,7 +49,7 @@ abbrev pub of_types : Operation → CluTypes → CluTypes → Operation
 of_types o args results = record o { args = args; results = results }
 
 module _ (part of t : CluType) (less : weight t < weight part) where
-  slot_put : (a : Slot) (u : CluType) → IsPut part of (slot_type part t a) u → u ≡ slot_type of t a
+  slot_put : (a : Slot) (u : CluType) → IsReplaced part of (slot_type part t a) u → u ≡ slot_type of t a
   slot_put slot.Own u (inl put) = put.1
   slot_put slot.Own u (inr put) = absurd (put.0 refl)
   slot_put slot.Part u (inl put) = absurd (omega (arith, less, ap weight put.0))
@@ -65,42 +65,42 @@ module _ (part of t : CluType) (less : weight t < weight part) where
   slot_put slot.Array u (inl put) = absurd (omega (arith, less, ap weight put.0))
   slot_put slot.Array u (inr put) = put.1
 
-  none_put : (us : CluTypes) → ArePut part of no_types us → us ≡ no_types
+  none_put : (us : CluTypes) → AreReplaced part of no_types us → us ≡ no_types
   none_put no_types put = refl
   none_put (type_and u us) put = absurd put
 
-  and_put : (a : Slot) (ts whole us : CluTypes) → ((vs : CluTypes) → ArePut part of ts vs → vs ≡ whole) → ArePut part of (type_and (slot_type part t a) ts) us → us ≡ type_and (slot_type of t a) whole
+  and_put : (a : Slot) (ts whole us : CluTypes) → ((vs : CluTypes) → AreReplaced part of ts vs → vs ≡ whole) → AreReplaced part of (type_and (slot_type part t a) ts) us → us ≡ type_and (slot_type of t a) whole
   and_put a ts whole no_types behind put = absurd put
   and_put a ts whole (type_and u us) behind put = ap₂ type_and (slot_put a u put.0) (behind us put.1)
 
-  one_put : (a : Slot) (us : CluTypes) → ArePut part of (type_and (slot_type part t a) no_types) us → us ≡ type_and (slot_type of t a) no_types
+  one_put : (a : Slot) (us : CluTypes) → AreReplaced part of (type_and (slot_type part t a) no_types) us → us ≡ type_and (slot_type of t a) no_types
   one_put a us put = and_put a no_types no_types us none_put put
 
-  two_put : (a b : Slot) (us : CluTypes) → ArePut part of (type_and (slot_type part t a) (type_and (slot_type part t b) no_types)) us → us ≡ type_and (slot_type of t a) (type_and (slot_type of t b) no_types)
+  two_put : (a b : Slot) (us : CluTypes) → AreReplaced part of (type_and (slot_type part t a) (type_and (slot_type part t b) no_types)) us → us ≡ type_and (slot_type of t a) (type_and (slot_type of t b) no_types)
   two_put a b us put = and_put a (type_and (slot_type part t b) no_types) (type_and (slot_type of t b) no_types) us (one_put b) put
 
-  taken_put : (a : Takes) (us : CluTypes) → ArePut part of (taken_types part t a) us → us ≡ taken_types of t a
+  taken_put : (a : Takes) (us : CluTypes) → AreReplaced part of (taken_types part t a) us → us ≡ taken_types of t a
   taken_put takes.Nothing us put = none_put us put
   taken_put (takes.One a) us put = one_put a us put
   taken_put (takes.Two a b) us put = two_put a b us put
   taken_put (takes.Three a b c) us put =
       and_put a (type_and (slot_type part t b) (type_and (slot_type part t c) no_types)) (type_and (slot_type of t b) (type_and (slot_type of t c) no_types)) us (two_put b c) put
 
-  given_put : (a : Gives) (us : CluTypes) → ArePut part of (given_types part t a) us → us ≡ given_types of t a
+  given_put : (a : Gives) (us : CluTypes) → AreReplaced part of (given_types part t a) us → us ≡ given_types of t a
   given_put gives.Nothing us put = none_put us put
   given_put (gives.Value a) us put = one_put a us put
   given_put (gives.Yields a) us put = one_put a us put
 
-  row_put : (row : Row) (args results : CluTypes) → ArePut part of (taken_types part t row.1) args → ArePut part of (given_types part t row.2) results
+  row_put : (row : Row) (args results : CluTypes) → AreReplaced part of (taken_types part t row.1) args → AreReplaced part of (given_types part t row.2) results
       → row_operation of t no_types row ≡ of_types (row_operation part t no_types row) args results
   row_put row args results taken given = rw (taken_put row.1 args taken, given_put row.2 results given) refl
 
 module _ (part of t : CluType) (less : weight t < weight part) (o : Operation) (args results : CluTypes) where
-  some_put : (found : Option Row) → option_map (row_operation part t no_types) found ≡ Some o → ArePut part of o.args args → ArePut part of o.results results
+  some_put : (found : Option Row) → option_map (row_operation part t no_types) found ≡ Some o → AreReplaced part of o.args args → AreReplaced part of o.results results
       → option_map (row_operation of t no_types) found ≡ Some (of_types o args results)
   some_put None e taken given = absurd (none-some o e)
   some_put (Some row) e taken given =
-      let Put : Operation → Type 0 = λ o. ArePut part of o.args args → ArePut part of o.results results → Some (row_operation of t no_types row) ≡ Some (of_types o args results) in
+      let Put : Operation → Type 0 = λ o. AreReplaced part of o.args args → AreReplaced part of o.results results → Some (row_operation of t no_types row) ≡ Some (of_types o args results) in
       subst Put (same_Some _ _ e) (λ taken given. ap Some (row_put part of t less row args results taken given)) taken given
 
 none_put_in : (part of t : CluType) (found : Option Row) → option_map (row_operation part t no_types) found ≡ None → option_map (row_operation of t no_types) found ≡ None
@@ -216,11 +216,11 @@ module _ (operation_name selector : List ℕ) (behind : selector_in operation_na
     of_part fields = of_whole (fields_with selector fields) ∙ ap (picked (made (fields_with selector fields)) rows fronts) (alone_again selector fields)
 
     whole_some : (fields : Fields) (o : Operation) → operation (made (fields_with selector fields)) operation_name ≡ Some o → (args results : CluTypes)
-        → ArePut (made (fields_with selector fields)) (made fields) o.args args → ArePut (made (fields_with selector fields)) (made fields) o.results results
+        → AreReplaced (made (fields_with selector fields)) (made fields) o.args args → AreReplaced (made (fields_with selector fields)) (made fields) o.results results
         → operation (made fields) operation_name ≡ Some (of_types o args results)
     whole_some fields o e args results taken given = of_whole fields ∙ by (fields_with selector fields) (sym (of_part fields) ∙ e) taken given
       where
-        by : (alone : Fields) → picked (made alone) rows fronts alone ≡ Some o → ArePut (made alone) (made fields) o.args args → ArePut (made alone) (made fields) o.results results
+        by : (alone : Fields) → picked (made alone) rows fronts alone ≡ Some o → AreReplaced (made alone) (made fields) o.args args → AreReplaced (made alone) (made fields) o.results results
             → picked (made fields) rows fronts alone ≡ Some (of_types o args results)
         by no_fields e taken given = absurd (none-some o e)
         by (field_and name t others) e taken given =
@@ -255,13 +255,13 @@ record_names : (T : CluType) (parts : CluTypes) → HaveNone (record_operations 
 record_names T parts = (refl, (refl, (refl, (refl, (refl, tt)))))
 
 same_some : (T : CluType) (operation_name : List ℕ) (o : Operation) → operation T operation_name ≡ Some o → (args results : CluTypes)
-    → ArePut T T o.args args → ArePut T T o.results results → operation T operation_name ≡ Some (of_types o args results)
+    → AreReplaced T T o.args args → AreReplaced T T o.results results → operation T operation_name ≡ Some (of_types o args results)
 same_some T operation_name o e args results taken given =
     e ∙ ap₂ (λ (a r : CluTypes). Some (of_types o a r)) (sym (same_put T o.args args taken)) (sym (same_put T o.results results given))
 
 module _ (operation_name selector : List ℕ) (behind : selector_in operation_name ≡ Some selector) where
   with_some : (T : CluType) (o : Operation) → operation (type_with selector T) operation_name ≡ Some o → (args results : CluTypes)
-      → ArePut (type_with selector T) T o.args args → ArePut (type_with selector T) T o.results results → operation T operation_name ≡ Some (of_types o args results)
+      → AreReplaced (type_with selector T) T o.args args → AreReplaced (type_with selector T) T o.results results → operation T operation_name ≡ Some (of_types o args results)
   with_some (record_of fields) = whole_some operation_name selector behind record_of record_operations RECORD_SELECTORS record_fronts record_names (λ fields. refl) (λ fields. refl) fields
   with_some (struct_of fields) = whole_some operation_name selector behind struct_of struct_operations STRUCT_SELECTORS struct_fronts struct_names (λ fields. refl) (λ fields. refl) fields
   with_some (oneof_of fields) = whole_some operation_name selector behind oneof_of struct_operations ONEOF_SELECTORS oneof_fronts struct_names (λ fields. refl) (λ fields. refl) fields
@@ -278,11 +278,11 @@ module _ (operation_name selector : List ℕ) (behind : selector_in operation_na
 -- ---- any type
 
 pub whole_operation : (T : CluType) (operation_name : List ℕ) (o : Operation) → operation (narrowed operation_name T) operation_name ≡ Some o → (args results : CluTypes)
-    → ArePut (narrowed operation_name T) T o.args args → ArePut (narrowed operation_name T) T o.results results → operation T operation_name ≡ Some (of_types o args results)
+    → AreReplaced (narrowed operation_name T) T o.args args → AreReplaced (narrowed operation_name T) T o.results results → operation T operation_name ≡ Some (of_types o args results)
 whole_operation T operation_name o e args results taken given = by (selector_in operation_name) refl e taken given
   where
     by : (found : Option (List ℕ)) → selector_in operation_name ≡ found → operation (narrowed_to found T) operation_name ≡ Some o
-        → ArePut (narrowed_to found T) T o.args args → ArePut (narrowed_to found T) T o.results results → operation T operation_name ≡ Some (of_types o args results)
+        → AreReplaced (narrowed_to found T) T o.args args → AreReplaced (narrowed_to found T) T o.results results → operation T operation_name ≡ Some (of_types o args results)
     by None at e taken given = same_some T operation_name o e args results taken given
     by (Some selector) at e taken given = with_some operation_name selector at T o e args results taken given
 
@@ -303,5 +303,5 @@ whole_found types part of name builtin made whole part_is found =
     let parts : operation_at types made ≡ of_types (operation_at types builtin) args results = rw (whole.iter, whole.heading.signals, whole.needs) refl in
     ap Some parts
     ∙ sym (whole_operation (type_at types of) name (operation_at types builtin) (sym found) args results
-    (subst (λ (t : CluType). ArePut t (type_at types of) (types_at types builtin.heading.args) args) part_is whole.heading.args)
-    (subst (λ (t : CluType). ArePut t (type_at types of) (types_at types builtin.heading.results) results) part_is whole.heading.results))
+    (subst (λ (t : CluType). AreReplaced t (type_at types of) (types_at types builtin.heading.args) args) part_is whole.heading.args)
+    (subst (λ (t : CluType). AreReplaced t (type_at types of) (types_at types builtin.heading.results) results) part_is whole.heading.results))

@@ -21,7 +21,7 @@ use Rattle.clu_operations.specs.Bundles.{part_type, IsShown, PartBelow, Routines
 use Rattle.clu_operations.specs.Finding.{IsBelowIf}
 use Rattle.clu_operations.specs.Modules.{Shows, of_routine, routines_in, own_part}
 
-same_id : (a b : ModuleId) → Decides (same_module a b) (a ≡ b)
+pub same_id : (a b : ModuleId) → Decides (same_module a b) (a ≡ b)
 same_id a b = Decides-like _ (ap (λ (n : ℕ). let id : ModuleId = record { 0 = n } in id)) (ap (λ (id : ModuleId). id.0)) (Decides-eqb a.0 b.0)
 
 some_value : {Z : Type 0} (o : Option (Box Shown Z)) → is_some o ≡ true → is_some (option_map box_value o) ≡ true

@@ -6,10 +6,12 @@ use Rattle.clu_operations.specs.declared.found.Asked.{Asked}
 use Rattle.clu_operations.specs.declared.finding.Finding.{Finding}
 use Rattle.clu_operations.specs.Finding.{Extends, AreAskedBelow}
 use Rattle.clu_operations.specs.Told.{Ask, ask_told}
+use Rattle.clu_operations.specs.Words.{AreOnce}
 
 -- these are asked more, and nothing else changes but the names that are kept
 pub record AsksMore (terms : List Term) (old new : Finding) (asks : List Ask) : Type 0 where
   pub words : Extends old.words new.words
+  pub once : AreOnce old.words → AreOnce new.words
   pub more : List Asked
   pub asked : new.asked.items ≡ old.asked.items ++ more
   pub told : map (ask_told (types_of terms) new.words) more ≡ asks

@@ -94,19 +94,19 @@ ComponentsAscend t = AreAscending (λ (name : List ℕ). name) (component_names 
 -- ---- the whole type in the place of a part
 
 -- u is t, or `of` if t is `part`
-abbrev pub IsPut : CluType → CluType → CluType → CluType → Type 0
-IsPut part of t u = ((t ≡ part) × (u ≡ of)) ⊎ ((t ≡ part → ⊥) × (u ≡ t))
+abbrev pub IsReplaced : CluType → CluType → CluType → CluType → Type 0
+IsReplaced part of t u = ((t ≡ part) × (u ≡ of)) ⊎ ((t ≡ part → ⊥) × (u ≡ t))
 
-abbrev pub ArePut : CluType → CluType → CluTypes → CluTypes → Type 0
-ArePut part of no_types no_types = Unit {0}
-ArePut part of no_types (type_and u us) = ⊥
-ArePut part of (type_and t ts) no_types = ⊥
-ArePut part of (type_and t ts) (type_and u us) = IsPut part of t u × ArePut part of ts us
+abbrev pub AreReplaced : CluType → CluType → CluTypes → CluTypes → Type 0
+AreReplaced part of no_types no_types = Unit {0}
+AreReplaced part of no_types (type_and u us) = ⊥
+AreReplaced part of (type_and t ts) no_types = ⊥
+AreReplaced part of (type_and t ts) (type_and u us) = IsReplaced part of t u × AreReplaced part of ts us
 
 -- ... and so in a heading
 pub record IsInPlace (types : List CluType) (part of : TypeId) (old new : Heading) : Type 0 where
-  pub args : ArePut (type_at types part) (type_at types of) (types_at types old.args) (types_at types new.args)
-  pub results : ArePut (type_at types part) (type_at types of) (types_at types old.results) (types_at types new.results)
+  pub args : AreReplaced (type_at types part) (type_at types of) (types_at types old.args) (types_at types new.args)
+  pub results : AreReplaced (type_at types part) (type_at types of) (types_at types old.results) (types_at types new.results)
   pub signals : new.signals ≡ old.signals
 
 -- ... and in an operation

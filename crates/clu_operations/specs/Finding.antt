@@ -6,6 +6,8 @@ use Rattle.clu_operations.specs.declared.found.Asked.{Asked}
 use Rattle.clu_operations.specs.declared.found.Found.{Found}
 use Rattle.clu_operations.specs.declared.found.FoundId.{FoundId}
 use Rattle.clu_operations.specs.declared.finding.Finding.{Finding}
+use Rattle.clu_operations.specs.declared.words.NameId.{NameId}
+use Rattle.clu_operations.specs.Words.{AreOnce}
 
 -- what is not there has no type, and asks nothing
 abbrev pub found_or_none : Option Found → Found
@@ -34,6 +36,9 @@ pub record IsOneMore (old new : Finding) (of : Option TypeId) (from : ℕ) (id :
 
 abbrev pub IsBelowIf : ℕ → Option TypeId → Type 0
 IsBelowIf types of = IfSome of (λ id. id.0 < types)
+
+abbrev pub IsNameBelow : ℕ → Option NameId → Type 0
+IsNameBelow names operation = IfSome operation (λ id. id.0 < names)
 
 abbrev pub IsAskedBelow : ℕ → ℕ → Asked → Type 0
 IsAskedBelow types names a = (a.of.0 < types) × (a.wanted.0 < types) × (a.operation.0 < names)
@@ -64,6 +69,7 @@ module _ {A : Type 0} where
 -- what was found stays
 pub record Follows (old new : Finding) : Type 0 where
   pub words : Extends old.words new.words
+  pub once : AreOnce old.words → AreOnce new.words
   pub founds : Extends old.founds.items new.founds.items
   pub asked : Extends old.asked.items new.asked.items
   pub given : new.given ≡ old.given

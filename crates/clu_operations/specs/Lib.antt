@@ -4,8 +4,10 @@ pub mod Builtins
 pub mod Bundles
 pub mod ByName
 pub mod Clauses
+pub mod Entering
 pub mod Finding
 pub mod Found
+pub mod Given
 pub mod Modules
 pub mod Operations
 pub mod Shapes

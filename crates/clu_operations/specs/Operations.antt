@@ -1,12 +1,19 @@
 -- Where the operations of a type are found at a node, by the tables of a file.
-use Rattle.std.specs.Prelude.{ℕ, bytes_eq, Bool, false, List, slice_get, Option, Some, None}
+use Rattle.std.specs.Prelude.{ℕ, bytes_eq, Bool, false, List, slice_get, if◌then◌else◌, option_map, option_and_then, Option, Some, None}
 use Rattle.clu_types.specs.declared.term.TypeId.{TypeId}
 use Rattle.clu_types.specs.declared.term.Term.{Term}
 use Rattle.clu_settle.specs.Names.{names_of}
 use Rattle.clu_demands.specs.declared.needs.Instance.{Instance}
 use Rattle.clu_demands.specs.Asking.{instance_of}
 use Rattle.clu_bindings.specs.declared.file.File.{File}
-use Rattle.clu_bindings.specs.Readers.{round_in}
+use Rattle.clu_bindings.specs.declared.meaning.ModuleId.{ModuleId}
+use Rattle.clu_bindings.specs.Modules.{named}
+use Rattle.clu_bindings.specs.Readers.{round_in, unit_module}
+use Rattle.clu_operations.specs.declared.found.View.{View}
+use Rattle.clu_operations.specs.declared.found.View.TheVariants as view
+use Rattle.clu_operations.specs.declared.shapes.Shape.{Shape}
+use Rattle.clu_operations.specs.declared.shapes.Shape.TheVariants as shape
+use Rattle.clu_operations.specs.Shapes.{shape_of, cluster_name}
 
 abbrev pub instance_in : Option Term → Option Instance
 instance_in (Some t) = instance_of t
@@ -35,3 +42,25 @@ module _ (f : File) where
 
   abbrev pub is_inside : Option ℕ → List ℕ → Bool
   is_inside n name = is_of_name (name_round n) name
+
+  -- ---- where a type has its operations at a node
+
+  abbrev pub unit_at : Option ℕ → Option ModuleId
+  unit_at (Some n) = unit_module f n
+  unit_at None = None
+
+  -- users see what the first module of the name exports, the text of a cluster all its routines
+  abbrev pub view_named : Option ℕ → List ℕ → Option View
+  view_named n name = if is_inside n name then option_map view.Inside (unit_at n) else option_map view.Outside (named f.bindings.now.modules name)
+
+  abbrev pub view_of : List Term → Option ℕ → TypeId → Option View
+  view_of terms n of = option_and_then (view_named n) (cluster_name terms of)
+
+  -- a type parameter has none by itself
+  abbrev pub view_by : List Term → Option ℕ → TypeId → Shape → Option View
+  view_by terms n of shape.Builtin = Some view.Builtin
+  view_by terms n of shape.Cluster = view_of terms n of
+  view_by terms n of (shape.Parameter number) = None
+
+  abbrev pub view_at : List Term → Option ℕ → TypeId → Option View
+  view_at terms n of = view_by terms n of (shape_of terms of)

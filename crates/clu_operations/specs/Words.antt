@@ -1,5 +1,5 @@
 -- Names that are kept, and their numbers. A name keeps its number.
-use Rattle.std.specs.Prelude.{◌≡◌, ℕ, Bool, List, [], ◌∷◌, ◌++◌, position, bytes_eq, if◌then◌else◌, Option, Some, None}
+use Rattle.std.specs.Prelude.{◌≡◌, ℕ, Bool, List, [], ◌∷◌, ◌++◌, position, slice_get, bytes_eq, if◌then◌else◌, Option, Some, None}
 use Rattle.std.specs.List.{list_any, position_or_len}
 use Rattle.clu_operations.specs.declared.words.NameId.{NameId}
 
@@ -26,3 +26,8 @@ number_with names name = record { 0 = position_or_len (bytes_eq name) names }
 
 abbrev pub IsNumber : List (List ℕ) → List (List ℕ) → List ℕ → NameId → Type 0
 IsNumber old new name id = (new ≡ with_name old name) × (id ≡ number_with old name)
+
+-- ---- each name stands once
+
+abbrev pub AreOnce : List (List ℕ) → Type 0
+AreOnce names = (id : NameId) (name : List ℕ) → slice_get names id.0 ≡ Some name → named names name ≡ Some id

@@ -8,7 +8,7 @@ ghost use Rattle.clu_builtin.specs.Table.{operation};
 ghost use Rattle.clu_builtin.specs.Built.{found_at, operation_at, IsBelow};
 ghost use Rattle.clu_operations.specs.Asking.{asks_of, with_needs};
 ghost use Rattle.clu_operations.specs.ByName.{AreAscending, is_below, if_named, first_named};
-ghost use Rattle.clu_operations.specs.Builtins.{selector_in, field_name, only, fields_of, with_fields, term_with, type_or, IsWithin, type_with, narrowed, ComponentsAscend, IsPut, ArePut, IsInPlace, IsOfWhole, routine_term, operation_if, builtin_told};
+ghost use Rattle.clu_operations.specs.Builtins.{selector_in, field_name, only, fields_of, with_fields, term_with, type_or, IsWithin, type_with, narrowed, ComponentsAscend, IsReplaced, AreReplaced, IsInPlace, IsOfWhole, routine_term, operation_if, builtin_told};
 ghost use Rattle.clu_operations.specs.Found.{Finds};
 ghost use Rattle.clu_operations.specs.Told.{told};
 
@@ -199,7 +199,7 @@ fn put(types: &TypeArena, part: TypeId, of: TypeId, id: TypeId) -> TypeId
     requires part_in { part.0 < length types.now }
     requires of_in { of.0 < length types.now }
     requires id_in { id.0 < length types.now }
-    ensures put { IsPut (type_at (types_of types.now) part) (type_at (types_of types.now) of) (type_at (types_of types.now) id) (type_at (types_of types.now) result) }
+    ensures put { IsReplaced (type_at (types_of types.now) part) (type_at (types_of types.now) of) (type_at (types_of types.now) id) (type_at (types_of types.now) result) }
     ensures within { result.0 < length types.now }
 {
     put_if(types.equal(id, part), of, id)
@@ -216,7 +216,7 @@ fn in_place(
     requires part_in { part.0 < length types.now }
     requires of_in { of.0 < length types.now }
     requires ids_in { AreBelow (length types.now) ids.now }
-    ensures put { IfOk result (λ made. ArePut (type_at (types_of types.now) part) (type_at (types_of types.now) of) (types_at (types_of types.now) ids.now) (types_at (types_of types.now) made)) }
+    ensures put { IfOk result (λ made. AreReplaced (type_at (types_of types.now) part) (type_at (types_of types.now) of) (types_at (types_of types.now) ids.now) (types_at (types_of types.now) made)) }
     ensures within { IfOk result (AreBelow (length types.now)) }
 {
     let mut made = Vec::new(alloc);

@@ -1,6 +1,13 @@
 //! What where clauses and type sets give of type parameters.
 
-ghost use Rattle.std.specs.Prelude.{◌≡◌};
+ghost use Rattle.std.specs.Prelude.{◌≡◌, ◌∷◌, [], ℕ, List, length, OnOk};
+ghost use Rattle.clu_types.specs.declared.term.Term.{Term};
+ghost use Rattle.clu_head.specs.declared.head.Demanded.{Demanded};
+ghost use Rattle.clu_operations.specs.Bundles.{WantedBelow};
+ghost use Rattle.clu_operations.specs.Entering.{PutsOne, IsEntering, also};
+ghost use Rattle.clu_operations.specs.Finding.{Extends, IsBelowIf};
+ghost use Rattle.clu_operations.specs.Wished.{AreHeads, FindsNothing, IsFinding};
+ghost use Rattle.clu_operations.specs.Words.{with_name};
 ghost use Rattle.clu_operations.specs.Clauses.{given_by, is_set_kind, is_set_round, count_round, set_round, given};
 
 use crate::finding::Finding;
@@ -10,28 +17,52 @@ use clu_base::Memory;
 use clu_bindings::{File, Headed, number_at};
 use clu_head::Demanded;
 use clu_tree::NodeKind;
+use clu_types::TypeId;
 use std::alloc::Global;
 
-/// Enters what the node n asks, which asks nothing itself; of two of one name the first counts.
-fn enter(alloc: Global, finding: &mut Finding, n: u32, demands: &[Demanded]) -> Result<(), Memory> {
+fn put(finding: &mut Finding, key: Given, wanted: Option<TypeId>) -> Result<(), Memory>
+    ensures { OnOk result (PutsOne finding.old finding.new key wanted) }
+{
+    let from = finding.asked_count();
+    let found = finding.keep(wanted, from)?;
+    finding.given.insert(key, found)?;
+    Ok(())
+}
+
+/// Enters that the node n asks this, which asks nothing itself; of two of one name the first counts.
+fn enter_one(alloc: Global, finding: &mut Finding, n: u32, demand: &Demanded) -> Result<(), Memory>
+    ensures entered { (asked : ℕ → List Demanded) (terms : List Term) → IsBelowIf (length terms) demand.now.wanted → IsEntering asked terms finding.old → OnOk result (IsEntering (also n (demand.now ∷ []) asked) terms finding.new) }
+    ensures words { OnOk result (finding.new.words ≡ with_name finding.old.words demand.now.operation) }
+{
+    let key = Given {
+        node: n,
+        parameter: demand.parameter,
+        operation: finding.words.number(alloc, &demand.operation)?,
+    };
+    if finding.given.contains_key(&key) {
+        Ok(())
+    } else {
+        put(finding, key, demand.wanted)
+    }
+}
+
+/// Enters what the node n asks.
+fn enter(alloc: Global, finding: &mut Finding, n: u32, demands: &[Demanded]) -> Result<(), Memory>
+    ensures entered { (asked : ℕ → List Demanded) (terms : List Term) → WantedBelow (length terms) demands.now → IsEntering asked terms finding.old → OnOk result (IsEntering (also n demands.now asked) terms finding.new) }
+    ensures words { OnOk result (Extends finding.old.words finding.new.words) }
+{
     for demand in demands {
-        let key = Given {
-            node: n,
-            parameter: demand.parameter,
-            operation: finding.words.number(alloc, &demand.operation)?,
-        };
-        if !finding.given.contains_key(&key) {
-            let from = finding.asked.len();
-            let found = finding.keep(demand.wanted, from)?;
-            finding.given.insert(key, found)?;
-        }
+        enter_one(alloc, finding, n, demand)?;
     }
     Ok(())
 }
 
 /// Enters what the nodes of a file ask. The only error is that memory runs out.
-pub fn enter_given(headed: Headed<'_>, finding: &mut Finding) -> Result<(), Memory> {
-    for n in 0..headed.file.len() {
+pub fn enter_given(headed: Headed<'_>, finding: &mut Finding) -> Result<(), Memory>
+    ensures found { (terms : List Term) → AreHeads headed.entry (length terms) → FindsNothing finding.old → OnOk result (IsFinding headed.entry terms finding.new) }
+    ensures words { OnOk result (Extends finding.old.words finding.new.words) }
+{
+    for n in 0..headed.file.syntax.tree().len() {
         enter(headed.file.alloc, finding, n, headed.heads.asked.of(n))?;
     }
     Ok(())

@@ -2,6 +2,7 @@
 
 ghost use Rattle.std.specs.Prelude.{◌≡◌, length, IfOk};
 ghost use Rattle.clu_operations.specs.Finding.{found_at, asked_by, IsOneMore};
+ghost use Rattle.clu_operations.specs.Wished.{FindsNothing};
 ghost use Rattle.clu_operations.specs.Words.{named};
 
 use crate::bundles::Shown;
@@ -29,7 +30,9 @@ pub struct Finding {
 
 impl Finding {
     /// Where nothing was found.
-    pub fn new(alloc: Global) -> Finding {
+    pub fn new(alloc: Global) -> Finding
+        ensures { FindsNothing result }
+    {
         Finding {
             words: Words::new(alloc),
             founds: Vec::new(alloc),

@@ -1,13 +1,15 @@
 //! The operations that types have at a node, and modules with actual parameters, each found once.
 
-ghost use Rattle.std.specs.Prelude.{◌≡◌, List, length, option_copied, option_map, option_and_then, IfOk, IfSome, OnOk, Some};
+ghost use Rattle.std.specs.Prelude.{◌≡◌, ◌<◌, List, length, option_copied, option_map, option_and_then, IfOk, IfSome, OnOk, Some, None};
 ghost use Rattle.clu_types.specs.CluType.{CluType, Actuals};
 ghost use Rattle.clu_types.specs.Arena.{type_at, types_of, actuals_at, ActualsBelow, Grows};
+ghost use Rattle.clu_operations.specs.Builtins.{ComponentsAscend};
+ghost use Rattle.clu_operations.specs.Finding.{IsNameBelow};
 ghost use Rattle.clu_operations.specs.Found.{Finds, ModuleBelow, IsModuleShown, ModuleShowsMore};
 ghost use Rattle.clu_operations.specs.Modules.{module_seen, HasAscending};
-ghost use Rattle.clu_operations.specs.Operations.{instance_at, name_round, is_inside};
-ghost use Rattle.clu_operations.specs.Told.{module_told};
-ghost use Rattle.clu_operations.specs.Wished.{cluster_given, told_in, told_by, told_of, AreReady};
+ghost use Rattle.clu_operations.specs.Operations.{instance_at, name_round, is_inside, view_named, view_of, view_at};
+ghost use Rattle.clu_operations.specs.Told.{told, module_told};
+ghost use Rattle.clu_operations.specs.Wished.{cluster_given, told_in, told_by, told_of, builtin_by, wished_told, told_seen, told_at, AreReady, IsFinding, FindsOf};
 
 use crate::builtins::builtin_found;
 use crate::callees::{Callee, part_found};
@@ -152,19 +154,81 @@ fn find_in(
     }
 }
 
+/// The operation of a built-in type; None without a name.
+fn find_builtin(
+    alloc: Global,
+    types: &mut TypeArena,
+    finding: &mut Finding,
+    of: TypeId,
+    operation: Option<NameId>,
+) -> Result<Option<FoundId>, Memory>
+    ensures found { of.0 < length types.old → ComponentsAscend (type_at (types_of types.old) of) → IfOk result (Finds (length types.old) types.new finding.old finding.new (builtin_by (type_at (types_of types.old) of) finding.old.words operation)) }
+    ensures stays { IfOk result (λ found. Finds (length types.old) types.new finding.old finding.new (option_map (told (types_of types.new) finding.new) found) found) }
+    ensures shown { OnOk result (finding.new.shown ≡ finding.old.shown) }
+    ensures kept { Grows types.old types.new }
+{
+    match operation {
+        Some(name) => builtin_found(alloc, types, finding, of, name),
+        None => Ok(None),
+    }
+}
+
+/// Looks for an operation or a module where it is wished.
+#[tactic(auto, unfolding(crate::specs::Wished::wished_told))]
 fn find(
     headed: Headed<'_>,
     types: &mut TypeArena,
     finding: &mut Finding,
     wished: Wished,
-) -> Result<Option<FoundId>, Memory> {
+) -> Result<Option<FoundId>, Memory>
+    ensures found { wished.of.0 < length types.old → AreReady headed.entry types.old finding.old → ComponentsAscend (type_at (types_of types.old) wished.of) → IfOk result (Finds (length types.old) types.new finding.old finding.new (wished_told headed.entry (types_of types.old) finding.old.words wished)) }
+    ensures stays { AreReady headed.entry types.old finding.old → IfOk result (λ found. Finds (length types.old) types.new finding.old finding.new (option_map (told (types_of types.new) finding.new) found) found) }
+    ensures ready { AreReady headed.entry types.old finding.old → OnOk result (AreReady headed.entry types.new finding.new) }
+    ensures kept { Grows types.old types.new }
+{
     match wished.view {
-        View::Builtin => match wished.operation {
-            Some(name) => builtin_found(headed.file.alloc, types, finding, wished.of, name),
-            None => Ok(None),
-        },
+        View::Builtin => {
+            find_builtin(
+                headed.file.alloc,
+                types,
+                finding,
+                wished.of,
+                wished.operation,
+            )
+        }
         View::Inside(id) => find_in(headed, types, finding, id, true, wished),
         View::Outside(id) => find_in(headed, types, finding, id, false, wished),
+    }
+}
+
+/// The same, noted.
+fn find_first(
+    headed: Headed<'_>,
+    types: &mut TypeArena,
+    finding: &mut Finding,
+    wished: Wished,
+) -> Result<Option<FoundId>, Memory>
+    ensures found { wished.of.0 < length types.old → IsNameBelow (length finding.old.words) wished.operation → IsFinding headed.entry types.old finding.old → IfOk result (FindsOf headed.entry types.old types.new finding.old finding.new wished.of (wished_told headed.entry (types_of types.old) finding.old.words wished)) }
+    ensures kept { Grows types.old types.new }
+{
+    let found = find(headed, types, finding, wished)?;
+    finding.wished.insert(wished, found)?;
+    Ok(found)
+}
+
+/// The same, looked for once.
+fn find_once(
+    headed: Headed<'_>,
+    types: &mut TypeArena,
+    finding: &mut Finding,
+    wished: Wished,
+) -> Result<Option<FoundId>, Memory>
+    ensures found { wished.of.0 < length types.old → IsNameBelow (length finding.old.words) wished.operation → IsFinding headed.entry types.old finding.old → IfOk result (FindsOf headed.entry types.old types.new finding.old finding.new wished.of (wished_told headed.entry (types_of types.old) finding.old.words wished)) }
+    ensures kept { Grows types.old types.new }
+{
+    match finding.wished.get(&wished).copied() {
+        Some(found) => Ok(found),
+        None => find_first(headed, types, finding, wished),
     }
 }
 
@@ -188,8 +252,9 @@ fn is_inside(headed: Headed<'_>, n: Option<u32>, name: &Bytes) -> bool
 }
 
 /// Users see what the first module of the name exports, the text of a cluster all its routines.
-fn view_of(headed: Headed<'_>, types: &TypeArena, n: Option<u32>, of: TypeId) -> Option<View> {
-    let name = cluster_name(types, of)?;
+fn view_named(headed: Headed<'_>, n: Option<u32>, name: &Bytes) -> Option<View>
+    ensures { result ≡ view_named headed.entry.file n name.now }
+{
     if is_inside(headed, n, name) {
         Some(View::Inside(headed.file.unit_module(n?)?))
     } else {
@@ -197,7 +262,28 @@ fn view_of(headed: Headed<'_>, types: &TypeArena, n: Option<u32>, of: TypeId) ->
     }
 }
 
+fn view_of(headed: Headed<'_>, types: &TypeArena, n: Option<u32>, of: TypeId) -> Option<View>
+    ensures { result ≡ view_of headed.entry.file types.now n of }
+{
+    match cluster_name(types, of) {
+        Some(name) => view_named(headed, n, name),
+        None => None,
+    }
+}
+
+/// Where a type has its operations at a node; a type parameter has none by itself.
+fn view_at(headed: Headed<'_>, types: &TypeArena, n: Option<u32>, of: TypeId) -> Option<View>
+    ensures { result ≡ view_at headed.entry.file types.now n of }
+{
+    match shape_of(types, of) {
+        Shape::Builtin => Some(View::Builtin),
+        Shape::Cluster => view_of(headed, types, n, of),
+        Shape::Parameter(_) => None,
+    }
+}
+
 /// An operation or a module, as it is seen at the node n or from outside.
+#[tactic(auto, unfolding(crate::specs::Wished::told_seen))]
 fn found_at(
     headed: Headed<'_>,
     types: &mut TypeArena,
@@ -205,32 +291,26 @@ fn found_at(
     n: Option<u32>,
     of: TypeId,
     operation: Option<NameId>,
-) -> Result<Option<FoundId>, Memory> {
-    let view = match shape_of(types, of) {
-        Shape::Builtin => Some(View::Builtin),
-        Shape::Cluster => view_of(headed, types, n, of),
-        Shape::Parameter(_) => None,
-    };
-    let Some(view) = view else {
-        return Ok(None);
-    };
-    let wished = Wished {
-        of,
-        operation,
-        view,
-    };
-    match finding.wished.get(&wished).copied() {
-        Some(found) => Ok(found),
-        None => {
-            let found = find(headed, types, finding, wished)?;
-            finding.wished.insert(wished, found)?;
-            Ok(found)
+) -> Result<Option<FoundId>, Memory>
+    ensures found { of.0 < length types.old → IsNameBelow (length finding.old.words) operation → IsFinding headed.entry types.old finding.old → IfOk result (FindsOf headed.entry types.old types.new finding.old finding.new of (told_seen headed.entry types.old finding.old.words n of operation)) }
+    ensures kept { Grows types.old types.new }
+{
+    match view_at(headed, types, n, of) {
+        Some(view) => {
+            let wished = Wished {
+                of,
+                operation,
+                view,
+            };
+            find_once(headed, types, finding, wished)
         }
+        None => Ok(None),
     }
 }
 
 /// The operation of this name that a type has at the node n, for sugar and for `t$op`: inside a cluster all its routines
 /// count. None if it has none.
+#[tactic(auto, unfolding(crate::specs::Wished::told_at))]
 pub fn operation_found(
     headed: Headed<'_>,
     types: &mut TypeArena,
@@ -238,12 +318,14 @@ pub fn operation_found(
     n: u32,
     of: TypeId,
     operation: NameId,
-) -> Result<Option<FoundId>, Memory> {
+) -> Result<Option<FoundId>, Memory>
+    ensures found { of.0 < length types.old → operation.0 < length finding.old.words → IsFinding headed.entry types.old finding.old → IfOk result (FindsOf headed.entry types.old types.new finding.old finding.new of (told_at headed.entry types.old finding.old.words n of operation)) }
+    ensures kept { Grows types.old types.new }
+{
     match shape_of(types, of) {
         Shape::Parameter(number) => Ok(given(headed, finding, n, number, operation)),
-        Shape::Builtin | Shape::Cluster => {
-            found_at(headed, types, finding, Some(n), of, Some(operation))
-        }
+        Shape::Builtin => found_at(headed, types, finding, Some(n), of, Some(operation)),
+        Shape::Cluster => found_at(headed, types, finding, Some(n), of, Some(operation)),
     }
 }
 
@@ -255,7 +337,10 @@ pub fn exported_operation(
     finding: &mut Finding,
     of: TypeId,
     operation: NameId,
-) -> Result<Option<FoundId>, Memory> {
+) -> Result<Option<FoundId>, Memory>
+    ensures found { of.0 < length types.old → operation.0 < length finding.old.words → IsFinding headed.entry types.old finding.old → IfOk result (FindsOf headed.entry types.old types.new finding.old finding.new of (told_seen headed.entry types.old finding.old.words None of (Some operation))) }
+    ensures kept { Grows types.old types.new }
+{
     found_at(headed, types, finding, None, of, Some(operation))
 }
 
@@ -265,6 +350,9 @@ pub fn module_found(
     types: &mut TypeArena,
     finding: &mut Finding,
     of: TypeId,
-) -> Result<Option<FoundId>, Memory> {
+) -> Result<Option<FoundId>, Memory>
+    ensures found { of.0 < length types.old → IsFinding headed.entry types.old finding.old → IfOk result (FindsOf headed.entry types.old types.new finding.old finding.new of (told_seen headed.entry types.old finding.old.words None of None)) }
+    ensures kept { Grows types.old types.new }
+{
     found_at(headed, types, finding, None, of, None)
 }

@@ -57,7 +57,7 @@ use Rattle.clu_bindings.specs.Named as named
 use Rattle.clu_bindings.specs.Wanted.{is_object_wanted}
 use Rattle.clu_name_rules.specs.declared.tables.Tables.{Tables}
 use Rattle.clu_name_rules.specs.ConstantRules as of_tables
-use Rattle.clu_passes.specs.ConstantTables.{file_with, Means, IsMeant, wanted_told, IsTypeOf, AreTables, IsKnown, AreParametersKnown}
+use Rattle.clu_passes.specs.ConstantTables.{file_with, Means, IsMeant, wanted_told, IsTypeOf, AreBracketsKnown, AreTables, IsKnown, IsEquateKnown, IsFirstKnown, IsIndexKnown, IsWantedKnown, AreParametersKnown}
 use Rattle.clu_declares.proofs.Below.{same_kind}
 use Rattle.clu_declares.proofs.Facts.{there}
 use Rattle.clu_passes.proofs.ConstantNodes as so
@@ -206,7 +206,7 @@ module _ (t : Tables) (scope : Scope) (library : List Specification) (refused : 
 
       misfit : (n m : ℕ) (name : Identifier) (cs : List ℕ) → IsMeant f r n name → AreParts nodes is_constant_kind m cs → AllByRecursion (IsKnown r) cs →
           rules_of.has_bad_actuals f (record { node = n; name = name; constants = constants_at (before m (item_at nodes)) cs }) ≡ not (named.has_fitting_kinds r types n cs)
-      misfit n m name cs is parts known = by (is_of_module f n name) refl ∙ ap (λ (ks : List (Option ParamKind)). not (named.kinds_fit r types n ks cs)) (sym is.kinds)
+      misfit n m name cs is parts known = by (is_of_module f n name) refl ∙ ap (λ (ks : List (Option ParamKind)). not (named.kinds_fit r types n ks cs)) (sym (is.kinds parameters))
         where
           by : (b : Bool) → is_of_module f n name ≡ b →
               (if b then not (wants.kinds_fit f n (kinds_of (specification f name)) (constants_at (before m (item_at nodes)) cs)) else rules_of.has_constants (constants_at (before m (item_at nodes)) cs)) ≡ not (named.kinds_fit r types n (if b then kinds_of (specification f name) else []) cs)
@@ -238,24 +238,24 @@ module _ (t : Tables) (scope : Scope) (library : List Specification) (refused : 
       no_named n (a_name m name) cs other = absurd (true≢false other)
       no_named n _ cs other = refl
 
-      bracketed : (n c : ℕ) (cs : List ℕ) → AreParts nodes is_constant_kind n cs → AllByRecursion (IsKnown r) cs → so.AName t scope library refused c ⊎ so.NoName t scope library refused c →
+      bracketed : (n c : ℕ) (cs : List ℕ) → AreParts nodes is_constant_kind n cs → AllByRecursion (IsKnown r) cs → IsEquateKnown r (meaning_in r c) → so.AName t scope library refused c ⊎ so.NoName t scope library refused c →
           Fits (wants.named_by f (an_index n (item f c).expression (constants_at (before n (item_at nodes)) cs))) (named.named_before r (c ∷ cs))
-      bracketed n c cs parts known (inl x) =
+      bracketed n c cs parts known equated (inl x) =
           ap (λ (e : Expression). list_any (rules_of.has_bad_actuals f) (wants.named_by f (an_index n e (constants_at (before n (item_at nodes)) cs)))) x.expression
           ∙ by (typing.takes_actuals f c (first_name_at f c))
-          ∙ ap (λ (b : Bool). of_tables.is_misfit t (if b then Some (c, cs) else None)) (sym (are.takers c ∙ ap (λ (b : Bool). b && typing.takes_actuals f c (first_name_at f c)) x.is))
+          ∙ ap (λ (b : Bool). of_tables.is_misfit t (if b then Some (c, cs) else None)) (sym (are.takers c equated ∙ ap (λ (b : Bool). b && typing.takes_actuals f c (first_name_at f c)) x.is))
         where
           by : (b : Bool) → Fits (if b then record { node = c; name = first_name_at f c; constants = constants_at (before n (item_at nodes)) cs } ∷ [] else []) (if b then Some (c, cs) else None)
           by true =
               or_false (rules_of.has_bad_actuals f (record { node = c; name = first_name_at f c; constants = constants_at (before n (item_at nodes)) cs }))
               ∙ misfit c n (first_name_at f c) cs (are.named c (same_kind kind.Name (kind_at nodes c) x.is)) parts known
           by false = refl
-      bracketed n c cs parts known (inr x) =
+      bracketed n c cs parts known equated (inr x) =
           ap (list_any (rules_of.has_bad_actuals f)) (no_named n (item f c).expression (constants_at (before n (item_at nodes)) cs) x.expression)
-          ∙ ap (λ (b : Bool). of_tables.is_misfit t (if b then Some (c, cs) else None)) (sym (are.takers c ∙ ap (λ (b : Bool). b && typing.takes_actuals f c (first_name_at f c)) x.is))
+          ∙ ap (λ (b : Bool). of_tables.is_misfit t (if b then Some (c, cs) else None)) (sym (are.takers c equated ∙ ap (λ (b : Bool). b && typing.takes_actuals f c (first_name_at f c)) x.is))
 
-      index_by : (n : ℕ) → kind_at nodes n ≡ kind.Index → AllByRecursion (IsKnown r) (children_in r n) → Fits (wants.named_by f (item f n).expression) (named.named_before r (children_in r n))
-      index_by n is known =
+      index_by : (n : ℕ) → kind_at nodes n ≡ kind.Index → AllByRecursion (IsKnown r) (children_in r n) → IsIndexKnown r n → Fits (wants.named_by f (item f n).expression) (named.named_before r (children_in r n))
+      index_by n is known brackets =
           let x = there nodes n kind.Index refl is in
           let first = first_part nodes tree shaped is_expression (any is_constant_kind ∷ []) n x.node x.at (ap slots x.is) in
           let c : ℕ = child 0 x.node in
@@ -265,7 +265,7 @@ module _ (t : Tables) (scope : Scope) (library : List Specification) (refused : 
           ap (λ (i : Item). list_any (rules_of.has_bad_actuals f) (wants.named_by f i.expression)) (its_item nodes n kind.Index x)
           ∙ ap (λ (k : NodeKind). list_any (rules_of.has_bad_actuals f) (wants.named_by f (expression_of (before n (item_at nodes)) nodes n x.node k))) x.is
           ∙ ap (λ (i : Item). list_any (rules_of.has_bad_actuals f) (wants.named_by f (an_index n i.expression (constants_at (before n (item_at nodes)) cs)))) (before_is nodes n c first.first.0)
-          ∙ bracketed n c cs (any_fits nodes is_constant_kind n cs first.before first.rest) all.1 (so.name_or_none t scope library refused c first.first.1)
+          ∙ bracketed n c cs (any_fits nodes is_constant_kind n cs first.before first.rest) all.1 (subst (IsFirstKnown r) whole (brackets is)) (so.name_or_none t scope library refused c first.first.1)
           ∙ ap (λ (xs : List ℕ). of_tables.is_misfit t (named.named_before r xs)) (sym whole)
 
       type_by : (n : ℕ) → kind_at nodes n ≡ kind.NameT → AllByRecursion (IsKnown r) (children_in r n) → Fits (wants.named_by_type f (item f n).type) (Some (n, children_in r n))
@@ -280,11 +280,11 @@ module _ (t : Tables) (scope : Scope) (library : List Specification) (refused : 
           ∙ misfit n n (first_name x.node.names) cs (subst (IsMeant f r n) named_so (are.named_types n is)) (all_parts nodes tree shaped is_constant_kind n x.node x.at (ap slots x.is)) (subst (AllByRecursion (IsKnown r)) whole known)
           ∙ ap (λ (xs : List ℕ). not (named.has_fitting_kinds r types n xs)) (sym whole)
 
-      named_same : (n : ℕ) → AllByRecursion (IsKnown r) (children_in r n) → (k : NodeKind) → kind_at nodes n ≡ k → Fits (wants.named_as f k (wants.wanted f n) n) (named.named_by r k n)
-      named_same n known kind.Name is = ap (λ (w : Wanted). list_any (rules_of.has_bad_actuals f) (wants.named_as f kind.Name w n)) (sym (are.wanted n)) ∙ name_by n is (wanted_in r n)
-      named_same n known kind.Index is = index_by n is known
-      named_same n known kind.NameT is = type_by n is known
-      named_same n known _ is = refl
+      named_same : (n : ℕ) → AllByRecursion (IsKnown r) (children_in r n) → IsIndexKnown r n → IsWantedKnown r n → (k : NodeKind) → kind_at nodes n ≡ k → Fits (wants.named_as f k (wants.wanted f n) n) (named.named_by r k n)
+      named_same n known brackets round kind.Name is = ap (λ (w : Wanted). list_any (rules_of.has_bad_actuals f) (wants.named_as f kind.Name w n)) (sym (are.wanted n round)) ∙ name_by n is (wanted_in r n)
+      named_same n known brackets round kind.Index is = index_by n is known brackets
+      named_same n known brackets round kind.NameT is = type_by n is known
+      named_same n known brackets round _ is = refl
 
       -- ---- parameters of no legal type
 
@@ -335,14 +335,14 @@ module _ (t : Tables) (scope : Scope) (library : List Specification) (refused : 
       use_same n meant.RoutineOfCluster m is = ap (rules_of.is_illegal_use f n) is
       use_same n (meant.Module its) m is = ap (rules_of.is_illegal_use f n) is
 
-      illegal : (n : ℕ) → AllByRecursion (IsKnown r) (children_in r n) → (k : NodeKind) → kind_at nodes n ≡ k → rules_of.is_illegal_parameter f k n ≡ of_tables.is_illegal_parameter t k n
-      illegal n known kind.Parm is = declared n is known
-      illegal n known kind.Name is =
-          ap (λ (b : Bool). b && rules_of.is_illegal_use f n (meaning f n (first_name_at f n))) (sym (ap invocations.is_object_wanted (are.wanted n)) ∙ object_wanted (wanted_in r n))
+      illegal : (n : ℕ) → AllByRecursion (IsKnown r) (children_in r n) → IsWantedKnown r n → (k : NodeKind) → kind_at nodes n ≡ k → rules_of.is_illegal_parameter f k n ≡ of_tables.is_illegal_parameter t k n
+      illegal n known round kind.Parm is = declared n is known
+      illegal n known round kind.Name is =
+          ap (λ (b : Bool). b && rules_of.is_illegal_use f n (meaning f n (first_name_at f n))) (sym (ap invocations.is_object_wanted (are.wanted n round)) ∙ object_wanted (wanted_in r n))
           ∙ ap (λ (b : Bool). is_object_wanted (wanted_in r n) && b) (use_same n (meaning_in r n) (meaning f n (first_name_at f n)) (are.named n is).means)
-      illegal n known _ is = refl
+      illegal n known round _ is = refl
 
-    pub v19_is : (n : ℕ) → AllByRecursion (IsKnown r) (children_in r n) → AreParametersKnown r → rules_of.v19 f n ≡ of_tables.v19 t n
-    v19_is n known parameters =
-        ap (λ (b : Bool). b || rules_of.is_illegal_parameter f (kind_in f n) n) (named_same parameters n known (kind_at nodes n) refl)
-        ∙ ap (λ (b : Bool). of_tables.is_misfit t (named.named_in r n) || b) (illegal parameters n known (kind_at nodes n) refl)
+    pub v19_is : (n : ℕ) → AllByRecursion (IsKnown r) (children_in r n) → AreBracketsKnown r n → AreParametersKnown r → rules_of.v19 f n ≡ of_tables.v19 t n
+    v19_is n known brackets parameters =
+        ap (λ (b : Bool). b || rules_of.is_illegal_parameter f (kind_in f n) n) (named_same parameters n known brackets.own brackets.round (kind_at nodes n) refl)
+        ∙ ap (λ (b : Bool). of_tables.is_misfit t (named.named_in r n) || b) (illegal parameters n known brackets.round (kind_at nodes n) refl)

@@ -79,12 +79,12 @@ range_get a zero j x e = absurd (none-some x e)
 range_get a (suc len) zero x e = let same : a ≡ x = same_Some a x e in omega (arith, same)
 range_get a (suc len) (suc j) x e = let same : x ≡ a + 1 + j = range_get (a + 1) len j x e in omega (arith, same)
 
-record IsMapped {X Y : Type 0} (h : X → Option Y) (xs : List X) (i : ℕ) (y : Y) : Type 0 where
-  item : X
-  there : slice_get xs i ≡ Some item
-  gives : h item ≡ Some y
+pub record IsMapped {X Y : Type 0} (h : X → Option Y) (xs : List X) (i : ℕ) (y : Y) : Type 0 where
+  pub item : X
+  pub there : slice_get xs i ≡ Some item
+  pub gives : h item ≡ Some y
 
-mapped_at : {X Y : Type 0} (h : X → Option Y) (xs : List X) (i : ℕ) (y : Y) → slice_get (map h xs) i ≡ Some (Some y) → IsMapped h xs i y
+pub mapped_at : {X Y : Type 0} (h : X → Option Y) (xs : List X) (i : ℕ) (y : Y) → slice_get (map h xs) i ≡ Some (Some y) → IsMapped h xs i y
 mapped_at h [] i y e = absurd (none-some (Some y) e)
 mapped_at h (x ∷ xs) zero y e = record { item = x; there = refl; gives = same_Some (h x) (Some y) e }
 mapped_at h (x ∷ xs) (suc i) y e = let m = mapped_at h xs i y e in record { item = m.item; there = m.there; gives = m.gives }
@@ -94,13 +94,18 @@ map_get h [] i x e = absurd (none-some x e)
 map_get {X} h (y ∷ xs) zero x e = ap (λ (z : X). Some (h z)) (same_Some y x e)
 map_get h (y ∷ xs) (suc i) x e = map_get h xs i x e
 
-if_some : (b : Bool) (x y : ℕ) → if◌then◌else◌ {A = Option ℕ} b (Some x) None ≡ Some y → (b ≡ true) × (x ≡ y)
+pub if_some : (b : Bool) (x y : ℕ) → if◌then◌else◌ {A = Option ℕ} b (Some x) None ≡ Some y → (b ≡ true) × (x ≡ y)
 if_some true x y e = (refl, same_Some x y e)
 if_some false x y e = absurd (none-some y e)
 
 and_left : (a b : Bool) → (a && b) ≡ true → a ≡ true
 and_left true b e = refl
 and_left false b e = absurd (true≢false (sym e))
+
+pub bit_false : (bits : List Bool) (k : ℕ) → k < length bits → (slice_get bits k ≡ Some true → ⊥) → (o : Option Bool) → slice_get bits k ≡ o → slice_get bits k ≡ Some false
+bit_false bits k less other (Some false) is = is
+bit_false bits k less other (Some true) is = absurd (other is)
+bit_false bits k less other None is = absurd (none_there bits k less is)
 
 -- ---- kinds
 
@@ -113,7 +118,7 @@ pub node_there : (k : NodeKind) (o : Option Node) → is_there k o ≡ true → 
 node_there k None e = absurd (true≢false (sym e))
 node_there k (Some node) e = record { node = node; there = refl; its = same_true the_type (search rules) node.kind k e }
 
-equate_there : (o : Option Node) → is_there kind.Equate o ≡ is_of kind.Equate (kind_of o)
+pub equate_there : (o : Option Node) → is_there kind.Equate o ≡ is_of kind.Equate (kind_of o)
 equate_there None = refl
 equate_there (Some node) = refl
 
@@ -364,7 +369,7 @@ module _ (f : File) (of : IsFileOfTree f) (names : Names) (are : AreNames f name
     right_at : (p e : ℕ) → slice_get es p ≡ Some (Some e) → bit turned.bad e ≡ list_any (fault turned.bad) (nodes_in f.rounds e)
     right_at p e there = (asked_all f.rounds fault es (Reads f.nodes names) are_apart (length f.nodes) inside_all).done p e (slice_get_within es p (Some e) there) there
 
-    bits_right : (p e : ℕ) → slice_get es p ≡ Some (Some e) → bit bits e ≡ list_any (fault bits) (nodes_in f.rounds e)
+    pub bits_right : (p e : ℕ) → slice_get es p ≡ Some (Some e) → bit bits e ≡ list_any (fault bits) (nodes_in f.rounds e)
     bits_right p e there = subst (λ (b : List Bool). bit b e ≡ list_any (fault b) (nodes_in f.rounds e)) (sym (bad_by_turns f.nodes f.rounds fault ds order)) (right_at p e there)
 
     -- ---- an equate that leads to no circle is asked
@@ -383,11 +388,6 @@ module _ (f : File) (of : IsFileOfTree f) (names : Names) (are : AreNames f name
           let says : by_place.is_circular f.nodes f.rounds ds k ≡ true = (marks k (slice_get_within ds k d at)).0 marked in
           true≢false (sym says ∙ circular_same f of.shaped k d at ∙ ap (λ (n : ℕ). is_kind f kind.Equate n && is_circular f n) declares ∙ ap (λ (b : Bool). b && is_circular f e) equate ∙ straight)
 
-      bit_false : (k : ℕ) → k < length circular → (slice_get circular k ≡ Some true → ⊥) → (o : Option Bool) → slice_get circular k ≡ o → slice_get circular k ≡ Some false
-      bit_false k less other (Some false) is = is
-      bit_false k less other (Some true) is = absurd (other is)
-      bit_false k less other None is = absurd (none_there circular k less is)
-
       listed : (p : ℕ) × (slice_get es p ≡ Some (Some e))
       listed =
           let d = declared_there in
@@ -395,7 +395,7 @@ module _ (f : File) (of : IsFileOfTree f) (names : Names) (are : AreNames f name
           let many : length spans ≡ length ds = length-map ds (by_place.span_in f.nodes f.rounds (length targets) (unfolded_starts f.nodes ds (length f.nodes))) in
           let size : length circular ≡ length spans = circles.size in
           let other : slice_get circular d.place ≡ Some true → ⊥ = not_marked d.place d.its d.there d.declares in
-          let at = circles.listed d.place (bit_false d.place (omega (arith, place, many, size)) other (slice_get circular d.place) refl) in (
+          let at = circles.listed d.place (bit_false circular d.place (omega (arith, place, many, size)) other (slice_get circular d.place) refl) in (
             at.0,
             first_get equates arms at.0 (Some e)
                 (map_get (λ place. equate_declared f.nodes (slice_get ds place)) order at.0 d.place at.1

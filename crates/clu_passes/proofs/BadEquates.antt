@@ -44,14 +44,14 @@ or_right : (a b : Bool) → (a || b) ≡ false → b ≡ false
 or_right true b e = absurd (true≢false e)
 or_right false b e = e
 
-none_in : (g : ℕ → Bool) (a len : ℕ) → list_any g (range_with_len a len) ≡ false → (n : ℕ) → a ≤ n → n < a + len → g n ≡ false
+pub none_in : (g : ℕ → Bool) (a len : ℕ) → list_any g (range_with_len a len) ≡ false → (n : ℕ) → a ≤ n → n < a + len → g n ≡ false
 none_in g a zero e n l m = absurd (omega (arith, l, m))
 none_in g a (suc len) e n l m = elim (cases_lt a n) [
   | inl more ↦ none_in g (a + 1) len (or_right (g a) (list_any g (range_with_len (a + 1) len)) e) n (omega (arith, more)) (omega (arith, m))
   | inr back ↦ let same : a ≡ n = omega (arith, l, back) in ap g (sym same) ∙ or_left (g a) (list_any g (range_with_len (a + 1) len)) e
 ]
 
-least_same : (v w : Rule → Bool) → ((r : Rule) → v r ≡ w r) → (rs : List Rule) → least v rs ≡ least w rs
+pub least_same : (v w : Rule → Bool) → ((r : Rule) → v r ≡ w r) → (rs : List Rule) → least v rs ≡ least w rs
 least_same v w same [] = refl
 least_same v w same (r ∷ rs) =
     ap (λ (b : Bool). elim b [ true ↦ Some r | false ↦ least v rs ]) (same r)
@@ -108,7 +108,7 @@ module _ (f : File) (of : IsFileOfTree f) (b c : ℕ → Bool) (n : ℕ) where
   signal_same kind.Resignal const = absurd (true≢false (sym const))
   signal_same _ const = refl
 
-  violates_same : is_of_constant (kind_in f n) ≡ true → AreSame (kind_in f n) → (r : Rule) → violates f b n r ≡ violates f c n r
+  pub violates_same : is_of_constant (kind_in f n) ≡ true → AreSame (kind_in f n) → (r : Rule) → violates f b n r ≡ violates f c n r
   violates_same const h rule.DefinedTwice = ap (λ (x : Bool). is_defined_twice f n || x) (disagrees_same (kind_in f n) const)
   violates_same const h rule.NotConstant = ap (λ (x : Bool). (is_neither f n && not (wants_type f n)) || x || is_too_long f is_long_constant n) (constant_same (kind_in f n) refl h)
   violates_same const h rule.NotType = ap (λ (x : Bool). (is_neither f n && wants_type f n) || is_bad_rep f n || is_no_type f (kind_in f n) n || x || is_too_long f is_long_type n) (type_same (kind_in f n) refl const h)
@@ -135,12 +135,27 @@ module _ (f : File) (b c : ℕ → Bool) (leads : ℕ → Bool) (known : (e : �
   named_same None e = refl
   named_same (Some m) e = node_same m (is_kind f kind.Equate m) refl e
 
-  names_same : (n : ℕ) (its : List Identifier) → list_any (leads_on f leads) (equates_at f n its) ≡ false → AllByRecursion (λ (name : Identifier). is_bad_name f b n name ≡ is_bad_name f c n name) its
+  pub names_same : (n : ℕ) (its : List Identifier) → list_any (leads_on f leads) (equates_at f n its) ≡ false → AllByRecursion (λ (name : Identifier). is_bad_name f b n name ≡ is_bad_name f c n name) its
   names_same n [] e = tt
   names_same n (name ∷ its) e = (
     named_same (declared_by f n name) (or_left (leads_on f leads (equate_named f n name)) (list_any (leads_on f leads) (equates_at f n its)) e),
     names_same n its (or_right (leads_on f leads (equate_named f n name)) (list_any (leads_on f leads) (equates_at f n its)) e),
   )
+
+module _ (f : File) (b c : ℕ → Bool) (same : (e : ℕ) → is_kind f kind.Equate e ≡ true → is_circular f e ≡ false → b e ≡ c e) where
+  any_named : (o : Option ℕ) → is_bad_at f b (equate_of f o) ≡ is_bad_at f c (equate_of f o)
+  any_named None = refl
+  any_named (Some m) = by (is_kind f kind.Equate m) refl
+    where
+      by : (x : Bool) → is_kind f kind.Equate m ≡ x → is_bad_at f b (equate_of f (Some m)) ≡ is_bad_at f c (equate_of f (Some m))
+      by true is =
+          ap (λ (x : Bool). is_bad_at f b (if◌then◌else◌ {A = Option ℕ} x (Some m) None)) is
+          ∙ circle_same f b c m is (same m is) (is_circular f m) refl
+          ∙ sym (ap (λ (x : Bool). is_bad_at f c (if◌then◌else◌ {A = Option ℕ} x (Some m) None)) is)
+      by false is = ap (λ (x : Bool). is_bad_at f b (if◌then◌else◌ {A = Option ℕ} x (Some m) None)) is ∙ sym (ap (λ (x : Bool). is_bad_at f c (if◌then◌else◌ {A = Option ℕ} x (Some m) None)) is)
+
+  pub names_are : (n : ℕ) (name : Identifier) → is_bad_name f b n name ≡ is_bad_name f c n name
+  names_are n name = any_named (declared_by f n name)
 
 -- ---- the table
 
@@ -149,7 +164,7 @@ module _ (f : File) (of : IsFileOfTree f) (rules : List Rule) (bad : ℕ → Boo
   fault b n = is_some (least (violates f b n) rules)
 
   -- after as many steps as it leads on for
-  abbrev IsSolved : ℕ → Type 0
+  abbrev pub IsSolved : ℕ → Type 0
   IsSolved s = (e : ℕ) → is_kind f kind.Equate e ≡ true → is_circular f e ≡ false → leads_far f s e ≡ false → (t : ℕ) → s ≤ t → bad e ≡ is_bad_by f rules t e
 
   abbrev leads_in : ℕ → ℕ → Bool
@@ -171,7 +186,7 @@ module _ (f : File) (of : IsFileOfTree f) (rules : List Rule) (bad : ℕ → Boo
       (in_constants f.nodes f.rounds of.shaped of.ordered of.tree of.surrounded e its at (ap is_of_constant is) n l inside)
       (none_in (leads_in s) (round f e).first (suc e - (round f e).first) none n l (omega (arith, inside, l))))
 
-  solved : (s : ℕ) → IsSolved s
+  pub solved : (s : ℕ) → IsSolved s
   unfolding leads_far is_bad_by
   solved zero e equate circle far t le = absurd (true≢false far)
   solved (suc s) e equate circle far zero le = absurd (omega (arith, le))
@@ -185,16 +200,5 @@ module _ (f : File) (of : IsFileOfTree f) (rules : List Rule) (bad : ℕ → Boo
   pub bad_is : (e : ℕ) → is_kind f kind.Equate e ≡ true → is_circular f e ≡ false → bad e ≡ is_bad_of f rules e
   bad_is e equate circle = solved (length f.scope.declarations) e equate circle circle (length f.scope.declarations) (omega arith)
 
-  any_named : (o : Option ℕ) → is_bad_at f bad (equate_of f o) ≡ is_bad_at f (is_bad_of f rules) (equate_of f o)
-  any_named None = refl
-  any_named (Some m) = by (is_kind f kind.Equate m) refl
-    where
-      by : (x : Bool) → is_kind f kind.Equate m ≡ x → is_bad_at f bad (equate_of f (Some m)) ≡ is_bad_at f (is_bad_of f rules) (equate_of f (Some m))
-      by true is =
-          ap (λ (x : Bool). is_bad_at f bad (if◌then◌else◌ {A = Option ℕ} x (Some m) None)) is
-          ∙ circle_same f bad (is_bad_of f rules) m is (bad_is m is) (is_circular f m) refl
-          ∙ sym (ap (λ (x : Bool). is_bad_at f (is_bad_of f rules) (if◌then◌else◌ {A = Option ℕ} x (Some m) None)) is)
-      by false is = ap (λ (x : Bool). is_bad_at f bad (if◌then◌else◌ {A = Option ℕ} x (Some m) None)) is ∙ sym (ap (λ (x : Bool). is_bad_at f (is_bad_of f rules) (if◌then◌else◌ {A = Option ℕ} x (Some m) None)) is)
-
   pub bad_names_are : (n : ℕ) (name : Identifier) → is_bad_name f bad n name ≡ is_bad_name f (is_bad_of f rules) n name
-  bad_names_are n name = any_named (declared_by f n name)
+  bad_names_are = names_are f bad (is_bad_of f rules) bad_is

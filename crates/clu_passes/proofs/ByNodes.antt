@@ -67,7 +67,7 @@ module _ (f : File) (shaped : HaveForms f.nodes) where
           ap (λ (w : List ℕ). w ∷ []) word ∙ ap (λ (b : Bool). if b then codes "rep" ∷ [] else []) (sym e ∙ told)
       by false e = ap (λ (b : Bool). if b then codes "rep" ∷ [] else []) (sym e ∙ told)
 
-  type_there : (n : ℕ) (node : Node) → slice_get f.nodes n ≡ Some node → node.kind ≡ kind.Simple → (item_at f.nodes n).type ≡ a_simple_type n (simple_type (symbol_in node.value))
+  pub type_there : (n : ℕ) (node : Node) → slice_get f.nodes n ≡ Some node → node.kind ≡ kind.Simple → (item_at f.nodes n).type ≡ a_simple_type n (simple_type (symbol_in node.value))
   unfolding item_to
   type_there n node at is =
       ap (λ (its : Option Node). (item_with (before n (item_to f.nodes n)) f.nodes n its).type) at
@@ -126,7 +126,7 @@ module _ (f : File) (shaped : HaveForms f.nodes) where
   abbrev leads : ℕ → ℕ → Bool
   leads steps n = list_any (leads_on f (leads_far f steps)) (equates_named f n)
 
-  far_same : (steps k : ℕ) (d : Declared) → slice_get ds k ≡ Some d → is_equate_at f.nodes d.node ≡ true → goes_far f.nodes f.rounds ds steps k ≡ leads_far f steps d.node
+  pub far_same : (steps k : ℕ) (d : Declared) → slice_get ds k ≡ Some d → is_equate_at f.nodes d.node ≡ true → goes_far f.nodes f.rounds ds steps k ≡ leads_far f steps d.node
   unfolding goes_far leads_far
   far_same zero k d there is = refl
   far_same (suc steps) k d there is =

@@ -37,7 +37,7 @@ use Rattle.clu_type_rules.specs.declared.known.Known.{Known}
 use Rattle.clu_type_rules.specs.Known as known
 use Rattle.clu_type_rules.specs.Known.{wanted_in}
 use Rattle.clu_type_rules.specs.StatementRules.{joins_conditions, is_logical, some_no_condition, has_no_bool, has_no_condition}
-use Rattle.clu_passes.specs.ConstantTables.{AreTables}
+use Rattle.clu_passes.specs.ConstantTables.{AreTables, AreWantedKnown}
 use Rattle.clu_passes.specs.FactTables.{typed, AreFacts}
 use Rattle.clu_passes.proofs.FactNodes as so
 
@@ -169,8 +169,8 @@ module _ (k : Known) (scope : Scope) (library : List Specification) (refused : L
     known_of : (its : NodeKind) (n : ℕ) (x : There nodes n its) → lost n ≡ false → list_any other x.node.children ≡ some_no_condition k n
     known_of its n x here = ap (list_any other) (sym (its_children n x.node x.at)) ∙ some_known n here
 
-    in_infix : (others : ℕ → Item) (n : ℕ) → kind_at nodes n ≡ kind.Infix → lost n ≡ false → expressions.has_no_bool f kind.Infix n ≡ has_no_bool k others n
-    in_infix others n is here =
+    in_infix : AreWantedKnown k.tables.file lost → (others : ℕ → Item) (n : ℕ) → kind_at nodes n ≡ kind.Infix → lost n ≡ false → expressions.has_no_bool f kind.Infix n ≡ has_no_bool k others n
+    in_infix wanted others n is here =
         let x = there nodes n kind.Infix refl is in
         let op : Operator = infix_operator (symbol_in x.node.value) in
         let c : Expression = (others (child 0 x.node)).expression in
@@ -183,20 +183,20 @@ module _ (k : Known) (scope : Scope) (library : List Specification) (refused : L
         ∙ ap (λ (its : NodeKind). expressions.is_no_condition f (expression_of (before n (item_at nodes)) nodes n x.node its)) x.is
         ∙ infix_is n x.node.children (stand_in kind.Infix _ refl n x) op c d
         ∙ ap₂ (λ (a b : Bool). a && b) logical (known_of kind.Infix n x here) in
-        ap (λ (b : Bool). b && expressions.is_no_condition f (item f n).expression) (so.object_wanted_at k scope library refused are n)
+        ap (λ (b : Bool). b && expressions.is_no_condition f (item f n).expression) (so.object_wanted_at k scope library refused are n (wanted n here))
         ∙ ap (λ (b : Bool). bound.is_object_wanted (wanted_in k n) && b) operand
 
-    by_kind : (others : ℕ → Item) (n : ℕ) → lost n ≡ false → (its : NodeKind) → kind_at nodes n ≡ its → v16_in f its n ≡ has_no_condition k others its n
-    by_kind others n here kind.If is =
+    by_kind : AreWantedKnown k.tables.file lost → (others : ℕ → Item) (n : ℕ) → lost n ≡ false → (its : NodeKind) → kind_at nodes n ≡ its → v16_in f its n ≡ has_no_condition k others its n
+    by_kind wanted others n here kind.If is =
         let x = there nodes n kind.If refl is in
         statement_at kind.If n x
         ∙ if_is n x.node (children_before nodes tree n x.node x.at) (if_parts t nodes texts tree n x.node x.at (texts n x.node x.at) x.is)
         ∙ known_of kind.If n x here
-    by_kind others n here kind.While is =
+    by_kind wanted others n here kind.While is =
         let x = there nodes n kind.While refl is in
         statement_at kind.While n x ∙ while_is n x.node.children (stand_in kind.While _ refl n x) ∙ known_of kind.While n x here
-    by_kind others n here kind.Infix is = in_infix others n is here
-    by_kind others n here _ is = refl
+    by_kind wanted others n here kind.Infix is = in_infix wanted others n is here
+    by_kind wanted others n here _ is = refl
 
-    pub v16_is : (others : ℕ → Item) (n : ℕ) → lost n ≡ false → v16 f n ≡ has_no_condition k others (known.kind_in k n) n
-    v16_is others n here = by_kind others n here (kind_at nodes n) refl
+    pub v16_is : AreWantedKnown k.tables.file lost → (others : ℕ → Item) (n : ℕ) → lost n ≡ false → v16 f n ≡ has_no_condition k others (known.kind_in k n) n
+    v16_is wanted others n here = by_kind wanted others n here (kind_at nodes n) refl

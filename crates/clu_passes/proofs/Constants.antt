@@ -1,5 +1,5 @@
 -- V8 and V9 by tables: what is no constant or no type, and names of bad equates.
-use Rattle.std.proofs.Common.{◌≡◌, ◌∙◌, ◌⊎◌, ℕ, ◌≤◌, Bool, true, false, ◌&&◌, ◌||◌, if◌then◌else◌, List, [], ◌∷◌, length, map, drop, codes, Option, Some, None, inl, inr, refl, sym, ap, arith}
+use Rattle.std.proofs.Common.{◌≡◌, ◌∙◌, ◌⊎◌, ℕ, ◌≤◌, Bool, true, false, ◌&&◌, ◌||◌, if◌then◌else◌, List, [], ◌∷◌, length, map, drop, codes, Option, Some, None, inl, inr, refl, sym, ap, subst, arith}
 use Rattle.std.specs.Prelude.{not, bytes_eq, is_none, is_some, slice_get}
 use Rattle.std.specs.List.{list_any}
 use Rattle.std.proofs.lemmas.Bool.{true≢false, and_parts}
@@ -59,7 +59,7 @@ use Rattle.clu_bindings.specs.Readers.{value_in, wanted_in, meaning_in, module_o
 use Rattle.clu_bindings.specs.Named as named
 use Rattle.clu_name_rules.specs.declared.tables.Tables.{Tables}
 use Rattle.clu_name_rules.specs.ConstantRules as of_tables
-use Rattle.clu_passes.specs.ConstantTables.{file_with, Means, is_equated, wanted_told, AreTables, AreBad, IsKnown, IsEquateKnown}
+use Rattle.clu_passes.specs.ConstantTables.{file_with, Means, is_equated, wanted_told, AreTables, AreBad, AreBracketsKnown, AreParametersKnown, IsKnown, IsEquateKnown, IsFirstKnown, IsIndexKnown, IsWantedKnown}
 use Rattle.clu_passes.proofs.ByNodes.{any_mapped}
 use Rattle.clu_passes.proofs.ByNodes as by_nodes
 use Rattle.clu_declares.proofs.Below.{same_kind}
@@ -187,19 +187,19 @@ module _ (t : Tables) (scope : Scope) (library : List Specification) (refused : 
     no_name_index n (a_name m name) cs other = absurd (true≢false other)
     no_name_index n _ cs other = refl
 
-    bracketed : (n c : ℕ) (cs : Constants) → so.AName t scope library refused c ⊎ so.NoName t scope library refused c → rules_of.is_no_constant_index f (an_index n (item f c).expression cs) ≡ (if read.takes_actuals r c then of_tables.names_object r (meaning_in r c) else true)
-    bracketed n c cs (inl x) =
-        let takes : read.takes_actuals r c ≡ typing.takes_actuals f c (first_name_at f c) = are.takers c ∙ ap (λ (b : Bool). b && typing.takes_actuals f c (first_name_at f c)) x.is in
+    bracketed : (n c : ℕ) (cs : Constants) → IsEquateKnown r (meaning_in r c) → so.AName t scope library refused c ⊎ so.NoName t scope library refused c → rules_of.is_no_constant_index f (an_index n (item f c).expression cs) ≡ (if read.takes_actuals r c then of_tables.names_object r (meaning_in r c) else true)
+    bracketed n c cs known (inl x) =
+        let takes : read.takes_actuals r c ≡ typing.takes_actuals f c (first_name_at f c) = are.takers c known ∙ ap (λ (b : Bool). b && typing.takes_actuals f c (first_name_at f c)) x.is in
         ap (λ (e : Expression). rules_of.is_no_constant_index f (an_index n e cs)) x.expression
         ∙ ap (λ (b : Bool). if b then rules_of.is_no_constant_name f c (first_name_at f c) else true) (sym takes)
         ∙ ap (λ (b : Bool). if read.takes_actuals r c then b else true) (named_object c (same_kind kind.Name (kind_at nodes c) x.is))
-    bracketed n c cs (inr x) =
-        let takes : read.takes_actuals r c ≡ false = are.takers c ∙ ap (λ (b : Bool). b && typing.takes_actuals f c (first_name_at f c)) x.is in
+    bracketed n c cs known (inr x) =
+        let takes : read.takes_actuals r c ≡ false = are.takers c known ∙ ap (λ (b : Bool). b && typing.takes_actuals f c (first_name_at f c)) x.is in
         no_name_index n (item f c).expression cs x.expression
         ∙ ap (λ (b : Bool). if b then of_tables.names_object r (meaning_in r c) else true) (sym takes)
 
-    index_is : (n : ℕ) → kind_at nodes n ≡ kind.Index → rules_of.is_no_constant_index f (item f n).expression ≡ of_tables.is_no_constant_index r (children_in r n)
-    index_is n is =
+    index_is : (n : ℕ) → IsIndexKnown r n → kind_at nodes n ≡ kind.Index → rules_of.is_no_constant_index f (item f n).expression ≡ of_tables.is_no_constant_index r (children_in r n)
+    index_is n known is =
         let x = there nodes n kind.Index refl is in
         let first = first_part nodes tree shaped is_expression (any is_constant_kind ∷ []) n x.node x.at (ap slots x.is) in
         let c : ℕ = child 0 x.node in
@@ -207,29 +207,29 @@ module _ (t : Tables) (scope : Scope) (library : List Specification) (refused : 
         ap (λ (i : Item). rules_of.is_no_constant_index f i.expression) (its_item nodes n kind.Index x)
         ∙ ap (λ (k : NodeKind). rules_of.is_no_constant_index f (expression_of (before n (item_at nodes)) nodes n x.node k)) x.is
         ∙ ap (λ (i : Item). rules_of.is_no_constant_index f (an_index n i.expression cs)) (before_is nodes n c first.first.0)
-        ∙ bracketed n c cs (so.name_or_none t scope library refused c first.first.1)
+        ∙ bracketed n c cs (subst (IsFirstKnown r) (ap children_of x.at ∙ first.is) (known is)) (so.name_or_none t scope library refused c first.first.1)
         ∙ ap (of_tables.is_no_constant_index r) (sym first.is)
         ∙ ap (λ (its : Option Node). of_tables.is_no_constant_index r (children_of its)) (sym x.at)
 
     no_value : (n : ℕ) → IsKnown r n → is_expression (kind_at nodes n) ≡ true → rules_of.is_no_value f n ≡ not (of_tables.is_constant_value (value_in r n))
     no_value n known e = ap not (constant_value types_there r.constants.now (value_in r n) (value_settled scope (item f n).constant) known (so.value_agrees t scope library refused shaped tree are n known (expression_is_constant nodes n e)))
 
-    no_constant : (n : ℕ) → IsKnown r n → (k : NodeKind) → kind_at nodes n ≡ k → rules_of.is_no_constant f k n ≡ of_tables.is_no_constant r k n
-    no_constant n known kind.Literal is = refl
-    no_constant n known kind.Name is = named_object n is
-    no_constant n known kind.Index is = index_is n is
-    no_constant n known kind.Infix is = no_value n known (ap is_expression is)
-    no_constant n known kind.Prefix is = no_value n known (ap is_expression is)
-    no_constant n known kind.Paren is = no_value n known (ap is_expression is)
-    no_constant n known _ is = refl
+    no_constant : (n : ℕ) → IsKnown r n → IsIndexKnown r n → (k : NodeKind) → kind_at nodes n ≡ k → rules_of.is_no_constant f k n ≡ of_tables.is_no_constant r k n
+    no_constant n known brackets kind.Literal is = refl
+    no_constant n known brackets kind.Name is = named_object n is
+    no_constant n known brackets kind.Index is = index_is n brackets is
+    no_constant n known brackets kind.Infix is = no_value n known (ap is_expression is)
+    no_constant n known brackets kind.Prefix is = no_value n known (ap is_expression is)
+    no_constant n known brackets kind.Paren is = no_value n known (ap is_expression is)
+    no_constant n known brackets _ is = refl
 
-    neither_same : (n : ℕ) → IsKnown r n → rules_of.is_neither f n ≡ of_tables.is_neither r n
-    neither_same n known =
-        ap (λ (b : Bool). b && rules_of.is_no_constant f (kind_in f n) n) (so.constant_wanted_at t scope library refused shaped tree are n)
-        ∙ ap (λ (b : Bool). of_tables.is_constant_wanted (wanted_in r n) && b) (no_constant n known (kind_at nodes n) refl)
+    neither_same : (n : ℕ) → IsKnown r n → AreBracketsKnown r n → rules_of.is_neither f n ≡ of_tables.is_neither r n
+    neither_same n known brackets =
+        ap (λ (b : Bool). b && rules_of.is_no_constant f (kind_in f n) n) (so.constant_wanted_at t scope library refused shaped tree are n brackets.round)
+        ∙ ap (λ (b : Bool). of_tables.is_constant_wanted (wanted_in r n) && b) (no_constant n known brackets.own (kind_at nodes n) refl)
 
-    neither_wants : (n : ℕ) → rules_of.is_neither f n ≡ true → wants.wants_type f n ≡ named.wants_type r n
-    neither_wants n h = so.wants_same t scope library refused shaped tree are n (and_parts (rules_of.is_constant_wanted (wants.wanted f n)) (rules_of.is_no_constant f (kind_in f n) n) h).0
+    neither_wants : AreParametersKnown r → (n : ℕ) → rules_of.is_neither f n ≡ true → wants.wants_type f n ≡ named.wants_type r n
+    neither_wants parameters n h = so.wants_same t scope library refused shaped tree are parameters n (and_parts (rules_of.is_constant_wanted (wants.wanted f n)) (rules_of.is_no_constant f (kind_in f n) n) h).0
 
     -- ---- right sides of equates
 
@@ -332,7 +332,7 @@ module _ (t : Tables) (scope : Scope) (library : List Specification) (refused : 
         named_so : rules_of.is_word simple.Rep (item f n).type ≡ true → (is_none (equate_named f n rep) || rules_of.is_no_type_name f n rep) ≡ not (of_tables.names_equated_type r (meaning_in r n))
         named_so word =
             ap (λ (b : Bool). b || rules_of.is_no_type_name f n rep) (none_is (equate_named f n rep) ∙ ap not (are.equates n rep))
-            ∙ no_rep_same n (meaning_in r n) (meaning f n rep) known (are.reps n is word).means
+            ∙ no_rep_same n (meaning_in r n) (meaning f n rep) known (are.reps n is word)
 
         by : (b : Bool) → rules_of.is_word simple.Rep (item f n).type ≡ b →
             (b && rules_of.is_cluster_round f n && (is_none (equate_named f n rep) || rules_of.is_no_type_name f n rep)) ≡ (b && (of_tables.is_of_cluster r n && not (of_tables.names_equated_type r (meaning_in r n))))
@@ -389,8 +389,7 @@ module _ (t : Tables) (scope : Scope) (library : List Specification) (refused : 
     no_type items n known kind.NameT is = let m = are.named_types n is in no_type_same n (first_name_at f n) (meaning_in r n) (meaning f n (first_name_at f n)) known m.means m.routine
     no_type items n known kind.Simple is = no_type_rep items n known is
     no_type items n known kind.Restrict is =
-        let m = are.restricted n is in
-        ap (λ (b : Bool). not b || rules_of.has_no_set f (item f n).restriction) (parameter_same (meaning_in r n) (meaning f n (first_name_at f n)) m.means)
+        ap (λ (b : Bool). not b || rules_of.has_no_set f (item f n).restriction) (parameter_same (meaning_in r n) (meaning f n (first_name_at f n)) (are.restricted n is))
         ∙ ap (λ (b : Bool). not (of_tables.is_type_parameter (meaning_in r n)) || b) (no_set items n is)
     no_type items n known kind.TypeSet is = other_variable n is
     no_type items n known _ is = refl
@@ -398,16 +397,16 @@ module _ (t : Tables) (scope : Scope) (library : List Specification) (refused : 
     module _ (bits : List Bool) (bad : ℕ → Bool) (are_bad : AreBad f bits bad) where
       -- ---- V8 and V9
 
-      round_wanted : (o : Option ℕ) → rules_of.wants_type_round f bad o ≡ of_tables.wants_type_round r o
-      round_wanted None = refl
-      round_wanted (Some p) = guarded (rules_of.is_constant_wanted (wants.wanted f p)) (of_tables.is_constant_wanted (wanted_in r p)) (wants.wants_type f p) (named.wants_type r p) (so.constant_wanted_at t scope library refused shaped tree are p) (so.wants_same t scope library refused shaped tree are p)
+      round_wanted : AreParametersKnown r → (o : Option ℕ) → ((p : ℕ) → o ≡ Some p → IsWantedKnown r p) → rules_of.wants_type_round f bad o ≡ of_tables.wants_type_round r o
+      round_wanted parameters None known = refl
+      round_wanted parameters (Some p) known = guarded (rules_of.is_constant_wanted (wants.wanted f p)) (of_tables.is_constant_wanted (wanted_in r p)) (wants.wants_type f p) (named.wants_type r p) (so.constant_wanted_at t scope library refused shaped tree are p (known p refl)) (so.wants_same t scope library refused shaped tree are parameters p)
 
-      type_wanted : (n : ℕ) → rules_of.is_type_wanted f bad (wants.wanted f n) n ≡ of_tables.is_type_wanted r (wanted_in r n) n
-      type_wanted n = by (wanted_in r n) (sym (are.wanted n))
+      type_wanted : AreParametersKnown r → (n : ℕ) → AreBracketsKnown r n → rules_of.is_type_wanted f bad (wants.wanted f n) n ≡ of_tables.is_type_wanted r (wanted_in r n) n
+      type_wanted parameters n brackets = by (wanted_in r n) (sym (are.wanted n brackets.round))
         where
           by : (w : WantedThere) → wants.wanted f n ≡ wanted_told w → rules_of.is_type_wanted f bad (wants.wanted f n) n ≡ of_tables.is_type_wanted r w n
-          by wanted.Constant is = ap (λ (w : Wanted). rules_of.is_type_wanted f bad w n) is ∙ so.wants_same t scope library refused shaped tree are n (ap rules_of.is_constant_wanted is)
-          by wanted.NameWithActuals is = ap (λ (w : Wanted). rules_of.is_type_wanted f bad w n) is ∙ round_wanted (parent f n)
+          by wanted.Constant is = ap (λ (w : Wanted). rules_of.is_type_wanted f bad w n) is ∙ so.wants_same t scope library refused shaped tree are parameters n (ap rules_of.is_constant_wanted is)
+          by wanted.NameWithActuals is = ap (λ (w : Wanted). rules_of.is_type_wanted f bad w n) is ∙ round_wanted parameters (parent f n) brackets.above
           by wanted.Object is = ap (λ (w : Wanted). rules_of.is_type_wanted f bad w n) is
           by wanted.Objects is = ap (λ (w : Wanted). rules_of.is_type_wanted f bad w n) is
           by wanted.LoopCall is = ap (λ (w : Wanted). rules_of.is_type_wanted f bad w n) is
@@ -417,17 +416,17 @@ module _ (t : Tables) (scope : Scope) (library : List Specification) (refused : 
       name_bad : (n : ℕ) → kind_at nodes n ≡ kind.Name → equates.is_bad_name f bad n (first_name_at f n) ≡ of_tables.is_bad_first t bits n
       name_bad n is = so.bad_first t scope library refused shaped tree are bits bad are_bad n kind.Name refl (λ node. refl) refl is
 
-      bad_constant : (n : ℕ) (k : NodeKind) → kind_at nodes n ≡ k → rules_of.has_bad_constant f bad k n ≡ of_tables.has_bad_constant t bits k n
-      bad_constant n kind.Name is =
+      bad_constant : AreParametersKnown r → (n : ℕ) → AreBracketsKnown r n → (k : NodeKind) → kind_at nodes n ≡ k → rules_of.has_bad_constant f bad k n ≡ of_tables.has_bad_constant t bits k n
+      bad_constant parameters n brackets kind.Name is =
           ap (λ (b : Bool). b && not (rules_of.is_type_wanted f bad (wants.wanted f n) n)) (name_bad n is)
-          ∙ ap (λ (b : Bool). of_tables.is_bad_first t bits n && not b) (type_wanted n)
-      bad_constant n _ is = refl
+          ∙ ap (λ (b : Bool). of_tables.is_bad_first t bits n && not b) (type_wanted parameters n brackets)
+      bad_constant parameters n brackets _ is = refl
 
-      pub v8_is : (n : ℕ) → IsKnown r n → rules_of.v8 f bad n ≡ of_tables.v8 t bits n
-      v8_is n known =
+      pub v8_is : (n : ℕ) → IsKnown r n → AreBracketsKnown r n → AreParametersKnown r → rules_of.v8 f bad n ≡ of_tables.v8 t bits n
+      v8_is n known brackets parameters =
           ap (λ (a : Bool). a || rules_of.has_bad_constant f bad (kind_in f n) n || rules_of.is_too_long f rules_of.is_long_constant n)
-          (guarded (rules_of.is_neither f n) (of_tables.is_neither r n) (not (wants.wants_type f n)) (not (named.wants_type r n)) (neither_same n known) (λ h. ap not (neither_wants n h)))
-          ∙ ap (λ (b : Bool). (of_tables.is_neither r n && not (named.wants_type r n)) || b || rules_of.is_too_long f rules_of.is_long_constant n) (bad_constant n (kind_at nodes n) refl)
+          (guarded (rules_of.is_neither f n) (of_tables.is_neither r n) (not (wants.wants_type f n)) (not (named.wants_type r n)) (neither_same n known brackets) (λ h. ap not (neither_wants parameters n h)))
+          ∙ ap (λ (b : Bool). (of_tables.is_neither r n && not (named.wants_type r n)) || b || rules_of.is_too_long f rules_of.is_long_constant n) (bad_constant parameters n brackets (kind_at nodes n) refl)
           ∙ ap (λ (c : Bool). (of_tables.is_neither r n && not (named.wants_type r n)) || of_tables.has_bad_constant t bits (kind_at nodes n) n || c) (too_long_constant n known)
           ∙ or_three (of_tables.is_neither r n && not (named.wants_type r n)) (of_tables.has_bad_constant t bits (kind_at nodes n) n) (of_tables.is_right_side r n && of_tables.is_long_constant t.long_constants.now (value_in r n))
 
@@ -464,26 +463,26 @@ module _ (t : Tables) (scope : Scope) (library : List Specification) (refused : 
           ∙ ap (λ (its : Option Node). of_tables.is_bad t bits (optional (slice_get (bound_at ds n its) 0))) (sym x.at)
           ∙ ap (λ (bounds : List (Option ℕ)). of_tables.is_bad t bits (optional (slice_get bounds 0))) (sym (bound_is f r.names.now are.names n))
 
-      bad_type : (n : ℕ) (k : NodeKind) → kind_at nodes n ≡ k → rules_of.has_bad_type f bad k n ≡ of_tables.has_bad_type t bits k n
-      bad_type n kind.Name is =
+      bad_type : AreParametersKnown r → (n : ℕ) → AreBracketsKnown r n → (k : NodeKind) → kind_at nodes n ≡ k → rules_of.has_bad_type f bad k n ≡ of_tables.has_bad_type t bits k n
+      bad_type parameters n brackets kind.Name is =
           ap (λ (b : Bool). b && rules_of.is_type_wanted f bad (wants.wanted f n) n) (name_bad n is)
-          ∙ ap (λ (b : Bool). of_tables.is_bad_first t bits n && b) (type_wanted n)
-      bad_type n kind.NameT is = so.bad_first t scope library refused shaped tree are bits bad are_bad n kind.NameT refl (λ node. refl) refl is
-      bad_type n kind.Simple is = rep_bad n is
-      bad_type n kind.Restrict is = restricted_bad n is
-      bad_type n _ is = refl
+          ∙ ap (λ (b : Bool). of_tables.is_bad_first t bits n && b) (type_wanted parameters n brackets)
+      bad_type parameters n brackets kind.NameT is = so.bad_first t scope library refused shaped tree are bits bad are_bad n kind.NameT refl (λ node. refl) refl is
+      bad_type parameters n brackets kind.Simple is = rep_bad n is
+      bad_type parameters n brackets kind.Restrict is = restricted_bad n is
+      bad_type parameters n brackets _ is = refl
 
-      pub v9_is : (items : ℕ → Item) (n : ℕ) → IsKnown r n → IsEquateKnown r (meaning_in r n) → rules_of.v9 f bad n ≡ of_tables.v9 t bits items n
-      v9_is items n known equated =
+      pub v9_is : (items : ℕ → Item) (n : ℕ) → IsKnown r n → IsEquateKnown r (meaning_in r n) → AreBracketsKnown r n → AreParametersKnown r → rules_of.v9 f bad n ≡ of_tables.v9 t bits items n
+      v9_is items n known equated brackets parameters =
           let a : Bool = of_tables.is_neither r n && named.wants_type r n in
           let b : Bool = of_tables.is_bad_rep r items n in
           let c : Bool = of_tables.is_no_type r items (kind_at nodes n) n in
           let d : Bool = of_tables.has_bad_type t bits (kind_at nodes n) n in
           let e : Bool = of_tables.is_right_side r n && of_tables.is_long_type t.long_types.now (value_in r n) in
           ap (λ (x : Bool). x || rules_of.is_bad_rep f n || rules_of.is_no_type f (kind_in f n) n || rules_of.has_bad_type f bad (kind_in f n) n || rules_of.is_too_long f rules_of.is_long_type n)
-          (guarded (rules_of.is_neither f n) (of_tables.is_neither r n) (wants.wants_type f n) (named.wants_type r n) (neither_same n known) (neither_wants n))
+          (guarded (rules_of.is_neither f n) (of_tables.is_neither r n) (wants.wants_type f n) (named.wants_type r n) (neither_same n known brackets) (neither_wants parameters n))
           ∙ ap (λ (x : Bool). a || x || rules_of.is_no_type f (kind_in f n) n || rules_of.has_bad_type f bad (kind_in f n) n || rules_of.is_too_long f rules_of.is_long_type n) (bad_rep items n known)
           ∙ ap (λ (x : Bool). a || b || x || rules_of.has_bad_type f bad (kind_in f n) n || rules_of.is_too_long f rules_of.is_long_type n) (no_type items n equated (kind_at nodes n) refl)
-          ∙ ap (λ (x : Bool). a || b || c || x || rules_of.is_too_long f rules_of.is_long_type n) (bad_type n (kind_at nodes n) refl)
+          ∙ ap (λ (x : Bool). a || b || c || x || rules_of.is_too_long f rules_of.is_long_type n) (bad_type parameters n brackets (kind_at nodes n) refl)
           ∙ ap (λ (x : Bool). a || b || c || d || x) (too_long_type n known)
           ∙ or_five a b c d e

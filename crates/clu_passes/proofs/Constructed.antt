@@ -38,7 +38,7 @@ use Rattle.clu_name_rules.specs.declared.tables.Tables.{Tables}
 use Rattle.clu_name_rules.specs.Components.{components_of, element_of, is_array, fields_of, fields_in}
 use Rattle.clu_name_rules.specs.Constructors as of_tables
 use Rattle.clu_name_rules.specs.Constructors.{has_low, has_low_at, term_of, term_at, has_no_elements}
-use Rattle.clu_passes.specs.ConstantTables.{file_with, AreTables, IsKnown}
+use Rattle.clu_passes.specs.ConstantTables.{file_with, AreTables, IsKnown, IsWantedKnown}
 use Rattle.clu_passes.specs.Constructed.{IsTyped, HasEachOnce}
 use Rattle.clu_passes.specs.Counting.{names_of_fields}
 use Rattle.clu_passes.specs.Notes.{has, HaveParents, DeclareModules, AreRepeated}
@@ -180,8 +180,8 @@ module _ (t : Tables) (scope : Scope) (library : List Specification) (refused : 
         let x : IsTerm terms k.id (type_settled scope (item f c).type) = term_of_type terms are.arena k.id (type_settled scope (item f c).type) k.less k.type in
         record { its = x.its; type = x.is; known = ap (term_of terms) k.value ∙ x.there; parts = x.parts }
 
-    wanted_at : (n : ℕ) → wanting.is_object_wanted (wants.wanted f n) ≡ bound.is_object_wanted (wanted_in t.file n)
-    wanted_at n = sym (ap wanting.is_object_wanted (are.wanted n)) ∙ object_wanted (wanted_in t.file n)
+    wanted_at : (n : ℕ) → IsWantedKnown t.file n → wanting.is_object_wanted (wants.wanted f n) ≡ bound.is_object_wanted (wanted_in t.file n)
+    wanted_at n known = sym (ap wanting.is_object_wanted (are.wanted n known)) ∙ object_wanted (wanted_in t.file n)
 
     constructor_at : (k : NodeKind) (n : ℕ) (x : There nodes n k) → checking.has_no_constructor f (item f n).expression ≡ checking.has_no_constructor f (expression_of (before n (item_at nodes)) nodes n x.node k)
     constructor_at k n x =
@@ -227,12 +227,12 @@ module _ (t : Tables) (scope : Scope) (library : List Specification) (refused : 
         ∙ ap (of_tables.has_no_constructor t items kind.Elems n) (sym kids)
 
     module _ (parents : HaveParents f) (modules : DeclareModules f) (repeated : AreRepeated f t.items.now.repeated.items) where
-      by_kind : (items : ℕ → Item) (n : ℕ) → AllByRecursion (λ c. v17 f c ≡ false) (children f n) → (k : NodeKind) → kind_at nodes n ≡ k → IsTyped t k (children_in t.file n) → HasEachOnce t k (children_in t.file n) → v17_at f k n ≡ of_tables.v17_at t items k n
-      by_kind items n fine kind.FieldT is typed once = sym (items_told f parents modules t.items.now.repeated.items repeated n kind.FieldT is refl)
-      by_kind items n fine kind.FieldE is typed once = sym (items_told f parents modules t.items.now.repeated.items repeated n kind.FieldE is refl)
-      by_kind items n fine kind.Fields is typed once = ap₂ (λ (a b : Bool). a && b) (wanted_at n) (fields_is parents items n is typed once fine)
-      by_kind items n fine kind.Elems is typed once = ap₂ (λ (a b : Bool). a && b) (wanted_at n) (elements_is items n is typed)
-      by_kind items n fine _ is typed once = refl
+      by_kind : (items : ℕ → Item) (n : ℕ) → AllByRecursion (λ c. v17 f c ≡ false) (children f n) → IsWantedKnown t.file n → (k : NodeKind) → kind_at nodes n ≡ k → IsTyped t k (children_in t.file n) → HasEachOnce t k (children_in t.file n) → v17_at f k n ≡ of_tables.v17_at t items k n
+      by_kind items n fine known kind.FieldT is typed once = sym (items_told f parents modules t.items.now.repeated.items repeated n kind.FieldT is refl)
+      by_kind items n fine known kind.FieldE is typed once = sym (items_told f parents modules t.items.now.repeated.items repeated n kind.FieldE is refl)
+      by_kind items n fine known kind.Fields is typed once = ap₂ (λ (a b : Bool). a && b) (wanted_at n known) (fields_is parents items n is typed once fine)
+      by_kind items n fine known kind.Elems is typed once = ap₂ (λ (a b : Bool). a && b) (wanted_at n known) (elements_is items n is typed)
+      by_kind items n fine known _ is typed once = refl
 
-      pub v17_is : (items : ℕ → Item) (n : ℕ) → IsTyped t (kind_in t.file n) (children_in t.file n) → HasEachOnce t (kind_in t.file n) (children_in t.file n) → AllByRecursion (λ c. v17 f c ≡ false) (children f n) → v17 f n ≡ of_tables.v17 t items n
-      v17_is items n typed once fine = by_kind items n fine (kind_at nodes n) refl typed once
+      pub v17_is : (items : ℕ → Item) (n : ℕ) → IsWantedKnown t.file n → IsTyped t (kind_in t.file n) (children_in t.file n) → HasEachOnce t (kind_in t.file n) (children_in t.file n) → AllByRecursion (λ c. v17 f c ≡ false) (children f n) → v17 f n ≡ of_tables.v17 t items n
+      v17_is items n known typed once fine = by_kind items n fine known (kind_at nodes n) refl typed once

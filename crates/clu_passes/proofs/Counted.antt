@@ -167,12 +167,16 @@ module _ (f : File) (bits : List Bool) (are : AreRefused f bits) (n : ℕ) (insi
   alike false true to from = from refl
   alike false false to from = refl
 
-  counted_is : is_refused f n ≡ nat_lt (count_before bits first) (count_before bits (suc n))
-  counted_is =
-      let end : first + (suc n - first) ≡ suc n = omega (arith, ordered) in
+  pub refused_below : is_refused f n ≡ list_any (bit bits) (range_with_len first (suc n - first))
+  refused_below =
       ap (λ (ns : List ℕ). list_any (λ m. stands_below f m n) ns) are
       ∙ any_filtered (λ m. stands_below f m n) (bit bits) (range_with_len 0 (length bits))
       ∙ alike (list_any below (range_with_len 0 (length bits))) (list_any (bit bits) (range_with_len first (suc n - first))) part whole
+
+  counted_is : is_refused f n ≡ nat_lt (count_before bits first) (count_before bits (suc n))
+  counted_is =
+      let end : first + (suc n - first) ≡ suc n = omega (arith, ordered) in
+      refused_below
       ∙ any_counted bits (suc n - first) first
       ∙ ap (λ (m : ℕ). nat_lt (count_before bits first) (count_before bits m)) end
 

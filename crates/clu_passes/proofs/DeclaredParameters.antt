@@ -37,7 +37,7 @@ use Rattle.clu_passes.proofs.Joined.{AreStarts, table_size, table_at, joined_at}
 
 -- ---- lists of parameters
 
-abbrev AreTypes : List Node → List (Option ℕ) → List (Option TypeExpression) → Type 0
+abbrev pub AreTypes : List Node → List (Option ℕ) → List (Option TypeExpression) → Type 0
 AreTypes nodes [] [] = Unit {0}
 AreTypes nodes (x ∷ xs) (y ∷ ys) = IsTypeOf nodes x y × AreTypes nodes xs ys
 AreTypes nodes _ _ = ⊥
@@ -102,13 +102,13 @@ module _ (t : Text) (nodes : List Node) (rounds : List Round) (parsed : IsParsed
   -- ---- those of a module
 
   module _ (u : ℕ) (node : Node) (at : slice_get nodes u ≡ Some node) (is : node.kind ≡ kind.Module) where
-    facts : ModuleIs t nodes rounds parsed are u node
+    abbrev pub facts : ModuleIs t nodes rounds parsed are u node
     facts = module_at t nodes rounds parsed are u node at is
 
     last_is : last_child node ≡ facts.last
     last_is = ap (λ (cs : List ℕ). get_or cs (length cs - 1) 0) (sym facts.is_last) ∙ last_of (run nodes kind.Equate node.children) facts.last
 
-    headline_is : headline_at nodes u ≡ defined_in nodes (slice_get nodes facts.last)
+    pub headline_is : headline_at nodes u ≡ defined_in nodes (slice_get nodes facts.last)
     headline_is =
         ap (headline_in nodes) at
         ∙ ap (λ (k : NodeKind). if is_of kind.Module k then defined_in nodes (slice_get nodes (last_child node)) else None) is
@@ -123,7 +123,7 @@ module _ (t : Text) (nodes : List Node) (rounds : List Round) (parsed : IsParsed
           (subst (λ (ps : List Parameter). AreTypes nodes (of_parms nodes (run nodes kind.Parm th.node.children)) (types_in ps)) (sym (its ∙ e))
           (parms_types facts.last (run nodes kind.Parm th.node.children) (run_kinds nodes kind.Parm facts.last th.node.children (children_before nodes parsed.tree facts.last th.node th.at))))
 
-    unit_types : AreTypes nodes (of_unit nodes u) (types_in (parameters_in (item_at nodes u).module_))
+    pub unit_types : AreTypes nodes (of_unit nodes u) (types_in (parameters_in (item_at nodes u).module_))
     unit_types = elim facts.defines [
       | inl d ↦
           (let th : There nodes facts.last kind.Routine = there nodes facts.last kind.Routine refl d.0 in
@@ -142,7 +142,7 @@ module _ (t : Text) (r : Read) (parsed : IsParsed t r.syntax.now) (are : AreRoun
     at = λ n l. ap (λ (xs : List ℕ). slice_get xs n) tables.parameters.starts ∙ table_at (λ n. length (joined_to (of_unit r.syntax.now) n)) (length r.syntax.now) n l;
   }
 
-  of_node : (u : ℕ) → u < length r.syntax.now → items_at r.bindings.now.parameters.declared.items r.bindings.now.parameters.starts.items u ≡ of_unit r.syntax.now u
+  pub of_node : (u : ℕ) → u < length r.syntax.now → items_at r.bindings.now.parameters.declared.items r.bindings.now.parameters.starts.items u ≡ of_unit r.syntax.now u
   of_node u l =
       ap (λ (xs : List (Option ℕ)). items_at xs r.bindings.now.parameters.starts.items u) tables.parameters.declared
       ∙ joined_at (of_unit r.syntax.now) r.bindings.now.parameters.starts.items (length r.syntax.now) u starts l

@@ -34,7 +34,7 @@ use Rattle.clu_passes.specs.ConstantTables.{Means, is_equated, file_with}
 use Rattle.clu_passes.specs.Tables.{AreNames}
 use Rattle.clu_passes.proofs.NamesMean.{found_means}
 
-abbrev is_equate : Meaning → Bool
+abbrev pub is_equate : Meaning → Bool
 is_equate (meant.Equate c) = true
 is_equate meant.TypeSet = true
 is_equate _ = false
@@ -135,7 +135,7 @@ module _ (t : Text) (r : Read) (library : List Specification) (refused : List �
   some_if true n = refl
   some_if false n = refl
 
-  at_node : (number : ℕ) (d : Declared) (its : Option Node) → slice_get r.syntax.now d.node ≡ its → is_equate (table.declared_at r.syntax.now r.rounds.now (named r.bindings.now.modules) r.bindings.now.parameters.counts.items number (Some d)) ≡ is_of kind.Equate (kind_at r.syntax.now d.node)
+  pub at_node : (number : ℕ) (d : Declared) (its : Option Node) → slice_get r.syntax.now d.node ≡ its → is_equate (table.declared_at r.syntax.now r.rounds.now (named r.bindings.now.modules) r.bindings.now.parameters.counts.items number (Some d)) ≡ is_of kind.Equate (kind_at r.syntax.now d.node)
   at_node number d None at =
       ap (λ (o : Option Node). is_equate (table.declared_in r.syntax.now r.rounds.now (named r.bindings.now.modules) r.bindings.now.parameters.counts.items (kind_of o) (children_of o) d number)) at
       ∙ sym (ap (λ (o : Option Node). is_of kind.Equate (kind_of o)) at)

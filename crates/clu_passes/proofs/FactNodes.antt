@@ -25,7 +25,7 @@ use Rattle.clu_type_rules.specs.declared.known.Known.{Known}
 use Rattle.clu_type_rules.specs.Known.{term_of, type_at, wanted_in, is_other_than_bool, is_iterator, tags_in}
 use Rattle.clu_type_rules.specs.InvocationRules as of_tables
 use Rattle.clu_type_rules.specs.StatementRules.{is_no_condition}
-use Rattle.clu_passes.specs.ConstantTables.{file_with, wanted_told, AreTables}
+use Rattle.clu_passes.specs.ConstantTables.{file_with, wanted_told, AreTables, IsWantedKnown}
 use Rattle.clu_passes.specs.FactTables.{typed, IsType, AreFacts}
 use Rattle.clu_passes.proofs.FactTypes.{IsTerm, term_of_type, bool_same, iterator_same, tags_same}
 
@@ -70,11 +70,11 @@ module _ (k : Known) (scope : Scope) (library : List Specification) (refused : L
   an_expression c e = ap (λ (b : Bool). if◌then◌else◌ {A = Option CluType} b (checking.type_of f (item f c).expression) None) e
 
   module _ (are : AreTables f k.tables) where
-    pub object_wanted_at : (n : ℕ) → wanting.is_object_wanted (wants.wanted f n) ≡ bound.is_object_wanted (wanted_in k n)
-    object_wanted_at n = sym (ap wanting.is_object_wanted (are.wanted n)) ∙ object_wanted (wanted_in k n)
+    pub object_wanted_at : (n : ℕ) → IsWantedKnown k.tables.file n → wanting.is_object_wanted (wants.wanted f n) ≡ bound.is_object_wanted (wanted_in k n)
+    object_wanted_at n known = sym (ap wanting.is_object_wanted (are.wanted n known)) ∙ object_wanted (wanted_in k n)
 
-    pub loop_wanted_at : (n : ℕ) → expressions.is_loop_call (wants.wanted f n) ≡ of_tables.is_loop_call (wanted_in k n)
-    loop_wanted_at n = sym (ap expressions.is_loop_call (are.wanted n)) ∙ loop_wanted (wanted_in k n)
+    pub loop_wanted_at : (n : ℕ) → IsWantedKnown k.tables.file n → expressions.is_loop_call (wants.wanted f n) ≡ of_tables.is_loop_call (wanted_in k n)
+    loop_wanted_at n known = sym (ap expressions.is_loop_call (are.wanted n known)) ∙ loop_wanted (wanted_in k n)
 
     abbrev terms : List Term
     terms = k.tables.types.now

@@ -24,7 +24,7 @@ use Rattle.clu_settle.specs.declared.value.Value.{Value}
 use Rattle.clu_settle.specs.declared.value.Value.TheVariants as value
 use Rattle.clu_settle.specs.Graph.{if_used}
 use Rattle.clu_settle.specs.Lists.{value_of}
-use Rattle.clu_settle.specs.Lost.{is_source, is_lost_word, is_too_large, right_side, made_from, is_lost_in, is_lost}
+use Rattle.clu_settle.specs.Lost.{is_source, is_lost_word, is_too_large, right_side, made_from, is_lost_in, IsLost}
 use Rattle.clu_settle.specs.Meant as meant
 use Rattle.clu_settle.specs.Names.{meaning_in}
 use Rattle.clu_declares.proofs.Each.{meaning_there}
@@ -59,7 +59,7 @@ module _ (f : File) (shaped : HaveForms f.nodes) (tree : IsTree f.nodes) (values
   abbrev meanings : List Meaning
   meanings = meant.meanings_of f.nodes f.rounds f.scope.declarations
 
-  pub found_strings : ((n : ℕ) → n < length f.nodes → value_of values n ≡ value.Lost → is_lost f.nodes meanings n ≡ true) → AreFoundStrings f values
+  pub found_strings : ((n : ℕ) → n < length f.nodes → value_of values n ≡ value.Lost → IsLost f.nodes meanings n) → AreFoundStrings f values
   found_strings lost n node text at is e missing =
       let inside : n < length f.nodes = slice_get_within f.nodes n node at in
       let source : is_source (slice_get f.nodes n) ≡ false = ap is_source at ∙ ap (λ (k : NodeKind). is_lost_word k node.value) is ∙ ap is_too_large e in
@@ -68,4 +68,4 @@ module _ (f : File) (shaped : HaveForms f.nodes) (tree : IsTree f.nodes) (values
       ap meaning_in (meaning_there f.nodes f.rounds f.scope.declarations n inside)
       ∙ ap (λ (k : NodeKind). meant.first_of f.nodes f.scope.declarations (meant.declared_to f.nodes f.rounds f.scope.declarations (length f.scope.declarations)) (if_used k (bound_at f.scope.declarations n (slice_get f.nodes n)))) (ap kind_of at ∙ is) in
       let made : made_from f.nodes meanings n ≡ [] = ap (λ (cs : List ℕ). cs ++ right_side (meaning_in (slice_get meanings n))) below ∙ ap right_side means in
-      true≢false (sym (lost n inside (sym (value_same values n) ∙ missing)) ∙ found_with f.nodes meanings (length f.nodes) n inside source made)
+      true≢false (sym (lost n inside (sym (value_same values n) ∙ missing) (length f.nodes)) ∙ found_with f.nodes meanings (length f.nodes) n inside source made)

@@ -35,7 +35,7 @@ use Rattle.clu_type_rules.specs.Known.{term_of, type_at, is_iterator, first_type
 use Rattle.clu_type_rules.specs.StatementRules.{call_in, invoked_at, loops_over_other}
 use Rattle.clu_type_rules.specs.InvocationRules as of_tables
 use Rattle.clu_type_rules.specs.InvocationRules.{some_has_fault, misuses_iterator}
-use Rattle.clu_passes.specs.ConstantTables.{AreTables}
+use Rattle.clu_passes.specs.ConstantTables.{AreTables, AreWantedKnown}
 use Rattle.clu_passes.specs.FactTables.{typed, AreFacts}
 use Rattle.clu_passes.proofs.FactNodes as so
 use Rattle.clu_passes.proofs.OwnPlaces.{there_is}
@@ -142,13 +142,13 @@ module _ (k : Known) (scope : Scope) (library : List Specification) (refused : L
         ∙ behind n x.node.names (run nodes kind.Decl x.node.children) (after_run nodes kind.Decl x.node.children) (behind_decls n x) (all_drop (λ c. lost c ≡ false) (leading nodes kind.Decl x.node.children) x.node.children all)
         ∙ ap (λ (o : Option ℕ). other (invoked_at k o)) (sym call)
 
-    misused : (n : ℕ) → lost n ≡ false → (not (is_loop_call (wants.wanted f n)) && list_any invokes_iterator (invoking.invocations f n)) ≡ (not (of_tables.is_loop_call (wanted_in k n)) && some_has_fault k fault.Iterator n)
-    misused n here =
-        ap₂ (λ (a b : Bool). not a && b) (so.loop_wanted_at k scope library refused are n) (iterators_are f k are.arena lost facts n here)
+    misused : AreWantedKnown k.tables.file lost → (n : ℕ) → lost n ≡ false → (not (is_loop_call (wants.wanted f n)) && list_any invokes_iterator (invoking.invocations f n)) ≡ (not (of_tables.is_loop_call (wanted_in k n)) && some_has_fault k fault.Iterator n)
+    misused wanted n here =
+        ap₂ (λ (a b : Bool). not a && b) (so.loop_wanted_at k scope library refused are n (wanted n here)) (iterators_are f k are.arena lost facts n here)
 
-    by_kind : (n : ℕ) → lost n ≡ false → (its : NodeKind) → kind_at nodes n ≡ its → v36_in f its n ≡ misuses_iterator k its n
-    by_kind n here kind.For is = for_is n is here
-    by_kind n here _ is = misused n here
+    by_kind : AreWantedKnown k.tables.file lost → (n : ℕ) → lost n ≡ false → (its : NodeKind) → kind_at nodes n ≡ its → v36_in f its n ≡ misuses_iterator k its n
+    by_kind wanted n here kind.For is = for_is n is here
+    by_kind wanted n here _ is = misused wanted n here
 
-    pub v36_is : (n : ℕ) → lost n ≡ false → v36 f n ≡ misuses_iterator k (known.kind_in k n) n
-    v36_is n here = by_kind n here (kind_at nodes n) refl
+    pub v36_is : AreWantedKnown k.tables.file lost → (n : ℕ) → lost n ≡ false → v36 f n ≡ misuses_iterator k (known.kind_in k n) n
+    v36_is wanted n here = by_kind wanted n here (kind_at nodes n) refl

@@ -45,7 +45,7 @@ use Rattle.clu_type_rules.specs.Known as known
 use Rattle.clu_type_rules.specs.Known.{type_at, term_of, first_type, wanted_in}
 use Rattle.clu_type_rules.specs.Constructors as of_tables
 use Rattle.clu_type_rules.specs.Constructors.{is_int, is_other_than_int, component_fits, element_fits, some_component_misfits, some_element_misfits, has_misfit, is_misfit}
-use Rattle.clu_passes.specs.ConstantTables.{AreTables, IsKnown}
+use Rattle.clu_passes.specs.ConstantTables.{AreTables, AreWantedKnown, IsKnown}
 use Rattle.clu_passes.specs.Constructed.{IsTyped}
 use Rattle.clu_passes.specs.FactTables.{typed, IsType, AreFacts}
 use Rattle.clu_passes.proofs.Constructed.{TermKnown, term_known, whole_run}
@@ -305,19 +305,19 @@ module _ (k : Known) (scope : Scope) (library : List Specification) (refused : L
     quiet n kind.Elems other = absurd (true≢false other)
     quiet n _ other = refl
 
-    by_kind : (others : ℕ → Item) (n : ℕ) → lost n ≡ false → (j : NodeKind) → kind_at nodes n ≡ j → is_constructor j ≡ true → IsTyped k.tables j (known.children k n) →
+    by_kind : AreWantedKnown k.tables.file lost → (others : ℕ → Item) (n : ℕ) → lost n ≡ false → (j : NodeKind) → kind_at nodes n ≡ j → is_constructor j ≡ true → IsTyped k.tables j (known.children k n) →
         checking.is_misfit f j n ≡ (bound.is_object_wanted (wanted_in k n) && has_misfit k others j n (known.children k n))
-    by_kind others n here kind.Fields is such typed_first = ap₂ (λ (a b : Bool). a && b) (so.object_wanted_at k scope library refused are n) (in_fields others n is here typed_first)
-    by_kind others n here kind.Elems is such typed_first = ap₂ (λ (a b : Bool). a && b) (so.object_wanted_at k scope library refused are n) (in_elements others n is here typed_first)
-    by_kind others n here _ is such typed_first = absurd (true≢false (sym such))
+    by_kind wanted others n here kind.Fields is such typed_first = ap₂ (λ (a b : Bool). a && b) (so.object_wanted_at k scope library refused are n (wanted n here)) (in_fields others n is here typed_first)
+    by_kind wanted others n here kind.Elems is such typed_first = ap₂ (λ (a b : Bool). a && b) (so.object_wanted_at k scope library refused are n (wanted n here)) (in_elements others n is here typed_first)
+    by_kind wanted others n here _ is such typed_first = absurd (true≢false (sym such))
 
-    misfit_is : (others : ℕ → Item) (n : ℕ) → lost n ≡ false → (j : NodeKind) → kind_at nodes n ≡ j → IsTyped k.tables j (known.children k n) → (such : Bool) → is_constructor j ≡ such →
+    misfit_is : AreWantedKnown k.tables.file lost → (others : ℕ → Item) (n : ℕ) → lost n ≡ false → (j : NodeKind) → kind_at nodes n ≡ j → IsTyped k.tables j (known.children k n) → (such : Bool) → is_constructor j ≡ such →
         checking.is_misfit f j n ≡ (bound.is_object_wanted (wanted_in k n) && has_misfit k others j n (known.children k n))
-    misfit_is others n here j is typed_first true e = by_kind others n here j is e typed_first
-    misfit_is others n here j is typed_first false e =
+    misfit_is wanted others n here j is typed_first true e = by_kind wanted others n here j is e typed_first
+    misfit_is wanted others n here j is typed_first false e =
         quiet n j e
         ∙ sym (ap (λ (b : Bool). bound.is_object_wanted (wanted_in k n) && b) (none_misfit others j n e (known.children k n)) ∙ and_none (bound.is_object_wanted (wanted_in k n)))
 
-    pub v13_is : (others : ℕ → Item) (n : ℕ) → lost n ≡ false → IsTyped k.tables (known.kind_in k n) (known.children k n) → v13 f n ≡ of_tables.v13 k others n
-    v13_is others n here typed_first =
-        ap₂ (λ (a b : Bool). a || b) (types_are f k are.arena lost facts n here) (misfit_is others n here (kind_at nodes n) refl typed_first (is_constructor (kind_at nodes n)) refl)
+    pub v13_is : AreWantedKnown k.tables.file lost → (others : ℕ → Item) (n : ℕ) → lost n ≡ false → IsTyped k.tables (known.kind_in k n) (known.children k n) → v13 f n ≡ of_tables.v13 k others n
+    v13_is wanted others n here typed_first =
+        ap₂ (λ (a b : Bool). a || b) (types_are f k are.arena lost facts n here) (misfit_is wanted others n here (kind_at nodes n) refl typed_first (is_constructor (kind_at nodes n)) refl)

@@ -1,6 +1,6 @@
--- Places of declarations: what a name denotes is one of them, and each Equate declares one. This is of names alone, and its
+-- Places of declarations: what a name denotes is one of them, and each Equate and each Decl declares one. This is of names alone, and its
 -- place is `clu_names`.
-use Rattle.std.proofs.Common.{◌≡◌, ℕ, zero, suc, ◌+◌, ◌<◌, Bool, true, false, ◌&&◌, if◌then◌else◌, List, [], ◌∷◌, ◌++◌, length, Option, Some, None, inl, inr, refl, sym, subst, arith}
+use Rattle.std.proofs.Common.{◌≡◌, ℕ, zero, suc, ◌+◌, ◌<◌, ◌≤◌, Bool, true, false, ◌&&◌, if◌then◌else◌, List, [], ◌∷◌, ◌++◌, length, Option, Some, None, inl, inr, refl, sym, subst, arith}
 use Rattle.std.specs.Prelude.{slice_get}
 use Rattle.std.proofs.lemmas.Bool.{cases_eq}
 use Rattle.std.proofs.lemmas.Option.{none-some, slice_get_within, same_Some}
@@ -10,7 +10,7 @@ use Rattle.clu_tree.specs.declared.node.NodeKind.TheVariants as kind
 use Rattle.clu_syntax.specs.declared.round.Round.{Round}
 use Rattle.clu_syntax.specs.Rounds.{round_at}
 use Rattle.clu_names.specs.declared.scopes.Declared.{Declared}
-use Rattle.clu_names.specs.Scopes.{node_at, kind_at_parent, scope_of, equate_names, own_names, declared_as, own_at, module_at, variable_of, declared_at, declared_to, declarations}
+use Rattle.clu_names.specs.Scopes.{node_at, kind_at_parent, decl_scope, scope_of, equate_names, own_names, declared_as, own_at, module_at, variable_of, declared_at, declared_to, declarations}
 use Rattle.clu_names.specs.Denotes.{is_open, rank, outranks, best_from, place_of, found}
 
 -- ---- what a name denotes
@@ -33,7 +33,7 @@ found_inside ds name n p e =
     let less : p < 0 + length ds = best_inside (is_open name n) ds None 0 p (λ q is. absurd (none-some q is)) e in
     omega (arith, less)
 
--- ---- what an Equate declares
+-- ---- what an Equate or a Decl declares
 
 pub record Declares (ds : List Declared) (n : ℕ) : Type 0 where
   pub place : ℕ
@@ -62,23 +62,38 @@ own_one outer k n node round is =
     subst (λ (k : NodeKind). Declares (declared_as n round.unit (scope_of k outer n round) (own_names k node)) n) (sym is)
     (named_one n round.unit (round.body_first, round.body_last) node.names node.value)
 
-module _ (nodes : List Node) (rounds : List Round) (n : ℕ) (node : Node) (there : slice_get nodes n ≡ Some node) (is : node.kind ≡ kind.Equate) where
+named_some : (n : ℕ) (unit : Option ℕ) (scope : ℕ × ℕ) (names : List (List ℕ)) → 1 ≤ length names → Declares (declared_as n unit (Some scope) names) n
+named_some n unit scope [] some = absurd (omega (arith, some))
+named_some n unit scope (name ∷ names) some = record { place = 0; its = record { name = name; node = n; from = scope.0; to = scope.1; unit = unit }; there = refl; declares = refl }
+
+own_some : (outer k : NodeKind) (n : ℕ) (node : Node) (round : Round) → k ≡ kind.Decl → 1 ≤ length node.names → Declares (declared_as n round.unit (scope_of k outer n round) (own_names k node)) n
+own_some outer k n node round is some =
+    subst (λ (k : NodeKind). Declares (declared_as n round.unit (scope_of k outer n round) (own_names k node)) n) (sym is)
+    (named_some n round.unit (decl_scope outer n round) node.names some)
+
+module _ (nodes : List Node) (rounds : List Round) (n : ℕ) (node : Node) (there : slice_get nodes n ≡ Some node) where
   abbrev round : Round
   round = round_at rounds n
 
-  one_there : Declares (declared_at nodes rounds n (slice_get nodes n)) n
-  one_there = subst (λ (its : Option Node). Declares (declared_at nodes rounds n its) n) (sym there)
-      (in_left (variable_of n node.kind round round.parent (node_at nodes round.parent) ++ own_at (kind_at_parent nodes round.parent) n node round) (module_at (kind_at_parent nodes round.parent) n node) n
-      (in_right (variable_of n node.kind round round.parent (node_at nodes round.parent)) (own_at (kind_at_parent nodes round.parent) n node round) n
-      (own_one (kind_at_parent nodes round.parent) node.kind n node round is)))
+  module _ (own : Declares (own_at (kind_at_parent nodes round.parent) n node round) n) where
+    one_there : Declares (declared_at nodes rounds n (slice_get nodes n)) n
+    one_there = subst (λ (its : Option Node). Declares (declared_at nodes rounds n its) n) (sym there)
+        (in_left (variable_of n node.kind round round.parent (node_at nodes round.parent) ++ own_at (kind_at_parent nodes round.parent) n node round) (module_at (kind_at_parent nodes round.parent) n node) n
+        (in_right (variable_of n node.kind round round.parent (node_at nodes round.parent)) (own_at (kind_at_parent nodes round.parent) n node round) n own))
 
-  one_before : (m : ℕ) → n < m → Declares (declared_to nodes rounds m) n
-  unfolding declared_to
-  one_before zero less = absurd (omega (arith, less))
-  one_before (suc m) less = elim (cases_eq n m) [
-    | inl same ↦ in_right (declared_to nodes rounds m) (declared_at nodes rounds m (slice_get nodes m)) n (subst (λ (i : ℕ). Declares (declared_at nodes rounds i (slice_get nodes i)) n) same one_there)
-    | inr apart ↦ in_left (declared_to nodes rounds m) (declared_at nodes rounds m (slice_get nodes m)) n (one_before m (omega (arith, less, apart)))
-  ]
+    one_before : (m : ℕ) → n < m → Declares (declared_to nodes rounds m) n
+    unfolding declared_to
+    one_before zero less = absurd (omega (arith, less))
+    one_before (suc m) less = elim (cases_eq n m) [
+      | inl same ↦ in_right (declared_to nodes rounds m) (declared_at nodes rounds m (slice_get nodes m)) n (subst (λ (i : ℕ). Declares (declared_at nodes rounds i (slice_get nodes i)) n) same one_there)
+      | inr apart ↦ in_left (declared_to nodes rounds m) (declared_at nodes rounds m (slice_get nodes m)) n (one_before m (omega (arith, less, apart)))
+    ]
 
-  pub equate_declares : Declares (declarations nodes rounds) n
-  equate_declares = one_before (length nodes) (slice_get_within nodes n node there)
+    by_own : Declares (declarations nodes rounds) n
+    by_own = one_before (length nodes) (slice_get_within nodes n node there)
+
+  pub equate_declares : node.kind ≡ kind.Equate → Declares (declarations nodes rounds) n
+  equate_declares is = by_own (own_one (kind_at_parent nodes round.parent) node.kind n node round is)
+
+  pub decl_declares : node.kind ≡ kind.Decl → 1 ≤ length node.names → Declares (declarations nodes rounds) n
+  decl_declares is some = by_own (own_some (kind_at_parent nodes round.parent) node.kind n node round is some)

@@ -56,7 +56,7 @@ use Rattle.clu_type_rules.specs.Bindings as of_tables
 use Rattle.clu_type_rules.specs.Bindings.{meanings, binding_at}
 use Rattle.clu_type_rules.specs.ResultRules as results
 use Rattle.clu_passes.specs.Bound.{TellModules, IsNameKnown, AreTargets}
-use Rattle.clu_passes.specs.ConstantTables.{Means, IsMeant, IsKnown, IsEquateKnown, wanted_told, AreTables}
+use Rattle.clu_passes.specs.ConstantTables.{Means, IsMeant, IsKnown, IsEquateKnown, IsWantedKnown, AreBracketsKnown, wanted_told, AreTables}
 use Rattle.clu_passes.specs.FactTables.{AreFacts}
 use Rattle.clu_passes.proofs.Bound.{IsBound, bound_is}
 use Rattle.clu_passes.proofs.BoundParts.{each_length}
@@ -171,18 +171,18 @@ module _ (k : Known) (scope : Scope) (library : List Specification) (refused : L
         no_object n (first_name_at f n) (meaning_in r n) (meaning f n (first_name_at f n)) here mean.means mean.routine
         (ap (λ (o : Option ℕ). is_some (set_at r o)) place ∙ are.sets n (first_name_at f n))
 
-    wanted_above : (o : Option ℕ) → checking.is_object_wanted_at f o ≡ results.is_object_wanted_at r o
-    wanted_above None = refl
-    wanted_above (Some p) = so.object_wanted_at k scope library refused are p
+    wanted_above : (o : Option ℕ) → ((p : ℕ) → o ≡ Some p → IsWantedKnown r p) → checking.is_object_wanted_at f o ≡ results.is_object_wanted_at r o
+    wanted_above None above = refl
+    wanted_above (Some p) above = so.object_wanted_at k scope library refused are p (above p refl)
 
-    name_is : (n : ℕ) → kind_at nodes n ≡ kind.Name → IsEquateKnown r (meaning_in r n) → (w : WantedThere) → checking.is_type_before_index f (wanted_told w) n ≡ results.is_no_object_name r w n
-    name_is n is here wanted.NameWithActuals = ap₂ (λ (a b : Bool). a && not b) (wanted_above (parent f n)) (sym (modules n is))
-    name_is n is here wanted.Object = no_object_name n is here
-    name_is n is here wanted.Objects = no_object_name n is here
-    name_is n is here wanted.LoopCall = no_object_name n is here
-    name_is n is here wanted.Constant = refl
-    name_is n is here wanted.Type = refl
-    name_is n is here wanted.Nothing = refl
+    name_is : (n : ℕ) → AreBracketsKnown r n → kind_at nodes n ≡ kind.Name → IsEquateKnown r (meaning_in r n) → (w : WantedThere) → checking.is_type_before_index f (wanted_told w) n ≡ results.is_no_object_name r w n
+    name_is n brackets is here wanted.NameWithActuals = ap₂ (λ (a b : Bool). a && not b) (wanted_above (parent f n) brackets.above) (sym (modules n is))
+    name_is n brackets is here wanted.Object = no_object_name n is here
+    name_is n brackets is here wanted.Objects = no_object_name n is here
+    name_is n brackets is here wanted.LoopCall = no_object_name n is here
+    name_is n brackets is here wanted.Constant = refl
+    name_is n brackets is here wanted.Type = refl
+    name_is n brackets is here wanted.Nothing = refl
 
     -- ---- brackets
 
@@ -193,11 +193,11 @@ module _ (k : Known) (scope : Scope) (library : List Specification) (refused : L
 
     bracketed : (n c : ℕ) (cs : Constants) → IsEquateKnown r (meaning_in r c) → at_nodes.AName k.tables scope library refused c ⊎ at_nodes.NoName k.tables scope library refused c → checking.is_no_object_index f (an_index n (item f c).expression cs) ≡ (read.takes_actuals r c && results.names_no_object r c)
     bracketed n c cs here (inl x) =
-        let takes : read.takes_actuals r c ≡ typing.takes_actuals f c (first_name_at f c) = are.takers c ∙ ap (λ (b : Bool). b && typing.takes_actuals f c (first_name_at f c)) x.is in
+        let takes : read.takes_actuals r c ≡ typing.takes_actuals f c (first_name_at f c) = are.takers c here ∙ ap (λ (b : Bool). b && typing.takes_actuals f c (first_name_at f c)) x.is in
         ap (λ (e : Expression). checking.is_no_object_index f (an_index n e cs)) x.expression
         ∙ ap₂ (λ (a b : Bool). a && b) (sym takes) (no_object_name c (same_kind kind.Name (kind_at nodes c) x.is) here)
     bracketed n c cs here (inr x) =
-        let takes : read.takes_actuals r c ≡ false = are.takers c ∙ ap (λ (b : Bool). b && typing.takes_actuals f c (first_name_at f c)) x.is in
+        let takes : read.takes_actuals r c ≡ false = are.takers c here ∙ ap (λ (b : Bool). b && typing.takes_actuals f c (first_name_at f c)) x.is in
         no_name_index n (item f c).expression cs x.expression
         ∙ ap (λ (b : Bool). b && results.names_no_object r c) (sym takes)
 
@@ -224,26 +224,26 @@ module _ (k : Known) (scope : Scope) (library : List Specification) (refused : L
     none_by n kind.Index other = absurd (true≢false other)
     none_by n _ other = refl
 
-    no_object_at : (n : ℕ) (j : NodeKind) → kind_at nodes n ≡ j → IsNameKnown r j n (known.children k n) → (b : Bool) → is_named j ≡ b → checking.is_no_object f j n ≡ results.is_no_object r j n
-    no_object_at n j is here false e = no_object_by n j e ∙ ap (λ (b : Bool). is_type j && b) (wanted_above (Some n)) ∙ sym (none_by n j e)
-    no_object_at n j is here true e = by j is here e
+    no_object_at : (n : ℕ) → AreBracketsKnown r n → (j : NodeKind) → kind_at nodes n ≡ j → IsNameKnown r j n (known.children k n) → (b : Bool) → is_named j ≡ b → checking.is_no_object f j n ≡ results.is_no_object r j n
+    no_object_at n brackets j is here false e = no_object_by n j e ∙ ap (λ (b : Bool). is_type j && b) (so.object_wanted_at k scope library refused are n brackets.round) ∙ sym (none_by n j e)
+    no_object_at n brackets j is here true e = by j is here e
       where
         by : (j : NodeKind) → kind_at nodes n ≡ j → IsNameKnown r j n (known.children k n) → is_named j ≡ true → checking.is_no_object f j n ≡ results.is_no_object r j n
-        by kind.Name is here e = ap (λ (w : wants.Wanted). checking.is_type_before_index f w n) (sym (are.wanted n)) ∙ name_is n is here (wanted_in k n)
-        by kind.Index is here e = ap₂ (λ (a b : Bool). a && b) (wanted_above (Some n)) (index_is n is here)
+        by kind.Name is here e = ap (λ (w : wants.Wanted). checking.is_type_before_index f w n) (sym (are.wanted n brackets.round)) ∙ name_is n brackets is here (wanted_in k n)
+        by kind.Index is here e = ap₂ (λ (a b : Bool). a && b) (so.object_wanted_at k scope library refused are n brackets.round) (index_is n is here)
         by _ is here e = absurd (true≢false (sym e))
 
     -- ---- the rule
 
-    one_result : (n : ℕ) → lost n ≡ false → checking.has_no_one_result f n ≡ results.has_no_one_result k n
-    one_result n here =
+    one_result : (n : ℕ) → IsWantedKnown r n → lost n ≡ false → checking.has_no_one_result f n ≡ results.has_no_one_result k n
+    one_result n round here =
         ap₂ (λ (a b : Bool). a && b)
-        (ap (checking.is_one_wanted (kind_at nodes n)) (sym (are.wanted n)) ∙ one_wanted (wanted_in k n) (kind_at nodes n))
+        (ap (checking.is_one_wanted (kind_at nodes n)) (sym (are.wanted n round)) ∙ one_wanted (wanted_in k n) (kind_at nodes n))
         (results_are f k are.arena lost facts n here)
 
-    pub v14_is : AreTargets f k → (others : ℕ → Item) (n : ℕ) → lost n ≡ false → IsNameKnown r (known.kind_in k n) n (known.children k n) → v14 f n ≡ results.has_other_number k others n
-    v14_is targets others n here known_so =
+    pub v14_is : AreTargets f k → (others : ℕ → Item) (n : ℕ) → lost n ≡ false → IsNameKnown r (known.kind_in k n) n (known.children k n) → AreBracketsKnown r n → v14 f n ≡ results.has_other_number k others n
+    v14_is targets others n here known_so brackets =
         ap₂ (λ (a b : Bool). a || b)
-        (ap₂ (λ (a b : Bool). a || b) (one_result n here) (no_object_at n (kind_at nodes n) refl known_so (is_named (kind_at nodes n)) refl))
+        (ap₂ (λ (a b : Bool). a || b) (one_result n brackets.round here) (no_object_at n brackets (kind_at nodes n) refl known_so (is_named (kind_at nodes n)) refl))
         (numbers_are (binding_at k others (kind_at nodes n) n) (bindings_in f (kind_at nodes n) n)
         (bound_is k scope library refused shaped tree are lost facts Any (λ m. Unit {0}) others (λ n t is here. tt) (λ n m x mean known. tt) targets n here (kind_at nodes n) refl (λ assigns. all_of (meanings k n))))

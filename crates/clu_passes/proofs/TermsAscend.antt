@@ -29,7 +29,7 @@ use Rattle.clu_passes.proofs.SettledAscend.{type_settled_ascends}
 -- ---- of a term
 
 module _ (types : List CluType) where
-  sorted : (fields : List Field) → FieldsAscend (fields_at types fields) → AreAscending fields
+  pub sorted : (fields : List Field) → FieldsAscend (fields_at types fields) → AreAscending fields
   sorted [] up k d from to = absurd (omega (arith, to))
   sorted (f ∷ []) up k d from to = absurd (omega (arith, to))
   sorted (f ∷ g ∷ fields) up zero d from to = sym (after_is_before f.name g.name) ∙ up.0

@@ -2,6 +2,7 @@
 use Rattle.std.proofs.Common.{◌≡◌, ◌∙◌, ◌<◌, ℕ, Bool, true, false, ◌&&◌, ◌||◌, if◌then◌else◌, List, [], ◌∷◌, length, codes, Option, Some, None, refl, sym, ap, ap₂, eqb-true, eq-eqb}
 use Rattle.std.specs.Prelude.{◌==◌, not, is_some, is_none}
 use Rattle.std.proofs.lemmas.Bool.{true≢false}
+use Rattle.std.proofs.lemmas.Option.{slice_get_within}
 use Rattle.clu_tree.specs.declared.node.Node.{Node}
 use Rattle.clu_tree.specs.declared.node.NodeKind.{NodeKind}
 use Rattle.clu_tree.specs.declared.node.NodeKind.TheVariants as kind
@@ -37,7 +38,7 @@ use Rattle.clu_type_rules.specs.Known as known
 use Rattle.clu_type_rules.specs.Known.{type_at, first_type}
 use Rattle.clu_type_rules.specs.ExpressionRules as of_tables
 use Rattle.clu_type_rules.specs.ExpressionRules.{is_up_or_down_misplaced}
-use Rattle.clu_passes.specs.ConstantTables.{AreTables}
+use Rattle.clu_passes.specs.ConstantTables.{AreTables, AreWantedKnown}
 use Rattle.clu_passes.specs.FactTables.{typed, IsType, AreFacts, AreOwnTypes}
 use Rattle.clu_passes.proofs.FactNodes as so
 use Rattle.clu_passes.proofs.Tagged.{FirstKnown, first_known}
@@ -47,7 +48,7 @@ module _ (terms : List Term) (arena : IsArena terms) where
   its id = type_in (types_of terms) id
 
   -- two types of an arena are the same just if their numbers are
-  same_numbers : (a b : TypeId) → a.0 < length terms → b.0 < length terms → same_type (its b) (its a) ≡ (a.0 == b.0)
+  pub same_numbers : (a b : TypeId) → a.0 < length terms → b.0 < length terms → same_type (its b) (its a) ≡ (a.0 == b.0)
   same_numbers a b in_a in_b = by (a.0 == b.0) refl (same_type (its b) (its a)) refl
     where
       by : (n : Bool) → (a.0 == b.0) ≡ n → (t : Bool) → same_type (its b) (its a) ≡ t → t ≡ n
@@ -99,39 +100,39 @@ module _ (k : Known) (scope : Scope) (library : List Specification) (refused : L
     own_none (Some id) None is = absurd is
     own_none (Some id) (Some t) is = refl
 
-    no_rep : (n : ℕ) → rules_of.has_no_rep f n ≡ of_tables.has_no_rep k.tables.file n
-    no_rep n =
+    no_rep : (n : ℕ) → n < length nodes → rules_of.has_no_rep f n ≡ of_tables.has_no_rep k.tables.file n
+    no_rep n less =
         ap₂ (λ (a b : Bool). a || b)
         (own_none (own_type k.tables.file n) (headings.own_type f n) (own.own n))
-        (none_is (equate_named f n (codes "rep")) ∙ ap not (sym (own.reps n)))
+        (none_is (equate_named f n (codes "rep")) ∙ ap not (sym (own.reps n less)))
 
     -- of the operand
-    operand : (n c : ℕ) → FirstKnown k scope library refused n c → (id : Option TypeId) (w : Option CluType) → IsType terms id w →
+    operand : (n c : ℕ) → n < length nodes → FirstKnown k scope library refused n c → (id : Option TypeId) (w : Option CluType) → IsType terms id w →
         (rules_of.has_no_rep f n || rules_of.is_not_of w (typing.type_of f (before n (item_at nodes) c).expression)) ≡ (of_tables.has_no_rep k.tables.file n || of_tables.is_not_of id (first_type k (known.children k n)))
-    operand n c its id w is =
-        ap₂ (λ (a b : Bool). a || b) (no_rep n)
+    operand n c less its id w is =
+        ap₂ (λ (a b : Bool). a || b) (no_rep n less)
         (ap (rules_of.is_not_of w) its.definition ∙ not_of terms are.arena id (type_at k c) w (typed f c) is its.is ∙ ap (of_tables.is_not_of id) (sym its.code))
 
-    misplaced : (n : ℕ) (kind_is : NodeKind) (x : There nodes n kind_is) (id : Option TypeId) → rules_of.is_misplaced f (expression_of (before n (item_at nodes)) nodes n x.node kind_is) ≡ (of_tables.has_no_rep k.tables.file n || of_tables.is_not_of id (first_type k (known.children k n))) → (wanting.is_object_wanted (wants.wanted f n) && rules_of.is_misplaced f (item f n).expression) ≡ of_tables.is_misplaced k n id
-    misplaced n kind_is x id e =
+    misplaced : AreWantedKnown k.tables.file lost → (n : ℕ) → lost n ≡ false → (kind_is : NodeKind) (x : There nodes n kind_is) (id : Option TypeId) → rules_of.is_misplaced f (expression_of (before n (item_at nodes)) nodes n x.node kind_is) ≡ (of_tables.has_no_rep k.tables.file n || of_tables.is_not_of id (first_type k (known.children k n))) → (wanting.is_object_wanted (wants.wanted f n) && rules_of.is_misplaced f (item f n).expression) ≡ of_tables.is_misplaced k n id
+    misplaced wanted n here kind_is x id e =
         let same : rules_of.is_misplaced f (item f n).expression ≡ (of_tables.has_no_rep k.tables.file n || of_tables.is_not_of id (first_type k (known.children k n))) =
         ap (λ (i : Item). rules_of.is_misplaced f i.expression) (item_there nodes n x.node x.at)
         ∙ ap (λ (kind_is : NodeKind). rules_of.is_misplaced f (expression_of (before n (item_at nodes)) nodes n x.node kind_is)) x.is
         ∙ e in
-        ap₂ (λ (a b : Bool). a && b) (so.object_wanted_at k scope library refused are n) same
+        ap₂ (λ (a b : Bool). a && b) (so.object_wanted_at k scope library refused are n (wanted n here)) same
 
     first_of : (n : ℕ) (kind_is : NodeKind) (x : There nodes n kind_is) → slots kind_is ≡ one is_expression ∷ [] → lost n ≡ false → FirstKnown k scope library refused n (child 0 x.node)
     first_of n kind_is x only here =
         first_known k scope library refused shaped tree are lost facts n x.node [] x.at (first_part nodes tree shaped is_expression [] n x.node x.at (ap slots x.is ∙ only)) here
 
-    by_kind : (n : ℕ) → lost n ≡ false → (kind_is : NodeKind) → kind_at nodes n ≡ kind_is → v32_at f kind_is n ≡ is_up_or_down_misplaced k kind_is n
-    by_kind n here kind.Up is =
+    by_kind : AreWantedKnown k.tables.file lost → (n : ℕ) → lost n ≡ false → (kind_is : NodeKind) → kind_at nodes n ≡ kind_is → v32_at f kind_is n ≡ is_up_or_down_misplaced k kind_is n
+    by_kind wanted n here kind.Up is =
         let x = there nodes n kind.Up refl is in
-        misplaced n kind.Up x (representation k.headed n) (operand n (child 0 x.node) (first_of n kind.Up x refl here) (representation k.headed n) (typing.representation f n) (own.represented n here))
-    by_kind n here kind.Down is =
+        misplaced wanted n here kind.Up x (representation k.headed n) (operand n (child 0 x.node) (slice_get_within nodes n x.node x.at) (first_of n kind.Up x refl here) (representation k.headed n) (typing.representation f n) (own.represented n here))
+    by_kind wanted n here kind.Down is =
         let x = there nodes n kind.Down refl is in
-        misplaced n kind.Down x (own_type k.tables.file n) (operand n (child 0 x.node) (first_of n kind.Down x refl here) (own_type k.tables.file n) (headings.own_type f n) (own.own n))
-    by_kind n here _ is = refl
+        misplaced wanted n here kind.Down x (own_type k.tables.file n) (operand n (child 0 x.node) (slice_get_within nodes n x.node x.at) (first_of n kind.Down x refl here) (own_type k.tables.file n) (headings.own_type f n) (own.own n))
+    by_kind wanted n here _ is = refl
 
-    pub v32_is : (n : ℕ) → lost n ≡ false → v32 f n ≡ is_up_or_down_misplaced k (known.kind_in k n) n
-    v32_is n here = by_kind n here (kind_at nodes n) refl
+    pub v32_is : AreWantedKnown k.tables.file lost → (n : ℕ) → lost n ≡ false → v32 f n ≡ is_up_or_down_misplaced k (known.kind_in k n) n
+    v32_is wanted n here = by_kind wanted n here (kind_at nodes n) refl

@@ -1,5 +1,5 @@
 -- What is wanted at each node is what the table says.
-use Rattle.std.proofs.Common.{◌≡◌, ◌∙◌, ◌⊎◌, ℕ, ◌<◌, ◌≤◌, ◌&&◌, ◌==◌, Bool, true, false, if◌then◌else◌, List, [], ◌∷◌, length, get_or, Option, Some, None, slice_get, refl, ap, sym, inl, inr, arith}
+use Rattle.std.proofs.Common.{◌≡◌, ◌∙◌, ◌⊎◌, ℕ, ◌<◌, ◌≤◌, ◌&&◌, ◌==◌, Bool, true, false, if◌then◌else◌, List, [], ◌∷◌, length, get_or, Option, Some, None, slice_get, refl, ap, sym, subst, inl, inr, arith}
 use Rattle.std.proofs.lemmas.Bool.{cases_Bool, cases_lt}
 use Rattle.std.proofs.lemmas.List.{get_or_past}
 use Rattle.std.proofs.lemmas.Option.{get_or_from_slice_get}
@@ -9,7 +9,7 @@ use Rattle.clu_syntax.specs.declared.round.Round.{Round}
 use Rattle.clu_syntax.specs.declared.round.Role.{Role}
 use Rattle.clu_syntax.specs.declared.round.Role.TheVariants as role
 use Rattle.clu_syntax.specs.Rounds.{AreRounds, round_at, outside}
-use Rattle.clu_syntax.specs.Kinds.{kind_of}
+use Rattle.clu_syntax.specs.Kinds.{kind_of, kind_at}
 use Rattle.clu_syntax.specs.Splits.{is_of, children_of}
 use Rattle.clu_meaning.specs.Scoping.{Scope}
 use Rattle.clu_checking.specs.Specifications.{Specification}
@@ -17,6 +17,7 @@ use Rattle.clu_checking.specs.Files.{File, is_kind, is_kind_at, node_children, c
 use Rattle.clu_checking.specs.Typing as typing
 use Rattle.clu_checking.specs.Wanted as wants
 use Rattle.clu_checking.specs.Wanted.{Wanted, as_role, first_name_at, begins_instance, is_first_of}
+use Rattle.clu_declares.proofs.Below.{same_kind}
 use Rattle.clu_head.specs.There.{is_there}
 use Rattle.clu_head.specs.Refused.{is_set}
 use Rattle.clu_bindings.specs.declared.file.File.{File as Read}
@@ -26,8 +27,8 @@ use Rattle.clu_bindings.specs.Tables.{table_to}
 use Rattle.clu_bindings.specs.Wanting as said
 use Rattle.clu_bindings.specs.Bindings.{AreBindings}
 use Rattle.clu_bindings.specs.Readers as read
-use Rattle.clu_bindings.specs.Readers.{wanted_in}
-use Rattle.clu_passes.specs.ConstantTables.{wanted_told, file_with}
+use Rattle.clu_bindings.specs.Readers.{meaning_in, wanted_in}
+use Rattle.clu_passes.specs.ConstantTables.{wanted_told, file_with, IsEquateKnown, IsFirstKnown, IsIndexKnownAt, IsWantedKnown}
 use Rattle.clu_passes.proofs.Joined.{table_size, table_at}
 
 role_told : (r : Role) → wanted_told (said.wanted_by_role r) ≡ as_role r
@@ -54,24 +55,24 @@ module _ (r : Read) (scope : Scope) (library : List Specification) (refused : Li
       by None e = sym (ap (λ (o : Option Node). is_of kind.Index (kind_of o)) e)
       by (Some node) e = sym (ap (λ (o : Option Node). is_of kind.Index (kind_of o)) e)
 
-  module _ (takers : (n : ℕ) → read.takes_actuals r n ≡ (is_kind f kind.Name n && typing.takes_actuals f n (first_name_at f n))) where
+  module _ (takers : (n : ℕ) → IsEquateKnown r (meaning_in r n) → read.takes_actuals r n ≡ (is_kind f kind.Name n && typing.takes_actuals f n (first_name_at f n))) where
     in_brackets : (t first : Bool) → wanted_told (if t then (if first then wanted.NameWithActuals else wanted.Constant) else wanted.Object) ≡ wants.wanted_in_brackets f t first
     in_brackets true true = refl
     in_brackets true false = refl
     in_brackets false first = refl
 
-    brackets_told : (cs : List ℕ) (n : ℕ) → wanted_told (said.wanted_in_brackets r.bindings.now.takes_actuals.items cs n) ≡ wants.wanted_in_brackets f (begins_instance f cs) (is_first_of f cs n)
-    brackets_told [] n = refl
-    brackets_told (c ∷ cs) n = in_brackets (read.takes_actuals r c) (c == n) ∙ ap (λ (t : Bool). wants.wanted_in_brackets f t (c == n)) (takers c)
+    brackets_told : (cs : List ℕ) (n : ℕ) → IsFirstKnown r cs → wanted_told (said.wanted_in_brackets r.bindings.now.takes_actuals.items cs n) ≡ wants.wanted_in_brackets f (begins_instance f cs) (is_first_of f cs n)
+    brackets_told [] n known = refl
+    brackets_told (c ∷ cs) n known = in_brackets (read.takes_actuals r c) (c == n) ∙ ap (λ (t : Bool). wants.wanted_in_brackets f t (c == n)) (takers c known)
 
-    below_told : (n : ℕ) (o : Option ℕ) → (round f n).parent ≡ o → wanted_told (said.wanted_below r.bindings.now.takes_actuals.items r.syntax.now o (round_at r.rounds.now n).role n) ≡ wants.wanted f n
-    below_told n None e =
+    below_told : (n : ℕ) (o : Option ℕ) → (round f n).parent ≡ o → IsIndexKnownAt r o → wanted_told (said.wanted_below r.bindings.now.takes_actuals.items r.syntax.now o (round_at r.rounds.now n).role n) ≡ wants.wanted f n
+    below_told n None e known =
         role_told (round_at r.rounds.now n).role ∙ sym (ap (λ (o : Option ℕ). wants.wanted_by f (is_kind_at f kind.Index o) n) e)
-    below_told n (Some p) e = elim (cases_Bool (is_kind f kind.Index p)) [
+    below_told n (Some p) e known = elim (cases_Bool (is_kind f kind.Index p)) [
       | inl hit ↦
           (ap (λ (b : Bool). wanted_told (if b then said.wanted_in_brackets r.bindings.now.takes_actuals.items (children_of (slice_get r.syntax.now p)) n else said.wanted_by_role (round_at r.rounds.now n).role)) (index_same p ∙ hit)
           ∙ ap (λ (cs : List ℕ). wanted_told (said.wanted_in_brackets r.bindings.now.takes_actuals.items cs n)) (children_same f (slice_get r.syntax.now p))
-          ∙ brackets_told (children f p) n
+          ∙ brackets_told (children f p) n (subst (IsFirstKnown r) (children_same f (slice_get r.syntax.now p)) (known (same_kind kind.Index (kind_at r.syntax.now p) hit)))
           ∙ sym (ap (λ (o : Option ℕ). wants.wanted_in_brackets f (begins_instance f (children_at f o)) (is_first_of f (children_at f o) n)) e)
           ∙ sym (ap (λ (b : Bool). wants.wanted_by f b n) (ap (is_kind_at f kind.Index) e ∙ hit)))
       | inr miss ↦
@@ -84,12 +85,12 @@ module _ (r : Read) (scope : Scope) (library : List Specification) (refused : Li
       abbrev at : ℕ → WantedThere
       at n = said.wanted_at r.bindings.now.takes_actuals.items r.syntax.now r.rounds.now n
 
-      pub wanted_said : (n : ℕ) → wanted_told (wanted_in r n) ≡ wants.wanted f n
-      wanted_said n = elim (cases_lt n (length r.syntax.now)) [
+      pub wanted_said : (n : ℕ) → IsWantedKnown r n → wanted_told (wanted_in r n) ≡ wants.wanted f n
+      wanted_said n known = elim (cases_lt n (length r.syntax.now)) [
         | inl less ↦
             (ap (λ (xs : List WantedThere). wanted_told (get_or xs n wanted.Nothing)) tables.wanted
             ∙ ap wanted_told (get_or_from_slice_get (table_to at (length r.syntax.now)) n (at n) wanted.Nothing (table_at at (length r.syntax.now) n less))
-            ∙ below_told n (round f n).parent refl)
+            ∙ below_told n (round f n).parent refl known)
         | inr past ↦
             (let size : length (table_to at (length r.syntax.now)) ≡ length r.syntax.now = table_size at (length r.syntax.now) in
             let rounds : length r.rounds.now ≡ length r.syntax.now = are.size in

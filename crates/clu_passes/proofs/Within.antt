@@ -117,7 +117,7 @@ module _ (low high n : ℕ) (round : Round) (child : NodeKind) (part : Part) (le
 
 -- ---- children between the first node of their parent and it
 
-forest_goes_on : (nodes : List Node) (from to : ℕ) (roots : List ℕ) → IsForest nodes from roots to → from ≤ to
+pub forest_goes_on : (nodes : List Node) (from to : ℕ) (roots : List ℕ) → IsForest nodes from roots to → from ≤ to
 forest_goes_on nodes from to _ (none _) = omega arith
 forest_goes_on nodes from to _ (tree _ root _ its roots at inside behind) =
     let below : from ≤ root = forest_goes_on nodes from root its.children inside in
@@ -128,14 +128,14 @@ more_in : (low least high : ℕ) (cs : List ℕ) → low ≤ least → AreIn lea
 more_in low least high [] l cs_in = tt
 more_in low least high (c ∷ cs) l cs_in = let its : least ≤ c = cs_in.0.0 in ((omega (arith, its, l), cs_in.0.1), more_in low least high cs l cs_in.1)
 
-roots_in : (nodes : List Node) (from to : ℕ) (roots : List ℕ) → IsForest nodes from roots to → AreIn from to roots
+pub roots_in : (nodes : List Node) (from to : ℕ) (roots : List ℕ) → IsForest nodes from roots to → AreIn from to roots
 roots_in nodes from to _ (none _) = tt
 roots_in nodes from to _ (tree _ root _ its roots at inside behind) =
     let below : from ≤ root = forest_goes_on nodes from root its.children inside in
     let beyond : root + 1 ≤ to = forest_goes_on nodes (root + 1) to roots behind in
     ((below, omega (arith, beyond)), more_in from (root + 1) to roots (omega (arith, below)) (roots_in nodes (root + 1) to roots behind))
 
-all_first : (rounds : List Round) (low high first : ℕ) (cs : List ℕ) → low ≤ first → AreFirst rounds first cs → AreIn low high cs → AllByRecursion (λ c. low ≤ (round_at rounds c).first) cs
+pub all_first : (rounds : List Round) (low high first : ℕ) (cs : List ℕ) → low ≤ first → AreFirst rounds first cs → AreIn low high cs → AllByRecursion (λ c. low ≤ (round_at rounds c).first) cs
 all_first rounds low high first [] l firsts cs_in = tt
 all_first rounds low high first (c ∷ cs) l firsts cs_in =
     let its : (round_at rounds c).first ≡ first = firsts.0 in

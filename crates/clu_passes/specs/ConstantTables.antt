@@ -1,5 +1,5 @@
 -- The tables that the rules on constants and types read.
-use Rattle.std.specs.Prelude.{◌≡◌, ◌<◌, ◌&&◌, ℕ, Bool, true, false, List, [], length, slice_get, is_some, if◌then◌else◌, codes, Option, Some, None}
+use Rattle.std.specs.Prelude.{◌≡◌, ◌<◌, ◌&&◌, ℕ, Bool, true, false, List, [], ◌∷◌, length, slice_get, is_some, if◌then◌else◌, codes, Option, Some, None}
 use Rattle.std.specs.List.{AllByRecursion}
 use Rattle.clu_specs.specs.Texts.{type_text}
 use Rattle.clu_specs.specs.Constants.{constant_text}
@@ -34,7 +34,7 @@ use Rattle.clu_bindings.specs.declared.meaning.Meaning.TheVariants as meant
 use Rattle.clu_bindings.specs.declared.wanted.Wanted.{Wanted as WantedThere}
 use Rattle.clu_bindings.specs.declared.wanted.Wanted.TheVariants as wanted
 use Rattle.clu_bindings.specs.Readers as read
-use Rattle.clu_bindings.specs.Readers.{value_in, wanted_in, meaning_in, module_in, kinds_in, is_routine, set_at, children_in, declared_parameter}
+use Rattle.clu_bindings.specs.Readers.{kind_in, round_in, value_in, wanted_in, meaning_in, module_in, kinds_in, is_routine, set_at, children_in, declared_parameter}
 use Rattle.clu_name_rules.specs.declared.tables.Tables.{Tables}
 use Rattle.clu_passes.specs.Marks.{AreMarks}
 use Rattle.clu_passes.specs.Tables.{AreNames}
@@ -56,13 +56,6 @@ Means nodes (meant.OwnOfRoutine t) m = m ≡ means.is_own_of_routine (item_at no
 Means nodes (meant.OwnOfCluster t) m = m ≡ means.is_own_of_cluster (item_at nodes t).type
 Means nodes meant.RoutineOfCluster m = m ≡ means.is_routine_of_cluster
 Means nodes (meant.Module its) m = m ≡ means.is_module
-
--- the table has what this name means at the node, and if it is a module, of which kinds its parameters are and whether it is
--- a routine
-pub record IsMeant (f : File) (r : Read) (n : ℕ) (name : Identifier) : Type 0 where
-  pub means : Means f.nodes (meaning_in r n) (meaning f n name)
-  pub kinds : kinds_in r (module_in r n) ≡ (if is_of_module f n name then kinds_of (specification f name) else [])
-  pub routine : is_routine r (module_in r n) ≡ is_module_routine f n name
 
 -- an equate, of a type set too
 abbrev pub is_equated : means.Meaning → Bool
@@ -97,6 +90,45 @@ abbrev pub IsEquateKnown : Read → Meaning → Type 0
 IsEquateKnown r (meant.Equate c) = IsKnown r c
 IsEquateKnown r _ = Unit {0}
 
+-- the types of the parameters of modules are known
+abbrev pub AreParametersKnown : Read → Type 0
+AreParametersKnown r = (n k c : ℕ) → declared_parameter r n k ≡ Some c → IsKnown r c
+
+-- the value of an equate that stands before the brackets of an Index is known, so it is known what stands in them
+abbrev pub IsFirstKnown : Read → List ℕ → Type 0
+IsFirstKnown r [] = Unit {0}
+IsFirstKnown r (c ∷ cs) = IsEquateKnown r (meaning_in r c)
+
+abbrev pub IsIndexKnown : Read → ℕ → Type 0
+IsIndexKnown r n = kind_in r n ≡ kind.Index → IsFirstKnown r (children_in r n)
+
+abbrev pub IsIndexKnownAt : Read → Option ℕ → Type 0
+IsIndexKnownAt r (Some n) = IsIndexKnown r n
+IsIndexKnownAt r None = Unit {0}
+
+-- so it is of the brackets in which the node stands, if it stands in some
+abbrev pub IsWantedKnown : Read → ℕ → Type 0
+IsWantedKnown r n = IsIndexKnownAt r (round_in r n).parent
+
+-- of those that it has itself, of those in which it stands, and of those in which its parent does
+pub record AreBracketsKnown (r : Read) (n : ℕ) : Type 0 where
+  pub own : IsIndexKnown r n
+  pub round : IsWantedKnown r n
+  pub above : (p : ℕ) → (round_in r n).parent ≡ Some p → IsWantedKnown r p
+
+-- of all in which nodes stand at which nothing is lost
+abbrev pub AreWantedKnown : Read → (ℕ → Bool) → Type 0
+AreWantedKnown r lost = (n : ℕ) → lost n ≡ false → IsWantedKnown r n
+
+-- ---- modules by name
+
+-- the table has what this name means at the node, and if it is a module, of which kinds its parameters are and whether it is
+-- a routine
+pub record IsMeant (f : File) (r : Read) (n : ℕ) (name : Identifier) : Type 0 where
+  pub means : Means f.nodes (meaning_in r n) (meaning f n name)
+  pub kinds : AreParametersKnown r → kinds_in r (module_in r n) ≡ (if is_of_module f n name then kinds_of (specification f name) else [])
+  pub routine : is_routine r (module_in r n) ≡ is_module_routine f n name
+
 -- ---- the tables
 
 pub record AreTables (f : File) (t : Tables) : Type 0 where
@@ -108,12 +140,12 @@ pub record AreTables (f : File) (t : Tables) : Type 0 where
   -- the first name of a Name, of a type by its name and of a Restrict, and the word `rep`
   pub named : (n : ℕ) → kind_at f.nodes n ≡ kind.Name → IsMeant f t.file n (first_name_at f n)
   pub named_types : (n : ℕ) → kind_at f.nodes n ≡ kind.NameT → IsMeant f t.file n (first_name_at f n)
-  pub restricted : (n : ℕ) → kind_at f.nodes n ≡ kind.Restrict → IsMeant f t.file n (first_name_at f n)
-  pub reps : (n : ℕ) → kind_at f.nodes n ≡ kind.Simple → is_word simple.Rep (item f n).type ≡ true → IsMeant f t.file n (codes "rep")
+  pub restricted : (n : ℕ) → kind_at f.nodes n ≡ kind.Restrict → Means f.nodes (meaning_in t.file n) (meaning f n (first_name_at f n))
+  pub reps : (n : ℕ) → kind_at f.nodes n ≡ kind.Simple → is_word simple.Rep (item f n).type ≡ true → Means f.nodes (meaning_in t.file n) (meaning f n (codes "rep"))
   pub equates : (n : ℕ) (name : Identifier) → is_some (equate_named f n name) ≡ is_equated (meaning f n name)
   pub sets : (n : ℕ) (name : Identifier) → is_some (set_at t.file (found f.scope.declarations name n)) ≡ is_set_name f n name
-  pub takers : (n : ℕ) → read.takes_actuals t.file n ≡ (is_kind f kind.Name n && typing.takes_actuals f n (first_name_at f n))
-  pub wanted : (n : ℕ) → wanted_told (wanted_in t.file n) ≡ wants.wanted f n
+  pub takers : (n : ℕ) → IsEquateKnown t.file (meaning_in t.file n) → read.takes_actuals t.file n ≡ (is_kind f kind.Name n && typing.takes_actuals f n (first_name_at f n))
+  pub wanted : (n : ℕ) → IsWantedKnown t.file n → wanted_told (wanted_in t.file n) ≡ wants.wanted f n
   pub places : (n p : ℕ) → parent f n ≡ Some p → read.place_in t.file n ≡ place_in f (children f p) n
   pub parameters : (n k : ℕ) → IsTypeOf f.nodes (declared_parameter t.file n k) (headings.declared_parameter f n k)
   -- what stands on the right side of an equate is a constant or a type set
@@ -125,9 +157,6 @@ pub record AreTables (f : File) (t : Tables) : Type 0 where
 abbrev pub AreBad : File → List Bool → (ℕ → Bool) → Type 0
 AreBad f bits bad = (e : ℕ) → is_kind f kind.Equate e ≡ true → is_set (slice_get bits e) ≡ bad e
 
--- the values of the children, and the types of the parameters of modules
+-- the values of the children are known
 abbrev pub AreChildrenKnown : Read → ℕ → Type 0
 AreChildrenKnown r n = AllByRecursion (IsKnown r) (children_in r n)
-
-abbrev pub AreParametersKnown : Read → Type 0
-AreParametersKnown r = (n k c : ℕ) → declared_parameter r n k ≡ Some c → IsKnown r c

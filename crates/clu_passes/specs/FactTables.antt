@@ -1,5 +1,5 @@
 -- What is known of the nodes of a file is so, but where something is lost.
-use Rattle.std.specs.Prelude.{◌≡◌, if◌then◌else◌, ℕ, Bool, true, false, List, [], ◌∷◌, is_some, codes, Option, Some, None}
+use Rattle.std.specs.Prelude.{◌≡◌, ◌<◌, if◌then◌else◌, ℕ, Bool, true, false, List, [], ◌∷◌, length, is_some, codes, Option, Some, None}
 use Rattle.std.specs.List.{AllByRecursion}
 use Rattle.clu_types.specs.CluType.{CluType}
 use Rattle.clu_types.specs.declared.term.TypeId.{TypeId}
@@ -63,7 +63,7 @@ pub record AreFacts (f : File) (terms : List Term) (facts : Facts) (lost : ℕ �
 -- The type of the cluster round each node, and what `rep` stands for there.
 pub record AreOwnTypes (f : File) (k : Known) (lost : ℕ → Bool) : Type 0 where
   pub own : (n : ℕ) → IsType k.tables.types.now (own_type k.tables.file n) (headings.own_type f n)
-  pub reps : (n : ℕ) → is_equate (declared_at k.tables.file (rep_at k.tables.file n)) ≡ is_some (equate_named f n (codes "rep"))
+  pub reps : (n : ℕ) → n < length f.nodes → is_equate (declared_at k.tables.file (rep_at k.tables.file n)) ≡ is_some (equate_named f n (codes "rep"))
   pub represented : (n : ℕ) → lost n ≡ false → IsType k.tables.types.now (representation k.headed n) (typing.representation f n)
 
 -- The types that the routine round a node gives, as its body sees them.

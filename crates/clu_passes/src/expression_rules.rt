@@ -22,7 +22,7 @@ ghost use Rattle.clu_name_rules.specs.Components.{is_selector_of, leaves_some};
 ghost use Rattle.clu_name_rules.specs.Constructors as of_tables;
 ghost use Rattle.clu_type_rules.specs.declared.known.Known.{Known};
 ghost use Rattle.clu_type_rules.specs.Constructors as of_facts;
-ghost use Rattle.clu_passes.specs.ConstantTables.{file_with, AreTables};
+ghost use Rattle.clu_passes.specs.ConstantTables.{file_with, AreTables, AreWantedKnown, IsWantedKnown};
 ghost use Rattle.clu_passes.specs.Constructed.{HasEachOnce, IsTyped};
 ghost use Rattle.clu_passes.specs.Counting.{names_of_fields};
 ghost use Rattle.clu_passes.specs.FactTables.{AreFacts};
@@ -40,10 +40,10 @@ pub fn tags_by_count()
 
 /// V17, where the type of a constructor is known and no selector of it stands twice, and V17 is violated at no node below.
 pub fn v17_by_tables()
-    ensures { (t : Tables) (scope : Scope) (library : List Specification) (refused : List ℕ) → HaveForms t.file.syntax.now → IsTree t.file.syntax.now → AreTables (file_with t.file scope library refused) t → HaveParents (file_with t.file scope library refused) → DeclareModules (file_with t.file scope library refused) → AreRepeated (file_with t.file scope library refused) t.items.now.repeated.items → (items : ℕ → Item) (n : ℕ) → IsTyped t (kind_in t.file n) (children_in t.file n) → HasEachOnce t (kind_in t.file n) (children_in t.file n) → AllByRecursion (λ c. v17 (file_with t.file scope library refused) c ≡ false) (children (file_with t.file scope library refused) n) → v17 (file_with t.file scope library refused) n ≡ of_tables.v17 t items n }
+    ensures { (t : Tables) (scope : Scope) (library : List Specification) (refused : List ℕ) → HaveForms t.file.syntax.now → IsTree t.file.syntax.now → AreTables (file_with t.file scope library refused) t → HaveParents (file_with t.file scope library refused) → DeclareModules (file_with t.file scope library refused) → AreRepeated (file_with t.file scope library refused) t.items.now.repeated.items → (items : ℕ → Item) (n : ℕ) → IsWantedKnown t.file n → IsTyped t (kind_in t.file n) (children_in t.file n) → HasEachOnce t (kind_in t.file n) (children_in t.file n) → AllByRecursion (λ c. v17 (file_with t.file scope library refused) c ≡ false) (children (file_with t.file scope library refused) n) → v17 (file_with t.file scope library refused) n ≡ of_tables.v17 t items n }
 {}
 
 /// V13, where the type of a constructor is known.
 pub fn v13_by_facts()
-    ensures { (k : Known) (scope : Scope) (library : List Specification) (refused : List ℕ) → HaveForms k.tables.file.syntax.now → IsTree k.tables.file.syntax.now → AreTables (file_with k.tables.file scope library refused) k.tables → (lost : ℕ → Bool) → AreFacts (file_with k.tables.file scope library refused) k.tables.types.now k.facts.now lost → (items : ℕ → Item) (n : ℕ) → lost n ≡ false → IsTyped k.tables (kind_in k.tables.file n) (children_in k.tables.file n) → v13 (file_with k.tables.file scope library refused) n ≡ of_facts.v13 k items n }
+    ensures { (k : Known) (scope : Scope) (library : List Specification) (refused : List ℕ) → HaveForms k.tables.file.syntax.now → IsTree k.tables.file.syntax.now → AreTables (file_with k.tables.file scope library refused) k.tables → (lost : ℕ → Bool) → AreFacts (file_with k.tables.file scope library refused) k.tables.types.now k.facts.now lost → AreWantedKnown k.tables.file lost → (items : ℕ → Item) (n : ℕ) → lost n ≡ false → IsTyped k.tables (kind_in k.tables.file n) (children_in k.tables.file n) → v13 (file_with k.tables.file scope library refused) n ≡ of_facts.v13 k items n }
 {}

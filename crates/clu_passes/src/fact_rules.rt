@@ -24,7 +24,7 @@ ghost use Rattle.clu_type_rules.specs.Known.{kind_in};
 ghost use Rattle.clu_type_rules.specs.ExpressionRules.{is_up_or_down_misplaced};
 ghost use Rattle.clu_type_rules.specs.InvocationRules.{lacks_operation, some_has_fault, misuses_iterator};
 ghost use Rattle.clu_type_rules.specs.StatementRules.{gives_other, has_no_condition, is_on_no_tags, results_round};
-ghost use Rattle.clu_passes.specs.ConstantTables.{file_with, AreTables};
+ghost use Rattle.clu_passes.specs.ConstantTables.{file_with, AreTables, AreWantedKnown};
 ghost use Rattle.clu_passes.specs.FactTables.{AreFacts, AreOwnTypes, AreResults};
 ghost use Rattle.clu_passes.specs.Routines.{AreParts, StandInRoutines};
 ghost use Rattle.clu_passes.specs.Notes.{AreRepeated, DeclareModules, HaveParents};
@@ -43,7 +43,7 @@ pub fn v12_by_facts()
 
 /// V16 of a tree of the grammar: of the children of an If or While the conditions alone have a type.
 pub fn v16_by_facts()
-    ensures { (k : Known) (scope : Scope) (library : List Specification) (refused : List ℕ) → HaveForms k.tables.file.syntax.now → IsTree k.tables.file.syntax.now → AreTables (file_with k.tables.file scope library refused) k.tables → (lost : ℕ → Bool) → AreFacts (file_with k.tables.file scope library refused) k.tables.types.now k.facts.now lost → (t : Text) → IsShaped t k.tables.file.syntax.now → (items : ℕ → Item) (n : ℕ) → lost n ≡ false → v16 (file_with k.tables.file scope library refused) n ≡ has_no_condition k items (kind_in k n) n }
+    ensures { (k : Known) (scope : Scope) (library : List Specification) (refused : List ℕ) → HaveForms k.tables.file.syntax.now → IsTree k.tables.file.syntax.now → AreTables (file_with k.tables.file scope library refused) k.tables → (lost : ℕ → Bool) → AreFacts (file_with k.tables.file scope library refused) k.tables.types.now k.facts.now lost → AreWantedKnown k.tables.file lost → (t : Text) → IsShaped t k.tables.file.syntax.now → (items : ℕ → Item) (n : ℕ) → lost n ≡ false → v16 (file_with k.tables.file scope library refused) n ≡ has_no_condition k items (kind_in k n) n }
 {}
 
 /// V21.
@@ -63,10 +63,10 @@ pub fn v30_by_facts()
 
 /// V32.
 pub fn v32_by_facts()
-    ensures { (k : Known) (scope : Scope) (library : List Specification) (refused : List ℕ) → HaveForms k.tables.file.syntax.now → IsTree k.tables.file.syntax.now → AreTables (file_with k.tables.file scope library refused) k.tables → (lost : ℕ → Bool) → AreFacts (file_with k.tables.file scope library refused) k.tables.types.now k.facts.now lost → AreOwnTypes (file_with k.tables.file scope library refused) k lost → (n : ℕ) → lost n ≡ false → v32 (file_with k.tables.file scope library refused) n ≡ is_up_or_down_misplaced k (kind_in k n) n }
+    ensures { (k : Known) (scope : Scope) (library : List Specification) (refused : List ℕ) → HaveForms k.tables.file.syntax.now → IsTree k.tables.file.syntax.now → AreTables (file_with k.tables.file scope library refused) k.tables → (lost : ℕ → Bool) → AreFacts (file_with k.tables.file scope library refused) k.tables.types.now k.facts.now lost → AreOwnTypes (file_with k.tables.file scope library refused) k lost → AreWantedKnown k.tables.file lost → (n : ℕ) → lost n ≡ false → v32 (file_with k.tables.file scope library refused) n ≡ is_up_or_down_misplaced k (kind_in k n) n }
 {}
 
 /// V36.
 pub fn v36_by_facts()
-    ensures { (k : Known) (scope : Scope) (library : List Specification) (refused : List ℕ) → HaveForms k.tables.file.syntax.now → IsTree k.tables.file.syntax.now → AreTables (file_with k.tables.file scope library refused) k.tables → (lost : ℕ → Bool) → AreFacts (file_with k.tables.file scope library refused) k.tables.types.now k.facts.now lost → (n : ℕ) → lost n ≡ false → v36 (file_with k.tables.file scope library refused) n ≡ misuses_iterator k (kind_in k n) n }
+    ensures { (k : Known) (scope : Scope) (library : List Specification) (refused : List ℕ) → HaveForms k.tables.file.syntax.now → IsTree k.tables.file.syntax.now → AreTables (file_with k.tables.file scope library refused) k.tables → (lost : ℕ → Bool) → AreFacts (file_with k.tables.file scope library refused) k.tables.types.now k.facts.now lost → AreWantedKnown k.tables.file lost → (n : ℕ) → lost n ≡ false → v36 (file_with k.tables.file scope library refused) n ≡ misuses_iterator k (kind_in k n) n }
 {}

@@ -13,28 +13,34 @@ ghost use Rattle.clu_tree.specs.declared.node.Node.{Node};
 ghost use Rattle.clu_tree.specs.declared.node.NodeKind.TheVariants as kind;
 ghost use Rattle.clu_tree.specs.Nodes.{IsTree};
 ghost use Rattle.clu_parser.specs.Shape.{HaveForms};
+ghost use Rattle.clu_parser.specs.Trees.{Text};
 ghost use Rattle.clu_syntax.specs.declared.round.Round.{Round};
 ghost use Rattle.clu_syntax.specs.Kinds.{is_type, kind_at};
+ghost use Rattle.clu_syntax.specs.Rounds.{AreRounds};
+ghost use Rattle.clu_syntax.specs.Splits.{first_name};
 ghost use Rattle.clu_syntax.specs.Items.{types_at as expressions_at};
 ghost use Rattle.clu_syntax.specs.Nodes.{item_at};
 ghost use Rattle.clu_syntax.specs.Syntax.{Cluster, Identifier};
 ghost use Rattle.clu_names.specs.Denotes.{found};
-ghost use Rattle.clu_meaning.specs.Scoping.{Scope, own_actuals, parameter_number};
+ghost use Rattle.clu_names.specs.Scopes.{declarations};
+ghost use Rattle.clu_meaning.specs.Scoping.{Scope, is_type_parameter, own_actuals, parameter_number};
 ghost use Rattle.clu_meaning.specs.Resolving.{Place, heading_types};
-ghost use Rattle.clu_checking.specs.Files.{File, item};
+ghost use Rattle.clu_checking.specs.Files.{File, item, meaning, names, scope_in};
 ghost use Rattle.clu_checking.specs.Specifications.{Heading, Specification};
 ghost use Rattle.clu_checking.specs.Equates.{demands_in, set_named};
 ghost use Rattle.clu_checking.specs.Headings.{heading_of, is_refused_heading, listed_demands, listed_headings, is_exported, outside_type, routines_of, for_callers, kinds_in, types_by};
 ghost use Rattle.clu_settle.specs.declared.value.Value.{Value};
+ghost use Rattle.clu_settle.specs.Parameters.{numbers_to};
 ghost use Rattle.clu_settle.specs.Settled.{AreSettled};
 ghost use Rattle.clu_settle.specs.Values.{AreWithin};
+ghost use Rattle.clu_declares.specs.Declares.{AreFew, IsParsed};
 ghost use Rattle.clu_head.specs.declared.head.Demanded.{Demanded};
 ghost use Rattle.clu_head.specs.declared.head.RoutineHead.{RoutineHead};
 ghost use Rattle.clu_head.specs.declared.known.Known.{Known};
 ghost use Rattle.clu_head.specs.declared.restricted.Restricted.{Restricted};
 ghost use Rattle.clu_head.specs.declared.routines.Named.{Named};
 ghost use Rattle.clu_head.specs.Asked.{demands_at, demands_of, demands_to, starts_to};
-ghost use Rattle.clu_head.specs.Asking.{untyped};
+ghost use Rattle.clu_head.specs.Asking.{restricted_in, untyped};
 ghost use Rattle.clu_head.specs.Listed.{listed};
 ghost use Rattle.clu_head.specs.Outside.{heading_outside, types_behind};
 ghost use Rattle.clu_head.specs.OwnTypes.{IsOwnType};
@@ -42,9 +48,10 @@ ghost use Rattle.clu_head.specs.ParameterKinds.{kinds_of};
 ghost use Rattle.clu_head.specs.Ranks.{before, same, demand_rank, both_asked, first_of};
 ghost use Rattle.clu_head.specs.Routines.{arguments_in, exceptions_in, kind_in, results_in, term_at};
 ghost use Rattle.clu_head.specs.Named.{name_rank};
-ghost use Rattle.clu_head.specs.Sets.{said_of, set_led};
+ghost use Rattle.clu_head.specs.Restricting.{restricted_to};
+ghost use Rattle.clu_head.specs.Sets.{kept_at, said_of, set_led};
 ghost use Rattle.clu_head.specs.Terms.{IsNumbered, term_of};
-ghost use Rattle.clu_passes.specs.Heads.{AreCounted, AreRestricted, file_known, without_type};
+ghost use Rattle.clu_passes.specs.Heads.{AreCounted, AreRestricted, IsRestricted, file_known, without_type};
 ghost use Rattle.clu_passes.specs.ParameterKinds.{IsKnownParm};
 ghost use Rattle.clu_passes.specs.Told.{demand_told, routine_told, AreNamed, AreHeadsOf, listed_names};
 
@@ -79,6 +86,12 @@ pub fn kinds_listed()
 /// The type set that a name stands for is the one to which the table of sets leads from the declaration that the name denotes.
 pub fn sets_named()
     ensures { (f : File) → HaveForms f.nodes → IsTree f.nodes → (n : ℕ) (name : Identifier) → set_named f n name ≡ option_map (λ c. (item f c).type_set) (option_and_then (set_led (said_of f.nodes f.scope.declarations f.scope.declarations)) (found f.scope.declarations name n)) }
+{}
+
+/// What the table has of a Restrict whose first name is a type parameter is what it restricts, and by which type set, where the
+/// numbers of parameters and the type sets for which equates stand are those of the file of a tree.
+pub fn restricted_known()
+    ensures { (t : Text) (k : Known) (library : List Specification) (refused : List ℕ) → IsParsed t k.syntax.now → AreRounds k.syntax.now k.rounds.now → AreFew k.syntax.now k.rounds.now → (numbers : List ℕ) → numbers ≡ numbers_to k.syntax.now k.rounds.now (declarations k.syntax.now k.rounds.now) (length (declarations k.syntax.now k.rounds.now)) → (sets : List (Option ℕ)) → ((place : ℕ) → kept_at sets place ≡ set_led (said_of k.syntax.now (declarations k.syntax.now k.rounds.now) (declarations k.syntax.now k.rounds.now)) place) → (n j : ℕ) → kind_at k.syntax.now n ≡ kind.Restrict → meaning (file_known k (scope_in k.syntax.now k.rounds.now) library refused) n (first_name (names (file_known k (scope_in k.syntax.now k.rounds.now) library refused) n)) ≡ is_type_parameter j → IsRestricted (file_known k (scope_in k.syntax.now k.rounds.now) library refused) n (restricted_in (slice_get (restricted_to k.syntax.now (declarations k.syntax.now k.rounds.now) sets numbers (length k.syntax.now)) n)) }
 {}
 
 /// The type that stands for a cluster with its own parameters is that of the definition.

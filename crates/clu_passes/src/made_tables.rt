@@ -1,21 +1,21 @@
 //! That the tables which the code makes of a file are those which the rules read: fields of `AreTables`, each of what is said of
-//! the call that makes its table.
+//! the call that makes its table, and all of them.
 
-ghost use Rattle.std.specs.Prelude.{◌≡◌, ◌<◌, ◌↔◌, ℕ, Bool, true, List, Some, is_some, length, map, nat_lt, slice_get};
+ghost use Rattle.std.specs.Prelude.{◌≡◌, ◌<◌, ◌↔◌, ℕ, Bool, true, List, Some, length, map, nat_lt, slice_get};
 ghost use Rattle.clu_base.specs.declared.constants.Const.{Const};
 ghost use Rattle.clu_parser.specs.Trees.{Text};
 ghost use Rattle.clu_types.specs.declared.term.Term.{Term};
 ghost use Rattle.clu_types.specs.declared.term.TypeId.{TypeId};
 ghost use Rattle.clu_types.specs.Arena.{type_at, types_of};
 ghost use Rattle.clu_syntax.specs.Rounds.{AreRounds};
-ghost use Rattle.clu_syntax.specs.Syntax.{Identifier};
 ghost use Rattle.clu_names.specs.declared.binding.Names.{Names};
 ghost use Rattle.clu_names.specs.Denotes.{bound_to, starts_to};
 ghost use Rattle.clu_names.specs.Scopes.{declarations};
 ghost use Rattle.clu_meaning.specs.Scoping.{Scope};
+ghost use Rattle.clu_checking.specs.Specifications.{Specification};
 ghost use Rattle.clu_specs.specs.Constants.{constant_text};
 ghost use Rattle.clu_specs.specs.Texts.{type_text};
-ghost use Rattle.clu_checking.specs.Files.{File, equate_named, meaning, scope_in};
+ghost use Rattle.clu_checking.specs.Files.{File, scope_in};
 ghost use Rattle.clu_checking.specs.ConstantRules.{is_long_text};
 ghost use Rattle.clu_settle.specs.declared.settling.Values.{Values};
 ghost use Rattle.clu_settle.specs.Circular.{is_circular};
@@ -25,8 +25,10 @@ ghost use Rattle.clu_settle.specs.Settled.{AreSettled};
 ghost use Rattle.clu_settle.specs.Values.{constant_at};
 ghost use Rattle.clu_declares.specs.Declares.{AreFew, IsParsed};
 ghost use Rattle.clu_head.specs.Refused.{is_set};
+ghost use Rattle.clu_name_rules.specs.declared.tables.Tables.{Tables};
 ghost use Rattle.clu_name_rules.specs.Lengths.{constant_length, lengths_of};
-ghost use Rattle.clu_passes.specs.ConstantTables.{is_equated};
+ghost use Rattle.clu_passes.specs.ConstantTables.{AreTables, file_with};
+ghost use Rattle.clu_passes.specs.Made.{AreMade};
 ghost use Rattle.clu_passes.specs.Marks.{AreMarks};
 ghost use Rattle.clu_passes.specs.Tables.{AreNames};
 
@@ -53,4 +55,9 @@ pub fn long_types_told()
 /// `long_constants`: the bits that `long_constants` of clu_name_rules gives.
 pub fn long_constants_told()
     ensures { (constants : List Const) (bits : List Bool) → bits ≡ map (λ c. nat_lt 65536 (constant_length c)) constants → (k : ℕ) → k < length constants → is_set (slice_get bits k) ≡ is_long_text (constant_text (constant_at constants k)) }
+{}
+
+/// All fields, of a file that was made so.
+pub fn tables_are()
+    ensures { (t : Text) (its : Tables) (library : List Specification) (refused : List ℕ) → AreMade t its library refused → AreTables (file_with its.file (scope_in its.file.syntax.now its.file.rounds.now) library refused) its }
 {}

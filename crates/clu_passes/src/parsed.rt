@@ -18,7 +18,7 @@ ghost use Rattle.clu_checking.specs.ConstantRules.{is_right_side};
 ghost use Rattle.clu_settle.specs.declared.value.Value.{Value};
 ghost use Rattle.clu_settle.specs.declared.value.Value.TheVariants as value;
 ghost use Rattle.clu_settle.specs.Lists.{value_of};
-ghost use Rattle.clu_settle.specs.Lost.{is_lost};
+ghost use Rattle.clu_settle.specs.Lost.{IsLost};
 ghost use Rattle.clu_settle.specs.Names.{is_constant, names_of};
 ghost use Rattle.clu_settle.specs.Meant.{meanings_of};
 ghost use Rattle.clu_bindings.specs.Files.{bound_in};
@@ -46,7 +46,7 @@ pub fn declare_modules()
 
 /// The value of no string is lost, where what is lost is so by the table of meanings that `settle` of clu_settle makes.
 pub fn found_strings()
-    ensures { (f : File) → HaveForms f.nodes → IsTree f.nodes → (values : List Value) → ((n : ℕ) → n < length f.nodes → value_of values n ≡ value.Lost → is_lost f.nodes (meanings_of f.nodes f.rounds f.scope.declarations) n ≡ true) → AreFoundStrings f values }
+    ensures { (f : File) → HaveForms f.nodes → IsTree f.nodes → (values : List Value) → ((n : ℕ) → n < length f.nodes → value_of values n ≡ value.Lost → IsLost f.nodes (meanings_of f.nodes f.rounds f.scope.declarations) n) → AreFoundStrings f values }
 {}
 
 /// The declarations that a node has in their scope, but for modules, are those of the module of each one that it declares.

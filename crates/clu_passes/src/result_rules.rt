@@ -14,12 +14,12 @@ ghost use Rattle.clu_type_rules.specs.Bindings as of_tables;
 ghost use Rattle.clu_type_rules.specs.Bindings.{meanings};
 ghost use Rattle.clu_type_rules.specs.ResultRules.{has_other_number};
 ghost use Rattle.clu_passes.specs.Bound.{AreInside, AreTargets, AreTargetsKnown, IsFirstKnown, IsNameKnown, TellModules};
-ghost use Rattle.clu_passes.specs.ConstantTables.{file_with, AreTables};
+ghost use Rattle.clu_passes.specs.ConstantTables.{file_with, AreBracketsKnown, AreTables};
 ghost use Rattle.clu_passes.specs.FactTables.{AreFacts};
 
-/// V14, where what the names denote at which a type or a cluster may stand is known.
+/// V14, where what the names denote at which a type or a cluster may stand is known, and so what is wanted there.
 pub fn v14_by_facts()
-    ensures { (k : Known) (scope : Scope) (library : List Specification) (refused : List ℕ) → HaveForms k.tables.file.syntax.now → IsTree k.tables.file.syntax.now → AreTables (file_with k.tables.file scope library refused) k.tables → TellModules (file_with k.tables.file scope library refused) k.tables.file → (lost : ℕ → Bool) → AreFacts (file_with k.tables.file scope library refused) k.tables.types.now k.facts.now lost → AreTargets (file_with k.tables.file scope library refused) k → (items : ℕ → Item) (n : ℕ) → lost n ≡ false → IsNameKnown k.tables.file (kind_in k n) n (children k n) → v14 (file_with k.tables.file scope library refused) n ≡ has_other_number k items n }
+    ensures { (k : Known) (scope : Scope) (library : List Specification) (refused : List ℕ) → HaveForms k.tables.file.syntax.now → IsTree k.tables.file.syntax.now → AreTables (file_with k.tables.file scope library refused) k.tables → TellModules (file_with k.tables.file scope library refused) k.tables.file → (lost : ℕ → Bool) → AreFacts (file_with k.tables.file scope library refused) k.tables.types.now k.facts.now lost → AreTargets (file_with k.tables.file scope library refused) k → (items : ℕ → Item) (n : ℕ) → lost n ≡ false → IsNameKnown k.tables.file (kind_in k n) n (children k n) → AreBracketsKnown k.tables.file n → v14 (file_with k.tables.file scope library refused) n ≡ has_other_number k items n }
 {}
 
 /// V15, where the types of the variables to which the node assigns are known, and that on which a Tagcase round it selects.

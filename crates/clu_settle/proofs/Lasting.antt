@@ -18,7 +18,7 @@ use Rattle.clu_settle.specs.declared.meanings.Meaning.TheVariants as meaning
 use Rattle.clu_settle.specs.Graph.{named_target, targets_at, targets_to, spans_to}
 use Rattle.clu_settle.specs.Names.{meaning_in}
 use Rattle.clu_settle.specs.Lists.{value_of}
-use Rattle.clu_settle.specs.Lost.{is_source, right_side, made_from, is_lost_in, is_lost, IsLost, IsMadeFrom, Reaches, at_once, by_way_of, IsExplained, is_typed, AreLost, IsOrder}
+use Rattle.clu_settle.specs.Lost.{is_source, right_side, made_from, is_lost_in, IsLost, IsMadeFrom, Reaches, at_once, by_way_of, IsExplained, is_typed, AreLost, IsOrder}
 use Rattle.clu_settle.proofs.Inside.{spans_size}
 use Rattle.clu_settle.proofs.Members.{IsIn, in_more}
 use Rattle.clu_settle.proofs.Passing.{set_here, set_other, lost_at}
@@ -290,9 +290,9 @@ module _ (nodes : List Node) (meanings : List Meaning) where
     lost = λ q k l at lost. absurd (omega (arith, l));
   }
 
-  pub lost_after : (order : List ℕ) (values : List Value) → IsOrder nodes meanings order → AreLost nodes meanings order (length order) values → (n : ℕ) → n < length nodes → value_of values n ≡ value.Lost → is_lost nodes meanings n ≡ true
+  pub lost_after : (order : List ℕ) (values : List Value) → IsOrder nodes meanings order → AreLost nodes meanings order (length order) values → (n : ℕ) → n < length nodes → value_of values n ≡ value.Lost → IsLost nodes meanings n
   lost_after order values ordered passed n l e = by (ordered.others n l)
     where
-      by : IsLost nodes meanings n ⊎ ((p : ℕ) × (slice_get order p ≡ Some n)) → is_lost nodes meanings n ≡ true
-      by (inl lost) = lost (length nodes)
-      by (inr h) = passed.lost h.0 n (slice_get_within order h.0 n h.1) h.1 e (length nodes)
+      by : IsLost nodes meanings n ⊎ ((p : ℕ) × (slice_get order p ≡ Some n)) → IsLost nodes meanings n
+      by (inl lost) = lost
+      by (inr h) = passed.lost h.0 n (slice_get_within order h.0 n h.1) h.1 e

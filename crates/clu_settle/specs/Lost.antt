@@ -54,10 +54,7 @@ module _ (nodes : List Node) (meanings : List Meaning) where
   is_lost_in zero n = true
   is_lost_in (suc steps) n = is_source (slice_get nodes n) || list_any (is_lost_in steps) (made_from n)
 
-  -- with as many steps as there are nodes: a way as long as that goes round a circle
-  abbrev pub is_lost : ℕ → Bool
-  is_lost n = is_lost_in (length nodes) n
-
+  -- however many steps are taken: a longer way than there are nodes goes round a circle
   abbrev pub IsLost : ℕ → Type 0
   IsLost n = (steps : ℕ) → is_lost_in steps n ≡ true
 

@@ -17,6 +17,7 @@ mod type_values;
 mod value;
 
 pub use crate::circular::{circular_equates, equate_circles};
+pub use crate::lists::{first_name, push_exception};
 pub use crate::meanings::Meaning;
 pub use crate::parameters::{Parameters, number_parameters};
 pub use crate::settling::{Values, settle};

@@ -10,7 +10,7 @@ ghost use Rattle.clu_settle.specs.Meant.{meanings_of};
 ghost use Rattle.clu_settle.specs.Steps.{ArePassed};
 ghost use Rattle.clu_settle.specs.Settled.{AreSettled};
 ghost use Rattle.clu_settle.specs.Lists.{value_of};
-ghost use Rattle.clu_settle.specs.Lost.{is_lost, AreLost, IsOrder};
+ghost use Rattle.clu_settle.specs.Lost.{IsLost, AreLost, IsOrder};
 
 use crate::graph::graph_of;
 use crate::meanings::{Meaning, meanings};
@@ -110,7 +110,7 @@ fn settle_in(alloc: Global, asked: Asked<'_>, order: &[usize]) -> Result<Tables,
     requires distinct { IsDistinct eqb order.now }
     requires order { IsOrder asked.syntax.now asked.meanings.now order.now }
     ensures known { IfOk result (λ all. (scope : Scope) → AreMeanings asked.entry.syntax.now scope asked.entry.meanings.now → AreSettled asked.entry.syntax.now scope all.types all.constants.items all.values.items) }
-    ensures lost { IfOk result (λ all. (n : ℕ) → n < length asked.entry.syntax.now → value_of all.values.items n ≡ Value.Lost → is_lost asked.entry.syntax.now asked.entry.meanings.now n ≡ true) }
+    ensures lost { IfOk result (λ all. (n : ℕ) → n < length asked.entry.syntax.now → value_of all.values.items n ≡ Value.Lost → IsLost asked.entry.syntax.now asked.entry.meanings.now n) }
 {
     let len = asked.syntax.tree().len();
     let mut values = all_lost(alloc, len)?;
@@ -135,7 +135,7 @@ fn order_of(alloc: Global, syntax: &Syntax, meanings: &[Meaning]) -> Result<Circ
 /// The values of the nodes of a tree, by what the name of each node stands for.
 fn settle_by(alloc: Global, syntax: &Syntax, meanings: &[Meaning]) -> Result<Tables, Memory>
     ensures known { IfOk result (λ all. (scope : Scope) → AreMeanings syntax.now scope meanings.now → AreSettled syntax.now scope all.types all.constants.items all.values.items) }
-    ensures lost { IfOk result (λ all. (n : ℕ) → n < length syntax.now → value_of all.values.items n ≡ Value.Lost → is_lost syntax.now meanings.now n ≡ true) }
+    ensures lost { IfOk result (λ all. (n : ℕ) → n < length syntax.now → value_of all.values.items n ≡ Value.Lost → IsLost syntax.now meanings.now n) }
 {
     let found = order_of(alloc, syntax, meanings)?;
     let asked = Asked {
@@ -158,7 +158,7 @@ pub fn settle(
     requires starts { names.now.starts.items ≡ starts_to syntax.now names.now.declared.items (length syntax.now) }
     ensures meanings { IfOk result (λ all. all.meanings.items ≡ meanings_of syntax.now rounds.now names.now.declared.items) }
     ensures known { IfOk result (λ all. (scope : Scope) → AreMeanings syntax.now scope all.meanings.items → AreSettled syntax.now scope all.types all.constants.items all.values.items) }
-    ensures lost { IfOk result (λ all. (n : ℕ) → n < length syntax.now → value_of all.values.items n ≡ Value.Lost → is_lost syntax.now all.meanings.items n ≡ true) }
+    ensures lost { IfOk result (λ all. (n : ℕ) → n < length syntax.now → value_of all.values.items n ≡ Value.Lost → IsLost syntax.now all.meanings.items n) }
 {
     let meanings = meanings(alloc, syntax, rounds, names)?;
     let Tables {

@@ -2,6 +2,7 @@
 pub mod Asked
 pub mod Bindings
 pub mod Constructors
+pub mod Disagreeing
 pub mod ExceptionRules
 pub mod ExpressionRules
 pub mod Included

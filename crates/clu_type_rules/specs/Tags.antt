@@ -1,6 +1,6 @@
 -- The rules on the tags of a Tagcase over the tables that they read: V22 TagMissingOrTwice, and of V15 AssignType what is asked
 -- of arms.
-use Rattle.std.specs.Prelude.{ℕ, ◌&&◌, ◌||◌, not, length, Bool, true, false, List, [], ◌∷◌, slice_get, Option, Some, None}
+use Rattle.std.specs.Prelude.{◌≡◌, ℕ, ◌&&◌, ◌||◌, not, length, Bool, true, false, List, [], ◌∷◌, slice_get, Option, Some, None}
 use Rattle.std.specs.List.{list_all}
 use Rattle.clu_tree.specs.declared.node.NodeKind.{NodeKind}
 use Rattle.clu_tree.specs.declared.node.NodeKind.TheVariants as kind
@@ -13,7 +13,7 @@ use Rattle.clu_types.specs.declared.term.TypeId.{TypeId}
 use Rattle.clu_types.specs.declared.term.Field.{Field}
 use Rattle.clu_head.specs.Refused.{is_set}
 use Rattle.clu_bindings.specs.Inside.{type_inside}
-use Rattle.clu_name_rules.specs.Components.{component_type, is_selector_of, leaves_some}
+use Rattle.clu_name_rules.specs.Components.{AreAscending, component_type, is_selector_of, leaves_some}
 use Rattle.clu_name_rules.specs.Repeated.{tags_at}
 use Rattle.clu_type_rules.specs.declared.known.Known.{Known}
 use Rattle.clu_type_rules.specs.Included.{may_be}
@@ -33,6 +33,10 @@ module _ (k : Known) where
   -- the tags of the type on which the Tagcase round the node selects
   abbrev pub tags_round : ℕ → Option (List Field)
   tags_round n = tags_by_parent (round_at k.tables.file.rounds.now n).parent
+
+  -- they ascend by name
+  abbrev pub TagsAscend : ℕ → Type 0
+  TagsAscend n = (fields : List Field) → tags_round n ≡ Some fields → AreAscending fields
 
   -- ---- V15 of arms: the variable may not name the object of a tag
 

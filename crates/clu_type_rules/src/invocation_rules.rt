@@ -5,7 +5,7 @@ ghost use Rattle.std.specs.Prelude.{◌≡◌, ℕ};
 ghost use Rattle.clu_syntax.specs.Items.{Item};
 ghost use Rattle.clu_types.specs.declared.term.Heading.{Heading};
 ghost use Rattle.clu_type_rules.specs.declared.invocation_rules.Fault.TheVariants as fault;
-ghost use Rattle.clu_name_rules.specs.Components.{HaveAscending};
+ghost use Rattle.clu_name_rules.specs.Constructors.{ValuesAscend};
 ghost use Rattle.clu_type_rules.specs.Constructors.{v13};
 ghost use Rattle.clu_type_rules.specs.Included.{all_may_be};
 ghost use Rattle.clu_type_rules.specs.InvocationRules.{is_missing, lacks_operation, breaks, breaks_by, has_fault, some_has_fault};
@@ -120,7 +120,7 @@ pub fn v12(k: &Known<'_>, n: u32) -> bool
 /// V13: an argument's type isn't included in the formal's, or what is invoked is no routine; a component's or element's type
 /// isn't included in that of the constructor, or the low bound isn't an int (section 10). In `1 + "a"` at `+`.
 pub fn v13(k: &Known<'_>, n: u32) -> bool
-    ensures { (items : ℕ → Item) → HaveAscending k.now.tables.types.now → result ≡ v13 k.now items n }
+    ensures { (items : ℕ → Item) → ValuesAscend k.now.tables → result ≡ v13 k.now items n }
 {
     some_has_fault(k, n, Fault::ArgumentTypes) || is_misfit(k, n)
 }

@@ -4,7 +4,8 @@ ghost use Rattle.std.specs.Prelude.{◌≡◌, ℕ, IfNone, IfSome, None, Some, 
 ghost use Rattle.std.specs.List.{list_all};
 ghost use Rattle.clu_syntax.specs.Items.{Item};
 ghost use Rattle.clu_settle.specs.Names.{names_of};
-ghost use Rattle.clu_name_rules.specs.Components.{AreAscending, HaveAscending, component_type};
+ghost use Rattle.clu_name_rules.specs.Components.{AreAscending, component_type};
+ghost use Rattle.clu_name_rules.specs.Constructors.{ValuesAscend};
 ghost use Rattle.clu_type_rules.specs.Included.{may_be};
 ghost use Rattle.clu_type_rules.specs.Known.{nodes, children, first_type, kind_in, term_at};
 ghost use Rattle.clu_type_rules.specs.Constructors.{is_other_than_int, components_at, element_at, component_fits, some_component_misfits, element_fits, some_element_misfits, parts_misfit, has_misfit, is_misfit};
@@ -97,7 +98,7 @@ fn is_other_than_int(k: &Known<'_>, e: u32) -> bool
 }
 
 fn some_component_misfits(k: &Known<'_>, of: u32, components: &[u32]) -> bool
-    ensures { HaveAscending k.now.tables.types.now → result ≡ some_component_misfits k.now (components_at k.now of) components.now }
+    ensures { ValuesAscend k.now.tables → result ≡ some_component_misfits k.now (components_at k.now of) components.now }
 {
     match components_at(k, of) {
         Some(fields) => !components_fit(k, fields, components),
@@ -127,7 +128,7 @@ fn some_element_misfits(k: &Known<'_>, with_low: bool, of: Option<TypeId>, parts
 
 /// Whether the parts of the constructor n don't fit the type at the node `of`.
 fn parts_misfit(k: &Known<'_>, n: u32, of: u32, parts: &[u32]) -> bool
-    ensures { (items : ℕ → Item) → HaveAscending k.now.tables.types.now → result ≡ parts_misfit k.now items (kind_in k.now n) n of parts.now }
+    ensures { (items : ℕ → Item) → ValuesAscend k.now.tables → result ≡ parts_misfit k.now items (kind_in k.now n) n of parts.now }
 {
     let f = k.tables.file;
     match f.kind(n) {
@@ -139,7 +140,7 @@ fn parts_misfit(k: &Known<'_>, n: u32, of: u32, parts: &[u32]) -> bool
 
 /// The type stands first.
 fn has_misfit(k: &Known<'_>, n: u32) -> bool
-    ensures { (items : ℕ → Item) → HaveAscending k.now.tables.types.now → result ≡ has_misfit k.now items (kind_in k.now n) n (children k.now n) }
+    ensures { (items : ℕ → Item) → ValuesAscend k.now.tables → result ≡ has_misfit k.now items (kind_in k.now n) n (children k.now n) }
 {
     match k.tables.file.children(n) {
         [of, parts @ ..] => parts_misfit(k, n, *of, parts),
@@ -149,7 +150,7 @@ fn has_misfit(k: &Known<'_>, n: u32) -> bool
 
 /// Whether a component or element of the constructor n isn't included in its type, or the low bound isn't an int.
 pub fn is_misfit(k: &Known<'_>, n: u32) -> bool
-    ensures { (items : ℕ → Item) → HaveAscending k.now.tables.types.now → result ≡ is_misfit k.now items n }
+    ensures { (items : ℕ → Item) → ValuesAscend k.now.tables → result ≡ is_misfit k.now items n }
 {
     is_object_wanted(k.tables.file.wanted(n)) && has_misfit(k, n)
 }

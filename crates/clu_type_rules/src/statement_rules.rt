@@ -6,7 +6,7 @@ ghost use Rattle.clu_tree.specs.declared.node.Node.{Node};
 ghost use Rattle.clu_syntax.specs.Items.{Item};
 ghost use Rattle.clu_syntax.specs.Nodes.{item_with};
 ghost use Rattle.clu_syntax.specs.Views.{statement_told};
-ghost use Rattle.clu_name_rules.specs.Components.{AreAscending, HaveAscending, leaves_some};
+ghost use Rattle.clu_name_rules.specs.Components.{AreAscending, leaves_some};
 ghost use Rattle.clu_name_rules.specs.Repeated.{tags_at};
 ghost use Rattle.clu_type_rules.specs.Known.{kind_in, parts_round};
 ghost use Rattle.clu_type_rules.specs.Routines.{is_in_procedure};
@@ -14,7 +14,7 @@ ghost use Rattle.clu_type_rules.specs.Leaving.{is_outside_loop, is_outside_itera
 ghost use Rattle.clu_type_rules.specs.InvocationRules.{is_loop_call, misuses_iterator};
 ghost use Rattle.clu_type_rules.specs.StatementRules.{has_no_condition, tagged_by, tags_by, is_on_no_tags, results_round, returned, gives_other, call_in, invoked_in, loops_over_other};
 ghost use Rattle.clu_type_rules.specs.Bindings.{v15};
-ghost use Rattle.clu_type_rules.specs.Tags.{has_no_others, tags_round, takes_tags, arm_misfits_by, arm_misfits_if, arm_misfits, names_bad_tag, has_bad_tag, leaves_tag, v22};
+ghost use Rattle.clu_type_rules.specs.Tags.{TagsAscend, has_no_others, tags_round, takes_tags, arm_misfits_by, arm_misfits_if, arm_misfits, names_bad_tag, has_bad_tag, leaves_tag, v22};
 
 use crate::binding_rules::binds_misfit;
 use crate::expression_rules::has_no_bool;
@@ -87,7 +87,7 @@ fn takes_tags(k: &Known<'_>, wanted: Option<TypeId>, fields: &[Field], mut tags:
 
 /// Whether the variable of the arm n, whose type is at the node t, may not name the object of a tag.
 fn arm_misfits_by(k: &Known<'_>, n: u32, t: u32) -> bool
-    ensures { (items : ℕ → Item) → HaveAscending k.now.tables.types.now → result ≡ arm_misfits_by k.now items n t (tags_round k.now n) }
+    ensures { (items : ℕ → Item) → TagsAscend k.now n → result ≡ arm_misfits_by k.now items n t (tags_round k.now n) }
 {
     let f = k.tables.file;
     match tags_round(k, n) {
@@ -97,7 +97,7 @@ fn arm_misfits_by(k: &Known<'_>, n: u32, t: u32) -> bool
 }
 
 fn arm_misfits_if(k: &Known<'_>, n: u32, declared: Option<u32>) -> bool
-    ensures { (items : ℕ → Item) → HaveAscending k.now.tables.types.now → result ≡ arm_misfits_if k.now items n declared }
+    ensures { (items : ℕ → Item) → TagsAscend k.now n → result ≡ arm_misfits_if k.now items n declared }
 {
     match declared {
         Some(t) => arm_misfits_by(k, n, t),
@@ -107,7 +107,7 @@ fn arm_misfits_if(k: &Known<'_>, n: u32, declared: Option<u32>) -> bool
 
 /// The same of the arm n, if it has a variable.
 fn arm_misfits(k: &Known<'_>, n: u32) -> bool
-    ensures { (items : ℕ → Item) → HaveAscending k.now.tables.types.now → result ≡ arm_misfits k.now items (kind_in k.now n) n }
+    ensures { (items : ℕ → Item) → TagsAscend k.now n → result ≡ arm_misfits k.now items (kind_in k.now n) n }
 {
     let f = k.tables.file;
     match f.kind(n) {
@@ -119,7 +119,7 @@ fn arm_misfits(k: &Known<'_>, n: u32) -> bool
 /// V15: an object's type isn't included in the variable's, or what is assigned to is no variable (section 9). In
 /// `x: any := 1 y: int := x` at `y`.
 pub fn v15(k: &Known<'_>, n: u32) -> bool
-    ensures { (items : ℕ → Item) → HaveAscending k.now.tables.types.now → result ≡ v15 k.now items n }
+    ensures { (items : ℕ → Item) → TagsAscend k.now n → result ≡ v15 k.now items n }
 {
     arm_misfits(k, n) || binds_misfit(k, n)
 }
@@ -159,7 +159,7 @@ fn names_bad_tag(k: &Known<'_>, n: u32, fields: &[Field]) -> bool
 }
 
 fn has_bad_tag(k: &Known<'_>, n: u32) -> bool
-    ensures { HaveAscending k.now.tables.types.now → result ≡ has_bad_tag k.now n (tags_round k.now n) }
+    ensures { TagsAscend k.now n → result ≡ has_bad_tag k.now n (tags_round k.now n) }
 {
     match tags_round(k, n) {
         Some(fields) => names_bad_tag(k, n, fields),
@@ -213,7 +213,7 @@ fn has_no_others_at(f: File<'_>, n: u32) -> bool
 /// V22: an arm names a foreign tag or one that stands before it, or a tag is left without `others` (section 11.6). In
 /// `tagcase x tag a: tag b, c: end`, where `x` has `a` and `b`, at the second `tag`.
 pub fn v22(k: &Known<'_>, n: u32) -> bool
-    ensures { (items : ℕ → Item) → HaveAscending k.now.tables.types.now → result ≡ v22 k.now items n }
+    ensures { (items : ℕ → Item) → TagsAscend k.now n → result ≡ v22 k.now items n }
 {
     match k.tables.file.kind(n) {
         NodeKind::TagArm => has_bad_tag(k, n),

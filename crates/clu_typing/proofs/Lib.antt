@@ -2,3 +2,8 @@ pub mod Absent
 pub mod Ascending
 pub mod Sets
 pub mod Forced
+pub mod Growing
+pub mod Numbered
+pub mod Steps
+pub mod Together
+pub mod Gathered

@@ -6,6 +6,7 @@ pub mod Nodes
 pub mod Operators
 pub mod Raised
 pub mod Raises
+pub mod Raising
 pub mod Sets
 pub mod Stands
 pub mod Typing

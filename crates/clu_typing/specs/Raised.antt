@@ -8,10 +8,13 @@ use Rattle.clu_operations.specs.declared.words.NameId.{NameId}
 use Rattle.clu_typing.specs.declared.raising.Raise.{Raise}
 use Rattle.clu_typing.specs.declared.raising.RaisesId.{RaisesId}
 
--- all sets, and the types of the objects of all raises, each by its number
+-- All sets, and the types of the objects of all raises, each by its number. Which set was found for each routine type, and
+-- which one of sets together.
 pub record Raised : Type 0 where
   pub sets : List (List Raise)
   pub objects : List (List TypeId)
+  pub invoked : List (TypeId × RaisesId)
+  pub unions : List (List RaisesId × RaisesId)
 
 abbrev pub nothing : RaisesId
 nothing = record { 0 = 0 }

@@ -1,19 +1,34 @@
 //! What each expression, each statement and each part of one may raise.
 
+ghost use Rattle.std.specs.Prelude.{◌≡◌, ◌++◌, ◌<◌, ℕ, [], ◌∷◌, List, fold, flat_map, length, IfOk, OnOk};
+ghost use Rattle.std.specs.List.{list_any};
+ghost use Rattle.clu_types.specs.Arena.{type_at, types_of};
+ghost use Rattle.clu_types.specs.declared.term.Term.{Term};
+ghost use Rattle.clu_bindings.specs.Readers.{children_in};
+ghost use Rattle.clu_operations.specs.Finding.{IsBelowIf};
+ghost use Rattle.clu_typing.specs.Facts.{raised_at};
+ghost use Rattle.clu_typing.specs.Raised.{Raised};
+ghost use Rattle.clu_typing.specs.Raises.{is_done, is_variable, with_failing, with_number, numbers_taken, raised_told, failing_told, numbers_behind, fails, guards, statement_in, arms_in, parts, is_others, numbers_of_arms, passed_on, passed_from, passed_told, first_operation, second_operation, called_in, invoked_told, first_invoked, done_told, row_told, taken_at, told_without, AreGathered, StayBut, AreSets};
+ghost use Rattle.clu_typing.specs.Raising.{AreRaises, AscendByNumber, IsSet, IsSetOf, Told, invoked_by, set_told};
+ghost use Rattle.clu_typing.specs.Sets.{HaveSame};
+
 use crate::applied::Applied;
-use crate::facts::{Facts, Operation};
+use crate::facts::Facts;
 use crate::nodes::has_actuals;
-use crate::raising::{FAILURE, NOTHING, RaisesId};
+use crate::raising::{FAILURE, NOTHING, RaisesId, Raising};
 use clu_base::{Bytes, Memory};
 use clu_bindings::{File, Headed, Meaning};
 use clu_operations::{NameId, Words};
-use clu_syntax::{Statement, is_expression};
+use clu_syntax::is_expression;
 use clu_tree::NodeKind;
 use clu_types::{TypeArena, TypeId};
-use std::cmp::Ordering;
+use std::alloc::Global;
 
 /// Whether what stands in the node n is evaluated or done where the node is. Actual parameters aren't.
-fn is_done(file: File<'_>, n: u32) -> bool {
+#[tactic(auto, unfolding(crate::specs::Raises::is_done_as))]
+fn is_done(file: File<'_>, n: u32) -> bool
+    ensures { result ≡ is_done file.entry n }
+{
     match file.kind(n) {
         NodeKind::Index => !has_actuals(file, n),
         NodeKind::Except
@@ -40,139 +55,404 @@ fn is_done(file: File<'_>, n: u32) -> bool {
     }
 }
 
-/// Appends what these nodes raise.
-fn push_raised(list: &mut Vec<RaisesId>, facts: &Facts, nodes: &[u32]) -> Result<(), Memory> {
-    for n in nodes {
-        list.push(facts.raised_at(*n))?;
-    }
-    Ok(())
-}
-
 // ---- statements with handlers
 
-/// Appends the numbers of those names that are kept; of others nothing is raised.
-fn push_numbers(list: &mut Vec<NameId>, words: &Words, names: &[Bytes]) -> Result<(), Memory> {
-    for name in names {
-        match words.named(name) {
-            Some(id) => list.push(id)?,
-            None => {}
-        }
-    }
-    Ok(())
-}
-
-fn push_taken(
-    list: &mut Vec<NameId>,
-    file: File<'_>,
-    words: &Words,
-    arms: &[u32],
-) -> Result<(), Memory> {
-    for arm in arms {
-        push_numbers(list, words, file.names(*arm))?;
-    }
-    Ok(())
-}
-
-/// What the statement of a node raises but for these names.
-fn without(
-    file: File<'_>,
-    facts: &mut Facts,
-    statement: u32,
-    names: Vec<NameId>,
-) -> Result<RaisesId, Memory> {
-    let mut names = names;
-    names.sort_unstable_by(|a: &NameId, b: &NameId| -> Ordering { a.0.cmp(&b.0) });
-    let raised = facts.raised_at(statement);
-    facts.raising.without(file.alloc, raised, names.as_slice())
-}
-
-/// What of the statement of the Except or Resignal n isn't taken by name or by others.
-fn passed_on(file: File<'_>, facts: &mut Facts, n: u32) -> Result<RaisesId, Memory> {
-    let mut taken = Vec::new(file.alloc);
-    match file.statement(n) {
-        Some(
-            Statement::Except {
-                statement,
-                arms,
-                others: None,
-            },
-        ) => {
-            push_taken(&mut taken, file, &facts.finding.words, arms)?;
-            without(file, facts, statement, taken)
-        }
-        Some(Statement::Resignal { statement, names }) => {
-            push_numbers(&mut taken, &facts.finding.words, names)?;
-            without(file, facts, statement, taken)
-        }
-        _ => Ok(NOTHING),
+/// Whether the node n is an Except or a Resignal.
+fn guards(file: File<'_>, n: u32) -> bool
+    ensures { result ≡ guards file.entry n }
+{
+    match file.kind(n) {
+        NodeKind::Except | NodeKind::Resignal => true,
+        _ => false,
     }
 }
 
-// ---- what a node raises by itself
+/// The statement in an Except or a Resignal n.
+fn statement(file: File<'_>, n: u32) -> Option<u32>
+    ensures { result ≡ statement_in file.entry n }
+{
+    file.children(n).first().copied()
+}
 
-fn push_invoked(
-    list: &mut Vec<RaisesId>,
-    headed: Headed<'_>,
-    types: &TypeArena,
-    facts: &mut Facts,
-    of: Option<TypeId>,
-) -> Result<(), Memory> {
-    match of {
-        Some(of) => {
-            let words = &mut facts.finding.words;
-            let raised = facts.raising.invoked(headed.file.alloc, types, words, of)?;
-            list.push(raised)?;
+/// What stands behind the statement in the node n.
+fn arms<'a>(file: File<'a>, n: u32) -> &'a [u32]
+    ensures { result.now ≡ arms_in file.entry n }
+{
+    match file.children(n) {
+        [_, arms @ ..] => arms,
+        [] => &[],
+    }
+}
+
+/// Appends the number of a name that is kept; of another nothing is raised.
+fn push_number(list: &mut Vec<NameId>, words: &Words, name: &Bytes) -> Result<(), Memory>
+    ensures { OnOk result (list.new.items ≡ with_number words.now list.old.items name.now) }
+{
+    match words.named(name) {
+        Some(id) => {
+            list.push(id)?;
             Ok(())
         }
         None => Ok(()),
     }
 }
 
-fn push_operation(
-    list: &mut Vec<RaisesId>,
-    headed: Headed<'_>,
-    types: &TypeArena,
-    facts: &mut Facts,
-    operation: Operation,
-) -> Result<(), Memory> {
-    let of = facts.operation_type(operation);
-    push_invoked(list, headed, types, facts, of)
+fn push_numbers(list: &mut Vec<NameId>, words: &Words, names: &[Bytes]) -> Result<(), Memory>
+    ensures { OnOk result (list.new.items ≡ numbers_behind words.now list.old.items names.now) }
+{
+    for name in names {
+        push_number(list, words, name)?;
+    }
+    Ok(())
 }
 
-fn push_applied(
-    list: &mut Vec<RaisesId>,
-    headed: Headed<'_>,
-    types: &TypeArena,
-    facts: &mut Facts,
-    applied: Applied,
-) -> Result<(), Memory> {
-    match applied {
-        Applied::Invoked(used, None) => push_operation(list, headed, types, facts, used.operation),
-        Applied::Invoked(first, Some(second)) => {
-            push_operation(list, headed, types, facts, first.operation)?;
-            push_operation(list, headed, types, facts, second.operation)
-        }
-        _ => Ok(()),
+fn push_arms(
+    list: &mut Vec<NameId>,
+    file: File<'_>,
+    words: &Words,
+    arms: &[u32],
+) -> Result<(), Memory>
+    ensures { OnOk result (list.new.items ≡ numbers_of_arms file.entry words.now list.old.items arms.now) }
+{
+    for arm in arms {
+        push_numbers(list, words, file.names(*arm))?;
+    }
+    Ok(())
+}
+
+/// These names in ascending order.
+fn ascending(names: Vec<NameId>) -> Vec<NameId>
+    ensures ascends { AscendByNumber result.items }
+    ensures same { HaveSame result.items names.items }
+{
+    let mut names = names;
+    names.sort_unstable_by_key(
+        |name: &NameId| -> usize
+            ensures { result ≡ name.now.0 }
+        { name.0 },
+    );
+    names
+}
+
+fn numbers_of(alloc: Global, words: &Words, names: &[Bytes]) -> Result<Vec<NameId>, Memory>
+    ensures { IfOk result (λ list. list.items ≡ numbers_behind words.now [] names.now) }
+{
+    let mut list = Vec::new(alloc);
+    push_numbers(&mut list, words, names)?;
+    Ok(list)
+}
+
+fn numbers_of_arms(file: File<'_>, words: &Words, arms: &[u32]) -> Result<Vec<NameId>, Memory>
+    ensures { IfOk result (λ list. list.items ≡ numbers_of_arms file.entry words.now [] arms.now) }
+{
+    let mut list = Vec::new(file.alloc);
+    push_arms(&mut list, file, words, arms)?;
+    Ok(list)
+}
+
+/// The names that the Except or Resignal n takes.
+fn numbers_taken(file: File<'_>, words: &Words, n: u32, arms: &[u32]) -> Result<Vec<NameId>, Memory>
+    ensures { IfOk result (λ list. list.items ≡ numbers_taken file.entry words.now n arms.now) }
+{
+    match file.kind(n) {
+        NodeKind::Resignal => numbers_of(file.alloc, words, file.names(n)),
+        _ => numbers_of_arms(file, words, arms),
     }
 }
 
+/// The same in ascending order.
+fn taken(file: File<'_>, words: &Words, n: u32, arms: &[u32]) -> Result<Vec<NameId>, Memory>
+    ensures ascends { IfOk result (λ list. AscendByNumber list.items) }
+    ensures same { IfOk result (λ list. HaveSame list.items (numbers_taken file.entry words.now n arms.now)) }
+{
+    let list = numbers_taken(file, words, n, arms)?;
+    Ok(ascending(list))
+}
+
+/// Whether one of these arms takes all that no other does.
+fn has_others(file: File<'_>, arms: &[u32]) -> bool
+    ensures { result ≡ list_any (is_others file.entry) arms.now }
+{
+    for arm in arms {
+        if is_others(file, *arm) {
+            return true;
+        }
+    }
+    false
+}
+
+fn is_others(file: File<'_>, n: u32) -> bool
+    ensures { result ≡ is_others file.entry n }
+{
+    match file.kind(n) {
+        NodeKind::Others => true,
+        _ => false,
+    }
+}
+
+/// What of the raises of a statement isn't taken by name by the Except or Resignal n round it.
+fn left(
+    file: File<'_>,
+    raising: &mut Raising,
+    words: &Words,
+    n: u32,
+    arms: &[u32],
+    set: RaisesId,
+) -> Result<RaisesId, Memory>
+    ensures { (terms : List Term) → AreRaises terms words.now raising.old → IsSet raising.old set → IfOk result (IsSetOf terms words.now words.now raising.old raising.new (told_without (taken_at file.entry n arms.now) (set_told terms words.now raising.old set))) }
+{
+    let names = taken(file, words, n, arms)?;
+    raising.without(file.alloc, set, names.as_slice())
+}
+
+/// The same, by name or by others.
+fn passed_on(
+    file: File<'_>,
+    raising: &mut Raising,
+    words: &Words,
+    n: u32,
+    arms: &[u32],
+    set: RaisesId,
+) -> Result<RaisesId, Memory>
+    ensures { (terms : List Term) → AreRaises terms words.now raising.old → IsSet raising.old set → IfOk result (IsSetOf terms words.now words.now raising.old raising.new (passed_on file.entry n arms.now (set_told terms words.now raising.old set))) }
+{
+    if has_others(file, arms) {
+        Ok(NOTHING)
+    } else {
+        left(file, raising, words, n, arms, set)
+    }
+}
+
+/// The same of what this statement raises.
+fn passed_of(
+    file: File<'_>,
+    facts: &mut Facts,
+    n: u32,
+    statement: u32,
+    arms: &[u32],
+) -> Result<RaisesId, Memory>
+    ensures kept { StayBut facts.old facts.new }
+    ensures named { facts.new.finding.words ≡ facts.old.finding.words }
+    ensures passed { (terms : List Term) → AreSets facts.old → AreRaises terms facts.old.finding.words facts.old.raising → IfOk result (IsSetOf terms facts.old.finding.words facts.old.finding.words facts.old.raising facts.new.raising (passed_on file.entry n arms.now (raised_told terms facts.old statement))) }
+{
+    let set = facts.raised_at(statement);
+    let words = &facts.finding.words;
+    passed_on(file, &mut facts.raising, words, n, arms, set)
+}
+
+/// Appends it.
+fn push_set(
+    list: &mut Vec<RaisesId>,
+    file: File<'_>,
+    facts: &mut Facts,
+    n: u32,
+    statement: u32,
+    arms: &[u32],
+) -> Result<(), Memory>
+    ensures kept { StayBut facts.old facts.new }
+    ensures named { facts.new.finding.words ≡ facts.old.finding.words }
+    ensures passed { (terms : List Term) (told : List Told) → AreSets facts.old → AreGathered terms facts.old.finding.words facts.old.raising facts.old.finding.words facts.old.raising list.old.items told → OnOk result (AreGathered terms facts.old.finding.words facts.old.raising facts.new.finding.words facts.new.raising list.new.items (told ++ passed_on file.entry n arms.now (raised_told terms facts.old statement))) }
+{
+    let set = passed_of(file, facts, n, statement, arms)?;
+    list.push(set)?;
+    Ok(())
+}
+
+/// The same of the statement in the node n.
+fn push_passed(
+    list: &mut Vec<RaisesId>,
+    file: File<'_>,
+    facts: &mut Facts,
+    n: u32,
+) -> Result<(), Memory>
+    ensures kept { StayBut facts.old facts.new }
+    ensures named { facts.new.finding.words ≡ facts.old.finding.words }
+    ensures passed { (terms : List Term) (told : List Told) → AreSets facts.old → AreGathered terms facts.old.finding.words facts.old.raising facts.old.finding.words facts.old.raising list.old.items told → OnOk result (AreGathered terms facts.old.finding.words facts.old.raising facts.new.finding.words facts.new.raising list.new.items (told ++ passed_from file.entry terms facts.old n (statement_in file.entry n))) }
+{
+    match statement(file, n) {
+        Some(statement) => push_set(list, file, facts, n, statement, arms(file, n)),
+        None => Ok(()),
+    }
+}
+
+/// The same, if the node n is an Except or a Resignal.
+fn push_guarded(
+    list: &mut Vec<RaisesId>,
+    file: File<'_>,
+    facts: &mut Facts,
+    n: u32,
+) -> Result<(), Memory>
+    ensures kept { StayBut facts.old facts.new }
+    ensures named { facts.new.finding.words ≡ facts.old.finding.words }
+    ensures passed { (terms : List Term) (told : List Told) → AreSets facts.old → AreGathered terms facts.old.finding.words facts.old.raising facts.old.finding.words facts.old.raising list.old.items told → OnOk result (AreGathered terms facts.old.finding.words facts.old.raising facts.new.finding.words facts.new.raising list.new.items (told ++ passed_told file.entry terms facts.old n)) }
+{
+    if guards(file, n) {
+        push_passed(list, file, facts, n)
+    } else {
+        Ok(())
+    }
+}
+
+// ---- what a node raises by itself
+
 /// Whether a name that denotes this is a variable's, which may have no object.
-fn is_variable(meaning: Meaning) -> bool {
+fn is_variable(meaning: Meaning) -> bool
+    ensures { result ≡ is_variable meaning }
+{
     match meaning {
         Meaning::Local(_) | Meaning::OwnOfRoutine(_) | Meaning::OwnOfCluster(_) => true,
         _ => false,
     }
 }
 
+/// Whether the node n may fail by itself: a variable, and a constructor of an array or a sequence.
+fn fails(file: File<'_>, n: u32) -> bool
+    ensures { result ≡ fails file.entry n }
+{
+    match file.kind(n) {
+        NodeKind::Name => is_variable(file.meaning(n)),
+        NodeKind::Elems => true,
+        _ => false,
+    }
+}
+
+fn first_operation(facts: &Facts, applied: Applied) -> Option<TypeId>
+    ensures { result ≡ first_operation facts.now applied }
+{
+    match applied {
+        Applied::Invoked(first, _) => facts.operation_type(first.operation),
+        _ => None,
+    }
+}
+
+fn second_operation(facts: &Facts, applied: Applied) -> Option<TypeId>
+    ensures { result ≡ second_operation facts.now applied }
+{
+    match applied {
+        Applied::Invoked(_, Some(second)) => facts.operation_type(second.operation),
+        _ => None,
+    }
+}
+
 /// The type of what the node n calls.
-fn called(file: File<'_>, facts: &Facts, n: u32) -> Option<TypeId> {
+fn called(file: File<'_>, facts: &Facts, n: u32) -> Option<TypeId>
+    ensures { result ≡ called_in facts.now (children_in file.entry n) }
+{
     match file.children(n) {
         [routine, ..] => facts.type_of(*routine),
         [] => None,
     }
 }
 
-/// Appends what the node n raises by itself, behind what stands in it.
+/// The type of what the node n invokes, by a call or as an operation.
+fn first_invoked(file: File<'_>, facts: &Facts, applied: Applied, n: u32) -> Option<TypeId>
+    ensures { result ≡ first_invoked file.entry facts.now applied n }
+{
+    match file.kind(n) {
+        NodeKind::Call => called(file, facts, n),
+        _ => first_operation(facts, applied),
+    }
+}
+
+/// What an invocation of what has this type raises.
+fn raised_by(
+    alloc: Global,
+    types: &TypeArena,
+    facts: &mut Facts,
+    of: TypeId,
+) -> Result<RaisesId, Memory>
+    ensures kept { StayBut facts.old facts.new }
+    ensures invoked { AreRaises types.now facts.old.finding.words facts.old.raising → of.0 < length types.now → IfOk result (IsSetOf types.now facts.old.finding.words facts.new.finding.words facts.old.raising facts.new.raising (invoked_by (type_at (types_of types.now) of))) }
+{
+    let words = &mut facts.finding.words;
+    facts.raising.invoked(alloc, types, words, of)
+}
+
+/// Appends it.
+fn push_invocation(
+    list: &mut Vec<RaisesId>,
+    alloc: Global,
+    types: &TypeArena,
+    facts: &mut Facts,
+    of: TypeId,
+) -> Result<(), Memory>
+    ensures kept { StayBut facts.old facts.new }
+    ensures invoked { (names : List (List ℕ)) (first : Raised) (told : List Told) → of.0 < length types.now → AreGathered types.now names first facts.old.finding.words facts.old.raising list.old.items told → OnOk result (AreGathered types.now names first facts.new.finding.words facts.new.raising list.new.items (told ++ invoked_by (type_at (types_of types.now) of))) }
+{
+    let set = raised_by(alloc, types, facts, of)?;
+    list.push(set)?;
+    Ok(())
+}
+
+/// The same of the type, if there is one.
+fn push_invoked(
+    list: &mut Vec<RaisesId>,
+    alloc: Global,
+    types: &TypeArena,
+    facts: &mut Facts,
+    of: Option<TypeId>,
+) -> Result<(), Memory>
+    ensures kept { StayBut facts.old facts.new }
+    ensures invoked { (names : List (List ℕ)) (first : Raised) (told : List Told) → IsBelowIf (length types.now) of → AreGathered types.now names first facts.old.finding.words facts.old.raising list.old.items told → OnOk result (AreGathered types.now names first facts.new.finding.words facts.new.raising list.new.items (told ++ invoked_told types.now of)) }
+{
+    match of {
+        Some(of) => push_invocation(list, alloc, types, facts, of),
+        None => Ok(()),
+    }
+}
+
+// ---- all together
+
+/// The parts of the node n from which something is raised that it raises too: of an Except and a Resignal those behind the
+/// statement.
+fn parts<'a>(file: File<'a>, n: u32) -> &'a [u32]
+    ensures { result.now ≡ parts file.entry n }
+{
+    if guards(file, n) {
+        arms(file, n)
+    } else {
+        file.children(n)
+    }
+}
+
+/// Appends what these nodes raise.
+fn push_raised(list: &mut Vec<RaisesId>, facts: &Facts, nodes: &[u32]) -> Result<(), Memory>
+    ensures { OnOk result (list.new.items ≡ fold (λ made n. made ++ raised_at facts.now n ∷ []) list.old.items nodes.now) }
+{
+    for n in nodes {
+        list.push(facts.raised_at(*n))?;
+    }
+    Ok(())
+}
+
+/// Appends what the parts of the node n raise, and what of them isn't taken.
+fn push_parts(
+    list: &mut Vec<RaisesId>,
+    file: File<'_>,
+    facts: &mut Facts,
+    n: u32,
+) -> Result<(), Memory>
+    ensures kept { StayBut facts.old facts.new }
+    ensures named { facts.new.finding.words ≡ facts.old.finding.words }
+    ensures parts { (terms : List Term) → list.old.items ≡ [] → AreRaises terms facts.old.finding.words facts.old.raising → AreSets facts.old → OnOk result (AreGathered terms facts.old.finding.words facts.old.raising facts.new.finding.words facts.new.raising list.new.items (flat_map (raised_told terms facts.old) (parts file.entry n) ++ passed_told file.entry terms facts.old n)) }
+{
+    push_raised(list, facts, parts(file, n))?;
+    push_guarded(list, file, facts, n)
+}
+
+/// Appends failure, if the node n may fail by itself.
+fn push_failing(list: &mut Vec<RaisesId>, file: File<'_>, n: u32) -> Result<(), Memory>
+    ensures { OnOk result (list.new.items ≡ with_failing (fails file.entry n) list.old.items) }
+{
+    if fails(file, n) {
+        list.push(FAILURE)?;
+        Ok(())
+    } else {
+        Ok(())
+    }
+}
+
+/// Appends what the node n raises by itself.
 fn push_own(
     list: &mut Vec<RaisesId>,
     headed: Headed<'_>,
@@ -180,40 +460,33 @@ fn push_own(
     facts: &mut Facts,
     applied: Applied,
     n: u32,
-) -> Result<(), Memory> {
-    match headed.file.kind(n) {
-        NodeKind::Name => {
-            if is_variable(headed.file.meaning(n)) {
-                list.push(FAILURE)?;
-            }
-            Ok(())
-        }
-        NodeKind::Elems => {
-            list.push(FAILURE)?;
-            Ok(())
-        }
-        NodeKind::Call => {
-            let of = called(headed.file, facts, n);
-            push_invoked(list, headed, types, facts, of)
-        }
-        NodeKind::Except | NodeKind::Resignal => {
-            list.push(passed_on(headed.file, facts, n)?)?;
-            Ok(())
-        }
-        _ => push_applied(list, headed, types, facts, applied),
-    }
+) -> Result<(), Memory>
+    ensures kept { StayBut facts.old facts.new }
+    ensures own { (names : List (List ℕ)) (first : Raised) (told : List Told) → IsBelowIf (length types.now) (first_invoked headed.entry.file facts.old applied n) → IsBelowIf (length types.now) (second_operation facts.old applied) → AreGathered types.now names first facts.old.finding.words facts.old.raising list.old.items told → OnOk result (AreGathered types.now names first facts.new.finding.words facts.new.raising list.new.items (((told ++ failing_told headed.entry.file n) ++ invoked_told types.now (first_invoked headed.entry.file facts.old applied n)) ++ invoked_told types.now (second_operation facts.old applied))) }
+{
+    push_failing(list, headed.file, n)?;
+    let first = first_invoked(headed.file, facts, applied, n);
+    let second = second_operation(facts, applied);
+    push_invoked(list, headed.file.alloc, types, facts, first)?;
+    push_invoked(list, headed.file.alloc, types, facts, second)
 }
 
-/// The parts of the node n from which something is raised that it raises too: of an Except and a Resignal those behind the
-/// statement.
-fn parts<'a>(file: File<'a>, n: u32) -> &'a [u32] {
-    match file.kind(n) {
-        NodeKind::Except | NodeKind::Resignal => match file.children(n) {
-            [_, handlers @ ..] => handlers,
-            [] => &[],
-        },
-        _ => file.children(n),
-    }
+/// What the node n raises, if it is evaluated or done where it stands.
+fn done_at(
+    headed: Headed<'_>,
+    types: &TypeArena,
+    facts: &mut Facts,
+    applied: Applied,
+    n: u32,
+) -> Result<RaisesId, Memory>
+    ensures kept { StayBut facts.old facts.new }
+    ensures row { AreRaises types.now facts.old.finding.words facts.old.raising → AreSets facts.old → IsBelowIf (length types.now) (first_invoked headed.entry.file facts.old applied n) → IsBelowIf (length types.now) (second_operation facts.old applied) → IfOk result (IsSetOf types.now facts.old.finding.words facts.new.finding.words facts.old.raising facts.new.raising (done_told headed.entry.file types.now facts.old applied n)) }
+{
+    let alloc = headed.file.alloc;
+    let mut list = Vec::new(alloc);
+    push_parts(&mut list, headed.file, facts, n)?;
+    push_own(&mut list, headed, types, facts, applied, n)?;
+    facts.raising.together(alloc, list)
 }
 
 /// What the node n may raise, by what is known of the nodes before it.
@@ -223,13 +496,13 @@ pub fn raises_at(
     facts: &mut Facts,
     applied: Applied,
     n: u32,
-) -> Result<RaisesId, Memory> {
-    if !is_done(headed.file, n) {
-        return Ok(NOTHING);
+) -> Result<RaisesId, Memory>
+    ensures kept { StayBut facts.old facts.new }
+    ensures row { AreRaises types.now facts.old.finding.words facts.old.raising → AreSets facts.old → IsBelowIf (length types.now) (first_invoked headed.entry.file facts.old applied n) → IsBelowIf (length types.now) (second_operation facts.old applied) → IfOk result (IsSetOf types.now facts.old.finding.words facts.new.finding.words facts.old.raising facts.new.raising (row_told headed.entry.file types.now facts.old applied n)) }
+{
+    if is_done(headed.file, n) {
+        done_at(headed, types, facts, applied, n)
+    } else {
+        Ok(NOTHING)
     }
-    let alloc = headed.file.alloc;
-    let mut list = Vec::new(alloc);
-    push_raised(&mut list, facts, parts(headed.file, n))?;
-    push_own(&mut list, headed, types, facts, applied, n)?;
-    facts.raising.together(alloc, list)
 }

@@ -1,4 +1,4 @@
-use Rattle.std.proofs.Common.{◌≡◌, ◌∙◌, ℕ, List, Option, Some, slice_get, get_or, length, refl, ap, sym}
+use Rattle.std.proofs.Common.{◌≡◌, ◌∙◌, ℕ, List, Some, slice_get, get_or, length, refl, ap, sym}
 use Rattle.std.proofs.lemmas.Option.{slice_get_read}
 use Rattle.clu_bindings.specs.Modules.{named}
 use Rattle.clu_bindings.specs.Declaring.{declared_at}

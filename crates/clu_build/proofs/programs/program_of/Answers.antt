@@ -1,6 +1,6 @@
 use Rattle.std.proofs.Common.{◌∙◌, ap, subst, sym}
 use Rattle.clu_library.specs.declared.program.Program.{Program}
-use Rattle.clu_link.specs.Causes.{HaveBodies}
+use Rattle.clu_reach.specs.Causes.{HaveBodies}
 use Rattle.clu_build.proofs.programs.program_of.Goals as goal
 
 pub returns-clause-bodies : goal.returns-clause-bodies

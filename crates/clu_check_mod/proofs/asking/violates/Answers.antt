@@ -12,6 +12,10 @@ module _ (k : Known) (bad : List Bool) (items : ℕ → Item) (n : ℕ) (r : Rul
   unfolding is_violated is_violated_of_types
   same v is e = ap (violates_of_types k.tables bad items n) is ∙ e ∙ sym (ap (violates k bad items n) is)
 
+  told : (v : Rule) → r ≡ v → is_violated k bad items n r ≡ violates k bad items n v
+  unfolding is_violated
+  told v is = ap (violates k bad items n) is
+
   -- the rules by which types are refused
   of_types : (r ≡ rule.LiteralRange) ⊎ ((r ≡ rule.UnknownName) ⊎ ((r ≡ rule.CircularEquate) ⊎ ((r ≡ rule.NotConstant) ⊎ ((r ≡ rule.NotType) ⊎ ((r ≡ rule.Real) ⊎ ((r ≡ rule.Selectors) ⊎ ((r ≡ rule.ParameterKind) ⊎ (r ≡ rule.CvtPlace)))))))) →
       is_violated_of_types k.tables bad items n r ≡ is_violated k bad items n r
@@ -27,4 +31,13 @@ module _ (k : Known) (bad : List Bool) (items : ℕ → Item) (n : ℕ) (r : Rul
 
 pub returns-in-LiteralRange-clause-exact : goal.returns-in-LiteralRange-clause-exact
 returns-in-LiteralRange-clause-exact c items ascending =
-    c.violates_of_types.ensures.exact items ascending ∙ of_types c.args.k.now c.args.bad.now items c.args.n c.args.rule c.in-LiteralRange.is
+    c.violates_of_types.ensures.exact items ascending.0 ∙ of_types c.args.k.now c.args.bad.now items c.args.n c.args.rule c.in-LiteralRange.is
+
+pub returns-in-ArgumentType-clause-exact : goal.returns-in-ArgumentType-clause-exact
+returns-in-ArgumentType-clause-exact c items ascending = c.v13.ensures items ascending.0 ∙ sym (told c.args.k.now c.args.bad.now items c.args.n c.args.rule rule.ArgumentType c.in-ArgumentType.is)
+
+pub returns-in-AssignType-clause-exact : goal.returns-in-AssignType-clause-exact
+returns-in-AssignType-clause-exact c items ascending = c.v15.ensures items (ascending.1 c.args.n) ∙ sym (told c.args.k.now c.args.bad.now items c.args.n c.args.rule rule.AssignType c.in-AssignType.is)
+
+pub returns-in-TagMissingOrTwice-clause-exact : goal.returns-in-TagMissingOrTwice-clause-exact
+returns-in-TagMissingOrTwice-clause-exact c items ascending = c.v22.ensures items (ascending.1 c.args.n) ∙ sym (told c.args.k.now c.args.bad.now items c.args.n c.args.rule rule.TagMissingOrTwice c.in-TagMissingOrTwice.is)

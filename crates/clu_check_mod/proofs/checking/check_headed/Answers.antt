@@ -1,8 +1,11 @@
 use Rattle.std.proofs.Common.{◌≡◌, List, subst}
+use Rattle.std.proofs.lemmas.Result.{err_from_is_err_and}
 use Rattle.clu_tree.specs.declared.node.Node.{Node}
 use Rattle.clu_tree.specs.Nodes.{modules}
 use Rattle.clu_types.specs.declared.spec.Spec.{Spec}
+use Rattle.clu_check_mod.specs.Answered.{IsFirstOf}
 use Rattle.clu_check_mod.specs.Modules.{AreOf}
+use Rattle.clu_check_mod.proofs.Answered.{no_more, not_of_tree}
 use Rattle.clu_check_mod.proofs.checking.check_headed.Goals as goal
 
 pub returns-clause-found : goal.returns-clause-found
@@ -14,3 +17,16 @@ returns-clause-found c =
     let P : List Node → Type 0 = λ ns. AreOf ns (modules ns) c.in_ok-own.own.items in
     let Q : List Spec → Type 0 = λ specs. AreOf nodes (modules nodes) specs in
     (subst Q own (subst P c.tree.ensures.same c.in_ok-own.ensures.own), c.in_ok-ask.ensures.closed)
+
+pub returns-in_err-own-clause-refused : goal.returns-in_err-own-clause-refused
+returns-in_err-own-clause-refused c =
+    let p = err_from_is_err_and c.from_residual-in_err-own.result c.from_residual-in_err-own.ensures.1 in
+    rw (p.1, p.2) (not_of_tree c.args.headed.file.syntax.now c.in_err-own.field-0.0 c.in_err-own.ensures.refused)
+
+pub returns-in_err-own-clause-first : goal.returns-in_err-own-clause-first
+returns-in_err-own-clause-first c =
+    let p = err_from_is_err_and c.from_residual-in_err-own.result c.from_residual-in_err-own.ensures.1 in
+    rw (p.1, p.2) (no_more (IsFirstOf c.args.headed c.args.lists.now c.args.long.now c.args.extent) c.in_err-own.field-0.0 c.in_ok-ask.ensures.first c.in_err-own.ensures.refused)
+
+pub returns-clause-first : goal.returns-clause-first
+returns-clause-first c = c.in_ok-ask.ensures.first

@@ -1,10 +1,10 @@
 use Rattle.std.proofs.Common.{◌≡◌, ◌<◌, ℕ}
 use Rattle.clu_syntax.specs.Items.{Item}
-use Rattle.clu_name_rules.specs.Components.{HaveAscending}
+use Rattle.clu_check_mod.specs.Asking.{KnownAscend}
 use Rattle.clu_check_mod.specs.Walks.{IsClosedNode, fault_at}
 use Rattle.clu_check_mod.specs.declared.rules.Walk.TheVariants as walk
 use Rattle.clu_check_mod.proofs.Finding.{Goes}
 use Rattle.clu_check_mod.proofs.walk.walk_nodes.Given as goal
 
 abbrev pub invariant-loop-n : goal.invariant-loop-n
-invariant-loop-n l = (l.walk ≡ walk.Rest → (m : ℕ) → m < l.n → IsClosedNode l.tree m) × ((items : ℕ → Item) → HaveAscending l.k.tables.types.now → Goes (fault_at l.k l.bad items l.walk) l.tree l.n)
+invariant-loop-n l = (l.walk ≡ walk.Rest → (m : ℕ) → m < l.n → IsClosedNode l.tree m) × ((items : ℕ → Item) → KnownAscend l.k → Goes (fault_at l.k l.bad items l.walk) l.tree l.n)

@@ -1,0 +1,99 @@
+-- From what one function answers of a file to what the one answers that calls it.
+use Rattle.std.proofs.Common.{◌≡◌, ◌∙◌, List, length, Option, Some, None, Result, Ok, Err, ap, subst, sym}
+use Rattle.clu_base.specs.declared.rules.Refused.{Refused}
+use Rattle.clu_tree.specs.declared.node.Node.{Node}
+use Rattle.clu_syntax.specs.declared.round.Round.{Round}
+use Rattle.clu_syntax.specs.Rounds.{AreRounds}
+use Rattle.clu_names.specs.declared.binding.Names.{Names}
+use Rattle.clu_names.specs.Denotes.{bound_to, starts_to}
+use Rattle.clu_names.specs.Scopes.{declarations}
+use Rattle.clu_types.specs.declared.spec.Spec.{Spec}
+use Rattle.clu_types.specs.declared.term.Term.{Term}
+use Rattle.clu_settle.specs.declared.settling.Values.{Values}
+use Rattle.clu_bindings.specs.declared.file.File.{File}
+use Rattle.clu_bindings.specs.Bindings.{AreBindings}
+use Rattle.clu_bindings.specs.Modules.{AreModules, modules_in}
+use Rattle.clu_check_mod.specs.Answered.{AreLists, AreNamed, AreValues, IsAnswer, IsAnswerBy, IsFirst, IsFirstIn, IsFirstWith, IsNoRefusal}
+use Rattle.clu_check_mod.specs.Refusals.{IsOfTree, IsTold}
+use Rattle.clu_check_mod.specs.declared.checking.Lists.{Lists}
+use Rattle.clu_check_mod.specs.declared.errors.CheckError.{CheckError}
+use Rattle.clu_check_mod.specs.declared.errors.CheckError.TheVariants as error
+use Rattle.clu_check_mod.specs.declared.walk.Extent.{Extent}
+
+module _ (First Second : Option Refused → Type 0) (more : (o : Option Refused) → First o → Second o) where
+  pub error_more : (e : CheckError) → IsAnswerBy First e → IsAnswerBy Second e
+  error_more (error.Refused r) is = more (Some r) is
+  error_more error.Memory is = tt
+  error_more error.NotYet is = more None is
+
+  pub answer_more : {A : Type 0} (r : Result A CheckError) → IsAnswer First r → IsAnswer Second r
+  answer_more (Ok found) is = more None is
+  answer_more (Err e) is = error_more e is
+
+-- what the walks tell by each way to read the nodes
+pub told_answer : {A X : Type 0} {P : Type 0} (First : Option Refused → Type 0) (first : X → Option Refused) (r : Result A CheckError) → ((x : X) → P → IsTold r (first x)) → ((o : Option Refused) → ((x : X) → P → first x ≡ o) → First o) → IsAnswer First r
+told_answer First first (Ok found) told gives = gives None told
+told_answer First first (Err (error.Refused r)) told gives = gives (Some r) told
+told_answer First first (Err error.Memory) told gives = tt
+told_answer First first (Err error.NotYet) told gives = gives None (λ x p. absurd (told x p))
+
+-- behind the walks nothing is refused
+pub no_more : (First : Option Refused → Type 0) (e : CheckError) → First None → IsNoRefusal e → IsAnswerBy First e
+no_more First (error.Refused r) is none = absurd none
+no_more First error.Memory is none = tt
+no_more First error.NotYet is none = is
+
+pub not_of_tree : (nodes : List Node) (e : CheckError) → IsNoRefusal e → IsOfTree nodes e
+not_of_tree nodes (error.Refused r) none = absurd none
+not_of_tree nodes error.Memory none = tt
+not_of_tree nodes error.NotYet none = tt
+
+-- ---- what names and values are answered by, from what is said of the file that is made of them
+
+module _ (nodes : List Node) (rounds : List Round) (names : Names) (settled : Values) (library : List Spec) (asked : Extent) {A : Type 0} (r : Result A CheckError) where
+  pub first_with : (file : File) (types : List Term) (lists : Lists) → IsAnswer (IsFirstIn file types lists asked) r →
+      file.syntax.now ≡ nodes → file.rounds.now ≡ rounds → file.names.now ≡ names → file.values.now ≡ settled.values.items → file.constants.now ≡ settled.constants.items → file.library.now ≡ library →
+      AreBindings nodes rounds names settled.values.items file.bindings.now → AreModules file.bindings.now.modules (modules_in settled.types settled.values.items nodes library) → AreLists nodes rounds names lists →
+      IsAnswer (IsFirstWith nodes rounds names settled library asked) r
+  first_with file types lists answer nodes_are rounds_are names_are values constants library_is bindings modules lists_are =
+      answer_more (IsFirstIn file types lists asked) (IsFirstWith nodes rounds names settled library asked)
+      (λ o is. record {
+        file = file;
+        types = types;
+        lists = lists;
+        nodes_are = nodes_are;
+        rounds_are = rounds_are;
+        names_are = names_are;
+        values = values;
+        constants = constants;
+        library_is = library_is;
+        bindings = bindings;
+        modules = modules;
+        lists_are = lists_are;
+        is = is;
+      }) r answer
+
+-- ---- what a tree is answered by, from what is said of its nodes where each table is made
+
+module _ (nodes first second : List Node) (all before between rounds : List Round) (names : Names) (made settled : Values) (library : List Spec) (asked : Extent)
+    (first_is : first ≡ nodes) (second_is : second ≡ nodes) (before_are : before ≡ all) (between_are : between ≡ all) (rounds_are : rounds ≡ all) (settled_is : settled ≡ made)
+    (surrounded : AreRounds first all) (declared : names.declared.items ≡ declarations second before)
+    (bound : names.bound.items ≡ bound_to second names.declared.items (length second)) (starts : names.starts.items ≡ starts_to second names.declared.items (length second))
+    (values : AreValues nodes between names made) where
+  are_named : AreNamed nodes rounds names
+  are_named = record {
+    declared = declared ∙ ap (λ (t : List Node). declarations t before) second_is ∙ ap (declarations nodes) (before_are ∙ sym rounds_are);
+    bound = bound ∙ ap (λ (t : List Node). bound_to t names.declared.items (length t)) second_is;
+    starts = starts ∙ ap (λ (t : List Node). starts_to t names.declared.items (length t)) second_is;
+  }
+
+  pub first_of_tree : (o : Option Refused) → IsFirstWith nodes rounds names settled library asked o → IsFirst nodes library asked o
+  first_of_tree o is = record {
+    rounds = rounds;
+    names = names;
+    settled = settled;
+    surrounded = subst (AreRounds nodes) (sym rounds_are) (subst (λ (t : List Node). AreRounds t all) first_is surrounded);
+    names_are = are_named;
+    values = subst (AreValues nodes rounds names) (sym settled_is) (subst (λ (rs : List Round). AreValues nodes rs names made) (between_are ∙ sym rounds_are) values);
+    is = is;
+  }

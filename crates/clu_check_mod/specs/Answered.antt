@@ -1,0 +1,150 @@
+-- What a check answers of a file: its first fault, by the tables that are made of it.
+use Rattle.std.specs.Prelude.{◌≡◌, ◌<◌, ◌↔◌, ℕ, Bool, true, List, length, map, nat_lt, slice_get, Option, Some, None, Result, Ok, Err}
+use Rattle.clu_base.specs.declared.constants.Const.{Const}
+use Rattle.clu_base.specs.declared.rules.Refused.{Refused}
+use Rattle.clu_circles.specs.Circles.{AreCircles}
+use Rattle.clu_tree.specs.declared.node.Node.{Node}
+use Rattle.clu_syntax.specs.declared.round.Round.{Round}
+use Rattle.clu_syntax.specs.Items.{Item}
+use Rattle.clu_syntax.specs.Rounds.{AreRounds}
+use Rattle.clu_names.specs.declared.binding.Names.{Names}
+use Rattle.clu_names.specs.Denotes.{bound_to, starts_to}
+use Rattle.clu_names.specs.Scopes.{declarations}
+use Rattle.clu_types.specs.declared.spec.Spec.{Spec}
+use Rattle.clu_types.specs.declared.term.Term.{Term}
+use Rattle.clu_meaning.specs.Scoping.{Scope}
+use Rattle.clu_settle.specs.declared.settling.Values.{Values}
+use Rattle.clu_settle.specs.declared.value.Value.TheVariants as value
+use Rattle.clu_settle.specs.Circular.{is_circular, spans_to}
+use Rattle.clu_settle.specs.Graph.{unfolded_to}
+use Rattle.clu_settle.specs.Lists.{value_of}
+use Rattle.clu_settle.specs.Lost.{IsLost}
+use Rattle.clu_settle.specs.Meant.{meanings_of}
+use Rattle.clu_settle.specs.Names.{AreMeanings}
+use Rattle.clu_settle.specs.Settled.{AreSettled}
+use Rattle.clu_head.specs.Refused.{counts_to}
+use Rattle.clu_bindings.specs.declared.file.File.{File}
+use Rattle.clu_bindings.specs.declared.file.Headed.{Headed}
+use Rattle.clu_bindings.specs.Bindings.{AreBindings}
+use Rattle.clu_bindings.specs.Modules.{AreModules, modules_in}
+use Rattle.clu_name_rules.specs.declared.tables.Tables.{Tables}
+use Rattle.clu_name_rules.specs.Constructors.{ValuesAscend}
+use Rattle.clu_name_rules.specs.Lengths.{constant_length, lengths_of}
+use Rattle.clu_name_rules.specs.Own.{own_places}
+use Rattle.clu_name_rules.specs.Repeated.{AreNoted, notes_of}
+use Rattle.clu_name_rules.specs.Words.{words_to}
+use Rattle.clu_type_rules.specs.declared.known.Known.{Known}
+use Rattle.clu_type_rules.specs.Routines.{parts_to}
+use Rattle.clu_check_mod.specs.Asking.{KnownAscend}
+use Rattle.clu_check_mod.specs.Bad.{bad_of_all, refused_of}
+use Rattle.clu_check_mod.specs.Walks.{first_in}
+use Rattle.clu_check_mod.specs.declared.checking.Lists.{Lists}
+use Rattle.clu_check_mod.specs.declared.checking.Long.{Long}
+use Rattle.clu_check_mod.specs.declared.errors.CheckError.{CheckError}
+use Rattle.clu_check_mod.specs.declared.errors.CheckError.TheVariants as error
+use Rattle.clu_check_mod.specs.declared.walk.Extent.{Extent}
+
+-- ---- an answer, by what is the first fault of a file, if it has one
+
+-- a refusal is answered if it is the first fault; what is found, and that a specification is lost, only if there is none
+abbrev pub IsAnswerBy : (Option Refused → Type 0) → CheckError → Type 0
+IsAnswerBy IsFirst (error.Refused r) = IsFirst (Some r)
+IsAnswerBy IsFirst error.Memory = Unit {0}
+IsAnswerBy IsFirst error.NotYet = IsFirst None
+
+abbrev pub IsAnswer : (Option Refused → Type 0) → {A : Type 0} → Result A CheckError → Type 0
+IsAnswer IsFirst (Ok found) = IsFirst None
+IsAnswer IsFirst (Err e) = IsAnswerBy IsFirst e
+
+abbrev pub IsNoRefusal : CheckError → Type 0
+IsNoRefusal (error.Refused r) = ⊥
+IsNoRefusal error.Memory = Unit {0}
+IsNoRefusal error.NotYet = Unit {0}
+
+-- ---- what is made of a tree
+
+-- what its names are bound to
+pub record AreNamed (nodes : List Node) (rounds : List Round) (names : Names) : Type 0 where
+  pub declared : names.declared.items ≡ declarations nodes rounds
+  pub bound : names.bound.items ≡ bound_to nodes names.declared.items (length nodes)
+  pub starts : names.starts.items ≡ starts_to nodes names.declared.items (length nodes)
+
+-- what its constants and types come to
+pub record AreValues (nodes : List Node) (rounds : List Round) (names : Names) (settled : Values) : Type 0 where
+  pub meanings : settled.meanings.items ≡ meanings_of nodes rounds names.declared.items
+  pub known : (scope : Scope) → AreMeanings nodes scope settled.meanings.items → AreSettled nodes scope settled.types settled.constants.items settled.values.items
+  pub lost : (n : ℕ) → n < length nodes → value_of settled.values.items n ≡ value.Lost → IsLost nodes settled.meanings.items n
+
+-- and what comes of its names
+pub record AreLists (nodes : List Node) (rounds : List Round) (names : Names) (lists : Lists) : Type 0 where
+  pub order : AreCircles (unfolded_to nodes names.declared.items (length nodes)) (spans_to nodes rounds names.declared.items) lists.circles.order.items lists.circles.circular.items
+  pub circular : length rounds ≡ length nodes → (k : ℕ) → k < length names.declared.items → (slice_get lists.circles.circular.items k ≡ Some true) ↔ (is_circular nodes rounds names.declared.items k ≡ true)
+  pub own : lists.own.items ≡ own_places names.declared.items (length nodes)
+  pub words : lists.words.value ≡ words_to nodes (length nodes)
+  pub items : AreNoted (length nodes) (notes_of lists.words.value nodes names.declared.items) lists.items.value
+  pub routines : (items : ℕ → Item) → lists.routines.value.parts.items ≡ parts_to items nodes (length nodes)
+
+pub record AreLong (terms : List Term) (its : List Const) (long : Long) : Type 0 where
+  pub types : long.types.items ≡ map (nat_lt 65536) (lengths_of terms)
+  pub constants : long.constants.items ≡ map (λ c. nat_lt 65536 (constant_length c)) its
+
+-- ---- the tables of a file
+
+pub record AreTables (t : Tables) (file : File) (lists : Lists) (long : Long) : Type 0 where
+  pub file_is : t.file ≡ file
+  pub long_types : t.long_types.now ≡ long.types.items
+  pub long_constants : t.long_constants.now ≡ long.constants.items
+  pub circular : t.circular.now ≡ lists.circles.circular.items
+  pub own : t.own.now ≡ lists.own.items
+  pub words : t.words.now ≡ lists.words.value
+  pub items : t.items.now ≡ lists.items.value
+
+-- ---- the first fault of a file
+
+-- where its headings are known
+pub record IsFirstOf (headed : Headed) (lists : Lists) (long : Long) (asked : Extent) (first : Option Refused) : Type 0 where
+  pub known : Known
+  pub headed_is : known.headed ≡ headed
+  pub tables : AreTables known.tables headed.file lists long
+  pub routines : known.routines.now ≡ lists.routines.value
+  pub is : (items : ℕ → Item) → KnownAscend known → first_in known (bad_of_all known items lists.circles.order.items) items asked ≡ first
+
+-- where its types are, as far as they stand in no heading: types that are refused are found by tables before
+pub record IsFirstIn (file : File) (types : List Term) (lists : Lists) (asked : Extent) (first : Option Refused) : Type 0 where
+  pub headed : Headed
+  pub long : Long
+  pub before : Tables
+  pub refused : List Bool
+  pub file_is : headed.file ≡ file
+  pub long_are : AreLong types file.constants.now long
+  pub tables : AreTables before file lists long
+  pub types_are : before.types.now ≡ types
+  pub refused_are : (items : ℕ → Item) → ValuesAscend before → refused ≡ refused_of before items lists.circles.order.items
+  pub counts : headed.refused.now ≡ counts_to refused (length refused)
+  pub is : IsFirstOf headed lists long asked first
+
+-- where its names and values are
+pub record IsFirstWith (nodes : List Node) (rounds : List Round) (names : Names) (settled : Values) (library : List Spec) (asked : Extent) (first : Option Refused) : Type 0 where
+  pub file : File
+  pub types : List Term
+  pub lists : Lists
+  pub nodes_are : file.syntax.now ≡ nodes
+  pub rounds_are : file.rounds.now ≡ rounds
+  pub names_are : file.names.now ≡ names
+  pub values : file.values.now ≡ settled.values.items
+  pub constants : file.constants.now ≡ settled.constants.items
+  pub library_is : file.library.now ≡ library
+  pub bindings : AreBindings nodes rounds names settled.values.items file.bindings.now
+  pub modules : AreModules file.bindings.now.modules (modules_in settled.types settled.values.items nodes library)
+  pub lists_are : AreLists nodes rounds names lists
+  pub is : IsFirstIn file types lists asked first
+
+-- of these nodes, under these specifications
+pub record IsFirst (nodes : List Node) (library : List Spec) (asked : Extent) (first : Option Refused) : Type 0 where
+  pub rounds : List Round
+  pub names : Names
+  pub settled : Values
+  pub surrounded : AreRounds nodes rounds
+  pub names_are : AreNamed nodes rounds names
+  pub values : AreValues nodes rounds names settled
+  pub is : IsFirstWith nodes rounds names settled library asked first

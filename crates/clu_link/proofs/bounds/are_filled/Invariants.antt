@@ -1,8 +1,0 @@
-use Rattle.std.proofs.Common.{◌≡◌, drop}
-use Rattle.std.specs.List.{list_all}
-use Rattle.clu_link.specs.Tables.{is_filled}
-use Rattle.clu_link.proofs.bounds.are_filled.Given as goal
-
--- the holes that are left decide
-abbrev pub invariant-loop-hole : goal.invariant-loop-hole
-invariant-loop-hole l = list_all is_filled l.holes ≡ list_all is_filled (drop l.hole-index l.holes)

@@ -1,0 +1,39 @@
+-- A file as the calls before the rules make it: what is known of it is so.
+use Rattle.std.specs.Prelude.{◌≡◌, ◌↔◌, ◌<◌, ◌-◌, ◌^◌, ℕ, true, List, length, map, nat_lt, slice_get, Some}
+use Rattle.clu_parser.specs.Trees.{Text}
+use Rattle.clu_types.specs.declared.term.Term.{Term}
+use Rattle.clu_types.specs.Arena.{IsArena}
+use Rattle.clu_syntax.specs.Rounds.{AreRounds}
+use Rattle.clu_checking.specs.Specifications.{Specification, specification_told}
+use Rattle.clu_checking.specs.Files.{scope_in}
+use Rattle.clu_settle.specs.Circular.{is_circular}
+use Rattle.clu_settle.specs.Settled.{AreSettled}
+use Rattle.clu_declares.specs.Declares.{AreFew, IsParsed}
+use Rattle.clu_bindings.specs.declared.file.File.{File as Read}
+use Rattle.clu_bindings.specs.Bindings.{AreBindings}
+use Rattle.clu_bindings.specs.Modules.{AreModules, modules_in}
+use Rattle.clu_name_rules.specs.declared.tables.Tables.{Tables}
+use Rattle.clu_name_rules.specs.Lengths.{constant_length, lengths_of}
+use Rattle.clu_passes.specs.ConstantTables.{file_with}
+use Rattle.clu_passes.specs.Tables.{AreNames}
+
+-- the file of a text and a library, whose values are of this arena, where these nodes are refused
+pub record IsMade (t : Text) (r : Read) (library : List Specification) (refused : List ℕ) (types : List Term) : Type 0 where
+  pub parsed : IsParsed t r.syntax.now
+  pub rounds : AreRounds r.syntax.now r.rounds.now
+  pub few : AreFew r.syntax.now r.rounds.now
+  pub names : AreNames (file_with r (scope_in r.syntax.now r.rounds.now) library refused) r.names.now
+  pub arena : IsArena types
+  pub values : AreSettled r.syntax.now (scope_in r.syntax.now r.rounds.now) types r.constants.now r.values.now
+  pub bindings : AreBindings r.syntax.now r.rounds.now r.names.now r.values.now r.bindings.now
+  pub kept : library ≡ map specification_told r.library.now
+  pub modules : AreModules r.bindings.now.modules (modules_in types r.values.now r.syntax.now r.library.now)
+  -- as many modules as 32 bits count
+  pub few_modules : length r.bindings.now.modules.known.items < 2 ^ 32 - 1
+
+-- the same of all that the rules on names, constants and types read
+pub record AreMade (t : Text) (its : Tables) (library : List Specification) (refused : List ℕ) : Type 0 where
+  pub file : IsMade t its.file library refused its.types.now
+  pub circular : length its.file.rounds.now ≡ length its.file.syntax.now → (k : ℕ) → k < length its.file.names.now.declared.items → (slice_get its.circular.now k ≡ Some true) ↔ (is_circular its.file.syntax.now its.file.rounds.now its.file.names.now.declared.items k ≡ true)
+  pub long_types : its.long_types.now ≡ map (nat_lt 65536) (lengths_of its.types.now)
+  pub long_constants : its.long_constants.now ≡ map (λ c. nat_lt 65536 (constant_length c)) its.file.constants.now
