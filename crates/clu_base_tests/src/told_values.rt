@@ -53,8 +53,8 @@ fn tell_value(alloc: Global, out: &mut String, values: &Values, value: Value) ->
         Value::Nothing => write!(out, "-")?,
         Value::Lost => write!(out, "?")?,
         Value::Parameter(n) => write!(out, "%{n}")?,
-        Value::Constant(place) => match values.constants.as_slice().get(place) {
-            Some(constant) => tell_constant(out, constant)?,
+        Value::Constant(place) => match values.constants.copy(alloc, place)? {
+            Some(constant) => tell_constant(out, &constant)?,
             None => write!(out, "no constant")?,
         },
         Value::Type(id) => {

@@ -1,5 +1,5 @@
 -- Types as the bodies of a cluster's routines see them, and as callers do, by the tables of a file.
-use Rattle.std.specs.Prelude.{ℕ, ◌&&◌, is_some, is_none, if◌then◌else◌, Bool, true, false, List, slice_get, get_or, Option, Some, None}
+use Rattle.std.specs.Prelude.{ℕ, ◌&&◌, ◌||◌, is_some, is_none, if◌then◌else◌, Bool, true, false, List, slice_get, get_or, Option, Some, None}
 use Rattle.clu_tree.specs.declared.node.Node.{Node}
 use Rattle.clu_syntax.specs.declared.words.SimpleType.{SimpleType}
 use Rattle.clu_syntax.specs.declared.words.SimpleType.TheVariants as simple
@@ -85,3 +85,12 @@ module _ (h : Headed) where
 
   abbrev pub representation : ℕ → Option TypeId
   representation n = if is_refused_rep n then None else rep_type h.file n
+
+  module _ (items : ℕ → Item) where
+    -- the type at the node t is refused, as the body in which the node n stands sees it
+    abbrev pub is_refused_inside : ℕ → ℕ → Bool
+    is_refused_inside n t = is_refused t || (is_cvt items h.file.syntax.now t && is_refused_rep n)
+
+    -- the type of a variable by its name, unless it is refused where it is declared
+    abbrev pub known_inside : ℕ → ℕ → Option TypeId
+    known_inside n t = if is_refused_inside n t then None else type_inside h.file items n t

@@ -2,6 +2,8 @@
 use Rattle.std.specs.Prelude.{ℕ, ◌-◌, ◌&&◌, Bool, true, false, List, [], ◌∷◌, slice_get, if◌then◌else◌, Option, Some, None}
 use Rattle.clu_base.specs.declared.constants.Const.{Const}
 use Rattle.clu_base.specs.declared.constants.Const.TheVariants as constant
+use Rattle.clu_constants.specs.declared.outline.Outline.{Outline}
+use Rattle.clu_constants.specs.declared.outline.Outline.TheVariants as outline
 use Rattle.clu_types.specs.declared.spec.ParamKind.{ParamKind}
 use Rattle.clu_types.specs.declared.spec.ParamKind.TheVariants as param
 use Rattle.clu_types.specs.contracts.spec.ParamKind.{the_type}
@@ -28,6 +30,14 @@ kind_of_constant (constant.Bool b) = param.Bool
 kind_of_constant (constant.Int n) = param.Int
 kind_of_constant (constant.Char c) = param.Char
 kind_of_constant (constant.Str bytes) = param.Str
+
+-- the same without its text
+abbrev pub kind_of_outline : Outline → ParamKind
+kind_of_outline outline.Null = param.Null
+kind_of_outline (outline.Bool b) = param.Bool
+kind_of_outline (outline.Int n) = param.Int
+kind_of_outline (outline.Char c) = param.Char
+kind_of_outline (outline.Str n) = param.Str
 
 abbrev pub kind_of_place : Option Const → Option ParamKind
 kind_of_place (Some c) = Some (kind_of_constant c)

@@ -1,16 +1,22 @@
 //! The tables of what names denote and what is wanted, made in their order.
 
-ghost use Rattle.std.specs.Prelude.{◌≡◌, IfOk, List, length};
+ghost use Rattle.std.specs.Prelude.{◌≡◌, false, IfOk, List, Some, length, slice_get};
+ghost use Rattle.clu_tree.specs.declared.node.Node.{Node};
+ghost use Rattle.clu_tree.specs.declared.node.NodeKind.{NodeKind};
+ghost use Rattle.clu_types.specs.Arena.{Grows};
 ghost use Rattle.clu_names.specs.Denotes.{bound_to, starts_to};
 ghost use Rattle.clu_syntax.specs.Syntax.{Identifier};
 ghost use Rattle.clu_bindings.specs.declared.bindings.ModuleKnown.{ModuleKnown};
+ghost use Rattle.clu_bindings.specs.Headlines.{headline_told, headline_of};
 ghost use Rattle.clu_bindings.specs.Modules.{named, AreModules, modules_in};
+ghost use Rattle.clu_bindings.specs.Owned.{IsOwned, AreOwned};
 ghost use Rattle.clu_bindings.specs.Parameters.{AreParameters};
 ghost use Rattle.clu_bindings.specs.Declaring.{declared_of};
 ghost use Rattle.clu_bindings.specs.Bindings.{placed, places_to, AreBindings};
 
 use crate::bindings::{Bindings, Modules, ParameterTypes};
 use crate::declaring::{declared_of, meanings_of};
+use crate::headline::{Headline, cluster_at};
 use crate::meaning::Meaning;
 use crate::modules::modules_of;
 use crate::nodes::children_of;
@@ -51,20 +57,56 @@ fn places_of(alloc: Global, tree: &Tree) -> Result<Vec<usize>, Memory>
     Ok(places)
 }
 
+/// The type of the cluster that is read so, with its own parameters.
+fn own_headed(
+    alloc: Global,
+    syntax: &Syntax,
+    types: &mut TypeArena,
+    values: &[Value],
+    headline: Headline<'_>,
+) -> Result<Option<TypeId>, Memory>
+    ensures own { IfOk result (λ found. IsOwned types.new values.now syntax.now (headline_told headline.entry) found) }
+    ensures kept { Grows types.old types.new }
+{
+    let kinds = kinds(alloc, syntax, types, values, headline.parameters)?;
+    own_type(alloc, types, headline.name, kinds.as_slice())
+}
+
+/// That of the node n, if it is a Cluster.
 fn own_at(
     alloc: Global,
     syntax: &Syntax,
     types: &mut TypeArena,
     values: &[Value],
     n: u32,
-) -> Result<Option<TypeId>, Memory> {
+) -> Result<Option<TypeId>, Memory>
+    ensures own { IfOk result (λ found. (node : Node) → slice_get syntax.now n ≡ Some node → node.kind ≡ NodeKind.Cluster → IsOwned types.new values.now syntax.now (headline_of syntax.now false node) found) }
+    ensures kept { Grows types.old types.new }
+{
     if is_at(syntax.tree(), n, NodeKind::Cluster) {
-        let cluster = syntax.cluster(n);
-        let kinds = kinds(alloc, syntax, types, values, cluster.parameters)?;
-        own_type(alloc, types, cluster.name, kinds.as_slice())
+        own_headed(alloc, syntax, types, values, cluster_at(syntax, n))
     } else {
         Ok(None)
     }
+}
+
+/// Those of the first so many nodes.
+fn own_to(
+    alloc: Global,
+    syntax: &Syntax,
+    types: &mut TypeArena,
+    values: &[Value],
+    count: u32,
+) -> Result<Vec<Option<TypeId>>, Memory>
+    ensures own { IfOk result (λ all. AreOwned types.new values.now syntax.now count all.items) }
+    ensures kept { Grows types.old types.new }
+{
+    let mut all = Vec::new(alloc);
+    for n in 0..count {
+        let found = own_at(alloc, syntax, types, values, n)?;
+        all.push(found)?;
+    }
+    Ok(all)
 }
 
 /// For each Cluster its type with its own parameters.
@@ -73,12 +115,11 @@ fn own_of(
     syntax: &Syntax,
     types: &mut TypeArena,
     values: &[Value],
-) -> Result<Vec<Option<TypeId>>, Memory> {
-    let mut own = Vec::new(alloc);
-    for n in 0..syntax.tree().len() {
-        own.push(own_at(alloc, syntax, types, values, n)?)?;
-    }
-    Ok(own)
+) -> Result<Vec<Option<TypeId>>, Memory>
+    ensures own { IfOk result (λ all. AreOwned types.new values.now syntax.now (length syntax.now) all.items) }
+    ensures kept { Grows types.old types.new }
+{
+    own_to(alloc, syntax, types, values, syntax.tree().len())
 }
 
 /// The tables, where this is known of modules, parameters, declarations and names.
@@ -99,6 +140,8 @@ fn tables_of(
     requires declared { declared.items ≡ declared_of syntax.now rounds.now (named modules) parameters.counts.items parameters.numbers.items names.now.declared.items }
     ensures tables { IfOk result (λ all. AreBindings syntax.now rounds.now names.now values.now all.value) }
     ensures modules { IfOk result (λ all. (known : List (Identifier × ModuleKnown)) → AreModules modules known → AreModules all.value.modules known) }
+    ensures own { IfOk result (λ all. AreOwned types.new values.now syntax.now (length syntax.now) all.value.own.items) }
+    ensures kept { Grows types.old types.new }
 {
     let tree = syntax.tree();
     let meanings = meanings_of(alloc, tree, names, &modules, declared.as_slice())?;
@@ -142,6 +185,8 @@ pub fn bindings_of(
     requires starts { names.now.starts.items ≡ starts_to syntax.now names.now.declared.items (length syntax.now) }
     ensures tables { IfOk result (λ all. AreBindings syntax.now rounds.now names.now values.now all.value) }
     ensures modules { IfOk result (λ all. AreModules all.value.modules (modules_in types.old values.now syntax.now library.now)) }
+    ensures own { IfOk result (λ all. AreOwned types.new values.now syntax.now (length syntax.now) all.value.own.items) }
+    ensures kept { Grows types.old types.new }
 {
     let modules = modules_of(alloc, syntax, types, values, library)?;
     let parameters = parameters_of(alloc, syntax, rounds, names)?;

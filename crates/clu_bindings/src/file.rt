@@ -20,7 +20,8 @@ use crate::meaning::{Meaning, ModuleId};
 use crate::nodes::{children_of, kind_of, names_of, parent_of, round_of};
 use crate::tables::{is_set, items_of, number_at, optional_at};
 use crate::wanted::Wanted;
-use clu_base::{Bytes, Const};
+use clu_base::Bytes;
+use clu_constants::Constants;
 use clu_head::{Heads, is_refused};
 use clu_names::Names;
 use clu_settle::Value;
@@ -38,7 +39,7 @@ pub struct File<'a> {
     pub rounds: &'a [Round],
     pub names: &'a Names,
     pub values: &'a [Value],
-    pub constants: &'a [Const],
+    pub constants: &'a Constants,
     pub library: &'a Specs,
     pub bindings: &'a Bindings,
 }

@@ -32,7 +32,8 @@ fn routine_at(syntax: &Syntax, n: u32) -> Headline<'_>
     }
 }
 
-fn cluster_at(syntax: &Syntax, n: u32) -> Headline<'_>
+/// That of the Cluster n.
+pub fn cluster_at(syntax: &Syntax, n: u32) -> Headline<'_>
     requires inside { n < length syntax.now }
     requires kind { kind_at syntax.now n ≡ NodeKind.Cluster }
     ensures { option_map (headline_of syntax.now false) (slice_get syntax.now n) ≡ Some (headline_told result) }

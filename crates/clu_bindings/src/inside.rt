@@ -4,7 +4,7 @@ ghost use Rattle.std.specs.Prelude.{◌≡◌, ℕ};
 ghost use Rattle.clu_syntax.specs.Items.{Item};
 ghost use Rattle.clu_syntax.specs.Views.{type_told};
 ghost use Rattle.clu_settle.specs.Lists.{type_id};
-ghost use Rattle.clu_bindings.specs.Inside.{is_cvt_word, is_cvt_type, is_cvt, own_type, rep_type, is_refused_rep, representation, type_inside, type_outside};
+ghost use Rattle.clu_bindings.specs.Inside.{is_cvt_word, is_cvt_type, is_cvt, own_type, rep_type, is_refused_rep, representation, type_inside, type_outside, known_inside};
 
 use crate::file::{File, Headed};
 use crate::meaning::Meaning;
@@ -119,7 +119,9 @@ pub fn type_outside(file: File<'_>, n: u32, t: u32) -> Option<TypeId>
 }
 
 /// The type of a variable by its name, unless it is refused where it is declared.
-pub fn known_inside(headed: Headed<'_>, n: u32, t: u32) -> Option<TypeId> {
+pub fn known_inside(headed: Headed<'_>, n: u32, t: u32) -> Option<TypeId>
+    ensures { (items : ℕ → Item) → result ≡ known_inside headed.entry items n t }
+{
     if headed.is_refused(t) || (is_cvt(headed.file, t) && is_refused_rep(headed, n)) {
         None
     } else {

@@ -2,13 +2,13 @@
 
 ghost use Rattle.std.specs.Prelude.{◌≡◌, option_map};
 ghost use Rattle.clu_bindings.specs.Readers.{kinds_in, module_in};
-ghost use Rattle.clu_bindings.specs.Named.{kind_of_constant, legal_type, named_alone, named_before, named_in, takes_type, takes_type_before, wants_type, parameter_type, value_kind, kinds_fit, has_fitting_kinds};
+ghost use Rattle.clu_bindings.specs.Named.{kind_of_outline, legal_type, named_alone, named_before, named_in, takes_type, takes_type_before, wants_type, parameter_type, value_kind, kinds_fit, has_fitting_kinds};
 
 use crate::file::File;
 use crate::inside::type_of_value;
 use crate::tables::optional_at;
 use crate::wanted::Wanted;
-use clu_base::Const;
+use clu_constants::Outline;
 use clu_head::kind_of_type;
 use clu_settle::Value;
 use clu_tree::NodeKind;
@@ -88,15 +88,15 @@ pub fn named_at<'a>(file: File<'a>, n: u32) -> Option<Named<'a>>
 
 // ---- kinds of actual parameters
 
-fn kind_of_constant(constant: &Const) -> ParamKind
-    ensures { result ≡ kind_of_constant constant.now }
+fn kind_of_constant(constant: Outline) -> ParamKind
+    ensures { result ≡ kind_of_outline constant }
 {
     match constant {
-        Const::Null => ParamKind::Null,
-        Const::Bool(_) => ParamKind::Bool,
-        Const::Int(_) => ParamKind::Int,
-        Const::Char(_) => ParamKind::Char,
-        Const::Str(_) => ParamKind::Str,
+        Outline::Null => ParamKind::Null,
+        Outline::Bool(_) => ParamKind::Bool,
+        Outline::Int(_) => ParamKind::Int,
+        Outline::Char(_) => ParamKind::Char,
+        Outline::Str(_) => ParamKind::Str,
     }
 }
 
@@ -106,7 +106,7 @@ fn value_kind(file: File<'_>, types: &TypeArena, n: u32, value: Value) -> Option
 {
     match value {
         Value::Type(_) => Some(ParamKind::OfType),
-        Value::Constant(place) => match file.constants.get(place) {
+        Value::Constant(place) => match file.constants.outline(place) {
             Some(constant) => Some(kind_of_constant(constant)),
             None => None,
         },

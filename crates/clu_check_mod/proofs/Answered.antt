@@ -1,21 +1,28 @@
 -- From what one function answers of a file to what the one answers that calls it.
-use Rattle.std.proofs.Common.{◌≡◌, ◌∙◌, List, length, Option, Some, None, Result, Ok, Err, ap, subst, sym}
+use Rattle.std.proofs.Common.{◌≡◌, ◌∙◌, ℕ, List, length, Option, Some, None, Result, Ok, Err, ap, subst, sym}
 use Rattle.clu_base.specs.declared.rules.Refused.{Refused}
 use Rattle.clu_tree.specs.declared.node.Node.{Node}
 use Rattle.clu_syntax.specs.declared.round.Round.{Round}
+use Rattle.clu_syntax.specs.Items.{Item}
 use Rattle.clu_syntax.specs.Rounds.{AreRounds}
 use Rattle.clu_names.specs.declared.binding.Names.{Names}
 use Rattle.clu_names.specs.Denotes.{bound_to, starts_to}
 use Rattle.clu_names.specs.Scopes.{declarations}
 use Rattle.clu_types.specs.declared.spec.Spec.{Spec}
 use Rattle.clu_types.specs.declared.term.Term.{Term}
+use Rattle.clu_types.specs.Arena.{Grows, IsArena}
 use Rattle.clu_settle.specs.declared.settling.Values.{Values}
 use Rattle.clu_bindings.specs.declared.file.File.{File}
+use Rattle.clu_bindings.specs.declared.file.Headed.{Headed}
 use Rattle.clu_bindings.specs.Bindings.{AreBindings}
 use Rattle.clu_bindings.specs.Modules.{AreModules, modules_in}
-use Rattle.clu_check_mod.specs.Answered.{AreLists, AreNamed, AreValues, IsAnswer, IsAnswerBy, IsFirst, IsFirstIn, IsFirstWith, IsNoRefusal}
+use Rattle.clu_bindings.specs.Owned.{AreOwned}
+use Rattle.clu_typing.specs.declared.facts.Facts.{Facts}
+use Rattle.clu_typing.specs.Pass.{AreKnown, HaveTypes, IsSound}
+use Rattle.clu_check_mod.specs.Answered.{AreLists, AreNamed, AreValues, IsAnswer, IsAnswerBy, IsFirst, IsFirstBy, IsFirstIn, IsFirstOf, IsFirstWith, IsNoRefusal}
 use Rattle.clu_check_mod.specs.Refusals.{IsOfTree, IsTold}
 use Rattle.clu_check_mod.specs.declared.checking.Lists.{Lists}
+use Rattle.clu_check_mod.specs.declared.checking.Long.{Long}
 use Rattle.clu_check_mod.specs.declared.errors.CheckError.{CheckError}
 use Rattle.clu_check_mod.specs.declared.errors.CheckError.TheVariants as error
 use Rattle.clu_check_mod.specs.declared.walk.Extent.{Extent}
@@ -48,14 +55,28 @@ not_of_tree nodes (error.Refused r) none = absurd none
 not_of_tree nodes error.Memory none = tt
 not_of_tree nodes error.NotYet none = tt
 
+-- ---- what headings are answered by, from what is said of the facts that are noted
+
+module _ (headed : Headed) (before terms : List Term) (lists : Lists) (long : Long) (asked : Extent) (facts lent : Facts) (same : lent ≡ facts)
+    (noted : (items : ℕ → Item) → AreKnown headed items before (length headed.file.syntax.now) terms facts) (sound : HaveTypes headed (length before) → IsArena terms → IsSound headed terms facts) (grows : Grows before terms) where
+  pub first_by : (o : Option Refused) → IsFirstOf headed terms lent lists long asked o → IsFirstBy headed before lists long asked o
+  first_by o is = record {
+    terms = terms;
+    facts = facts;
+    noted = noted;
+    sound = sound;
+    grows = grows;
+    is = subst (λ (f : Facts). IsFirstOf headed terms f lists long asked o) same is;
+  }
+
 -- ---- what names and values are answered by, from what is said of the file that is made of them
 
 module _ (nodes : List Node) (rounds : List Round) (names : Names) (settled : Values) (library : List Spec) (asked : Extent) {A : Type 0} (r : Result A CheckError) where
   pub first_with : (file : File) (types : List Term) (lists : Lists) → IsAnswer (IsFirstIn file types lists asked) r →
-      file.syntax.now ≡ nodes → file.rounds.now ≡ rounds → file.names.now ≡ names → file.values.now ≡ settled.values.items → file.constants.now ≡ settled.constants.items → file.library.now ≡ library →
-      AreBindings nodes rounds names settled.values.items file.bindings.now → AreModules file.bindings.now.modules (modules_in settled.types settled.values.items nodes library) → AreLists nodes rounds names lists →
+      file.syntax.now ≡ nodes → file.rounds.now ≡ rounds → file.names.now ≡ names → file.values.now ≡ settled.values.items → file.constants.now ≡ settled.constants → file.library.now ≡ library →
+      AreBindings nodes rounds names settled.values.items file.bindings.now → AreModules file.bindings.now.modules (modules_in settled.types settled.values.items nodes library) → AreOwned types settled.values.items nodes (length nodes) file.bindings.now.own.items → Grows settled.types types → AreLists nodes rounds names lists →
       IsAnswer (IsFirstWith nodes rounds names settled library asked) r
-  first_with file types lists answer nodes_are rounds_are names_are values constants library_is bindings modules lists_are =
+  first_with file types lists answer nodes_are rounds_are names_are values constants library_is bindings modules own grows lists_are =
       answer_more (IsFirstIn file types lists asked) (IsFirstWith nodes rounds names settled library asked)
       (λ o is. record {
         file = file;
@@ -69,6 +90,8 @@ module _ (nodes : List Node) (rounds : List Round) (names : Names) (settled : Va
         library_is = library_is;
         bindings = bindings;
         modules = modules;
+        own = own;
+        grows = grows;
         lists_are = lists_are;
         is = is;
       }) r answer

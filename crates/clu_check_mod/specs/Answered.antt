@@ -1,5 +1,5 @@
 -- What a check answers of a file: its first fault, by the tables that are made of it.
-use Rattle.std.specs.Prelude.{◌≡◌, ◌<◌, ◌↔◌, ℕ, Bool, true, List, length, map, nat_lt, slice_get, Option, Some, None, Result, Ok, Err}
+use Rattle.std.specs.Prelude.{◌≡◌, ◌<◌, ◌↔◌, ℕ, Bool, true, false, List, length, map, nat_lt, replicate, slice_get, Option, Some, None, Result, Ok, Err}
 use Rattle.clu_base.specs.declared.constants.Const.{Const}
 use Rattle.clu_base.specs.declared.rules.Refused.{Refused}
 use Rattle.clu_circles.specs.Circles.{AreCircles}
@@ -12,21 +12,28 @@ use Rattle.clu_names.specs.Denotes.{bound_to, starts_to}
 use Rattle.clu_names.specs.Scopes.{declarations}
 use Rattle.clu_types.specs.declared.spec.Spec.{Spec}
 use Rattle.clu_types.specs.declared.term.Term.{Term}
+use Rattle.clu_types.specs.Arena.{Grows, IsArena}
 use Rattle.clu_meaning.specs.Scoping.{Scope}
 use Rattle.clu_settle.specs.declared.settling.Values.{Values}
 use Rattle.clu_settle.specs.declared.value.Value.TheVariants as value
 use Rattle.clu_settle.specs.Circular.{is_circular, spans_to}
 use Rattle.clu_settle.specs.Graph.{unfolded_to}
 use Rattle.clu_settle.specs.Lists.{value_of}
-use Rattle.clu_settle.specs.Lost.{IsLost}
+use Rattle.clu_settle.specs.Lost.{IsLost, AreRead}
 use Rattle.clu_settle.specs.Meant.{meanings_of}
 use Rattle.clu_settle.specs.Names.{AreMeanings}
 use Rattle.clu_settle.specs.Settled.{AreSettled}
+use Rattle.clu_head.specs.Modules.{AreHeadsOf}
 use Rattle.clu_head.specs.Refused.{counts_to}
 use Rattle.clu_bindings.specs.declared.file.File.{File}
 use Rattle.clu_bindings.specs.declared.file.Headed.{Headed}
 use Rattle.clu_bindings.specs.Bindings.{AreBindings}
 use Rattle.clu_bindings.specs.Modules.{AreModules, modules_in}
+use Rattle.clu_bindings.specs.Owned.{AreOwned}
+use Rattle.clu_operations.specs.Wished.{IsFinding}
+use Rattle.clu_typing.specs.declared.facts.Facts.{Facts}
+use Rattle.clu_typing.specs.Facts.{askers_at}
+use Rattle.clu_typing.specs.Pass.{AreKnown, HaveTypes, IsSound}
 use Rattle.clu_name_rules.specs.declared.tables.Tables.{Tables}
 use Rattle.clu_name_rules.specs.Constructors.{ValuesAscend}
 use Rattle.clu_name_rules.specs.Lengths.{constant_length, lengths_of}
@@ -34,6 +41,9 @@ use Rattle.clu_name_rules.specs.Own.{own_places}
 use Rattle.clu_name_rules.specs.Repeated.{AreNoted, notes_of}
 use Rattle.clu_name_rules.specs.Words.{words_to}
 use Rattle.clu_type_rules.specs.declared.known.Known.{Known}
+use Rattle.clu_type_rules.specs.Askers.{AreAskers, AreFoundAt, FindsOn, with_finding}
+use Rattle.clu_type_rules.specs.Disagreeing.{with_clauses}
+use Rattle.clu_type_rules.specs.Needs.{Looks, Setting, world}
 use Rattle.clu_type_rules.specs.Routines.{parts_to}
 use Rattle.clu_check_mod.specs.Asking.{KnownAscend}
 use Rattle.clu_check_mod.specs.Bad.{bad_of_all, refused_of}
@@ -72,8 +82,9 @@ pub record AreNamed (nodes : List Node) (rounds : List Round) (names : Names) : 
 -- what its constants and types come to
 pub record AreValues (nodes : List Node) (rounds : List Round) (names : Names) (settled : Values) : Type 0 where
   pub meanings : settled.meanings.items ≡ meanings_of nodes rounds names.declared.items
-  pub known : (scope : Scope) → AreMeanings nodes scope settled.meanings.items → AreSettled nodes scope settled.types settled.constants.items settled.values.items
+  pub known : (scope : Scope) → AreMeanings nodes scope settled.meanings.items → AreSettled nodes scope settled.types settled.constants settled.values.items
   pub lost : (n : ℕ) → n < length nodes → value_of settled.values.items n ≡ value.Lost → IsLost nodes settled.meanings.items n
+  pub read : AreRead nodes settled.meanings.items settled.values.items
 
 -- and what comes of its names
 pub record AreLists (nodes : List Node) (rounds : List Round) (names : Names) (lists : Lists) : Type 0 where
@@ -101,13 +112,32 @@ pub record AreTables (t : Tables) (file : File) (lists : Lists) (long : Long) : 
 
 -- ---- the first fault of a file
 
--- where its headings are known
-pub record IsFirstOf (headed : Headed) (lists : Lists) (long : Long) (asked : Extent) (first : Option Refused) : Type 0 where
+-- what is not met of what is asked at nodes, where this was known of them with these types, and which demands disagree
+pub record AreAsked (headed : Headed) (terms : List Term) (facts : Facts) (known : Known) : Type 0 where
+  pub size : length known.unmet.now ≡ length headed.file.syntax.now
+  pub unmet : (s : Setting) → Looks headed s → s.start ≡ world terms facts.finding → IsFinding headed terms facts.finding → ((n : ℕ) → AreAskers (world terms facts.finding) (askers_at facts.invocations n)) → AreFoundAt headed s (world terms facts.finding) facts.invocations known.unmet.now
+  pub later : (s : Setting) → Looks headed s → s.start ≡ world terms facts.finding → IsFinding headed terms facts.finding → ((n : ℕ) → AreAskers (world terms facts.finding) (askers_at facts.invocations n)) → FindsOn headed (world terms facts.finding) (world known.tables.types.now known.facts.now.finding)
+  pub same : known.facts.now ≡ with_finding facts known.facts.now.finding
+  pub grows : Grows terms known.tables.types.now
+  pub disagrees : known.disagrees.now ≡ with_clauses headed.heads.now.asked (length headed.file.syntax.now) (replicate (length headed.file.syntax.now) false)
+
+-- where this is known of its nodes
+pub record IsFirstOf (headed : Headed) (terms : List Term) (facts : Facts) (lists : Lists) (long : Long) (asked : Extent) (first : Option Refused) : Type 0 where
   pub known : Known
   pub headed_is : known.headed ≡ headed
   pub tables : AreTables known.tables headed.file lists long
   pub routines : known.routines.now ≡ lists.routines.value
+  pub asks : AreAsked headed terms facts known
   pub is : (items : ℕ → Item) → KnownAscend known → first_in known (bad_of_all known items lists.circles.order.items) items asked ≡ first
+
+-- where its headings are known, with these types
+pub record IsFirstBy (headed : Headed) (before : List Term) (lists : Lists) (long : Long) (asked : Extent) (first : Option Refused) : Type 0 where
+  pub terms : List Term
+  pub facts : Facts
+  pub noted : (items : ℕ → Item) → AreKnown headed items before (length headed.file.syntax.now) terms facts
+  pub sound : HaveTypes headed (length before) → IsArena terms → IsSound headed terms facts
+  pub grows : Grows before terms
+  pub is : IsFirstOf headed terms facts lists long asked first
 
 -- where its types are, as far as they stand in no heading: types that are refused are found by tables before
 pub record IsFirstIn (file : File) (types : List Term) (lists : Lists) (asked : Extent) (first : Option Refused) : Type 0 where
@@ -121,7 +151,10 @@ pub record IsFirstIn (file : File) (types : List Term) (lists : Lists) (asked : 
   pub types_are : before.types.now ≡ types
   pub refused_are : (items : ℕ → Item) → ValuesAscend before → refused ≡ refused_of before items lists.circles.order.items
   pub counts : headed.refused.now ≡ counts_to refused (length refused)
-  pub is : IsFirstOf headed lists long asked first
+  pub terms : List Term
+  pub heads : AreHeadsOf file.syntax.now file.rounds.now file.names.now.declared.items file.values.now refused types terms headed.heads.now
+  pub grows : Grows types terms
+  pub is : IsFirstBy headed terms lists long asked first
 
 -- where its names and values are
 pub record IsFirstWith (nodes : List Node) (rounds : List Round) (names : Names) (settled : Values) (library : List Spec) (asked : Extent) (first : Option Refused) : Type 0 where
@@ -132,10 +165,12 @@ pub record IsFirstWith (nodes : List Node) (rounds : List Round) (names : Names)
   pub rounds_are : file.rounds.now ≡ rounds
   pub names_are : file.names.now ≡ names
   pub values : file.values.now ≡ settled.values.items
-  pub constants : file.constants.now ≡ settled.constants.items
+  pub constants : file.constants.now ≡ settled.constants
   pub library_is : file.library.now ≡ library
   pub bindings : AreBindings nodes rounds names settled.values.items file.bindings.now
   pub modules : AreModules file.bindings.now.modules (modules_in settled.types settled.values.items nodes library)
+  pub own : AreOwned types settled.values.items nodes (length nodes) file.bindings.now.own.items
+  pub grows : Grows settled.types types
   pub lists_are : AreLists nodes rounds names lists
   pub is : IsFirstIn file types lists asked first
 

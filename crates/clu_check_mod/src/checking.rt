@@ -4,20 +4,21 @@ ghost use Rattle.std.specs.Prelude.{◌≡◌, All, IfErr, IfOk, OnOk, length, m
 ghost use Rattle.clu_tree.specs.Nodes.{modules};
 ghost use Rattle.clu_names.specs.Denotes.{bound_to, starts_to};
 ghost use Rattle.clu_name_rules.specs.Lengths.{constant_length, lengths_of};
-ghost use Rattle.clu_check_mod.specs.Answered.{AreLists, AreValues, IsAnswer, IsFirst, IsFirstIn, IsFirstOf, IsFirstWith};
+ghost use Rattle.clu_check_mod.specs.Answered.{AreLists, AreValues, IsAnswer, IsFirst, IsFirstBy, IsFirstIn, IsFirstOf, IsFirstWith};
 ghost use Rattle.clu_check_mod.specs.Modules.{AreOf, BeginWithOwn, IsClosedAt};
 ghost use Rattle.clu_check_mod.specs.Refusals.{IsOfTree};
 ghost use Rattle.clu_check_mod.specs.Walks.{AreClosed, IsFound};
 
 use crate::bad::{bad_of_all, refused_nodes};
 use crate::errors::CheckError;
-use crate::notes::{Constants, constants_of, denoted, operations};
+use crate::notes::{denoted, named_constants, operations};
 use crate::specifications::{add_others, own_specs};
 use crate::walk::{Extent, ask_rules};
-use clu_base::{Const, Memory};
+use clu_base::Memory;
 use clu_bindings::{File, Headed, bindings_of};
 use clu_circles::Circles;
-use clu_core::{Checked, OpRef};
+use clu_constants::Constants;
+use clu_core::{Checked, NamedConstant, OpRef};
 use clu_head::{Heads, counts_of, heads_of};
 use clu_name_rules::{Items, Tables, Words, long_constants, long_types, own_places};
 use clu_names::{Names, names_of};
@@ -68,7 +69,7 @@ pub struct Long {
     pub constants: Vec<bool>,
 }
 
-fn long_of(alloc: Global, types: &TypeArena, constants: &[Const]) -> Result<Long, Memory>
+fn long_of(alloc: Global, types: &TypeArena, constants: &Constants) -> Result<Long, Memory>
     ensures types { IfOk result (λ long. long.types.items ≡ map (nat_lt 65536) (lengths_of types.now)) }
     ensures constants { IfOk result (λ long. long.constants.items ≡ map (λ c. nat_lt 65536 (constant_length c)) constants.now) }
 {
@@ -112,6 +113,7 @@ struct Found {
 /// The file with its headings.
 fn headed_by<'a>(file: File<'a>, heads: &'a Heads, refused: &'a [usize]) -> Headed<'a>
     ensures file { result.file ≡ file.entry }
+    ensures heads { result.heads.now ≡ heads.now }
     ensures refused { result.refused.now ≡ refused.now }
 {
     Headed {
@@ -132,7 +134,10 @@ fn known_of<'a>(
 ) -> Known<'a>
     ensures headed { result.headed ≡ headed.entry }
     ensures tables { result.tables ≡ tables.entry }
+    ensures facts { result.facts.now ≡ facts.now }
     ensures routines { result.routines.now ≡ lists.now.routines.value }
+    ensures disagrees { result.disagrees.now ≡ disagrees.now }
+    ensures unmet { result.unmet.now ≡ unmet.now }
 {
     Known {
         tables,
@@ -155,11 +160,12 @@ fn ask(
 ) -> Result<(), CheckError>
     ensures closed { extent ≡ Extent.Whole → OnOk result (AreClosed headed.entry.file.syntax.now) }
     ensures refused { IfErr result (IsOfTree headed.entry.file.syntax.now) }
-    ensures first { IsAnswer (IsFirstOf headed.entry lists.now long.now extent) result }
+    ensures first { IsAnswer (IsFirstOf headed.entry types.old facts.old lists.now long.now extent) result }
 {
     let alloc = headed.file.alloc;
     let unmet = unmet_of(headed, types, facts)?;
-    let disagrees = disagreeing(alloc, &headed.heads.asked, headed.file.len())?;
+    let nodes = headed.file.syntax.tree().len();
+    let disagrees = disagreeing(alloc, &headed.heads.asked, nodes)?;
     let tables = tables(headed.file, types, lists, long);
     let known = known_of(
         headed,
@@ -194,7 +200,7 @@ fn check_headed(
 ) -> Result<Box<Found>, CheckError>
     ensures found { IfOk result (λ found. IsFound headed.entry.file.syntax.now extent found.value.own.items) }
     ensures refused { IfErr result (IsOfTree headed.entry.file.syntax.now) }
-    ensures first { IsAnswer (IsFirstOf headed.entry lists.now long.now extent) result }
+    ensures first { IsAnswer (IsFirstBy headed.entry types.old lists.now long.now extent) result }
 {
     let alloc = headed.file.alloc;
     let mut facts = facts_of(headed, types)?;
@@ -256,14 +262,13 @@ fn check_settled(
     let types = &mut settled.types;
     let values = settled.values.as_slice();
     let bindings = bindings_of(alloc, syntax, rounds, names, types, values, library)?;
-    let constants = settled.constants.as_slice();
     let file = File {
         alloc,
         syntax,
         rounds,
         names,
         values,
-        constants,
+        constants: &settled.constants,
         library,
         bindings: &bindings,
     };
@@ -315,27 +320,30 @@ fn checked(
     syntax: Syntax,
     settled: Box<Values>,
     found: Box<Found>,
-    constants: Box<Constants>,
+    constant_of: Vec<Option<NamedConstant>>,
     denoted: Vec<Option<TypeId>>,
 ) -> Checked
     ensures syntax { result.syntax ≡ syntax }
     ensures specs { result.specs.items ≡ found.value.own.items }
 {
-    let Values { types, .. } = Box::into_inner(settled);
+    let Values {
+        types,
+        constants,
+        ..
+    } = Box::into_inner(settled);
     let Found {
         type_of,
         op_of,
         own,
     } = Box::into_inner(found);
-    let Constants { all, of } = Box::into_inner(constants);
     Checked {
         syntax,
         types,
         type_of,
         op_of,
         denoted,
-        constant_of: of,
-        constants: all,
+        constant_of,
+        constants,
         specs: own,
     }
 }
@@ -350,11 +358,11 @@ pub fn check(alloc: Global, syntax: Syntax, library: &Specs) -> Result<Box<Check
     ensures refused { IfErr result (IsOfTree syntax) }
     ensures first { IsAnswer (IsFirst syntax library.now Extent.Whole) result }
 {
-    let (mut settled, mut found) = check_syntax(alloc, &syntax, library, Extent::Whole)?;
+    let (settled, mut found) = check_syntax(alloc, &syntax, library, Extent::Whole)?;
     add_others(alloc, &mut found.own, library)?;
-    let constants = constants_of(alloc, syntax.tree(), &mut settled)?;
+    let constant_of = named_constants(alloc, syntax.tree(), settled.values.as_slice())?;
     let denoted = denoted(alloc, settled.values.as_slice())?;
-    let checked = checked(syntax, settled, found, constants, denoted);
+    let checked = checked(syntax, settled, found, constant_of, denoted);
     Ok(Box::new(alloc, checked)?)
 }
 

@@ -1,9 +1,9 @@
 //! What a check notes of nodes for lowering: the types that they denote, their constants and their operations.
 
-use clu_base::{Bytes, Memory, ObjConst};
-use clu_core::OpRef;
+use clu_base::{Bytes, Memory};
+use clu_core::{NamedConstant, OpRef};
 use clu_operations::Finding;
-use clu_settle::{Value, Values};
+use clu_settle::Value;
 use clu_tree::{NodeKind, Tree};
 use clu_types::{Term, TypeArena, TypeId};
 use clu_typing::{Facts, Invoked};
@@ -21,54 +21,27 @@ pub fn denoted(alloc: Global, values: &[Value]) -> Result<Vec<Option<TypeId>>, M
     Ok(denoted)
 }
 
-/// The constants of a file, and for each name that stands for one its place among them.
-#[derive(Drop)]
-pub struct Constants {
-    pub all: Vec<ObjConst>,
-    pub of: Vec<Option<u32>>,
-}
-
-/// The constants that values name, and after them the constant parameters for which names stand.
-pub fn constants_of(
-    alloc: Global,
-    tree: &Tree,
-    settled: &mut Values,
-) -> Result<Box<Constants>, Memory> {
-    let mut all = Vec::new(alloc);
-    for constant in settled.constants.drain(..) {
-        all.push(ObjConst::Value(constant))?;
-    }
-    let of = places_of(alloc, tree, settled.values.as_slice(), &mut all)?;
-    Ok(Box::new(alloc, Constants { all, of })?)
-}
-
-fn places_of(
+/// For each name that stands for a constant, that constant.
+pub fn named_constants(
     alloc: Global,
     tree: &Tree,
     values: &[Value],
-    all: &mut Vec<ObjConst>,
-) -> Result<Vec<Option<u32>>, Memory> {
-    let mut of = Vec::new(alloc);
+) -> Result<Vec<Option<NamedConstant>>, Memory> {
+    let mut named = Vec::new(alloc);
     for n in 0..tree.len() {
-        let place = match (tree.node(n).kind, values.get(n as usize)) {
-            (NodeKind::Name, Some(value)) => place_of(all, *value)?,
+        named.push(match (tree.node(n).kind, values.get(n as usize)) {
+            (NodeKind::Name, Some(value)) => constant_of(*value),
             _ => None,
-        };
-        of.push(place)?;
+        })?;
     }
-    Ok(of)
+    Ok(named)
 }
 
-/// The place of a constant; that of a parameter is kept.
-fn place_of(all: &mut Vec<ObjConst>, value: Value) -> Result<Option<u32>, Memory> {
+fn constant_of(value: Value) -> Option<NamedConstant> {
     match value {
-        Value::Constant(place) => Ok(u32::try_from(place).ok()),
-        Value::Parameter(number) => {
-            let place = u32::try_from(all.len()).ok();
-            all.push(ObjConst::Param(number))?;
-            Ok(place)
-        }
-        _ => Ok(None),
+        Value::Constant(place) => Some(NamedConstant::Known(place)),
+        Value::Parameter(number) => Some(NamedConstant::Parameter(number)),
+        _ => None,
     }
 }
 

@@ -71,7 +71,7 @@ module _ (t : Text) (nodes : List Node) (parsed : IsParsed t nodes) (library : L
   tabled = file_with k.tables.file (scope_in nodes is.rounds) specs (refused_nodes (plain_file nodes is.rounds specs))
 
   file_said : k.tables.file ≡ is.is.file
-  file_said = is.is.is.is.tables.file_is ∙ is.is.is.file_is
+  file_said = is.is.is.is.is.tables.file_is ∙ is.is.is.file_is
 
   nodes_said : k.tables.file.syntax.now ≡ nodes
   nodes_said = ap (λ (f : bindings.File). f.syntax.now) file_said ∙ is.is.nodes_are
@@ -127,7 +127,7 @@ module _ (t : Text) (nodes : List Node) (parsed : IsParsed t nodes) (library : L
       let k : Known = known nodes library extent.Headings first is in
       let bad : List Bool = bits nodes library extent.Headings first is items in
       let said = same t nodes parsed library extent.Headings first is specs in
-      sym (is.is.is.is.is items left.ascending)
+      sym (is.is.is.is.is.is items left.ascending)
       ∙ headings_found k items bad
       ∙ found.heading_by_tables k (scope_in nodes is.rounds) specs (refused_nodes (plain_file nodes is.rounds specs)) (tabled_tree t nodes parsed library extent.Headings first is specs) items bad
       (subst (λ (g : File). AgreeInHeadings g (violates k bad items)) said left.in_headings)
@@ -138,7 +138,7 @@ module _ (t : Text) (nodes : List Node) (parsed : IsParsed t nodes) (library : L
       let k : Known = known nodes library extent.Whole first is in
       let bad : List Bool = bits nodes library extent.Whole first is items in
       let said = same t nodes parsed library extent.Whole first is specs in
-      sym (is.is.is.is.is items left.ascending)
+      sym (is.is.is.is.is.is items left.ascending)
       ∙ whole_found k items bad
       ∙ found.refused_by_tables k (scope_in nodes is.rounds) specs (refused_nodes (plain_file nodes is.rounds specs)) (tabled_tree t nodes parsed library extent.Whole first is specs) items bad
       (subst (λ (g : File). AgreeInHeadings g (violates k bad items)) said left.in_headings)

@@ -113,7 +113,7 @@ module _ (text : Text) (nodes : List Node) (parsed : IsParsed text nodes) (libra
 
     counts_said : ValuesAscend t → (known nodes library asked first is).headed.refused.now ≡ counted (refused_bits t items its_bits)
     counts_said ascending =
-        ap (λ (h : Headed). h.refused.now) is.is.is.is.headed_is
+        ap (λ (h : Headed). h.refused.now) is.is.is.is.is.headed_is
         ∙ is.is.is.counts
         ∙ ap counted (is.is.is.refused_are items ascending ∙ nodes_found t items (order nodes library asked first is))
 

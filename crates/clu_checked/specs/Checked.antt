@@ -23,7 +23,7 @@ module _ (nodes : List Node) (library : List Spec) (asked : Extent) (first : Opt
 
   -- what the rules are asked of
   abbrev pub known : Known
-  known = is.is.is.is.known
+  known = is.is.is.is.is.known
 
   -- the places of declarations, in the order in which equates are asked, and which of them lead to circles
   abbrev pub order : List ℕ

@@ -4,10 +4,20 @@ ghost use Rattle.std.specs.Prelude.{◌≡◌, [], None, IfOk, length, replicate
 
 use crate::op_ref::OpRef;
 use crate::tables::unknown;
-use clu_base::{Memory, ObjConst};
+use clu_base::Memory;
+use clu_constants::Constants;
 use clu_syntax::Syntax;
 use clu_types::{Spec, TypeArena, TypeId};
 use std::alloc::Global;
+
+/// A constant that a name stands for.
+#[derive(Clone, Copy)]
+pub enum NamedConstant {
+    /// That of this place among the constants of the file.
+    Known(usize),
+    /// The constant parameter of this number, from 1.
+    Parameter(u32),
+}
 
 /// A file with what its check found.
 #[derive(Drop)]
@@ -20,10 +30,10 @@ pub struct Checked {
     pub op_of: Vec<Option<OpRef>>,
     /// For each node of a type outside equates, the type that it denotes.
     pub denoted: Vec<Option<TypeId>>,
-    /// For each name that stands for a constant in an expression, the place of that constant in `constants`.
-    pub constant_of: Vec<Option<u32>>,
-    /// Constants that names stand for, that of an equate once however often it is named.
-    pub constants: Vec<ObjConst>,
+    /// For each name that stands for a constant in an expression, that constant.
+    pub constant_of: Vec<Option<NamedConstant>>,
+    /// The constants to which expressions come, that of an equate once however often it is named.
+    pub constants: Constants,
     /// The specifications of the file's modules in the order of the text, and after them, ascending
     /// by name, those of all other modules under which it was checked.
     pub specs: Vec<Spec>,
@@ -39,7 +49,7 @@ impl Checked {
         ensures op_of { IfOk result (λ checked. checked.op_of.items ≡ replicate (length syntax) None) }
         ensures denoted { IfOk result (λ checked. checked.denoted.items ≡ replicate (length syntax) None) }
         ensures constant_of { IfOk result (λ checked. checked.constant_of.items ≡ replicate (length syntax) None) }
-        ensures constants { IfOk result (λ checked. checked.constants.items ≡ []) }
+        ensures constants { IfOk result (λ checked. checked.constants ≡ []) }
         ensures specs { IfOk result (λ checked. checked.specs.items ≡ []) }
     {
         let nodes = syntax.tree().len() as usize;
@@ -49,7 +59,7 @@ impl Checked {
             op_of: unknown(alloc, nodes)?,
             denoted: unknown(alloc, nodes)?,
             constant_of: unknown(alloc, nodes)?,
-            constants: Vec::new(alloc),
+            constants: Constants::new(alloc),
             specs: Vec::new(alloc),
             syntax,
         })

@@ -6,6 +6,6 @@ mod lookups;
 mod op_ref;
 mod tables;
 
-pub use crate::checked::Checked;
+pub use crate::checked::{Checked, NamedConstant};
 pub use crate::lookups::{LookupError, carry, intern, term};
 pub use crate::op_ref::OpRef;

@@ -37,7 +37,7 @@ pub fn meanings_said()
 
 /// So the values that it gives are those of the nodes in the scope of the file.
 pub fn values_said()
-    ensures { (t : Text) (nodes : List Node) (rounds : List Round) → IsParsed t nodes → AreRounds nodes rounds → AreFew nodes rounds → (all : Values) → all.meanings.items ≡ meanings_of nodes rounds (declarations nodes rounds) → ((scope : Scope) → AreMeanings nodes scope all.meanings.items → AreSettled nodes scope all.types all.constants.items all.values.items) → AreSettled nodes (scope_in nodes rounds) all.types all.constants.items all.values.items }
+    ensures { (t : Text) (nodes : List Node) (rounds : List Round) → IsParsed t nodes → AreRounds nodes rounds → AreFew nodes rounds → (all : Values) → all.meanings.items ≡ meanings_of nodes rounds (declarations nodes rounds) → ((scope : Scope) → AreMeanings nodes scope all.meanings.items → AreSettled nodes scope all.types all.constants all.values.items) → AreSettled nodes (scope_in nodes rounds) all.types all.constants all.values.items }
 {}
 
 /// A tree over so many tokens as a source of a MiB may have has few nodes and declarations.

@@ -10,24 +10,29 @@ one_untyped : (a : Asking) (wanted : Option TypeId) (name : List ℕ) → untype
 unfolding untyped demanded
 one_untyped a wanted name = refl
 
-named_untyped : (a : Asking) (wanted : Option TypeId) (names : List (List ℕ)) → map untyped (demanded_by a wanted names) ≡ demanded_by a None names
+pub named_untyped : (a : Asking) (wanted : Option TypeId) (names : List (List ℕ)) → map untyped (demanded_by a wanted names) ≡ demanded_by a None names
 named_untyped a wanted [] = refl
 named_untyped a wanted (name ∷ names) =
     ap (λ (d : Demanded). d ∷ map untyped (demanded_by a wanted names)) (one_untyped a wanted name)
     ∙ ap (λ (ds : List Demanded). demanded a None name ∷ ds) (named_untyped a wanted names)
 
-joined_untyped : (xs ys : List Demanded) → map untyped (xs ++ ys) ≡ map untyped xs ++ map untyped ys
+pub joined_untyped : (xs ys : List Demanded) → map untyped (xs ++ ys) ≡ map untyped xs ++ map untyped ys
 joined_untyped [] ys = refl
 joined_untyped (x ∷ xs) ys = ap (λ (ds : List Demanded). untyped x ∷ ds) (joined_untyped xs ys)
-
-pub untyped_behind : (a : Asking) (wanted : Option TypeId) (names : List (List ℕ)) (old new : List Demanded) → new ≡ old ++ demanded_by a wanted names → map untyped new ≡ map untyped old ++ demanded_by a None names
-untyped_behind a wanted names old new is = ap (map untyped) is ∙ joined_untyped old (demanded_by a wanted names) ∙ ap (λ (ds : List Demanded). map untyped old ++ ds) (named_untyped a wanted names)
 
 as_many : (ds : List Demanded) → length (map untyped ds) ≡ length ds
 as_many [] = refl
 as_many (d ∷ ds) = ap suc (as_many ds)
 
 module _ (of : ℕ → List Demanded) where
+  pub none_demanded : (ds : List Demanded) → ds ≡ [] → map untyped ds ≡ demands_to of 0
+  unfolding demands_to
+  none_demanded ds is = ap (map untyped) is
+
+  pub none_started : (starts : List ℕ) → starts ≡ [] → starts ≡ starts_to of 0
+  unfolding starts_to
+  none_started starts is = is
+
   pub demands_next : (n : ℕ) (old new : List Demanded) → map untyped old ≡ demands_to of n → map untyped new ≡ map untyped old ++ of n → map untyped new ≡ demands_to of (n + 1)
   unfolding demands_to
   demands_next n old new e f = subst (λ (k : ℕ). map untyped new ≡ demands_to of k) (sym (add-one n)) (f ∙ ap (λ (ds : List Demanded). ds ++ of n) e)

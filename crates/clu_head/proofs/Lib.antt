@@ -8,3 +8,9 @@ pub mod Led
 pub mod Asking
 pub mod OfRoutines
 pub mod Owning
+pub mod Adding
+pub mod Wanting
+pub mod OfModules
+pub mod Keeping
+pub mod OfFile
+pub mod Whole

@@ -125,7 +125,7 @@ module _ (k : Known) (asked : Asked) (own : Option TypeId) (exports : List (List
   abbrev nodes : List Node
   nodes = k.syntax.now
 
-  head_wider : (first old new last : List Term) → Grows first old → Grows new last → (n : ℕ) (h : RoutineHead) → is old new n h → is first last n h
+  pub head_wider : (first old new last : List Term) → Grows first old → Grows new last → (n : ℕ) (h : RoutineHead) → is old new n h → is first last n h
   head_wider first old new last front behind n h its = record {
     node = its.node;
     name = its.name;
@@ -135,7 +135,7 @@ module _ (k : Known) (asked : Asked) (own : Option TypeId) (exports : List (List
     exported = its.exported;
   }
 
-  heads_wider : (first old new last : List Term) → Grows first old → Grows new last → (ns : List ℕ) (hs : List RoutineHead) → AreHeads (is old new) ns hs → AreHeads (is first last) ns hs
+  pub heads_wider : (first old new last : List Term) → Grows first old → Grows new last → (ns : List ℕ) (hs : List RoutineHead) → AreHeads (is old new) ns hs → AreHeads (is first last) ns hs
   heads_wider first old new last front behind [] [] are = tt
   heads_wider first old new last front behind [] (h ∷ hs) are = are
   heads_wider first old new last front behind (n ∷ ns) [] are = are
@@ -151,7 +151,7 @@ module _ (k : Known) (asked : Asked) (own : Option TypeId) (exports : List (List
   among_joined [] n = append-nil (once_if (is_routine nodes n) n)
   among_joined (m ∷ ns) n = ap (λ (xs : List ℕ). once_if (is_routine nodes m) m ++ xs) (among_joined ns n) ∙ sym (append_assoc (once_if (is_routine nodes m) m) (routines_among nodes ns) (once_if (is_routine nodes n) n))
 
-  same_grows : (ts : List Term) → Grows ts ts
+  pub same_grows : (ts : List Term) → Grows ts ts
   same_grows ts = ([], sym (append-nil ts))
 
   pub heads_next : (first old new : List Term) → Grows first old → Grows old new → (all : List ℕ) (i : ℕ) → i < length all → (hs gs : List RoutineHead)

@@ -87,3 +87,8 @@ pub own_found : (old new : List Term) → Grows old new → (kinds : List (Optio
 unfolding IsOwnType
 own_found old new grows kinds name word xs (Some id) same are is = (xs, is ∙ ap (λ (w : List ℕ). Some (term.Cluster w xs)) same, own_wider old new grows 0 kinds xs are)
 own_found old new grows kinds name word xs None same are is = is (own_below old 0 kinds xs are)
+
+pub own_type_wider : (old new : List Term) → Grows old new → (name : List ℕ) (kinds : List (Option ParamKind)) (found : Option TypeId) → IsOwnType old name kinds found → IsOwnType new name kinds found
+unfolding IsOwnType
+own_type_wider old new grows name kinds (Some id) is = (is.0, ap (λ (ts : List Term). slice_get ts id.0) grows.1 ∙ got_first old grows.0 id.0 (term.Cluster name is.0) is.1, own_wider old new grows 0 kinds is.0 is.2)
+own_type_wider old new grows name kinds None is = is

@@ -15,3 +15,8 @@ pub mod Asking
 pub mod Asked
 pub mod Routines
 pub mod Restricting
+pub mod Adding
+pub mod Wanted
+pub mod Modules
+pub mod Kept
+pub mod Whole

@@ -1,10 +1,12 @@
 //! What where clauses and type sets ask, in the order of the text.
 
-ghost use Rattle.std.specs.Prelude.{◌≡◌, ◌++◌, [], map, IfOk, OnOk, slice_get, length};
+ghost use Rattle.std.specs.Prelude.{◌≡◌, ◌++◌, [], ◌∷◌, map, IfOk, OnOk, slice_get, length};
 ghost use Rattle.clu_tree.specs.declared.node.NodeKind.{NodeKind};
 ghost use Rattle.clu_head.specs.There.{is_there};
-ghost use Rattle.clu_head.specs.Asking.{count_of, unit_in, variable_of, asked_by_opers, asked_of_parameter, asked_by_parts, asked_by_restriction, asked_by_restrictions, asked_at, restricted_in, restrictions_in, untyped, asking_node, demanded, demanded_by, demands_by, demands_by_all, names_in};
+ghost use Rattle.clu_head.specs.Asking.{count_of, unit_in, variable_of, asked_by_opers, asked_of_parameter, asked_by_parts, asked_by_restriction, asked_by_restrictions, asked_at, restricted_in, restrictions_in, untyped, asking_node, demanded, demanded_by};
 ghost use Rattle.clu_head.specs.Asked.{demands_at, demands_to, starts_to};
+ghost use Rattle.clu_head.specs.Wanted.{wanted_at, first_wanted, wanted_of, IsPutIf, IsWanted, HaveNamed, HaveAsked, AreAsked, asked_to};
+ghost use Rattle.clu_types.specs.Arena.{Grows};
 
 use crate::asked::Asked;
 use crate::head::Demanded;
@@ -202,7 +204,10 @@ fn push_names(
 }
 
 /// The type at the node n, unless it is refused.
-fn wanted_at(known: Known<'_>, n: u32) -> Option<TypeId> {
+#[tactic(auto, unfolding(crate::specs::Wanted::wanted_at))]
+fn wanted_at(known: Known<'_>, n: u32) -> Option<TypeId>
+    ensures { result ≡ wanted_at known.entry.refused.now known.entry.rounds.now known.entry.values.now n }
+{
     if is_refused(known.refused, known.rounds, n) {
         None
     } else {
@@ -210,34 +215,51 @@ fn wanted_at(known: Known<'_>, n: u32) -> Option<TypeId> {
     }
 }
 
-/// A type as it is asked for.
-fn wanted_by(
-    known: Known<'_>,
-    types: &mut TypeArena,
-    unchanged: &mut Unchanged,
-    asking: Asking,
-    t: TypeId,
-) -> Result<Option<TypeId>, Memory> {
-    match asking.set {
-        Some(set) => unchanged.put(known.alloc, types, set.variable, asking.parameter, t),
-        None => Ok(Some(t)),
+/// The same of the first of these nodes.
+fn first_wanted(known: Known<'_>, nodes: &[u32]) -> Option<TypeId>
+    ensures { result ≡ first_wanted known.entry.refused.now known.entry.rounds.now known.entry.values.now nodes.now }
+{
+    match nodes {
+        [declared, ..] => wanted_at(known, *declared),
+        [] => None,
     }
 }
 
-/// The same of the type at the first of these nodes.
-fn wanted_in(
-    known: Known<'_>,
+/// A type, if there is one, with the parameter put in for the variable.
+#[tactic(auto, unfolding(crate::specs::Wanted::IsPutIf))]
+fn put_if(
+    alloc: Global,
     types: &mut TypeArena,
     unchanged: &mut Unchanged,
-    asking: Asking,
-    nodes: &[u32],
-) -> Result<Option<TypeId>, Memory> {
-    match nodes {
-        [declared, ..] => match wanted_at(known, *declared) {
-            Some(t) => wanted_by(known, types, unchanged, asking, t),
-            None => Ok(None),
-        },
-        [] => Ok(None),
+    variable: u32,
+    parameter: u32,
+    of: Option<TypeId>,
+) -> Result<Option<TypeId>, Memory>
+    ensures put { IfOk result (IsPutIf types.old types.new variable parameter of) }
+    ensures kept { Grows types.old types.new }
+{
+    match of {
+        Some(t) => unchanged.put(alloc, types, variable, parameter, t),
+        None => Ok(None),
+    }
+}
+
+/// A type as it is asked for.
+#[tactic(auto, unfolding(crate::specs::Wanted::IsWanted))]
+fn wanted_by(
+    alloc: Global,
+    types: &mut TypeArena,
+    unchanged: &mut Unchanged,
+    set: Option<InSet>,
+    parameter: u32,
+    of: Option<TypeId>,
+) -> Result<Option<TypeId>, Memory>
+    ensures wanted { IfOk result (IsWanted types.old types.new set parameter of) }
+    ensures kept { Grows types.old types.new }
+{
+    match set {
+        Some(set) => put_if(alloc, types, unchanged, set.variable, parameter, of),
+        None => Ok(of),
     }
 }
 
@@ -250,15 +272,23 @@ fn push_oper(
     asking: Asking,
     oper: &Node,
 ) -> Result<(), Memory>
-    ensures { OnOk result (map untyped demands.new.items ≡ map untyped demands.old.items ++ demanded_by asking None oper.now.names) }
+    ensures named { OnOk result (HaveNamed known.entry types.old types.new asking oper.now demands.old.items demands.new.items) }
+    ensures kept { Grows types.old types.new }
 {
-    let wanted = wanted_in(known, types, unchanged, asking, oper.children.as_slice())?;
+    let of = first_wanted(known, oper.children.as_slice());
+    let wanted = wanted_by(
+        known.alloc,
+        types,
+        unchanged,
+        asking.set,
+        asking.parameter,
+        of,
+    )?;
     push_names(known.alloc, demands, asking, wanted, oper.names.as_slice())?;
     Ok(())
 }
 
 /// The same of its node, if it is one.
-#[tactic(auto, unfolding(crate::specs::Asking::demands_by))]
 fn push_asked(
     known: Known<'_>,
     types: &mut TypeArena,
@@ -266,35 +296,35 @@ fn push_asked(
     demands: &mut Vec<Demanded>,
     asking: Asking,
 ) -> Result<(), Memory>
-    ensures { OnOk result (map untyped demands.new.items ≡ map untyped demands.old.items ++ demands_by known.entry.syntax.now asking) }
+    ensures asked { OnOk result (HaveAsked known.entry types.old types.new (asking ∷ []) demands.old.items demands.new.items) }
+    ensures kept { Grows types.old types.new }
 {
     if is_at(known.syntax.tree(), asking.oper, NodeKind::Oper) {
         let oper = known.syntax.tree().node(asking.oper);
-        push_oper(known, types, unchanged, demands, asking, oper)
+        push_oper(known, types, unchanged, demands, asking, oper)?;
+        Ok(())
     } else {
         Ok(())
     }
 }
 
-#[tactic(auto, unfolding(crate::specs::Asking::demands_by_all))]
 fn push_all_asked(
     known: Known<'_>,
     types: &mut TypeArena,
     unchanged: &mut Unchanged,
     demands: &mut Vec<Demanded>,
-    mut all: &[Asking],
+    all: &[Asking],
 ) -> Result<(), Memory>
-    ensures { OnOk result (map untyped demands.new.items ≡ map untyped demands.old.items ++ demands_by_all known.entry.syntax.now all.entry.now) }
+    ensures asked { OnOk result (HaveAsked known.entry types.old types.new all.now demands.old.items demands.new.items) }
+    ensures kept { Grows types.old types.new }
 {
-    while let [asking, more @ ..] = all {
+    for asking in all {
         push_asked(known, types, unchanged, demands, *asking)?;
-        all = more;
     }
     Ok(())
 }
 
 /// Appends what the node n asks.
-#[tactic(auto, unfolding(crate::specs::Asked::demands_at))]
 fn push_node(
     known: Known<'_>,
     types: &mut TypeArena,
@@ -302,13 +332,13 @@ fn push_node(
     demands: &mut Vec<Demanded>,
     n: u32,
 ) -> Result<(), Memory>
-    ensures { OnOk result (map untyped demands.new.items ≡ map untyped demands.old.items ++ demands_at known.entry.syntax.now known.entry.rounds.now known.entry.counts.now known.entry.restricted.now n) }
+    ensures asked { OnOk result (HaveAsked known.entry types.old types.new (asked_at known.entry.syntax.now known.entry.rounds.now known.entry.counts.now known.entry.restricted.now n) demands.old.items demands.new.items) }
+    ensures kept { Grows types.old types.new }
 {
     let all = asked_at(known, n)?;
     push_all_asked(known, types, unchanged, demands, all.as_slice())
 }
 
-#[tactic(auto, unfolding(crate::specs::Asked::demands_to, crate::specs::Asked::starts_to))]
 fn push_all(
     known: Known<'_>,
     types: &mut TypeArena,
@@ -320,6 +350,8 @@ fn push_all(
     requires demands { demands.old.items ≡ [] }
     ensures starts { OnOk result (starts.new.items ≡ starts_to (demands_at known.entry.syntax.now known.entry.rounds.now known.entry.counts.now known.entry.restricted.now) (length known.entry.syntax.now)) }
     ensures demands { OnOk result (map untyped demands.new.items ≡ demands_to (demands_at known.entry.syntax.now known.entry.rounds.now known.entry.counts.now known.entry.restricted.now) (length known.entry.syntax.now)) }
+    ensures asked { OnOk result (AreAsked known.entry types.old types.new (asked_to known.entry (length known.entry.syntax.now)) demands.new.items) }
+    ensures kept { Grows types.old types.new }
 {
     for n in 0..known.syntax.tree().len() {
         starts.push(demands.len())?;
@@ -332,6 +364,8 @@ fn push_all(
 pub fn asked_of(known: Known<'_>, types: &mut TypeArena) -> Result<Asked, Memory>
     ensures starts { IfOk result (λ asked. asked.starts.items ≡ starts_to (demands_at known.entry.syntax.now known.entry.rounds.now known.entry.counts.now known.entry.restricted.now) (length known.entry.syntax.now)) }
     ensures demands { IfOk result (λ asked. map untyped asked.demands.items ≡ demands_to (demands_at known.entry.syntax.now known.entry.rounds.now known.entry.counts.now known.entry.restricted.now) (length known.entry.syntax.now)) }
+    ensures asked { IfOk result (λ asked. AreAsked known.entry types.old types.new (asked_to known.entry (length known.entry.syntax.now)) asked.demands.items) }
+    ensures kept { Grows types.old types.new }
 {
     let mut starts = Vec::new(known.alloc);
     let mut demands = Vec::new(known.alloc);

@@ -1,7 +1,11 @@
 //! A parameter put in the place of the variable of a type set.
 
-ghost use Rattle.std.specs.Prelude.{◌<◌, length};
-ghost use Rattle.clu_head.specs.Unchanged.{AreConstants};
+ghost use Rattle.std.specs.Prelude.{◌≡◌, ◌<◌, ◌≤◌, length, set, IfOk, OnOk};
+ghost use Rattle.clu_types.specs.Arena.{type_at, types_of, actuals_at, Grows};
+ghost use Rattle.clu_types.specs.Substituted.{substituted};
+ghost use Rattle.clu_types.specs.declared.term.Actual.TheVariants as actual;
+ghost use Rattle.clu_head.specs.Unchanged.{AreUnchanged};
+ghost use Rattle.clu_head.specs.Wanted.{IsPutIn, IsPut};
 
 use crate::known::number_at;
 use clu_base::Memory;
@@ -9,7 +13,8 @@ use clu_types::{Actual, Term, TypeArena, TypeId};
 use std::alloc::Global;
 use std::marker::Model;
 
-/// Actual parameters by which no parameter is changed: a constant changes no type, and a constant parameter is its own.
+/// Actual parameters by which nothing is changed: each is the constant parameter of its own number, and a constant changes no
+/// type.
 #[derive(Drop)]
 pub struct Unchanged {
     actuals: Vec<Actual>,
@@ -18,17 +23,16 @@ pub struct Unchanged {
 impl Model for Unchanged {
     ghost use Rattle.std.specs.Prelude.{List};
     ghost use Rattle.clu_types.specs.declared.term.Actual.{Actual};
-    ghost use Rattle.clu_head.specs.Unchanged.{AreConstants};
+    ghost use Rattle.clu_head.specs.Unchanged.{AreUnchanged};
 
     ghost Value = { List Actual };
 
     ghost view = { λ u. u.actuals.items };
 
-    ghost invariant = { λ u. AreConstants u.actuals.items };
+    ghost invariant = { λ u. AreUnchanged 0 u.actuals.items };
 }
 
 /// The type with another one put in for the parameter at a place. The actual parameters are as before.
-#[tactic(auto, using(crate::proofs::Constants::below_put, crate::proofs::Constants::restored))]
 fn put_at(
     alloc: Global,
     types: &mut TypeArena,
@@ -38,10 +42,14 @@ fn put_at(
     t: TypeId,
 ) -> Result<TypeId, Memory>
     requires at_in { at < length actuals.old }
-    requires constants { AreConstants actuals.old }
+    requires numbered { at < 4294967295 }
+    requires unchanged { AreUnchanged 0 actuals.old }
     requires of_in { of.0 < length types.old }
     requires t_in { t.0 < length types.old }
-    ensures constants { AreConstants actuals.new }
+    ensures unchanged { AreUnchanged 0 actuals.new }
+    ensures of_type { IfOk result (λ id. type_at (types_of types.new) id ≡ substituted (actuals_at (types_of types.old) (set actuals.old at (actual.Of of))) (type_at (types_of types.old) t)) }
+    ensures within { IfOk result (λ id. id.0 < length types.new) }
+    ensures kept { Grows types.old types.new }
 {
     actuals[at] = Actual::Of(of);
     let made = types.subst(alloc, t, actuals);
@@ -50,10 +58,10 @@ fn put_at(
 }
 
 /// Makes them at least so many.
-#[tactic(auto, using(crate::proofs::Constants::one_more))]
 fn fill(actuals: &mut Vec<Actual>, many: u32) -> Result<(), Memory>
-    requires { AreConstants actuals.old.items }
-    ensures { AreConstants actuals.new.items }
+    requires { AreUnchanged 0 actuals.old.items }
+    ensures unchanged { AreUnchanged 0 actuals.new.items }
+    ensures many { OnOk result (many ≤ length actuals.new.items) }
 {
     for at in actuals.len()..many as usize {
         actuals.push(Actual::ConstParam(number_at(at)))?;
@@ -68,26 +76,29 @@ impl Unchanged {
         }
     }
 
-    /// The same, if the place and the type are there.
-    fn put_if_there(
+    /// The same, of a parameter and a type that are there.
+    fn put_there(
         &mut self,
         alloc: Global,
         types: &mut TypeArena,
-        at: usize,
-        of: TypeId,
+        variable: u32,
+        parameter: u32,
         t: TypeId,
-    ) -> Result<Option<TypeId>, Memory>
-        requires of_in { of.0 < length types.old }
+    ) -> Result<TypeId, Memory>
+        requires first { 0 < variable }
+        requires t_in { t.0 < length types.old }
+        ensures put { IfOk result (IsPutIn types.new variable parameter t) }
+        ensures kept { Grows types.old types.new }
     {
-        if at < self.actuals.len() && types.contains(t) {
-            let made = put_at(alloc, types, &mut self.actuals, at, of, t)?;
-            Ok(Some(made))
-        } else {
-            Ok(None)
-        }
+        fill(&mut self.actuals, variable)?;
+        let of = types.intern(Term::Param(parameter))?;
+        let at = variable as usize - 1;
+        let made = put_at(alloc, types, &mut self.actuals, at, of, t)?;
+        Ok(made)
     }
 
-    /// The type with the parameter `parameter` put in for the parameter `variable`.
+    /// The type with the parameter `parameter` put in for the parameter `variable`; None if there is no such parameter or type.
+    #[tactic(auto, unfolding(crate::specs::Wanted::IsPut))]
     pub fn put(
         &mut self,
         alloc: Global,
@@ -95,9 +106,16 @@ impl Unchanged {
         variable: u32,
         parameter: u32,
         t: TypeId,
-    ) -> Result<Option<TypeId>, Memory> {
-        fill(&mut self.actuals, variable)?;
-        let of = types.intern(Term::Param(parameter))?;
-        self.put_if_there(alloc, types, (variable as usize).saturating_sub(1), of, t)
+    ) -> Result<Option<TypeId>, Memory>
+        ensures put { IfOk result (IsPut types.old types.new variable parameter t) }
+        ensures kept { Grows types.old types.new }
+    {
+        if variable == 0 {
+            Ok(None)
+        } else if types.contains(t) {
+            Ok(Some(self.put_there(alloc, types, variable, parameter, t)?))
+        } else {
+            Ok(None)
+        }
     }
 }

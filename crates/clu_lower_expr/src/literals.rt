@@ -2,7 +2,7 @@
 
 use crate::lowering::Lowering;
 use clu_base::{Const, ObjConst};
-use clu_core::Checked;
+use clu_core::{Checked, NamedConstant};
 use clu_literal::{char_byte, string_bytes};
 use clu_lower_types::{LowerError, Result};
 use clu_syntax::Literal;
@@ -37,13 +37,21 @@ fn int_literal(digits: &[u8]) -> Result<WExpr> {
     }
 }
 
+/// The word of a constant that a name stands for. A parameter is the linker's.
+pub fn named_constant(out: &mut Lowering, c: &Checked, named: NamedConstant) -> Result<WExpr> {
+    match named {
+        NamedConstant::Known(place) => known_constant(out, c, place),
+        NamedConstant::Parameter(number) => out.constant(ObjConst::Param(number)),
+    }
+}
+
 /// The word of the constant at this place among those of the file. A long one that is named again is not looked up by its
 /// bytes again.
-pub fn named_constant(out: &mut Lowering, c: &Checked, place: u32) -> Result<WExpr> {
+fn known_constant(out: &mut Lowering, c: &Checked, place: usize) -> Result<WExpr> {
     if let Some(number) = out.named_constant(place) {
         return Ok(WExpr::Hole(HoleKind::Constant, number));
     }
-    let Some(known) = c.constants.get(place as usize) else {
+    let Some(known) = c.constants.copy(out.alloc, place)? else {
         return Err(LowerError::NotYet);
     };
     let word = constant(out, known)?;
@@ -53,17 +61,14 @@ pub fn named_constant(out: &mut Lowering, c: &Checked, place: u32) -> Result<WEx
     Ok(word)
 }
 
-/// The word of a constant: a small one is in the code, a string and a parameter are the linker's.
-fn constant(out: &mut Lowering, constant: &ObjConst) -> Result<WExpr> {
+/// The word of a constant: a small one is in the code, a string is the linker's.
+fn constant(out: &mut Lowering, constant: Const) -> Result<WExpr> {
     match constant {
-        ObjConst::Param(n) => out.constant(ObjConst::Param(*n)),
-        ObjConst::Value(value) => match value {
-            Const::Null => Ok(WExpr::Word(0)),
-            Const::Bool(true) => Ok(WExpr::Word(1)),
-            Const::Bool(false) => Ok(WExpr::Word(0)),
-            Const::Int(n) => Ok(WExpr::Word(n.cast_unsigned())),
-            Const::Char(byte) => Ok(WExpr::Word(*byte as u64)),
-            Const::Str(bytes) => out.string(bytes.as_slice()),
-        },
+        Const::Null => Ok(WExpr::Word(0)),
+        Const::Bool(true) => Ok(WExpr::Word(1)),
+        Const::Bool(false) => Ok(WExpr::Word(0)),
+        Const::Int(n) => Ok(WExpr::Word(n.cast_unsigned())),
+        Const::Char(byte) => Ok(WExpr::Word(byte as u64)),
+        Const::Str(bytes) => out.constant(ObjConst::Value(Const::Str(bytes))),
     }
 }

@@ -36,7 +36,7 @@ pub struct Lowering {
     /// By the operations of the file's types that are used, their numbers among the uses.
     operation_numbers: IndexMap<TypeOperation, u32>,
     /// By the places of the file's constants that are named, their numbers among these.
-    constant_numbers: IndexMap<u32, u32>,
+    constant_numbers: IndexMap<usize, u32>,
     /// Texts of types, and the place of each that is asked for alone.
     types: Vec<Bytes>,
     type_places: IndexMap<Bytes, u32>,
@@ -205,12 +205,12 @@ impl Lowering {
     }
 
     /// The number of the file's constant at this place, if it was noted.
-    pub fn named_constant(&self, place: u32) -> Option<u32> {
+    pub fn named_constant(&self, place: usize) -> Option<u32> {
         self.constant_numbers.get(&place).copied()
     }
 
     /// Notes the number of the file's constant at this place.
-    pub fn note_constant(&mut self, place: u32, number: u32) -> Result<()> {
+    pub fn note_constant(&mut self, place: usize, number: u32) -> Result<()> {
         self.constant_numbers.insert(place, number)?;
         Ok(())
     }

@@ -9,8 +9,8 @@ use clu_wir::WExpr;
 /// The word of what a Name stands for.
 pub fn name(out: &mut Lowering, fixed: &Fixed, n: u32) -> Result<WExpr> {
     let c = fixed.c;
-    if let Some(Some(place)) = c.constant_of.get(n as usize) {
-        return named_constant(out, c, *place);
+    if let Some(Some(named)) = c.constant_of.get(n as usize) {
+        return named_constant(out, c, *named);
     }
     if operation_of(c, n).is_some() {
         return node_operation(out, c, n);

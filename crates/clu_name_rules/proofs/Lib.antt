@@ -1,3 +1,4 @@
 pub mod Found
 pub mod Noting
 pub mod Reckoned
+pub mod Outlined

@@ -1,7 +1,9 @@
 -- How long the texts of types and constants are, as far as 64 bits count. A type's is reckoned from those of the types before it.
-use Rattle.std.specs.Prelude.{ℕ, zero, suc, ◌+◌, ◌-◌, ◌*◌, ◌/◌, ◌^◌, ◌==◌, max, min, if◌then◌else◌, List, [], ◌∷◌, ◌++◌, ℤ, pos, int_lt, unsigned_abs, fold, get_or, length}
+use Rattle.std.specs.Prelude.{ℕ, zero, suc, ◌+◌, ◌-◌, ◌*◌, ◌/◌, ◌^◌, ◌==◌, max, min, if◌then◌else◌, List, [], ◌∷◌, ◌++◌, ℤ, pos, int_lt, unsigned_abs, nat_lt, Bool, false, Option, Some, None, fold, get_or, length}
 use Rattle.clu_base.specs.declared.constants.Const.{Const}
 use Rattle.clu_base.specs.declared.constants.Const.TheVariants as constant
+use Rattle.clu_constants.specs.declared.outline.Outline.{Outline}
+use Rattle.clu_constants.specs.declared.outline.Outline.TheVariants as outline
 use Rattle.clu_types.specs.declared.term.TypeId.{TypeId}
 use Rattle.clu_types.specs.declared.term.Field.{Field}
 use Rattle.clu_types.specs.declared.term.Exception.{Exception}
@@ -38,6 +40,18 @@ constant_length (constant.Bool b) = if b then 4 else 5
 constant_length (constant.Int n) = integer_length n
 constant_length (constant.Char b) = 3
 constant_length (constant.Str bytes) = plus (times (length bytes) 2) 2
+
+-- the same without its text
+abbrev pub outline_length : Outline → ℕ
+outline_length outline.Null = 3
+outline_length (outline.Bool b) = if b then 4 else 5
+outline_length (outline.Int n) = integer_length n
+outline_length (outline.Char b) = 3
+outline_length (outline.Str n) = plus (times n 2) 2
+
+abbrev pub is_long_at : Option Const → Bool
+is_long_at (Some c) = nat_lt 65536 (constant_length c)
+is_long_at None = false
 
 -- ---- types, where the lengths of those before them are known
 

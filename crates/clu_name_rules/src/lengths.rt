@@ -1,10 +1,11 @@
 //! Which types and constants have texts that are too long for an equated value. The parts of a type have smaller numbers, so
 //! each length is reckoned once, from those of its parts.
 
-ghost use Rattle.std.specs.Prelude.{◌≡◌, IfOk, map, nat_lt};
-ghost use Rattle.clu_name_rules.specs.Lengths.{with_more, digits_in, integer_length, constant_length, length_of, with_type, types_length, with_field, fields_length, with_signal, signals_length, heading_length, actual_length, with_actual, actuals_length, term_length, lengths_of};
+ghost use Rattle.std.specs.Prelude.{◌≡◌, IfOk, map, nat_lt, slice_get};
+ghost use Rattle.clu_name_rules.specs.Lengths.{with_more, digits_in, integer_length, constant_length, outline_length, is_long_at, length_of, with_type, types_length, with_field, fields_length, with_signal, signals_length, heading_length, actual_length, with_actual, actuals_length, term_length, lengths_of};
 
-use clu_base::{Const, Memory};
+use clu_base::Memory;
+use clu_constants::{Constants, Outline, outline_of};
 use clu_types::{Actual, Exception, Field, Heading, Term, TypeArena, TypeId};
 use std::alloc::Global;
 
@@ -39,17 +40,15 @@ fn of_integer(n: i64) -> u64
 
 /// `nil`, a bool's word, an int in decimal, `'` and two digits for a character, two digits for each byte of a string between two
 /// marks.
-fn of_constant(constant: &Const) -> u64
-    ensures { result ≡ constant_length constant.now }
+fn of_constant(constant: Outline) -> u64
+    ensures { result ≡ outline_length constant }
 {
     match constant {
-        Const::Null => 3,
-        Const::Bool(b) => { if *b { 4 } else { 5 } }
-        Const::Int(n) => of_integer(*n),
-        Const::Char(_) => 3,
-        Const::Str(bytes) => (bytes.as_slice().len() as u64)
-            .saturating_mul(2)
-            .saturating_add(2),
+        Outline::Null => 3,
+        Outline::Bool(b) => { if b { 4 } else { 5 } }
+        Outline::Int(n) => of_integer(n),
+        Outline::Char(_) => 3,
+        Outline::Str(length) => length.saturating_mul(2).saturating_add(2),
     }
 }
 
@@ -140,7 +139,7 @@ fn of_actual(lengths: &[u64], actual: &Actual) -> u64
 {
     match actual {
         Actual::Of(id) => known(lengths, *id),
-        Actual::Const(constant) => of_constant(constant),
+        Actual::Const(constant) => of_constant(outline_of(constant)),
         Actual::ConstParam(n) => digits(u64::from(*n)).saturating_add(1),
     }
 }
@@ -218,12 +217,22 @@ pub fn long_types(alloc: Global, types: &TypeArena) -> Result<Vec<bool>, Memory>
 }
 
 /// The same of constants.
-pub fn long_constants(alloc: Global, constants: &[Const]) -> Result<Vec<bool>, Memory>
+pub fn long_constants(alloc: Global, constants: &Constants) -> Result<Vec<bool>, Memory>
     ensures { IfOk result (λ long. long.items ≡ map (λ c. nat_lt 65536 (constant_length c)) constants.now) }
 {
     let mut long = Vec::new(alloc);
-    for constant in constants {
-        long.push(of_constant(constant) > LONGEST_TEXT)?;
+    for place in 0..constants.len() {
+        long.push(is_long(constants, place))?;
     }
     Ok(long)
+}
+
+/// Whether the text of the constant of this place is too long.
+fn is_long(constants: &Constants, place: usize) -> bool
+    ensures { result ≡ is_long_at (slice_get constants.now place) }
+{
+    match constants.outline(place) {
+        Some(constant) => of_constant(constant) > LONGEST_TEXT,
+        None => false,
+    }
 }

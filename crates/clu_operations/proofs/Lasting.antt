@@ -75,6 +75,13 @@ asked_between n p asked from to b = by (nat_le from to && nat_le to (length aske
     by true = asked_take n p (to - from) (drop from asked) (asked_drop n p from asked b)
     by false = tt
 
+-- what it asks, and its type, are of numbers that are there
+pub asks_below : (n : ℕ) (f : Finding) → AreWithin n f → (id : FoundId) → AreAskedBelow n (length f.words) (asked_by f id)
+asks_below n f within id = asked_between n (length f.words) f.asked.items (found_at f.founds.items id).from (found_at f.founds.items id).to within.asked
+
+pub type_below : (n : ℕ) (f : Finding) → AreWithin n f → (id : FoundId) → id.0 < length f.founds.items → IsBelowIf n (found_at f.founds.items id).of
+type_below n f within id there = (found_below n (length f.asked.items) f.founds.items id.0 there within.founds).0
+
 -- what was found tells the same later
 pub told_stays : (old new : List Term) → Grows old new → (f g : Finding) → Follows f g → AreWithin (length old) f → (id : FoundId) → id.0 < length f.founds.items → told (types_of new) g id ≡ told (types_of old) f id
 told_stays old new grows f g follows within id there =
@@ -84,10 +91,9 @@ told_stays old new grows f g follows within id there =
     ap (λ (x : Found). between g.asked.items x.from x.to) found
     ∙ ap (λ (l : List Asked). between l (found_at f.founds.items id).from (found_at f.founds.items id).to) follows.asked.1
     ∙ between_stays f.asked.items follows.asked.0 (found_at f.founds.items id).from (found_at f.founds.items id).to below.1 in
-    let asked : AreAskedBelow (length old) (length f.words) (asked_by f id) = asked_between (length old) (length f.words) f.asked.items (found_at f.founds.items id).from (found_at f.founds.items id).to within.asked in
     join (λ (t : Option CluType) (a : List Ask). let it : Told = record { type = t; asks = a } in it)
     (ap (λ (x : Found). option_map (type_at (types_of new)) x.of) found ∙ option_stays old new grows (found_at f.founds.items id).of below.0)
-    (ap (λ (l : List Asked). map (ask_told (types_of new) g.words) l) asks ∙ asks_stay old new grows f.words g.words follows.words (asked_by f id) asked)
+    (ap (λ (l : List Asked). map (ask_told (types_of new) g.words) l) asks ∙ asks_stay old new grows f.words g.words follows.words (asked_by f id) (asks_below (length old) f within id))
 
 pub told_if : (old new : List Term) → Grows old new → (f g : Finding) → Follows f g → AreWithin (length old) f → (found : Option FoundId) → IfSome found (λ id. id.0 < length f.founds.items)
     → option_map (told (types_of new) g) found ≡ option_map (told (types_of old) f) found

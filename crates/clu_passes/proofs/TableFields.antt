@@ -28,11 +28,11 @@ names_told f scope names declared bound starts =
     }
 
 pub values_told : (t : Text) (f : File) → IsParsed t f.nodes → AreRounds f.nodes f.rounds → AreFew f.nodes f.rounds → f.scope ≡ scope_in f.nodes f.rounds → (names : Names) → AreNames f names → (all : Values) → all.meanings.items ≡ meanings_of f.nodes f.rounds names.declared.items
-    → ((scope : Scope) → AreMeanings f.nodes scope all.meanings.items → AreSettled f.nodes scope all.types all.constants.items all.values.items) → AreSettled f.nodes f.scope all.types all.constants.items all.values.items
+    → ((scope : Scope) → AreMeanings f.nodes scope all.meanings.items → AreSettled f.nodes scope all.types all.constants all.values.items) → AreSettled f.nodes f.scope all.types all.constants all.values.items
 values_told t f parsed are few scope names named all meant settled =
     let declared : names.declared.items ≡ declarations f.nodes f.rounds = named.declared ∙ ap (λ (s : Scope). s.declarations) scope in
     let meanings : all.meanings.items ≡ meanings_of f.nodes f.rounds (declarations f.nodes f.rounds) = meant ∙ ap (meanings_of f.nodes f.rounds) declared in
-    subst (λ (s : Scope). AreSettled f.nodes s all.types all.constants.items all.values.items) (sym scope)
+    subst (λ (s : Scope). AreSettled f.nodes s all.types all.constants all.values.items) (sym scope)
     (settled (scope_in f.nodes f.rounds) (subst (AreMeanings f.nodes (scope_in f.nodes f.rounds)) (sym meanings) (are_meanings t f.nodes f.rounds parsed are few)))
 
 pub marks_told : (f : File) → AreRounds f.nodes f.rounds → (names : Names) → AreNames f names → (marks : List Bool)

@@ -39,7 +39,7 @@ pub fn names_told()
 
 /// `values`: those that `settle` of clu_settle gives.
 pub fn values_told()
-    ensures { (t : Text) (f : File) → IsParsed t f.nodes → AreRounds f.nodes f.rounds → AreFew f.nodes f.rounds → f.scope ≡ scope_in f.nodes f.rounds → (names : Names) → AreNames f names → (all : Values) → all.meanings.items ≡ meanings_of f.nodes f.rounds names.declared.items → ((scope : Scope) → AreMeanings f.nodes scope all.meanings.items → AreSettled f.nodes scope all.types all.constants.items all.values.items) → AreSettled f.nodes f.scope all.types all.constants.items all.values.items }
+    ensures { (t : Text) (f : File) → IsParsed t f.nodes → AreRounds f.nodes f.rounds → AreFew f.nodes f.rounds → f.scope ≡ scope_in f.nodes f.rounds → (names : Names) → AreNames f names → (all : Values) → all.meanings.items ≡ meanings_of f.nodes f.rounds names.declared.items → ((scope : Scope) → AreMeanings f.nodes scope all.meanings.items → AreSettled f.nodes scope all.types all.constants all.values.items) → AreSettled f.nodes f.scope all.types all.constants all.values.items }
 {}
 
 /// `marks`: the bits that `circular_equates` of clu_settle gives.

@@ -1,8 +1,8 @@
 -- The order of the graph, and what is lost of the nodes that are settled in this order.
-use Rattle.std.proofs.Common.{◌≡◌, ◌∙◌, ℕ, zero, suc, ◌+◌, ◌-◌, ◌<◌, ◌≤◌, Bool, true, false, ◌||◌, if◌then◌else◌, List, [], ◌∷◌, ◌++◌, length, map, set, replicate, Option, Some, None, refl, ap, sym, subst, inl, inr, ◌⊎◌, arith, length-append}
+use Rattle.std.proofs.Common.{◌≡◌, ◌∙◌, ℕ, zero, suc, ◌+◌, ◌-◌, ◌<◌, ◌≤◌, Bool, true, false, ◌&&◌, ◌||◌, if◌then◌else◌, List, [], ◌∷◌, ◌++◌, length, map, set, replicate, Option, Some, None, refl, ap, sym, subst, inl, inr, ◌⊎◌, arith, length-append}
 use Rattle.std.specs.Prelude.{slice_get, nat_lt}
 use Rattle.std.specs.List.{list_any}
-use Rattle.std.proofs.lemmas.Bool.{cases_eq, cases_lt, lt-ltb}
+use Rattle.std.proofs.lemmas.Bool.{cases_eq, cases_lt, lt-ltb, and_from}
 use Rattle.std.proofs.lemmas.Option.{none-some, same_Some, slice_get_within, slice_get-get_or, slice_get_past}
 use Rattle.clu_tree.specs.declared.node.Node.{Node}
 use Rattle.clu_tree.specs.Nodes.{IsTree}
@@ -18,10 +18,12 @@ use Rattle.clu_settle.specs.declared.meanings.Meaning.TheVariants as meaning
 use Rattle.clu_settle.specs.Graph.{named_target, targets_at, targets_to, spans_to}
 use Rattle.clu_settle.specs.Names.{meaning_in}
 use Rattle.clu_settle.specs.Lists.{value_of}
-use Rattle.clu_settle.specs.Lost.{is_source, right_side, made_from, is_lost_in, IsLost, IsMadeFrom, Reaches, at_once, by_way_of, IsExplained, is_typed, AreLost, IsOrder}
+use Rattle.clu_settle.specs.Standing.{IsRead}
+use Rattle.clu_settle.specs.Lost.{is_source, right_side, made_from, is_lost_in, IsLost, goes_on, IsEndless, IsMadeFrom, Reaches, at_once, by_way_of, IsExplained, is_typed, AreLost, IsOrder}
 use Rattle.clu_settle.proofs.Inside.{spans_size}
 use Rattle.clu_settle.proofs.Members.{IsIn, in_more}
 use Rattle.clu_settle.proofs.Passing.{set_here, set_other, lost_at}
+use Rattle.clu_settle.proofs.Reading.{one_read, none_more_read, none_read}
 
 -- ---- places in lists that are joined
 
@@ -162,11 +164,13 @@ module _ (nodes : List Node) (meanings : List Meaning) where
     -- ---- lost, however many steps are taken
 
     pub order_is : (order : List ℕ) (circular : List Bool) → AreCircles targets spans order circular → IsOrder nodes meanings order
-    unfolding is_lost_in
+    unfolding is_lost_in goes_on
     order_is order circular circles = record {
       after = λ p k t at from l. circles.after p k t at (leads k t (straight_inside p k at) l from);
       once = circles.once;
+      inside = straight_inside;
       others = λ k l. by k (cases_circular k l);
+      endless = λ k l. endless_by k (cases_circular k l);
     }
       where
         size : length circular ≡ length nodes
@@ -175,15 +179,24 @@ module _ (nodes : List Node) (meanings : List Meaning) where
         straight_inside : (p k : ℕ) → slice_get order p ≡ Some k → k < length nodes
         straight_inside p k at = let l : k < length circular = slice_get_within circular k false (circles.straight p k at) in let s : length circular ≡ length nodes = size in omega (arith, l, s)
 
-        goes_on : (steps k : ℕ) → slice_get circular k ≡ Some true → is_lost_in nodes meanings steps k ≡ true
-        goes_on zero k e = refl
-        goes_on (suc steps) k e =
+        stays_lost : (steps k : ℕ) → slice_get circular k ≡ Some true → is_lost_in nodes meanings steps k ≡ true
+        stays_lost zero k e = refl
+        stays_lost (suc steps) k e =
             let next = circles.circles k e in
-            or_so (is_source (slice_get nodes k)) (any_in (is_lost_in nodes meanings steps) (made_from nodes meanings k) next.0 (made k next.0 next.1) (goes_on steps next.0 next.2))
+            or_so (is_source (slice_get nodes k)) (any_in (is_lost_in nodes meanings steps) (made_from nodes meanings k) next.0 (made k next.0 next.1) (stays_lost steps next.0 next.2))
           where
             or_so : (b : Bool) → list_any (is_lost_in nodes meanings steps) (made_from nodes meanings k) ≡ true → (b || list_any (is_lost_in nodes meanings steps) (made_from nodes meanings k)) ≡ true
             or_so true h = refl
             or_so false h = h
+
+        leads_on : (steps k : ℕ) → slice_get circular k ≡ Some true → goes_on nodes meanings steps k ≡ true
+        leads_on zero k e = refl
+        leads_on (suc steps) k e =
+            let next = circles.circles k e in
+            let l : next.0 < length circular = slice_get_within circular next.0 true next.2 in
+            let s : length circular ≡ length nodes = size in
+            any_in (λ d. nat_lt d (length nodes) && goes_on nodes meanings steps d) (made_from nodes meanings k) next.0 (made k next.0 next.1)
+            (and_from (nat_lt next.0 (length nodes)) (goes_on nodes meanings steps next.0) (lt-ltb next.0 (length nodes) (omega (arith, l, s))) (leads_on steps next.0 next.2))
 
         cases_circular : (k : ℕ) → k < length nodes → (slice_get circular k ≡ Some true) ⊎ (slice_get circular k ≡ Some false)
         cases_circular k l = let s : length circular ≡ length nodes = size in which _ (slice_get-get_or circular k false (omega (arith, l, s)))
@@ -193,8 +206,12 @@ module _ (nodes : List Node) (meanings : List Meaning) where
             which false e = inr e
 
         by : (k : ℕ) → (slice_get circular k ≡ Some true) ⊎ (slice_get circular k ≡ Some false) → IsLost nodes meanings k ⊎ ((p : ℕ) × (slice_get order p ≡ Some k))
-        by k (inl e) = inl (λ steps. goes_on steps k e)
+        by k (inl e) = inl (λ steps. stays_lost steps k e)
         by k (inr e) = inr (circles.listed k e)
+
+        endless_by : (k : ℕ) → (slice_get circular k ≡ Some true) ⊎ (slice_get circular k ≡ Some false) → IsEndless nodes meanings k ⊎ ((p : ℕ) × (slice_get order p ≡ Some k))
+        endless_by k (inl e) = inl (λ steps. leads_on steps k e)
+        endless_by k (inr e) = inr (circles.listed k e)
 
   -- ---- what is made from something lost
 
@@ -246,9 +263,9 @@ module _ (nodes : List Node) (meanings : List Meaning) where
 
   -- ---- the pass
 
-  module _ (order : List ℕ) (ordered : IsOrder nodes meanings order) (p n : ℕ) (at : slice_get order p ≡ Some n) (values values' : List Value) (v : Value)
+  module _ (order : List ℕ) (ordered : IsOrder nodes meanings order) (p n : ℕ) (at : slice_get order p ≡ Some n) (there : n < length nodes) (values values' : List Value) (v : Value)
       (passed : AreLost nodes meanings order p values) (inside : n < length values) (is_set : values' ≡ set values n v)
-      (typed : is_type (kind_at nodes n) ≡ true → is_typed v ≡ true) (explained : v ≡ value.Lost → IsExplained nodes meanings values n) where
+      (typed : is_type (kind_at nodes n) ≡ true → is_typed v ≡ true) (read : IsRead nodes meanings values n v) (explained : v ≡ value.Lost → IsExplained nodes meanings values n) where
     new_here : value_of values' n ≡ v
     new_here = ap (λ (vs : List Value). value_of vs n) is_set ∙ set_here values n v inside
 
@@ -273,11 +290,16 @@ module _ (nodes : List Node) (meanings : List Meaning) where
     ]
 
     pub one_lost : AreLost nodes meanings order (suc p) values'
-    one_lost = record { typed = record { tree = passed.typed.tree; shaped = passed.typed.shaped; types = typed_more }; lost = lost_more }
+    one_lost = record {
+      typed = record { tree = passed.typed.tree; shaped = passed.typed.shaped; types = typed_more };
+      read = one_read nodes meanings order ordered passed.typed.tree passed.typed.shaped p n at there values values' v passed.read inside is_set read;
+      lost = lost_more;
+    }
 
   pub none_more_lost : (order : List ℕ) (p n : ℕ) → slice_get order p ≡ Some n → length nodes ≤ n → (values : List Value) → AreLost nodes meanings order p values → AreLost nodes meanings order (suc p) values
   none_more_lost order p n at outside values passed = record {
     typed = passed.typed;
+    read = none_more_read nodes meanings order p n at outside values passed.read;
     lost = λ q k l e lost. elim (cases_eq q p) [
       | inl same ↦ subst (IsLost nodes meanings) (same_Some n k (sym at ∙ ap (slice_get order) (sym same) ∙ e)) (no_node_lost n outside)
       | inr apart ↦ passed.lost q k (omega (arith, l, apart)) e lost
@@ -287,6 +309,7 @@ module _ (nodes : List Node) (meanings : List Meaning) where
   pub none_lost : IsTree nodes → HaveForms nodes → (order : List ℕ) (values : List Value) → values ≡ replicate (length nodes) value.Lost → AreLost nodes meanings order 0 values
   none_lost tree shaped order values e = record {
     typed = record { tree = tree; shaped = shaped; types = λ n is. ap is_typed (ap (λ (vs : List Value). value_of vs n) e ∙ lost_at (length nodes) n) };
+    read = none_read nodes meanings order values e;
     lost = λ q k l at lost. absurd (omega (arith, l));
   }
 

@@ -13,6 +13,7 @@ pub mod Sorting
 pub mod Operations
 pub mod Ints
 pub mod Folded
+pub mod Joined
 pub mod Shapes
 pub mod Parts
 pub mod Labels
@@ -21,5 +22,6 @@ pub mod Handed
 pub mod Found
 pub mod Members
 pub mod Losing
+pub mod Reading
 pub mod Lasting
 pub mod Unfolding

@@ -46,12 +46,12 @@ elements_node items nodes n t None cs = refl
 elements_node items nodes n t (Some token) [] = refl
 elements_node items nodes n t (Some token) (c ∷ cs) = refl
 
-node_of_expression : (items : ℕ → Item) (nodes : List Node) (n : ℕ) (node : Node) (k : NodeKind) → expression_node (expression_of items nodes n node k) ≡ n
+pub node_of_expression : (items : ℕ → Item) (nodes : List Node) (n : ℕ) (node : Node) (k : NodeKind) → expression_node (expression_of items nodes n node k) ≡ n
 node_of_expression items nodes n node kind.Infix = refl
 node_of_expression items nodes n node kind.Elems = elements_node items nodes n (items (child 0 node)).type node.value_token _
 node_of_expression items nodes n node _ = refl
 
-node_of_type : (items : ℕ → Item) (nodes : List Node) (n : ℕ) (node : Node) (k : NodeKind) → type_node (type_expression_of items nodes n node k) ≡ n
+pub node_of_type : (items : ℕ → Item) (nodes : List Node) (n : ℕ) (node : Node) (k : NodeKind) → type_node (type_expression_of items nodes n node k) ≡ n
 node_of_type items nodes n node kind.ListT = refl
 node_of_type items nodes n node _ = refl
 

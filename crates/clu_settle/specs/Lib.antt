@@ -10,6 +10,7 @@ pub mod Steps
 pub mod Graph
 pub mod Operators
 pub mod Settled
+pub mod Standing
 pub mod Lost
 pub mod Circular
 pub mod Parameters

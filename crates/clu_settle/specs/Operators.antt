@@ -1,5 +1,5 @@
 -- The operators of expressions, as clu_fold names them, and their values where an operand is no constant.
-use Rattle.std.specs.Prelude.{FitsSigned}
+use Rattle.std.specs.Prelude.{◌≡◌, ℕ, List, Option, Some, None, FitsSigned}
 use Rattle.std.specs.Int.{w64}
 use Rattle.clu_base.specs.declared.constants.Const.{Const}
 use Rattle.clu_base.specs.declared.constants.Const.TheVariants as constant
@@ -11,6 +11,7 @@ use Rattle.clu_fold.specs.declared.folding.Operator as folding
 use Rattle.clu_fold.specs.declared.folding.Operator.TheVariants as fold
 use Rattle.clu_fold.specs.declared.folding.Prefix as folding_prefix
 use Rattle.clu_fold.specs.declared.folding.Prefix.TheVariants as prefix
+use Rattle.clu_constants.specs.Held.{AreJoined}
 use Rattle.clu_settle.specs.declared.value.Value.{Value}
 use Rattle.clu_settle.specs.declared.value.Value.TheVariants as value
 
@@ -50,3 +51,8 @@ nothing_beside _ = value.Nothing
 abbrev pub IsInRange : Const → Type 0
 IsInRange (constant.Int n) = FitsSigned w64 n
 IsInRange _ = Unit {0}
+
+-- || joins the strings of two places, or there is nothing new
+abbrev pub IsJoinedBy : Operator → List Const → List Const → ℕ → ℕ → Option ℕ → Type 0
+IsJoinedBy operator old new a b (Some place) = (operator ≡ op.Concatenate) × AreJoined old new a b place
+IsJoinedBy operator old new a b None = new ≡ old

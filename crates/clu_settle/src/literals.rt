@@ -14,6 +14,7 @@ ghost use Rattle.clu_settle.specs.Values.{told, Agrees, Kept, TypeWithin, Consta
 use crate::constants::keep;
 use crate::value::Value;
 use clu_base::{Const, Memory};
+use clu_constants::Constants;
 use clu_literal::{char_byte, string_bytes};
 use clu_syntax::Literal;
 use std::alloc::Global;
@@ -62,11 +63,11 @@ fn int_of(digits: &[u8]) -> Option<i64>
 }
 
 /// The value of an integer literal; lost if it is no int.
-fn integer_value(constants: &mut Vec<Const>, digits: &[u8]) -> Result<Value, Memory>
-    ensures known { IfOk result (λ v. (types : List CluType) → Agrees (told types constants.new.items v) (constant_value (denoted (integer digits.now)))) }
-    ensures constant_in { IfOk result (λ v. ConstantWithin (length constants.new.items) v) }
+fn integer_value(constants: &mut Constants, digits: &[u8]) -> Result<Value, Memory>
+    ensures known { IfOk result (λ v. (types : List CluType) → Agrees (told types constants.new v) (constant_value (denoted (integer digits.now)))) }
+    ensures constant_in { IfOk result (λ v. ConstantWithin (length constants.new) v) }
     ensures type_in { IfOk result (λ v. (n : ℕ) → TypeWithin n v) }
-    ensures kept { Kept constants.old.items constants.new.items }
+    ensures kept { Kept constants.old constants.new }
     ensures lost { IfOk result (λ v. v ≡ Value.Lost → is_too_large (integer digits.now) ≡ true) }
 {
     match int_of(digits) {
@@ -75,11 +76,11 @@ fn integer_value(constants: &mut Vec<Const>, digits: &[u8]) -> Result<Value, Mem
     }
 }
 
-fn character_value(constants: &mut Vec<Const>, text: &[u8]) -> Result<Value, Memory>
-    ensures known { IfOk result (λ v. (types : List CluType) → Agrees (told types constants.new.items v) (constant_value (denoted (character text.now)))) }
-    ensures constant_in { IfOk result (λ v. ConstantWithin (length constants.new.items) v) }
+fn character_value(constants: &mut Constants, text: &[u8]) -> Result<Value, Memory>
+    ensures known { IfOk result (λ v. (types : List CluType) → Agrees (told types constants.new v) (constant_value (denoted (character text.now)))) }
+    ensures constant_in { IfOk result (λ v. ConstantWithin (length constants.new) v) }
     ensures type_in { IfOk result (λ v. (n : ℕ) → TypeWithin n v) }
-    ensures kept { Kept constants.old.items constants.new.items }
+    ensures kept { Kept constants.old constants.new }
     ensures lost { IfOk result (λ v. v ≡ Value.Lost → ⊥) }
 {
     match char_byte(text) {
@@ -88,11 +89,11 @@ fn character_value(constants: &mut Vec<Const>, text: &[u8]) -> Result<Value, Mem
     }
 }
 
-fn string_value(alloc: Global, constants: &mut Vec<Const>, text: &[u8]) -> Result<Value, Memory>
-    ensures known { IfOk result (λ v. (types : List CluType) → Agrees (told types constants.new.items v) (constant_value (denoted (string text.now)))) }
-    ensures constant_in { IfOk result (λ v. ConstantWithin (length constants.new.items) v) }
+fn string_value(alloc: Global, constants: &mut Constants, text: &[u8]) -> Result<Value, Memory>
+    ensures known { IfOk result (λ v. (types : List CluType) → Agrees (told types constants.new v) (constant_value (denoted (string text.now)))) }
+    ensures constant_in { IfOk result (λ v. ConstantWithin (length constants.new) v) }
     ensures type_in { IfOk result (λ v. (n : ℕ) → TypeWithin n v) }
-    ensures kept { Kept constants.old.items constants.new.items }
+    ensures kept { Kept constants.old constants.new }
     ensures lost { IfOk result (λ v. v ≡ Value.Lost → ⊥) }
 {
     match string_bytes(alloc, text)? {
@@ -104,13 +105,13 @@ fn string_value(alloc: Global, constants: &mut Vec<Const>, text: &[u8]) -> Resul
 /// The value of a literal. That of an integer that is no int is lost.
 pub fn literal_value(
     alloc: Global,
-    constants: &mut Vec<Const>,
+    constants: &mut Constants,
     literal: Literal<'_>,
 ) -> Result<Value, Memory>
-    ensures known { IfOk result (λ v. (types : List CluType) → Agrees (told types constants.new.items v) (constant_value (denoted (literal_told literal.entry)))) }
-    ensures constant_in { IfOk result (λ v. ConstantWithin (length constants.new.items) v) }
+    ensures known { IfOk result (λ v. (types : List CluType) → Agrees (told types constants.new v) (constant_value (denoted (literal_told literal.entry)))) }
+    ensures constant_in { IfOk result (λ v. ConstantWithin (length constants.new) v) }
     ensures type_in { IfOk result (λ v. (n : ℕ) → TypeWithin n v) }
-    ensures kept { Kept constants.old.items constants.new.items }
+    ensures kept { Kept constants.old constants.new }
     ensures lost { IfOk result (λ v. v ≡ Value.Lost → is_too_large (literal_told literal.entry) ≡ true) }
 {
     match literal {

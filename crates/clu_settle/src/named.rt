@@ -12,15 +12,17 @@ ghost use Rattle.clu_meaning.specs.Settling.{Value as Settled, settled_type, mod
 ghost use Rattle.clu_meaning.specs.Settling.{with_brackets as settled_with_brackets};
 ghost use Rattle.clu_settle.specs.declared.value.Value.{Value};
 ghost use Rattle.clu_settle.specs.Values.{told, Agrees, TypeWithin, IsWithin, AreWithin};
-ghost use Rattle.clu_settle.specs.Lists.{actuals_behind};
+ghost use Rattle.clu_settle.specs.Lists.{actuals_behind, value_of};
 ghost use Rattle.clu_settle.specs.Lost.{IsNameLost};
 ghost use Rattle.clu_settle.specs.Agreeing.{ActualsAgree, MeaningAgrees};
+ghost use Rattle.clu_settle.specs.Standing.{is_lost, right_named};
 
 use crate::lists::actuals_of;
 use crate::meanings::Meaning;
 use crate::type_values::type_value;
 use crate::value::{Value, value_at};
-use clu_base::{Bytes, Const, Memory, Sequence};
+use clu_base::{Bytes, Memory, Sequence};
+use clu_constants::Constants;
 use clu_types::{Actual, Term, TypeArena};
 use std::alloc::Global;
 
@@ -77,7 +79,7 @@ fn module_type(
 fn module_value(
     alloc: Global,
     types: &mut TypeArena,
-    constants: &[Const],
+    constants: &Constants,
     values: &[Value],
     name: &Bytes,
     given: &[u32],
@@ -103,7 +105,7 @@ fn module_value(
 pub fn value_of_name(
     alloc: Global,
     types: &mut TypeArena,
-    constants: &[Const],
+    constants: &Constants,
     values: &[Value],
     meaning: Meaning,
     name: &Bytes,
@@ -113,6 +115,7 @@ pub fn value_of_name(
     ensures within { IfOk result (λ v. (n : ℕ) → AreWithin (length types.old) n values.now → IsWithin (length types.new) n v) }
     ensures kept { Grows types.old types.new }
     ensures lost { IfOk result (λ v. v ≡ Value.Lost → All (TypeWithin (length types.old)) values.now → IsNameLost values.now constants.now given.now meaning) }
+    ensures same { IfOk result (λ v. (r : ℕ) → right_named meaning ≡ Some r → v ≡ value_of values.now r) }
 {
     match meaning {
         Meaning::Equate(right) => Ok(value_at(values, right)),
@@ -128,6 +131,7 @@ pub fn with_brackets(value: Value) -> Value
     ensures known { (types : List CluType) (constants : List Const) (a : Settled) → Agrees (told types constants value) a → Agrees (told types constants result) (settled_with_brackets a) }
     ensures within { (types constants : ℕ) → IsWithin types constants value → IsWithin types constants result }
     ensures lost { result ≡ Value.Lost → value ≡ Value.Lost }
+    ensures same { is_lost result ≡ is_lost value }
 {
     match value {
         Value::Type(id) => Value::Type(id),

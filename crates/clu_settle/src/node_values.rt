@@ -1,6 +1,6 @@
 //! The value of a node, by those of the nodes from which it is made.
 
-ghost use Rattle.std.specs.Prelude.{◌≡◌, ◌<◌, ◌⊎◌, ℕ, true, [], List, All, IfOk, length, slice_get, codes};
+ghost use Rattle.std.specs.Prelude.{◌≡◌, ◌<◌, ◌⊎◌, ℕ, true, false, [], List, All, IfOk, Some, length, slice_get, codes};
 ghost use Rattle.clu_base.specs.declared.constants.Const.{Const};
 ghost use Rattle.clu_types.specs.CluType.{Actuals};
 ghost use Rattle.clu_types.specs.Arena.{Grows};
@@ -19,6 +19,8 @@ ghost use Rattle.clu_settle.specs.Names.{is_constant, meaning_in};
 ghost use Rattle.clu_settle.specs.Agreeing.{ActualsAgree, MeaningAgrees};
 ghost use Rattle.clu_settle.specs.Known.{AreKnown};
 ghost use Rattle.clu_settle.specs.Indexed.{indexed};
+ghost use Rattle.clu_settle.specs.Lists.{value_of};
+ghost use Rattle.clu_settle.specs.Standing.{is_lost, is_cvt_type, is_plain_word, is_plain_type, right_named_at, word_stands_for, type_stands_for, index_stands_for, expression_stands_for, IsRead};
 
 use crate::literals::literal_value;
 use crate::meanings::{Meaning, meaning_at};
@@ -26,7 +28,8 @@ use crate::named::{value_of_name, with_brackets};
 use crate::operators::{infix_value, prefix_value};
 use crate::type_values::{fields_value, list_value, routine_value, type_value};
 use crate::value::{Value, value_at};
-use clu_base::{Bytes, Const, Memory};
+use clu_base::{Bytes, Memory};
+use clu_constants::Constants;
 use clu_syntax::{Expression, SimpleType, Syntax, TypeExpression, is_expression, is_type};
 use clu_types::{Term, TypeArena};
 use std::alloc::Global;
@@ -47,6 +50,7 @@ fn as_type(types: &mut TypeArena, value: Value) -> Result<Value, Memory>
     ensures kept { Grows types.old types.new }
     ensures typed { IfOk result (λ v. is_typed v ≡ true) }
     ensures lost { IfOk result (λ v. v ≡ Value.Lost → value ≡ Value.Lost) }
+    ensures same { IfOk result (λ v. is_lost v ≡ is_lost value) }
 {
     match value {
         Value::Type(id) => Ok(Value::Type(id)),
@@ -59,7 +63,7 @@ fn as_type(types: &mut TypeArena, value: Value) -> Result<Value, Memory>
 fn named_type(
     asked: Asked<'_>,
     types: &mut TypeArena,
-    constants: &[Const],
+    constants: &Constants,
     values: &[Value],
     n: u32,
     name: &Bytes,
@@ -70,6 +74,7 @@ fn named_type(
     ensures kept { Grows types.old types.new }
     ensures typed { IfOk result (λ v. is_typed v ≡ true) }
     ensures lost { IfOk result (λ v. v ≡ Value.Lost → All (TypeWithin (length types.old)) values.now → IsNameLost values.now constants.now given.now (meaning_in (slice_get asked.entry.meanings.now n))) }
+    ensures same { IfOk result (λ v. (r : ℕ) → right_named_at asked.entry.meanings.now n ≡ Some r → is_lost v ≡ is_lost (value_of values.now r)) }
 {
     let meaning = meaning_at(asked.meanings, n);
     let value = value_of_name(asked.alloc, types, constants, values, meaning, name, given)?;
@@ -80,7 +85,7 @@ fn named_type(
 fn representation(
     asked: Asked<'_>,
     types: &mut TypeArena,
-    constants: &[Const],
+    constants: &Constants,
     values: &[Value],
     n: u32,
 ) -> Result<Value, Memory>
@@ -89,6 +94,7 @@ fn representation(
     ensures kept { Grows types.old types.new }
     ensures typed { IfOk result (λ v. is_typed v ≡ true) }
     ensures lost { IfOk result (λ v. v ≡ Value.Lost → All (TypeWithin (length types.old)) values.now → IsNameLost values.now constants.now [] (meaning_in (slice_get asked.entry.meanings.now n))) }
+    ensures same { IfOk result (λ v. (r : ℕ) → right_named_at asked.entry.meanings.now n ≡ Some r → is_lost v ≡ is_lost (value_of values.now r)) }
 {
     let name = Bytes::from_slice(asked.alloc, b"rep")?;
     named_type(asked, types, constants, values, n, &name, &[])
@@ -99,7 +105,7 @@ fn representation(
 fn simple_value(
     asked: Asked<'_>,
     types: &mut TypeArena,
-    constants: &[Const],
+    constants: &Constants,
     values: &[Value],
     n: u32,
     word: SimpleType,
@@ -109,6 +115,9 @@ fn simple_value(
     ensures kept { Grows types.old types.new }
     ensures typed { IfOk result (λ v. is_typed v ≡ true) }
     ensures lost { IfOk result (λ v. v ≡ Value.Lost → All (TypeWithin (length types.old)) values.now → (is_cvt word ≡ true) ⊎ IsNameLost values.now constants.now [] (meaning_in (slice_get asked.entry.meanings.now n))) }
+    ensures same { IfOk result (λ v. (r : ℕ) → word_stands_for asked.entry.meanings.now n word ≡ Some r → is_lost v ≡ is_lost (value_of values.now r)) }
+    ensures cvt { IfOk result (λ v. word ≡ SimpleType.Cvt → v ≡ Value.Lost) }
+    ensures plain { IfOk result (λ v. is_plain_word word ≡ true → is_lost v ≡ false) }
 {
     match word {
         SimpleType::Null => type_value(types, Term::Null),
@@ -127,7 +136,7 @@ fn simple_value(
 fn value_of_type(
     asked: Asked<'_>,
     types: &mut TypeArena,
-    constants: &[Const],
+    constants: &Constants,
     values: &[Value],
     n: u32,
 ) -> Result<Value, Memory>
@@ -137,6 +146,9 @@ fn value_of_type(
     ensures kept { Grows types.old types.new }
     ensures typed { IfOk result (λ v. is_typed v ≡ true) }
     ensures lost { IfOk result (λ v. v ≡ Value.Lost → All (TypeWithin (length types.old)) values.now → AreTyped asked.entry.syntax.now values.now → is_type (kind_at asked.entry.syntax.now n) ≡ true → IsExplained asked.entry.syntax.now asked.entry.meanings.now values.now n) }
+    ensures same { IfOk result (λ v. (r : ℕ) → type_stands_for asked.entry.meanings.now (item_at asked.entry.syntax.now n).type ≡ Some r → is_lost v ≡ is_lost (value_of values.now r)) }
+    ensures cvt { IfOk result (λ v. is_cvt_type (item_at asked.entry.syntax.now n).type ≡ true → v ≡ Value.Lost) }
+    ensures plain { IfOk result (λ v. is_plain_type (item_at asked.entry.syntax.now n).type ≡ true → is_lost v ≡ false) }
 {
     let tree = asked.syntax.tree();
     match asked.syntax.type_expression(n) {
@@ -171,7 +183,7 @@ fn value_of_type(
 fn index_value(
     asked: Asked<'_>,
     types: &mut TypeArena,
-    constants: &[Const],
+    constants: &Constants,
     values: &[Value],
     of: u32,
     given: &[u32],
@@ -181,6 +193,7 @@ fn index_value(
     ensures within { IfOk result (λ v. (n : ℕ) → AreWithin (length types.old) n values.now → IsWithin (length types.new) n v) }
     ensures kept { Grows types.old types.new }
     ensures lost { IfOk result (λ v. v ≡ Value.Lost → All (TypeWithin (length types.old)) values.now → IsNameLost values.now constants.now given.now (meaning_in (slice_get asked.entry.meanings.now of))) }
+    ensures same { IfOk result (λ v. (r : ℕ) → index_stands_for asked.entry.meanings.now (item_at asked.entry.syntax.now of).expression ≡ Some r → is_lost v ≡ is_lost (value_of values.now r)) }
 {
     match asked.syntax.expression(of) {
         Expression::Name(name) => {
@@ -196,7 +209,7 @@ fn index_value(
 fn index_value_at(
     asked: Asked<'_>,
     types: &mut TypeArena,
-    constants: &[Const],
+    constants: &Constants,
     values: &[Value],
     of: u32,
     given: &[u32],
@@ -205,6 +218,7 @@ fn index_value_at(
     ensures within { IfOk result (λ v. (n : ℕ) → AreWithin (length types.old) n values.now → IsWithin (length types.new) n v) }
     ensures kept { Grows types.old types.new }
     ensures lost { IfOk result (λ v. v ≡ Value.Lost → All (TypeWithin (length types.old)) values.now → of < length asked.entry.syntax.now → IsNameLost values.now constants.now given.now (meaning_in (slice_get asked.entry.meanings.now of))) }
+    ensures same { IfOk result (λ v. of < length asked.entry.syntax.now → (r : ℕ) → index_stands_for asked.entry.meanings.now (item_at asked.entry.syntax.now of).expression ≡ Some r → is_lost v ≡ is_lost (value_of values.now r)) }
 {
     if of < asked.syntax.tree().len() {
         index_value(asked, types, constants, values, of, given)
@@ -217,16 +231,17 @@ fn index_value_at(
 fn value_of_expression(
     asked: Asked<'_>,
     types: &mut TypeArena,
-    constants: &mut Vec<Const>,
+    constants: &mut Constants,
     values: &[Value],
     n: u32,
 ) -> Result<Value, Memory>
     requires { n < length asked.syntax.now }
-    ensures known { IfOk result (λ v. (scope : Scope) (unfolded : Constant → Settled) → AreKnown asked.entry.syntax.now scope asked.entry.meanings.now (arena_types types.old) constants.old.items values.now unfolded → is_expression (kind_at asked.entry.syntax.now n) ≡ true → Agrees (told (arena_types types.new) constants.new.items v) (value_of_expression scope unfolded (item_at asked.entry.syntax.now n).expression)) }
-    ensures within { IfOk result (λ v. AreWithin (length types.old) (length constants.old.items) values.now → IsWithin (length types.new) (length constants.new.items) v) }
+    ensures known { IfOk result (λ v. (scope : Scope) (unfolded : Constant → Settled) → AreKnown asked.entry.syntax.now scope asked.entry.meanings.now (arena_types types.old) constants.old values.now unfolded → is_expression (kind_at asked.entry.syntax.now n) ≡ true → Agrees (told (arena_types types.new) constants.new v) (value_of_expression scope unfolded (item_at asked.entry.syntax.now n).expression)) }
+    ensures within { IfOk result (λ v. AreWithin (length types.old) (length constants.old) values.now → IsWithin (length types.new) (length constants.new) v) }
     ensures types_kept { Grows types.old types.new }
-    ensures constants_kept { Kept constants.old.items constants.new.items }
+    ensures constants_kept { Kept constants.old constants.new }
     ensures lost { IfOk result (λ v. v ≡ Value.Lost → All (TypeWithin (length types.old)) values.now → AreTyped asked.entry.syntax.now values.now → IsExplained asked.entry.syntax.now asked.entry.meanings.now values.now n) }
+    ensures same { IfOk result (λ v. (r : ℕ) → expression_stands_for asked.entry.meanings.now (item_at asked.entry.syntax.now n).expression ≡ Some r → is_lost v ≡ is_lost (value_of values.now r)) }
 {
     match asked.syntax.expression(n) {
         Expression::Infix {
@@ -250,13 +265,12 @@ fn value_of_expression(
         Expression::Literal(literal) => literal_value(asked.alloc, constants, literal),
         Expression::Name(name) => {
             let meaning = meaning_at(asked.meanings, n);
-            let constants = constants.as_slice();
             value_of_name(asked.alloc, types, constants, values, meaning, name, &[])
         }
         Expression::Index {
             of,
             constants: given,
-        } => index_value_at(asked, types, constants.as_slice(), values, of, given),
+        } => index_value_at(asked, types, constants, values, of, given),
         _ => Ok(Value::Nothing),
     }
 }
@@ -265,21 +279,22 @@ fn value_of_expression(
 pub fn node_value(
     asked: Asked<'_>,
     types: &mut TypeArena,
-    constants: &mut Vec<Const>,
+    constants: &mut Constants,
     values: &[Value],
     n: u32,
 ) -> Result<Value, Memory>
     requires { n < length asked.syntax.now }
-    ensures known { IfOk result (λ v. (scope : Scope) (unfolded : Constant → Settled) → AreKnown asked.entry.syntax.now scope asked.entry.meanings.now (arena_types types.old) constants.old.items values.now unfolded → is_constant asked.entry.syntax.now n ≡ true → Agrees (told (arena_types types.new) constants.new.items v) (value_of_constant scope unfolded (item_at asked.entry.syntax.now n).constant)) }
-    ensures within { IfOk result (λ v. AreWithin (length types.old) (length constants.old.items) values.now → IsWithin (length types.new) (length constants.new.items) v) }
+    ensures known { IfOk result (λ v. (scope : Scope) (unfolded : Constant → Settled) → AreKnown asked.entry.syntax.now scope asked.entry.meanings.now (arena_types types.old) constants.old values.now unfolded → is_constant asked.entry.syntax.now n ≡ true → Agrees (told (arena_types types.new) constants.new v) (value_of_constant scope unfolded (item_at asked.entry.syntax.now n).constant)) }
+    ensures within { IfOk result (λ v. AreWithin (length types.old) (length constants.old) values.now → IsWithin (length types.new) (length constants.new) v) }
     ensures types_kept { Grows types.old types.new }
-    ensures constants_kept { Kept constants.old.items constants.new.items }
+    ensures constants_kept { Kept constants.old constants.new }
     ensures typed { IfOk result (λ v. is_type (kind_at asked.entry.syntax.now n) ≡ true → is_typed v ≡ true) }
     ensures lost { IfOk result (λ v. v ≡ Value.Lost → All (TypeWithin (length types.old)) values.now → AreTyped asked.entry.syntax.now values.now → IsExplained asked.entry.syntax.now asked.entry.meanings.now values.now n) }
+    ensures read { IfOk result (λ v. IsRead asked.entry.syntax.now asked.entry.meanings.now values.now n v) }
 {
     let kind = asked.syntax.tree().node(n).kind;
     if is_type(kind) {
-        value_of_type(asked, types, constants.as_slice(), values, n)
+        value_of_type(asked, types, constants, values, n)
     } else if is_expression(kind) {
         value_of_expression(asked, types, constants, values, n)
     } else {

@@ -6,13 +6,14 @@ ghost use Rattle.std.specs.Option.{option_and_then};
 ghost use Rattle.clu_types.specs.CluType.{CluType};
 ghost use Rattle.clu_meaning.specs.Constants.{prefixed};
 ghost use Rattle.clu_meaning.specs.Settling.{Value as Settled, constant_in as constant_of, constant_value, infix_value};
-ghost use Rattle.clu_settle.specs.Operators.{folded_by, prefix_by, nothing_beside, IsInRange};
+ghost use Rattle.clu_settle.specs.Operators.{folded_by, prefix_by, nothing_beside, IsInRange, IsJoinedBy};
 ghost use Rattle.clu_settle.specs.declared.value.Value.{Value};
 ghost use Rattle.clu_settle.specs.Values.{told, Agrees, Kept, TypeWithin, ConstantWithin, constant_at};
 
 use crate::constants::{constant_at, keep};
 use crate::value::Value;
 use clu_base::{Const, Memory};
+use clu_constants::Constants;
 use clu_fold::{Operator as FoldOperator, Prefix, fold, fold_prefix};
 use clu_syntax::{Operator, Sign};
 use std::alloc::Global;
@@ -72,25 +73,61 @@ fn in_range(constant: &Const)
     }
 }
 
-/// The operator over the constants of these places.
-fn folded_value(
+/// The operator over the constants of these places, as they are.
+fn folded_constants(
     alloc: Global,
-    constants: &mut Vec<Const>,
+    constants: &mut Constants,
     operator: Operator,
     a: usize,
     b: usize,
 ) -> Result<Value, Memory>
-    ensures known { IfOk result (λ v. (types : List CluType) → told types constants.new.items v ≡ Some (infix_value operator (Some (constant_at constants.old.items a)) (Some (constant_at constants.old.items b)))) }
-    ensures constant_in { IfOk result (λ v. ConstantWithin (length constants.new.items) v) }
+    ensures known { IfOk result (λ v. (types : List CluType) → told types constants.new v ≡ Some (infix_value operator (Some (constant_at constants.old a)) (Some (constant_at constants.old b)))) }
+    ensures constant_in { IfOk result (λ v. ConstantWithin (length constants.new) v) }
     ensures type_in { IfOk result (λ v. (n : ℕ) → TypeWithin n v) }
-    ensures kept { Kept constants.old.items constants.new.items }
+    ensures kept { Kept constants.old constants.new }
 {
-    let left = constant_at(alloc, constants.as_slice(), a)?;
-    let right = constant_at(alloc, constants.as_slice(), b)?;
+    let left = constant_at(alloc, constants, a)?;
+    let right = constant_at(alloc, constants, b)?;
     in_range(&left);
     in_range(&right);
     let found = fold(left, folded_by(operator), &right)?;
     keep(constants, found)
+}
+
+/// The place of the string to which the operator joins those of these places. None if it joins none, and then there is
+/// nothing new.
+fn joined_place(
+    constants: &mut Constants,
+    operator: Operator,
+    a: usize,
+    b: usize,
+) -> Result<Option<usize>, Memory>
+    ensures joined { IfOk result (IsJoinedBy operator constants.old constants.new a b) }
+    ensures kept { Kept constants.old constants.new }
+{
+    match operator {
+        Operator::Concatenate => constants.join(a, b),
+        _ => Ok(None),
+    }
+}
+
+/// The operator over the constants of these places.
+fn folded_value(
+    alloc: Global,
+    constants: &mut Constants,
+    operator: Operator,
+    a: usize,
+    b: usize,
+) -> Result<Value, Memory>
+    ensures known { IfOk result (λ v. (types : List CluType) → told types constants.new v ≡ Some (infix_value operator (Some (constant_at constants.old a)) (Some (constant_at constants.old b)))) }
+    ensures constant_in { IfOk result (λ v. ConstantWithin (length constants.new) v) }
+    ensures type_in { IfOk result (λ v. (n : ℕ) → TypeWithin n v) }
+    ensures kept { Kept constants.old constants.new }
+{
+    match joined_place(constants, operator, a, b)? {
+        Some(place) => Ok(Value::Constant(place)),
+        None => folded_constants(alloc, constants, operator, a, b),
+    }
 }
 
 /// What is no constant beside an operand that is none.
@@ -106,15 +143,15 @@ fn nothing_beside(value: Value) -> Value
 /// The value of an infix operator over two values.
 pub fn infix_value(
     alloc: Global,
-    constants: &mut Vec<Const>,
+    constants: &mut Constants,
     operator: Operator,
     left: Value,
     right: Value,
 ) -> Result<Value, Memory>
-    ensures known { IfOk result (λ v. (types : List CluType) (a b : Settled) → Agrees (told types constants.old.items left) a → Agrees (told types constants.old.items right) b → Agrees (told types constants.new.items v) (infix_value operator (constant_of a) (constant_of b))) }
-    ensures constant_in { IfOk result (λ v. ConstantWithin (length constants.new.items) v) }
+    ensures known { IfOk result (λ v. (types : List CluType) (a b : Settled) → Agrees (told types constants.old left) a → Agrees (told types constants.old right) b → Agrees (told types constants.new v) (infix_value operator (constant_of a) (constant_of b))) }
+    ensures constant_in { IfOk result (λ v. ConstantWithin (length constants.new) v) }
     ensures type_in { IfOk result (λ v. (n : ℕ) → TypeWithin n v) }
-    ensures kept { Kept constants.old.items constants.new.items }
+    ensures kept { Kept constants.old constants.new }
     ensures lost { IfOk result (λ v. v ≡ Value.Lost → (left ≡ Value.Lost) ⊎ (right ≡ Value.Lost)) }
 {
     match left {
@@ -130,19 +167,19 @@ pub fn infix_value(
 /// The value of a prefix operator over a value.
 pub fn prefix_value(
     alloc: Global,
-    constants: &mut Vec<Const>,
+    constants: &mut Constants,
     sign: Sign,
     operand: Value,
 ) -> Result<Value, Memory>
-    ensures known { IfOk result (λ v. (types : List CluType) (a : Settled) → Agrees (told types constants.old.items operand) a → Agrees (told types constants.new.items v) (constant_value (option_and_then (prefixed sign) (constant_of a)))) }
-    ensures constant_in { IfOk result (λ v. ConstantWithin (length constants.new.items) v) }
+    ensures known { IfOk result (λ v. (types : List CluType) (a : Settled) → Agrees (told types constants.old operand) a → Agrees (told types constants.new v) (constant_value (option_and_then (prefixed sign) (constant_of a)))) }
+    ensures constant_in { IfOk result (λ v. ConstantWithin (length constants.new) v) }
     ensures type_in { IfOk result (λ v. (n : ℕ) → TypeWithin n v) }
-    ensures kept { Kept constants.old.items constants.new.items }
+    ensures kept { Kept constants.old constants.new }
     ensures lost { IfOk result (λ v. v ≡ Value.Lost → operand ≡ Value.Lost) }
 {
     match operand {
         Value::Constant(a) => {
-            let operand = constant_at(alloc, constants.as_slice(), a)?;
+            let operand = constant_at(alloc, constants, a)?;
             keep(constants, fold_prefix(prefix_by(sign), &operand))
         }
         _ => Ok(nothing_beside(operand)),

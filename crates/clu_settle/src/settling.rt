@@ -10,14 +10,15 @@ ghost use Rattle.clu_settle.specs.Meant.{meanings_of};
 ghost use Rattle.clu_settle.specs.Steps.{ArePassed};
 ghost use Rattle.clu_settle.specs.Settled.{AreSettled};
 ghost use Rattle.clu_settle.specs.Lists.{value_of};
-ghost use Rattle.clu_settle.specs.Lost.{IsLost, AreLost, IsOrder};
+ghost use Rattle.clu_settle.specs.Lost.{IsLost, AreLost, AreRead, IsOrder};
 
 use crate::graph::graph_of;
 use crate::meanings::{Meaning, meanings};
 use crate::node_values::{Asked, node_value};
 use crate::value::Value;
-use clu_base::{Const, Memory};
+use clu_base::Memory;
 use clu_circles::{Circles, find_circles};
+use clu_constants::Constants;
 use clu_names::Names;
 use clu_syntax::{Round, Syntax};
 use clu_types::TypeArena;
@@ -28,7 +29,7 @@ use std::alloc::Global;
 pub struct Values {
     pub types: TypeArena,
     /// The constants that values name.
-    pub constants: Vec<Const>,
+    pub constants: Constants,
     /// For each node, by its number, what it comes to.
     pub values: Vec<Value>,
     /// For each node what its name stands for.
@@ -39,7 +40,7 @@ pub struct Values {
 #[derive(Drop)]
 struct Tables {
     types: TypeArena,
-    constants: Vec<Const>,
+    constants: Constants,
     values: Vec<Value>,
 }
 
@@ -47,14 +48,14 @@ struct Tables {
 fn settle_one(
     asked: Asked<'_>,
     types: &mut TypeArena,
-    constants: &mut Vec<Const>,
+    constants: &mut Constants,
     values: &mut [Value],
     n: u32,
 ) -> Result<(), Memory>
     requires inside { n < length asked.syntax.now }
     requires size { length values.old ≡ length asked.syntax.now }
-    ensures known { OnOk result ((order : List ℕ) (p : ℕ) → slice_get order p ≡ Some n → ArePassed asked.entry.syntax.now asked.entry.meanings.now order p types.old constants.old.items values.old → ArePassed asked.entry.syntax.now asked.entry.meanings.now order (p + 1) types.new constants.new.items values.new) }
-    ensures lost { OnOk result ((order : List ℕ) (p : ℕ) → IsOrder asked.entry.syntax.now asked.entry.meanings.now order → slice_get order p ≡ Some n → ArePassed asked.entry.syntax.now asked.entry.meanings.now order p types.old constants.old.items values.old → AreLost asked.entry.syntax.now asked.entry.meanings.now order p values.old → AreLost asked.entry.syntax.now asked.entry.meanings.now order (p + 1) values.new) }
+    ensures known { OnOk result ((order : List ℕ) (p : ℕ) → slice_get order p ≡ Some n → ArePassed asked.entry.syntax.now asked.entry.meanings.now order p types.old constants.old values.old → ArePassed asked.entry.syntax.now asked.entry.meanings.now order (p + 1) types.new constants.new values.new) }
+    ensures lost { OnOk result ((order : List ℕ) (p : ℕ) → IsOrder asked.entry.syntax.now asked.entry.meanings.now order → slice_get order p ≡ Some n → ArePassed asked.entry.syntax.now asked.entry.meanings.now order p types.old constants.old values.old → AreLost asked.entry.syntax.now asked.entry.meanings.now order p values.old → AreLost asked.entry.syntax.now asked.entry.meanings.now order (p + 1) values.new) }
 {
     let value = node_value(asked, types, constants, values, n)?;
     values[n as usize] = value;
@@ -65,13 +66,13 @@ fn settle_one(
 fn settle_at(
     asked: Asked<'_>,
     types: &mut TypeArena,
-    constants: &mut Vec<Const>,
+    constants: &mut Constants,
     values: &mut [Value],
     place: usize,
 ) -> Result<(), Memory>
     requires { length values.old ≡ length asked.syntax.now }
-    ensures known { OnOk result ((order : List ℕ) (p : ℕ) → slice_get order p ≡ Some place → ArePassed asked.entry.syntax.now asked.entry.meanings.now order p types.old constants.old.items values.old → ArePassed asked.entry.syntax.now asked.entry.meanings.now order (p + 1) types.new constants.new.items values.new) }
-    ensures lost { OnOk result ((order : List ℕ) (p : ℕ) → IsOrder asked.entry.syntax.now asked.entry.meanings.now order → slice_get order p ≡ Some place → ArePassed asked.entry.syntax.now asked.entry.meanings.now order p types.old constants.old.items values.old → AreLost asked.entry.syntax.now asked.entry.meanings.now order p values.old → AreLost asked.entry.syntax.now asked.entry.meanings.now order (p + 1) values.new) }
+    ensures known { OnOk result ((order : List ℕ) (p : ℕ) → slice_get order p ≡ Some place → ArePassed asked.entry.syntax.now asked.entry.meanings.now order p types.old constants.old values.old → ArePassed asked.entry.syntax.now asked.entry.meanings.now order (p + 1) types.new constants.new values.new) }
+    ensures lost { OnOk result ((order : List ℕ) (p : ℕ) → IsOrder asked.entry.syntax.now asked.entry.meanings.now order → slice_get order p ≡ Some place → ArePassed asked.entry.syntax.now asked.entry.meanings.now order p types.old constants.old values.old → AreLost asked.entry.syntax.now asked.entry.meanings.now order p values.old → AreLost asked.entry.syntax.now asked.entry.meanings.now order (p + 1) values.new) }
 {
     if place < asked.syntax.tree().len() as usize {
         settle_one(asked, types, constants, values, place as u32)
@@ -83,14 +84,14 @@ fn settle_at(
 fn settle_all(
     asked: Asked<'_>,
     types: &mut TypeArena,
-    constants: &mut Vec<Const>,
+    constants: &mut Constants,
     values: &mut [Value],
     order: &[usize],
 ) -> Result<(), Memory>
     requires order { IsOrder asked.syntax.now asked.meanings.now order.now }
-    requires known { ArePassed asked.syntax.now asked.meanings.now order.now 0 types.old constants.old.items values.old }
+    requires known { ArePassed asked.syntax.now asked.meanings.now order.now 0 types.old constants.old values.old }
     requires lost { AreLost asked.syntax.now asked.meanings.now order.now 0 values.old }
-    ensures known { OnOk result (ArePassed asked.entry.syntax.now asked.entry.meanings.now order.now (length order.now) types.new constants.new.items values.new) }
+    ensures known { OnOk result (ArePassed asked.entry.syntax.now asked.entry.meanings.now order.now (length order.now) types.new constants.new values.new) }
     ensures lost { OnOk result (AreLost asked.entry.syntax.now asked.entry.meanings.now order.now (length order.now) values.new) }
 {
     for place in order {
@@ -109,12 +110,13 @@ fn all_lost(alloc: Global, count: u32) -> Result<Vec<Value>, Memory>
 fn settle_in(alloc: Global, asked: Asked<'_>, order: &[usize]) -> Result<Tables, Memory>
     requires distinct { IsDistinct eqb order.now }
     requires order { IsOrder asked.syntax.now asked.meanings.now order.now }
-    ensures known { IfOk result (λ all. (scope : Scope) → AreMeanings asked.entry.syntax.now scope asked.entry.meanings.now → AreSettled asked.entry.syntax.now scope all.types all.constants.items all.values.items) }
+    ensures known { IfOk result (λ all. (scope : Scope) → AreMeanings asked.entry.syntax.now scope asked.entry.meanings.now → AreSettled asked.entry.syntax.now scope all.types all.constants all.values.items) }
     ensures lost { IfOk result (λ all. (n : ℕ) → n < length asked.entry.syntax.now → value_of all.values.items n ≡ Value.Lost → IsLost asked.entry.syntax.now asked.entry.meanings.now n) }
+    ensures read { IfOk result (λ all. AreRead asked.entry.syntax.now asked.entry.meanings.now all.values.items) }
 {
     let len = asked.syntax.tree().len();
     let mut values = all_lost(alloc, len)?;
-    let mut constants = Vec::new(alloc);
+    let mut constants = Constants::new(alloc);
     let mut types = TypeArena::new(alloc);
     settle_all(asked, &mut types, &mut constants, &mut values, order)?;
     Ok(Tables {
@@ -134,8 +136,9 @@ fn order_of(alloc: Global, syntax: &Syntax, meanings: &[Meaning]) -> Result<Circ
 
 /// The values of the nodes of a tree, by what the name of each node stands for.
 fn settle_by(alloc: Global, syntax: &Syntax, meanings: &[Meaning]) -> Result<Tables, Memory>
-    ensures known { IfOk result (λ all. (scope : Scope) → AreMeanings syntax.now scope meanings.now → AreSettled syntax.now scope all.types all.constants.items all.values.items) }
+    ensures known { IfOk result (λ all. (scope : Scope) → AreMeanings syntax.now scope meanings.now → AreSettled syntax.now scope all.types all.constants all.values.items) }
     ensures lost { IfOk result (λ all. (n : ℕ) → n < length syntax.now → value_of all.values.items n ≡ Value.Lost → IsLost syntax.now meanings.now n) }
+    ensures read { IfOk result (λ all. AreRead syntax.now meanings.now all.values.items) }
 {
     let found = order_of(alloc, syntax, meanings)?;
     let asked = Asked {
@@ -157,8 +160,9 @@ pub fn settle(
     requires bound { names.now.bound.items ≡ bound_to syntax.now names.now.declared.items (length syntax.now) }
     requires starts { names.now.starts.items ≡ starts_to syntax.now names.now.declared.items (length syntax.now) }
     ensures meanings { IfOk result (λ all. all.meanings.items ≡ meanings_of syntax.now rounds.now names.now.declared.items) }
-    ensures known { IfOk result (λ all. (scope : Scope) → AreMeanings syntax.now scope all.meanings.items → AreSettled syntax.now scope all.types all.constants.items all.values.items) }
+    ensures known { IfOk result (λ all. (scope : Scope) → AreMeanings syntax.now scope all.meanings.items → AreSettled syntax.now scope all.types all.constants all.values.items) }
     ensures lost { IfOk result (λ all. (n : ℕ) → n < length syntax.now → value_of all.values.items n ≡ Value.Lost → IsLost syntax.now all.meanings.items n) }
+    ensures read { IfOk result (λ all. AreRead syntax.now all.meanings.items all.values.items) }
 {
     let meanings = meanings(alloc, syntax, rounds, names)?;
     let Tables {

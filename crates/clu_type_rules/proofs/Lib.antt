@@ -1,5 +1,10 @@
 mod Arms
 pub mod Ascending
+mod Closing
 mod Declared
 pub mod Differing
 pub mod Included
+mod Keys
+mod Lists
+mod Needing
+mod Unmeeting

@@ -1,6 +1,8 @@
 -- Which rules are asked of a node, and when a node violates each of those that ask for types.
 pub mod Asked
+pub mod Askers
 pub mod Bindings
+pub mod Closed
 pub mod Constructors
 pub mod Disagreeing
 pub mod ExceptionRules
@@ -9,6 +11,8 @@ pub mod Included
 pub mod InvocationRules
 pub mod Known
 pub mod Leaving
+pub mod Meeting
+pub mod Needs
 pub mod Objects
 pub mod ResultRules
 pub mod Routines

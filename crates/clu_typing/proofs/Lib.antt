@@ -7,3 +7,8 @@ pub mod Numbered
 pub mod Steps
 pub mod Together
 pub mod Gathered
+pub mod Outlined
+pub mod Telling
+pub mod Below
+pub mod Passing
+pub mod Rows

@@ -6,19 +6,22 @@ use Rattle.clu_types.specs.declared.term.TypeId.{TypeId}
 use Rattle.clu_types.specs.declared.term.Term.{Term}
 use Rattle.clu_settle.specs.Lists.{type_id}
 use Rattle.clu_bindings.specs.declared.file.File.{File}
+use Rattle.clu_bindings.specs.declared.file.Headed.{Headed}
 use Rattle.clu_bindings.specs.Tables.{optional}
 use Rattle.clu_bindings.specs.Readers.{kind_in, children_in, value_in, module_in}
 use Rattle.clu_bindings.specs.Named.{named_in, has_fitting_kinds}
 use Rattle.clu_operations.specs.declared.found.Asked.{Asked}
 use Rattle.clu_operations.specs.declared.found.FoundId.{FoundId}
 use Rattle.clu_operations.specs.declared.finding.Finding.{Finding}
-use Rattle.clu_operations.specs.Finding.{asked_by}
+use Rattle.clu_operations.specs.Finding.{asked_by, IsBelowIf}
+use Rattle.clu_operations.specs.Wished.{IsFinding}
 use Rattle.clu_typing.specs.declared.applied.Applied.{Applied}
 use Rattle.clu_typing.specs.declared.applied.Applied.TheVariants as applied
 use Rattle.clu_typing.specs.declared.facts.Operation.{Operation}
 use Rattle.clu_typing.specs.declared.facts.Operation.TheVariants as operation
 use Rattle.clu_typing.specs.declared.facts.Invocation.{Invocation}
 use Rattle.clu_typing.specs.declared.facts.Invocations.{Invocations}
+use Rattle.clu_typing.specs.Found.{IsModuleTold}
 use Rattle.clu_typing.specs.Nodes.{is_used}
 
 -- the lists by themselves
@@ -33,6 +36,9 @@ pub record Lists : Type 0 where
 
 abbrev pub lists_of : Invocations → Lists
 lists_of its = record { starts = its.starts.items; operation_starts = its.operation_starts.items; asker_starts = its.asker_starts.items; all = its.all.items; arguments = its.arguments.items; operations = its.operations.items; askers = its.askers.items }
+
+abbrev pub no_lists : Lists
+no_lists = record { starts = []; operation_starts = []; asker_starts = []; all = []; arguments = []; operations = []; askers = [] }
 
 -- what the next node invokes begins here
 abbrev pub begun : Lists → Lists
@@ -110,6 +116,9 @@ IsSought None its = its ≡ operation.Missing
 IsSought (Some of) (operation.Object other) = ⊥
 IsSought (Some of) _ = Unit {0}
 
--- the module of this type comes behind what asks something
-abbrev pub NotesModule : Finding → Option TypeId → Lists → Lists → Type 0
-NotesModule finding of old new = (its : Operation) × IsSought of its × (new ≡ with_asker finding its old)
+-- The module of this type comes behind what asks something. The terms of types grow from old to new while it is looked for.
+pub record NotesModule (h : Headed) (old new : List Term) (before now : Finding) (of : Option TypeId) (l m : Lists) : Type 0 where
+  pub its : Operation
+  pub sought : IsSought of its
+  pub told : IsBelowIf (length old) of → IsFinding h old before → IsModuleTold h new now of its
+  pub lists : m ≡ with_asker now its l

@@ -1,9 +1,11 @@
 pub mod Applied
 pub mod Facts
+pub mod Found
 pub mod Invoked
 pub mod Invoking
 pub mod Nodes
 pub mod Operators
+pub mod Pass
 pub mod Raised
 pub mod Raises
 pub mod Raising

@@ -1,17 +1,21 @@
 //! The operation for which a node stands, found in the type of its operand (CLU Reference Manual, section 10).
 
-ghost use Rattle.std.specs.Prelude.{◌≡◌, ◌++◌, ℕ, true, false, IfOk, codes, slice_get};
+ghost use Rattle.std.specs.Prelude.{◌≡◌, ◌<◌, ◌++◌, ℕ, List, true, false, length, IfOk, Some, codes, slice_get};
 ghost use Rattle.clu_syntax.specs.Items.{Item};
 ghost use Rattle.clu_syntax.specs.Views.{expression_told};
 ghost use Rattle.clu_syntax.specs.Kinds.{is_expression};
+ghost use Rattle.clu_types.specs.Arena.{Grows};
 ghost use Rattle.clu_settle.specs.Names.{names_of};
 ghost use Rattle.clu_bindings.specs.Readers.{kind_in, meaning_in};
 ghost use Rattle.clu_bindings.specs.Inside.{own_type};
+ghost use Rattle.clu_operations.specs.Finding.{IsBelowIf};
 ghost use Rattle.clu_operations.specs.Words.{number_with};
+ghost use Rattle.clu_operations.specs.Wished.{IsFinding};
 ghost use Rattle.clu_typing.specs.Facts.{type_found};
 ghost use Rattle.clu_typing.specs.Nodes.{has_actuals};
 ghost use Rattle.clu_typing.specs.Applied.{only, result_of, results_of};
 ghost use Rattle.clu_typing.specs.Invoking.{IsSought};
+ghost use Rattle.clu_typing.specs.Found.{FindsMore, HaveOperands, IsModuleTold, IsUseTold, IsUseToldIf, IsBehindTold, IsInvokedTold, IsNamedTold, IsAppliedTold};
 ghost use Rattle.clu_typing.specs.Stands.{infix_stands, index_stands, operation_stands, name_stands, field_stands, stands_by, expression_stands, stands_at, IsUse, IsUseOf, IsBehind, IsNegation, IsInvoked, IsNamed, IsApplied};
 
 use crate::facts::{Operation, operation_of, type_found};
@@ -63,7 +67,8 @@ fn results_of(term: &Term) -> &[TypeId]
 
 /// The only result of a routine; another number of results, and what is no routine, gives none.
 pub fn result_of(types: &TypeArena, of: Option<TypeId>) -> Option<TypeId>
-    ensures { result ≡ result_of types.now of }
+    ensures only { result ≡ result_of types.now of }
+    ensures below { IsBelowIf (length types.now) result }
 {
     let of = of?;
     if types.contains(of) {
@@ -74,13 +79,16 @@ pub fn result_of(types: &TypeArena, of: Option<TypeId>) -> Option<TypeId>
 }
 
 /// The routine of a module with actual parameters, which stand in the arena as a cluster type of its name.
+#[tactic(auto, using(crate::proofs::Telling::steps))]
 pub fn module_operation(
     headed: Headed<'_>,
     types: &mut TypeArena,
     finding: &mut Finding,
     of: Option<TypeId>,
 ) -> Result<Operation, Memory>
-    ensures { IfOk result (IsSought of) }
+    ensures sought { IfOk result (IsSought of) }
+    ensures found { IsBelowIf (length types.old) of → IsFinding headed.entry types.old finding.old → IfOk result (λ its. FindsMore headed.entry types.new finding.old finding.new × IsModuleTold headed.entry types.new finding.new of its) }
+    ensures kept { Grows types.old types.new }
 {
     match of {
         Some(of) => Ok(operation_of(module_found(headed, types, finding, of)?)),
@@ -96,7 +104,9 @@ fn used(
     of: TypeId,
     name: NameId,
 ) -> Result<Use, Memory>
-    ensures { IfOk result (IsUse of name) }
+    ensures stands { IfOk result (IsUse of name) }
+    ensures found { (text : List ℕ) → slice_get finding.old.words name.0 ≡ Some text → of.0 < length types.old → IsFinding headed.entry types.old finding.old → IfOk result (λ its. FindsMore headed.entry types.new finding.old finding.new × IsUseTold headed.entry types.new finding.new n of text its) }
+    ensures kept { Grows types.old types.new }
 {
     let found = operation_found(headed, types, finding, n, of, name)?;
     Ok(Use {
@@ -109,6 +119,7 @@ fn used(
 // ---- operations that are invoked
 
 /// The operation `not` of what a comparison gives, if that has a type.
+#[tactic(auto, using(crate::proofs::Telling::steps))]
 fn negation(
     headed: Headed<'_>,
     types: &mut TypeArena,
@@ -116,7 +127,9 @@ fn negation(
     n: u32,
     of: Option<TypeId>,
 ) -> Result<Option<Use>, Memory>
-    ensures { IfOk result (IsUseOf of (number_with finding.old.words (codes "not"))) }
+    ensures stands { IfOk result (IsUseOf of (number_with finding.old.words (codes "not"))) }
+    ensures found { IsBelowIf (length types.old) of → IsFinding headed.entry types.old finding.old → IfOk result (λ its. FindsMore headed.entry types.new finding.old finding.new × IsUseToldIf headed.entry types.new finding.new n of (codes "not") its) }
+    ensures kept { Grows types.old types.new }
 {
     match of {
         Some(of) => {
@@ -129,6 +142,7 @@ fn negation(
 }
 
 /// What is invoked behind an operation: behind a comparison with `~` it is `not`.
+#[tactic(auto, using(crate::proofs::Telling::steps))]
 fn behind(
     headed: Headed<'_>,
     types: &mut TypeArena,
@@ -139,6 +153,8 @@ fn behind(
 ) -> Result<Option<Use>, Memory>
     ensures behind { IfOk result (IsBehind negated) }
     ensures negation { IfOk result (IsNegation negated (result_of types.old (type_found finding.old first.operation)) (number_with finding.old.words (codes "not"))) }
+    ensures found { IsFinding headed.entry types.old finding.old → IfOk result (λ its. FindsMore headed.entry types.new finding.old finding.new × IsBehindTold headed.entry types.new finding.new n negated (result_of types.old (type_found finding.old first.operation)) its) }
+    ensures kept { Grows types.old types.new }
 {
     if negated {
         let of = result_of(types, type_found(finding, first.operation));
@@ -149,6 +165,7 @@ fn behind(
 }
 
 /// The operation of this name of an operand of this type.
+#[tactic(auto, using(crate::proofs::Telling::steps))]
 fn invoked(
     headed: Headed<'_>,
     types: &mut TypeArena,
@@ -158,7 +175,9 @@ fn invoked(
     negated: bool,
     of: Option<TypeId>,
 ) -> Result<Applied, Memory>
-    ensures { IfOk result (IsInvoked of name negated) }
+    ensures stands { IfOk result (IsInvoked of name negated) }
+    ensures found { (text : List ℕ) → slice_get finding.old.words name.0 ≡ Some text → IsBelowIf (length types.old) of → IsFinding headed.entry types.old finding.old → IfOk result (λ its. FindsMore headed.entry types.new finding.old finding.new × IsInvokedTold headed.entry types.new finding.new n of text negated its) }
+    ensures kept { Grows types.old types.new }
 {
     match of {
         Some(of) => {
@@ -179,7 +198,9 @@ fn by_word(
     negated: bool,
     of: Option<TypeId>,
 ) -> Result<Applied, Memory>
-    ensures { IfOk result (IsInvoked of (number_with finding.old.words word.now) negated) }
+    ensures stands { IfOk result (IsInvoked of (number_with finding.old.words word.now) negated) }
+    ensures found { IsBelowIf (length types.old) of → IsFinding headed.entry types.old finding.old → IfOk result (λ its. FindsMore headed.entry types.new finding.old finding.new × IsInvokedTold headed.entry types.new finding.new n of word.now negated its) }
+    ensures kept { Grows types.old types.new }
 {
     let words = &mut finding.words;
     let name = words.number_of(headed.file.alloc, word.as_bytes())?;
@@ -196,13 +217,16 @@ fn selected(
     selector: &Bytes,
     of: Option<TypeId>,
 ) -> Result<Applied, Memory>
-    ensures { IfOk result (IsInvoked of (number_with finding.old.words (front.now ++ selector.now)) false) }
+    ensures stands { IfOk result (IsInvoked of (number_with finding.old.words (front.now ++ selector.now)) false) }
+    ensures found { IsBelowIf (length types.old) of → IsFinding headed.entry types.old finding.old → IfOk result (λ its. FindsMore headed.entry types.new finding.old finding.new × IsInvokedTold headed.entry types.new finding.new n of (front.now ++ selector.now) false its) }
+    ensures kept { Grows types.old types.new }
 {
     let words = &mut finding.words;
     let name = words.number_behind(headed.file.alloc, front.as_bytes(), selector)?;
     invoked(headed, types, finding, n, name, false, of)
 }
 
+#[tactic(auto, using(crate::proofs::Telling::steps))]
 fn infix(
     headed: Headed<'_>,
     types: &mut TypeArena,
@@ -211,7 +235,9 @@ fn infix(
     operator: Operator,
     of: Option<TypeId>,
 ) -> Result<Applied, Memory>
-    ensures { IfOk result (IsApplied finding.old.words (infix_stands operator of)) }
+    ensures stands { IfOk result (IsApplied finding.old.words (infix_stands operator of)) }
+    ensures found { IsBelowIf (length types.old) of → IsFinding headed.entry types.old finding.old → IfOk result (λ its. FindsMore headed.entry types.new finding.old finding.new × IsAppliedTold headed.entry types.new finding.new n (infix_stands operator of) its) }
+    ensures kept { Grows types.old types.new }
 {
     match infix_operation(operator) {
         Some(word) => by_word(headed, types, finding, n, word, is_negated(operator), of),
@@ -219,6 +245,7 @@ fn infix(
     }
 }
 
+#[tactic(auto, using(crate::proofs::Telling::steps))]
 fn index(
     headed: Headed<'_>,
     types: &mut TypeArena,
@@ -226,7 +253,9 @@ fn index(
     n: u32,
     of: Option<TypeId>,
 ) -> Result<Applied, Memory>
-    ensures { IfOk result (IsApplied finding.old.words (index_stands (has_actuals headed.entry.file n) of)) }
+    ensures stands { IfOk result (IsApplied finding.old.words (index_stands (has_actuals headed.entry.file n) of)) }
+    ensures found { IsBelowIf (length types.old) of → IsFinding headed.entry types.old finding.old → IfOk result (λ its. FindsMore headed.entry types.new finding.old finding.new × IsAppliedTold headed.entry types.new finding.new n (index_stands (has_actuals headed.entry.file n) of) its) }
+    ensures kept { Grows types.old types.new }
 {
     if has_actuals(headed.file, n) {
         Ok(Applied::Nothing)
@@ -237,6 +266,7 @@ fn index(
 
 // ---- operations that are named
 
+#[tactic(auto, using(crate::proofs::Telling::steps))]
 fn named(
     headed: Headed<'_>,
     types: &mut TypeArena,
@@ -245,7 +275,9 @@ fn named(
     of: Option<TypeId>,
     name: &Bytes,
 ) -> Result<Applied, Memory>
-    ensures { IfOk result (IsNamed of (number_with finding.old.words name.now)) }
+    ensures stands { IfOk result (IsNamed of (number_with finding.old.words name.now)) }
+    ensures found { IsBelowIf (length types.old) of → IsFinding headed.entry types.old finding.old → IfOk result (λ its. FindsMore headed.entry types.new finding.old finding.new × IsNamedTold headed.entry types.new finding.new n of name.now its) }
+    ensures kept { Grows types.old types.new }
 {
     match of {
         Some(of) => {
@@ -258,6 +290,7 @@ fn named(
 }
 
 /// The operation of a type that is written out.
+#[tactic(auto, using(crate::proofs::Telling::steps))]
 fn of_type(
     headed: Headed<'_>,
     types: &mut TypeArena,
@@ -266,7 +299,9 @@ fn of_type(
     of: Option<TypeId>,
     name: &Bytes,
 ) -> Result<Applied, Memory>
-    ensures { IfOk result (IsApplied finding.old.words (operation_stands of name.now)) }
+    ensures stands { IfOk result (IsApplied finding.old.words (operation_stands of name.now)) }
+    ensures found { IsBelowIf (length types.old) of → IsFinding headed.entry types.old finding.old → IfOk result (λ its. FindsMore headed.entry types.new finding.old finding.new × IsAppliedTold headed.entry types.new finding.new n (operation_stands of name.now) its) }
+    ensures kept { Grows types.old types.new }
 {
     match of {
         Some(_) => named(headed, types, finding, n, of, name),
@@ -275,6 +310,7 @@ fn of_type(
 }
 
 /// The routine of the cluster round the node n that a Name denotes.
+#[tactic(auto, using(crate::proofs::Telling::steps))]
 fn own_named(
     headed: Headed<'_>,
     types: &mut TypeArena,
@@ -282,7 +318,9 @@ fn own_named(
     n: u32,
     name: &Bytes,
 ) -> Result<Applied, Memory>
-    ensures { IfOk result (IsApplied finding.old.words (name_stands (meaning_in headed.entry.file n) (own_type headed.entry.file n) name.now)) }
+    ensures stands { IfOk result (IsApplied finding.old.words (name_stands (meaning_in headed.entry.file n) (own_type headed.entry.file n) name.now)) }
+    ensures found { IsBelowIf (length types.old) (own_type headed.entry.file n) → IsFinding headed.entry types.old finding.old → IfOk result (λ its. FindsMore headed.entry types.new finding.old finding.new × IsAppliedTold headed.entry types.new finding.new n (name_stands (meaning_in headed.entry.file n) (own_type headed.entry.file n) name.now) its) }
+    ensures kept { Grows types.old types.new }
 {
     match headed.file.meaning(n) {
         Meaning::RoutineOfCluster => {
@@ -295,7 +333,7 @@ fn own_named(
 // ---- nodes
 
 /// That for which the expression of the node n stands.
-#[tactic(auto, unfolding(crate::specs::Stands::stands_by))]
+#[tactic(auto, using(crate::proofs::Telling::steps), unfolding(crate::specs::Stands::stands_by))]
 fn by_expression(
     headed: Headed<'_>,
     types: &mut TypeArena,
@@ -304,7 +342,9 @@ fn by_expression(
     n: u32,
     expression: Expression<'_>,
 ) -> Result<Applied, Memory>
-    ensures { (items : ℕ → Item) → IfOk result (IsApplied finding.old.words (stands_by headed.entry.file known.now n (expression_told items n expression.entry))) }
+    ensures stands { (items : ℕ → Item) → IfOk result (IsApplied finding.old.words (stands_by headed.entry.file known.now n (expression_told items n expression.entry))) }
+    ensures found { (items : ℕ → Item) → HaveOperands headed.entry.file known.now (length types.old) → IsFinding headed.entry types.old finding.old → IfOk result (λ its. FindsMore headed.entry types.new finding.old finding.new × IsAppliedTold headed.entry types.new finding.new n (stands_by headed.entry.file known.now n (expression_told items n expression.entry)) its) }
+    ensures kept { Grows types.old types.new }
 {
     let of = first_type(headed.file, known, n);
     match expression {
@@ -332,6 +372,7 @@ fn by_expression(
 }
 
 /// The same of the node n, if it is an expression.
+#[tactic(auto, using(crate::proofs::Telling::steps))]
 fn by_view(
     headed: Headed<'_>,
     types: &mut TypeArena,
@@ -339,7 +380,9 @@ fn by_view(
     finding: &mut Finding,
     n: u32,
 ) -> Result<Applied, Memory>
-    ensures { is_expression (kind_in headed.entry.file n) ≡ true → (items : ℕ → Item) → IfOk result (IsApplied finding.old.words (expression_stands headed.entry.file known.now n items)) }
+    ensures stands { is_expression (kind_in headed.entry.file n) ≡ true → (items : ℕ → Item) → IfOk result (IsApplied finding.old.words (expression_stands headed.entry.file known.now n items)) }
+    ensures found { is_expression (kind_in headed.entry.file n) ≡ true → (items : ℕ → Item) → HaveOperands headed.entry.file known.now (length types.old) → IsFinding headed.entry types.old finding.old → IfOk result (λ its. FindsMore headed.entry types.new finding.old finding.new × IsAppliedTold headed.entry types.new finding.new n (expression_stands headed.entry.file known.now n items) its) }
+    ensures kept { Grows types.old types.new }
 {
     match headed.file.expression(n) {
         Some(expression) => by_expression(headed, types, known, finding, n, expression),
@@ -348,6 +391,7 @@ fn by_view(
 }
 
 /// The same of the node n, if it is a SetField.
+#[tactic(auto, using(crate::proofs::Telling::steps))]
 fn by_field(
     headed: Headed<'_>,
     types: &mut TypeArena,
@@ -355,7 +399,9 @@ fn by_field(
     n: u32,
     of: Option<TypeId>,
 ) -> Result<Applied, Memory>
-    ensures { IfOk result (IsApplied finding.old.words (field_stands (names_of (slice_get headed.entry.file.syntax.now n)) of)) }
+    ensures stands { IfOk result (IsApplied finding.old.words (field_stands (names_of (slice_get headed.entry.file.syntax.now n)) of)) }
+    ensures found { IsBelowIf (length types.old) of → IsFinding headed.entry types.old finding.old → IfOk result (λ its. FindsMore headed.entry types.new finding.old finding.new × IsAppliedTold headed.entry types.new finding.new n (field_stands (names_of (slice_get headed.entry.file.syntax.now n)) of) its) }
+    ensures kept { Grows types.old types.new }
 {
     match headed.file.names(n) {
         [selector, ..] => selected(headed, types, finding, n, "set_", selector, of),
@@ -364,7 +410,7 @@ fn by_field(
 }
 
 /// For what the node n stands, by the types of the nodes before it. The operand is its first child.
-#[tactic(auto, unfolding(crate::specs::Stands::stands_as))]
+#[tactic(auto, using(crate::proofs::Telling::steps), unfolding(crate::specs::Stands::stands_as))]
 pub fn applied_at(
     headed: Headed<'_>,
     types: &mut TypeArena,
@@ -372,7 +418,9 @@ pub fn applied_at(
     finding: &mut Finding,
     n: u32,
 ) -> Result<Applied, Memory>
-    ensures { (items : ℕ → Item) → IfOk result (IsApplied finding.old.words (stands_at headed.entry.file known.now n items)) }
+    ensures stands { (items : ℕ → Item) → IfOk result (IsApplied finding.old.words (stands_at headed.entry.file known.now n items)) }
+    ensures found { (items : ℕ → Item) → HaveOperands headed.entry.file known.now (length types.old) → IsFinding headed.entry types.old finding.old → IfOk result (λ its. FindsMore headed.entry types.new finding.old finding.new × IsAppliedTold headed.entry types.new finding.new n (stands_at headed.entry.file known.now n items) its) }
+    ensures kept { Grows types.old types.new }
 {
     let of = first_type(headed.file, known, n);
     match headed.file.kind(n) {

@@ -1,6 +1,10 @@
 //! What is invoked at each node, by a call or by sugar, and what is asked of types there.
 
-ghost use Rattle.std.specs.Prelude.{◌≡◌, OnOk};
+ghost use Rattle.std.specs.Prelude.{◌≡◌, length, OnOk};
+ghost use Rattle.clu_types.specs.Arena.{Grows};
+ghost use Rattle.clu_operations.specs.Finding.{IsBelowIf};
+ghost use Rattle.clu_operations.specs.Wished.{IsFinding};
+ghost use Rattle.clu_typing.specs.Found.{FindsMore};
 ghost use Rattle.clu_typing.specs.Invoking.{lists_of, begun, with_found, with_asker, with_operation, with_invocation, with_invocation_of, with_arguments, invoked, called, with_applied, noted, module_at, NotesModule};
 
 use crate::applied::{Applied, module_operation};
@@ -224,7 +228,9 @@ fn note_module(
     list: &mut Invocations,
     n: u32,
 ) -> Result<(), Memory>
-    ensures { OnOk result (NotesModule finding.new (module_at headed.entry.file types.old n) (lists_of list.old) (lists_of list.new)) }
+    ensures lists { OnOk result (NotesModule headed.entry types.old types.new finding.old finding.new (module_at headed.entry.file types.old n) (lists_of list.old) (lists_of list.new)) }
+    ensures found { IsBelowIf (length types.old) (module_at headed.entry.file types.old n) → IsFinding headed.entry types.old finding.old → OnOk result (FindsMore headed.entry types.new finding.old finding.new) }
+    ensures kept { Grows types.old types.new }
 {
     let of = module_at(headed.file, types, n);
     let module = module_operation(headed, types, finding, of)?;
@@ -241,7 +247,9 @@ pub fn note_invocations(
     applied: Applied,
     n: u32,
 ) -> Result<(), Memory>
-    ensures { OnOk result (NotesModule finding.new (module_at headed.entry.file types.old n) (noted headed.entry.file known.now finding.old applied n (begun (lists_of list.old))) (lists_of list.new)) }
+    ensures lists { OnOk result (NotesModule headed.entry types.old types.new finding.old finding.new (module_at headed.entry.file types.old n) (noted headed.entry.file known.now finding.old applied n (begun (lists_of list.old))) (lists_of list.new)) }
+    ensures found { IsBelowIf (length types.old) (module_at headed.entry.file types.old n) → IsFinding headed.entry types.old finding.old → OnOk result (FindsMore headed.entry types.new finding.old finding.new) }
+    ensures kept { Grows types.old types.new }
 {
     note_operations(headed.file, known, finding, list, applied, n)?;
     note_module(headed, types, finding, list, n)

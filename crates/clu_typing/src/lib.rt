@@ -4,6 +4,7 @@
 
 mod applied;
 mod facts;
+mod handled;
 mod invoked;
 mod invoking;
 mod nodes;

@@ -1,10 +1,11 @@
 //! The pass over the nodes of a file, in the order of their numbers: of each what is known by what is known of the nodes before.
 
-ghost use Rattle.std.specs.Prelude.{◌≡◌, ◌++◌, ℕ, [], ◌∷◌, Option, IfOk, OnOk};
-ghost use Rattle.clu_types.specs.declared.term.TypeId.{TypeId};
+ghost use Rattle.std.specs.Prelude.{◌≡◌, ℕ, List, length, IfOk, OnOk};
+ghost use Rattle.clu_types.specs.Arena.{IsArena, Grows};
+ghost use Rattle.clu_types.specs.declared.term.Term.{Term};
 ghost use Rattle.clu_syntax.specs.Items.{Item};
-ghost use Rattle.clu_typing.specs.Stands.{stands_at, IsApplied};
-ghost use Rattle.clu_typing.specs.Invoked.{invoked_at};
+ghost use Rattle.clu_typing.specs.Invoking.{lists_of, no_lists};
+ghost use Rattle.clu_typing.specs.Pass.{IsNoted, IsNext, HasNothing, KnowsNothing, AreKnown, HaveTypes, IsSound};
 
 use crate::applied::{Applied, applied_at};
 use crate::facts::{Facts, Invocations};
@@ -19,7 +20,9 @@ use clu_operations::{Finding, enter_given};
 use clu_types::TypeArena;
 use std::alloc::Global;
 
-fn no_invocations(alloc: Global) -> Invocations {
+fn no_invocations(alloc: Global) -> Invocations
+    ensures { lists_of result ≡ no_lists }
+{
     Invocations {
         starts: Vec::new(alloc),
         operation_starts: Vec::new(alloc),
@@ -31,7 +34,9 @@ fn no_invocations(alloc: Global) -> Invocations {
     }
 }
 
-fn no_facts(alloc: Global) -> Result<Box<Facts>, Memory> {
+fn no_facts(alloc: Global) -> Result<Box<Facts>, Memory>
+    ensures { IfOk result (λ facts. HasNothing facts.value) }
+{
     let facts = Facts {
         types: Vec::new(alloc),
         invocations: no_invocations(alloc),
@@ -50,11 +55,8 @@ fn note_known(
     facts: &mut Facts,
     n: u32,
 ) -> Result<Applied, Memory>
-    ensures applied { (items : ℕ → Item) → IfOk result (IsApplied facts.old.finding.words (stands_at headed.entry.file facts.old.types.items n items)) }
-    ensures types { OnOk result ((of : Option TypeId) × (facts.new.types.items ≡ facts.old.types.items ++ of ∷ [])) }
-    ensures invoked { IfOk result (λ its. facts.new.invoked.items ≡ facts.old.invoked.items ++ invoked_at headed.entry.file types.new facts.old.invoked.items its n ∷ []) }
-    ensures raises { facts.new.raises ≡ facts.old.raises }
-    ensures raising { facts.new.raising ≡ facts.old.raising }
+    ensures noted { (items : ℕ → Item) → IfOk result (IsNoted headed.entry items n types.old types.new facts.old facts.new) }
+    ensures kept { Grows types.old types.new }
 {
     let applied = applied_at(headed, types, facts.types.as_slice(), &mut facts.finding, n)?;
     let of = node_type(
@@ -80,30 +82,57 @@ fn note_known(
     Ok(applied)
 }
 
+/// Notes all that is known of the node n.
 fn note_node(
     headed: Headed<'_>,
     types: &mut TypeArena,
     facts: &mut Facts,
     n: u32,
-) -> Result<(), Memory> {
+) -> Result<(), Memory>
+    ensures next { (items : ℕ → Item) → OnOk result (IsNext headed.entry items n types.old types.new facts.old facts.new) }
+    ensures kept { Grows types.old types.new }
+{
     let applied = note_known(headed, types, facts, n)?;
     let raised = raises_at(headed, types, facts, applied, n)?;
     facts.raises.push(raised)?;
     Ok(())
 }
 
-fn note_all(headed: Headed<'_>, types: &mut TypeArena, facts: &mut Facts) -> Result<(), Memory> {
-    let words = &mut facts.finding.words;
-    facts.raising.begin(headed.file.alloc, types, words)?;
-    enter_given(headed, &mut facts.finding)?;
-    for n in 0..headed.file.len() {
+fn note_nodes(headed: Headed<'_>, types: &mut TypeArena, facts: &mut Facts) -> Result<(), Memory>
+    ensures known { (items : ℕ → Item) (first : List Term) → KnowsNothing headed.entry first types.old facts.old → OnOk result (AreKnown headed.entry items first (length headed.entry.file.syntax.now) types.new facts.new) }
+    ensures kept { Grows types.old types.new }
+{
+    for n in 0..headed.file.syntax.tree().len() {
         note_node(headed, types, facts, n)?;
     }
     Ok(())
 }
 
+/// Enters the first sets of raises, and what where clauses give.
+fn enter_first(headed: Headed<'_>, types: &mut TypeArena, facts: &mut Facts) -> Result<(), Memory>
+    ensures nothing { HasNothing facts.old → OnOk result (KnowsNothing headed.entry types.old types.new facts.new) }
+    ensures kept { Grows types.old types.new }
+{
+    let words = &mut facts.finding.words;
+    facts.raising.begin(headed.file.alloc, types, words)?;
+    enter_given(headed, &mut facts.finding)
+}
+
+fn note_all(headed: Headed<'_>, types: &mut TypeArena, facts: &mut Facts) -> Result<(), Memory>
+    ensures known { (items : ℕ → Item) → HasNothing facts.old → OnOk result (AreKnown headed.entry items types.old (length headed.entry.file.syntax.now) types.new facts.new) }
+    ensures sound { HasNothing facts.old → HaveTypes headed.entry (length types.old) → IsArena types.new → OnOk result (IsSound headed.entry types.new facts.new) }
+    ensures kept { Grows types.old types.new }
+{
+    enter_first(headed, types, facts)?;
+    note_nodes(headed, types, facts)
+}
+
 /// What is known of the nodes of a file, with types of the arena of its values. The only error is that memory runs out.
-pub fn facts_of(headed: Headed<'_>, types: &mut TypeArena) -> Result<Box<Facts>, Memory> {
+pub fn facts_of(headed: Headed<'_>, types: &mut TypeArena) -> Result<Box<Facts>, Memory>
+    ensures known { (items : ℕ → Item) → IfOk result (λ facts. AreKnown headed.entry items types.old (length headed.entry.file.syntax.now) types.new facts.value) }
+    ensures sound { HaveTypes headed.entry (length types.old) → IsArena types.new → IfOk result (λ facts. IsSound headed.entry types.new facts.value) }
+    ensures kept { Grows types.old types.new }
+{
     let mut facts = no_facts(headed.file.alloc)?;
     note_all(headed, types, &mut facts)?;
     Ok(facts)

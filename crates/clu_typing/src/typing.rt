@@ -1,21 +1,26 @@
 //! The types of expressions, each from the types of what stands in it. An expression that violates a rule may have none.
 
-ghost use Rattle.std.specs.Prelude.{◌≡◌, ◌<◌, ℕ, true, [], ◌∷◌, length, IfOk, Some};
+ghost use Rattle.std.specs.Prelude.{◌≡◌, ◌<◌, ℕ, true, [], ◌∷◌, length, IfOk, OnOk, Some};
 ghost use Rattle.clu_types.specs.Arena.{type_at, type_of, types_of, PartsBelow, Grows};
 ghost use Rattle.clu_syntax.specs.Items.{Item};
 ghost use Rattle.clu_syntax.specs.Kinds.{is_expression};
 ghost use Rattle.clu_syntax.specs.Views.{expression_told};
 ghost use Rattle.clu_syntax.specs.Words.{literal_told};
-ghost use Rattle.clu_bindings.specs.Readers.{kind_in, meaning_in};
-ghost use Rattle.clu_typing.specs.Typing.{IsType, literal_type, constant_type, IsValueType, applied_type, IsInfixType, wrong_type, force_term, force_type, IsForceType, IsIndexType, IsNameType, IsTypeBy, IsTypeHere, IsNodeType};
+ghost use Rattle.clu_settle.specs.Lists.{type_id};
+ghost use Rattle.clu_bindings.specs.Readers.{kind_in, meaning_in, value_in};
+ghost use Rattle.clu_operations.specs.Finding.{IsBelowIf};
+ghost use Rattle.clu_operations.specs.Wished.{IsFinding};
+ghost use Rattle.clu_typing.specs.Found.{FindsMore};
+ghost use Rattle.clu_typing.specs.Typing.{IsType, literal_type, outline_type, IsValueType, applied_type, IsInfixType, IsInstanceType, wrong_type, force_term, force_type, IsForceType, IsIndexType, IsNameType, IsTypeBy, IsTypeHere, IsNodeType};
 
 use crate::applied::{Applied, module_operation, result_of};
 use crate::facts::type_found;
 use crate::nodes::{first_settled, first_type, has_actuals, names_module};
-use clu_base::{Bytes, Const, Memory, Sequence};
+use clu_base::{Bytes, Memory, Sequence};
 use clu_bindings::{
     Headed, Meaning, known_inside, own_type, parameter_type, representation, type_of_value,
 };
+use clu_constants::Outline;
 use clu_operations::Finding;
 use clu_settle::Value;
 use clu_syntax::{Expression, Literal, Operator, is_expression};
@@ -45,16 +50,16 @@ fn literal_type(types: &mut TypeArena, literal: Literal<'_>) -> Result<Option<Ty
     }
 }
 
-fn constant_type(types: &mut TypeArena, constant: &Const) -> Result<Option<TypeId>, Memory>
-    ensures of_type { IfOk result (λ of. IsType types.new of (Some (constant_type constant.now))) }
+fn constant_type(types: &mut TypeArena, constant: Outline) -> Result<Option<TypeId>, Memory>
+    ensures of_type { IfOk result (λ of. IsType types.new of (Some (outline_type constant))) }
     ensures kept { Grows types.old types.new }
 {
     match constant {
-        Const::Null => type_of(types, Term::Null),
-        Const::Bool(_) => type_of(types, Term::Bool),
-        Const::Int(_) => type_of(types, Term::Int),
-        Const::Char(_) => type_of(types, Term::Char),
-        Const::Str(_) => type_of(types, Term::Str),
+        Outline::Null => type_of(types, Term::Null),
+        Outline::Bool(_) => type_of(types, Term::Bool),
+        Outline::Int(_) => type_of(types, Term::Int),
+        Outline::Char(_) => type_of(types, Term::Char),
+        Outline::Str(_) => type_of(types, Term::Str),
     }
 }
 
@@ -70,7 +75,7 @@ fn value_type(
     ensures kept { Grows types.old types.new }
 {
     match value {
-        Value::Constant(place) => match headed.file.constants.get(place) {
+        Value::Constant(place) => match headed.file.constants.outline(place) {
             Some(constant) => constant_type(types, constant),
             None => Ok(None),
         },
@@ -85,12 +90,17 @@ fn module_type(
     types: &mut TypeArena,
     finding: &mut Finding,
     n: u32,
-) -> Result<Option<TypeId>, Memory> {
+) -> Result<Option<TypeId>, Memory>
+    ensures of_type { IfOk result (IsInstanceType types.old types.new finding.old finding.new headed.entry n) }
+    ensures found { IsBelowIf (length types.old) (type_id (value_in headed.entry.file n)) → IsFinding headed.entry types.old finding.old → OnOk result (FindsMore headed.entry types.new finding.old finding.new) }
+    ensures kept { Grows types.old types.new }
+{
     let of = type_of_value(headed.file.value(n));
     let operation = module_operation(headed, types, finding, of)?;
     Ok(type_found(finding, operation))
 }
 
+#[tactic(auto, using(crate::proofs::Telling::steps))]
 fn name_type(
     headed: Headed<'_>,
     types: &mut TypeArena,
@@ -98,7 +108,9 @@ fn name_type(
     applied: Applied,
     n: u32,
 ) -> Result<Option<TypeId>, Memory>
-    ensures { IfOk result (IsNameType types.old types.new finding.old applied headed.entry.file n (meaning_in headed.entry.file n)) }
+    ensures of_type { (items : ℕ → Item) → IfOk result (IsNameType types.old types.new finding.old finding.new headed.entry n applied items (meaning_in headed.entry.file n)) }
+    ensures found { IsBelowIf (length types.old) (type_id (value_in headed.entry.file n)) → IsFinding headed.entry types.old finding.old → OnOk result (FindsMore headed.entry types.new finding.old finding.new) }
+    ensures kept { Grows types.old types.new }
 {
     match headed.file.meaning(n) {
         Meaning::Local(t) | Meaning::OwnOfRoutine(t) | Meaning::OwnOfCluster(t) => Ok(known_inside(
@@ -143,6 +155,7 @@ fn infix_type(
 }
 
 /// The type of the Index n.
+#[tactic(auto, using(crate::proofs::Telling::steps))]
 fn index_type(
     headed: Headed<'_>,
     types: &mut TypeArena,
@@ -150,7 +163,9 @@ fn index_type(
     applied: Applied,
     n: u32,
 ) -> Result<Option<TypeId>, Memory>
-    ensures { IfOk result (IsIndexType types.old types.new finding.old applied headed.entry.file n) }
+    ensures of_type { IfOk result (IsIndexType types.old types.new finding.old finding.new headed.entry n applied) }
+    ensures found { IsBelowIf (length types.old) (type_id (value_in headed.entry.file n)) → IsFinding headed.entry types.old finding.old → OnOk result (FindsMore headed.entry types.new finding.old finding.new) }
+    ensures kept { Grows types.old types.new }
 {
     if !has_actuals(headed.file, n) {
         return Ok(applied_type(types, finding, applied));
@@ -217,7 +232,7 @@ fn force_type(
     }
 }
 
-#[tactic(auto, unfolding(crate::specs::Typing::IsTypeBy))]
+#[tactic(auto, using(crate::proofs::Telling::steps), unfolding(crate::specs::Typing::IsTypeBy))]
 fn expression_type(
     headed: Headed<'_>,
     types: &mut TypeArena,
@@ -227,7 +242,9 @@ fn expression_type(
     n: u32,
     expression: Expression<'_>,
 ) -> Result<Option<TypeId>, Memory>
-    ensures { (items : ℕ → Item) → IfOk result (IsTypeBy types.old types.new finding.old applied headed.entry known.now n (expression_told items n expression.entry)) }
+    ensures of_type { (items : ℕ → Item) → IfOk result (IsTypeBy types.old types.new finding.old finding.new headed.entry n applied known.now items (expression_told items n expression.entry)) }
+    ensures found { IsBelowIf (length types.old) (type_id (value_in headed.entry.file n)) → IsFinding headed.entry types.old finding.old → OnOk result (FindsMore headed.entry types.new finding.old finding.new) }
+    ensures kept { Grows types.old types.new }
 {
     let file = headed.file;
     match expression {
@@ -249,6 +266,7 @@ fn expression_type(
 }
 
 /// The same of the node n, if it is an expression.
+#[tactic(auto, using(crate::proofs::Telling::steps))]
 fn type_here(
     headed: Headed<'_>,
     types: &mut TypeArena,
@@ -257,7 +275,9 @@ fn type_here(
     applied: Applied,
     n: u32,
 ) -> Result<Option<TypeId>, Memory>
-    ensures { is_expression (kind_in headed.entry.file n) ≡ true → (items : ℕ → Item) → IfOk result (IsTypeHere types.old types.new finding.old applied headed.entry known.now n items) }
+    ensures of_type { is_expression (kind_in headed.entry.file n) ≡ true → (items : ℕ → Item) → IfOk result (IsTypeHere types.old types.new finding.old finding.new headed.entry n applied known.now items) }
+    ensures found { IsBelowIf (length types.old) (type_id (value_in headed.entry.file n)) → IsFinding headed.entry types.old finding.old → OnOk result (FindsMore headed.entry types.new finding.old finding.new) }
+    ensures kept { Grows types.old types.new }
 {
     match headed.file.expression(n) {
         Some(expression) => expression_type(headed, types, known, finding, applied, n, expression),
@@ -266,6 +286,7 @@ fn type_here(
 }
 
 /// The type of the node n, if it is an expression, by what is known of the nodes before it.
+#[tactic(auto, using(crate::proofs::Telling::steps))]
 pub fn node_type(
     headed: Headed<'_>,
     types: &mut TypeArena,
@@ -274,7 +295,9 @@ pub fn node_type(
     applied: Applied,
     n: u32,
 ) -> Result<Option<TypeId>, Memory>
-    ensures { (items : ℕ → Item) → IfOk result (IsNodeType types.old types.new finding.old applied headed.entry known.now n items) }
+    ensures of_type { (items : ℕ → Item) → IfOk result (IsNodeType types.old types.new finding.old finding.new headed.entry n applied known.now items) }
+    ensures found { IsBelowIf (length types.old) (type_id (value_in headed.entry.file n)) → IsFinding headed.entry types.old finding.old → OnOk result (FindsMore headed.entry types.new finding.old finding.new) }
+    ensures kept { Grows types.old types.new }
 {
     if is_expression(headed.file.kind(n)) {
         type_here(headed, types, known, finding, applied, n)

@@ -1,9 +1,17 @@
-use Rattle.std.proofs.Common.{◌≡◌, ◌∙◌, ℕ, Bool, List, Option, OnOk, IfErr, ap, subst, sym}
+use Rattle.std.proofs.Common.{◌≡◌, ◌∙◌, ℕ, Bool, false, List, Option, OnOk, IfErr, ap, length, replicate, subst, sym}
 use Rattle.clu_base.specs.declared.rules.Refused.{Refused}
+use Rattle.clu_tree.specs.declared.node.Node.{Node}
+use Rattle.clu_types.specs.declared.term.Term.{Term}
+use Rattle.clu_types.specs.Arena.{Grows}
 use Rattle.clu_syntax.specs.Items.{Item}
 use Rattle.clu_bindings.specs.declared.file.File.{File}
 use Rattle.clu_name_rules.specs.declared.tables.Tables.{Tables}
-use Rattle.clu_check_mod.specs.Answered.{AreTables, IsFirstOf}
+use Rattle.clu_typing.specs.declared.facts.Facts.{Facts}
+use Rattle.clu_type_rules.specs.declared.unmet.Unmet.{Unmet}
+use Rattle.clu_type_rules.specs.Askers.{AreFoundAt, FindsOn, with_finding}
+use Rattle.clu_type_rules.specs.Disagreeing.{with_clauses}
+use Rattle.clu_type_rules.specs.Needs.{world}
+use Rattle.clu_check_mod.specs.Answered.{AreAsked, AreTables, IsFirstOf}
 use Rattle.clu_check_mod.specs.Asking.{KnownAscend}
 use Rattle.clu_check_mod.specs.Bad.{bad_of_all}
 use Rattle.clu_check_mod.specs.Refusals.{IsOfTree, IsTold}
@@ -24,7 +32,26 @@ returns-clause-refused c =
 pub returns-clause-first : goal.returns-clause-first
 returns-clause-first c =
     let made = c.tables-tables.ensures in
-    told_answer {P = KnownAscend c.known_of-known.result} (IsFirstOf c.args.headed c.args.lists.now c.args.long.now c.args.extent)
+    let headed = c.args.headed in
+    let facts : Facts = c.args.facts.now in
+    let known = c.known_of-known.result in
+    let start = world c.args.types.now facts.finding in
+    let unmet_are : known.unmet.now ≡ c.in_ok-unmet.unmet.items = c.known_of-known.ensures.unmet ∙ c.as_slice-2.ensures.value in
+    let types_are : known.tables.types.now ≡ c.unmet_of.new.types = ap (λ (t : Tables). t.types.now) c.known_of-known.ensures.tables ∙ made.types in
+    let facts_are : known.facts.now ≡ c.unmet_of.new.facts = c.known_of-known.ensures.facts in
+    let asks : AreAsked headed c.args.types.now facts known = record {
+      size = ap (λ (all : List Unmet). length all) unmet_are ∙ c.in_ok-unmet.ensures.size;
+      unmet = λ s looks began finding askers. subst (λ (all : List Unmet). AreFoundAt headed s start facts.invocations all) (sym unmet_are) (c.in_ok-unmet.ensures.unmet s looks began finding askers);
+      later = λ s looks began finding askers.
+          subst (λ (f : Facts). FindsOn headed start (world known.tables.types.now f.finding)) (sym facts_are)
+          (subst (λ (terms : List Term). FindsOn headed start (world terms c.unmet_of.new.facts.finding)) (sym types_are) (c.in_ok-unmet.ensures.later s looks began finding askers));
+      same = subst (λ (f : Facts). f ≡ with_finding facts f.finding) (sym facts_are) c.in_ok-unmet.ensures.same;
+      grows = subst (λ (terms : List Term). Grows c.args.types.now terms) (sym types_are) c.in_ok-unmet.ensures.kept;
+      disagrees =
+          c.known_of-known.ensures.disagrees ∙ c.as_slice.ensures.value ∙ c.in_ok-disagrees.ensures
+          ∙ ap (λ (nodes : ℕ). with_clauses headed.heads.now.asked nodes (replicate nodes false)) (c.len-nodes.ensures.len ∙ ap (λ (all : List Node). length all) c.tree.ensures.same);
+    } in
+    told_answer {P = KnownAscend c.known_of-known.result} (IsFirstOf headed c.args.types.now facts c.args.lists.now c.args.long.now c.args.extent)
     (λ (items : ℕ → Item). first_in c.known_of-known.result (bad_of_all c.known_of-known.result items c.args.lists.now.circles.order.items) items c.args.extent)
     c.ask_rules.result
     (λ items ascending. subst (λ (bad : List Bool). IsTold c.ask_rules.result (first_in c.known_of-known.result bad items c.args.extent)) (c.as_slice-4.ensures.value ∙ c.in_ok-bad.ensures items ascending ∙ ap (bad_of_all c.known_of-known.result items) c.as_slice-3.ensures.value) (c.ask_rules.ensures.exact items ascending))
@@ -41,5 +68,6 @@ returns-clause-first c =
         items = made.items;
       });
       routines = c.known_of-known.ensures.routines;
+      asks = asks;
       is = is;
     })

@@ -1,7 +1,9 @@
-use Rattle.std.proofs.Common.{◌≡◌, ◌∙◌, Bool, List, IfErr, IfOk, ap, length, subst}
+use Rattle.std.proofs.Common.{◌≡◌, ◌∙◌, Bool, List, IfErr, IfOk, ap, length, subst, sym}
 use Rattle.clu_bindings.specs.declared.file.File.{File}
+use Rattle.clu_head.specs.declared.heads.Heads.{Heads}
+use Rattle.clu_head.specs.Modules.{AreHeadsOf}
 use Rattle.clu_head.specs.Refused.{counts_to}
-use Rattle.clu_check_mod.specs.Answered.{IsFirstIn, IsFirstOf}
+use Rattle.clu_check_mod.specs.Answered.{IsFirstBy, IsFirstIn}
 use Rattle.clu_check_mod.specs.Bad.{refused_of}
 use Rattle.clu_check_mod.specs.Refusals.{IsOfTree}
 use Rattle.clu_check_mod.specs.Walks.{IsFound}
@@ -17,7 +19,7 @@ returns-clause-refused c = subst (λ (f : File). IfErr c.check_headed.result (Is
 pub returns-clause-first : goal.returns-clause-first
 returns-clause-first c =
     let made = c.tables.ensures in
-    answer_more (IsFirstOf c.headed_by-headed.result c.args.lists.now c.in_ok-long.long c.args.extent) (IsFirstIn c.args.file c.args.types.now c.args.lists.now c.args.extent)
+    answer_more (IsFirstBy c.headed_by-headed.result c.heads_of.new.types c.args.lists.now c.in_ok-long.long c.args.extent) (IsFirstIn c.args.file c.args.types.now c.args.lists.now c.args.extent)
     (λ o is. record {
       headed = c.headed_by-headed.result;
       long = c.in_ok-long.long;
@@ -37,5 +39,10 @@ returns-clause-first c =
       types_are = made.types;
       refused_are = λ items ascending. c.in_ok-refused.ensures items ascending ∙ ap (refused_of c.tables.result items) c.as_slice-order.ensures.value;
       counts = c.headed_by-headed.ensures.refused ∙ c.as_slice-3.ensures.value ∙ c.in_ok-counts.ensures ∙ ap (λ (b : List Bool). counts_to b (length b)) c.as_slice-2.ensures.value;
+      terms = c.heads_of.new.types;
+      heads =
+          subst (λ (hs : Heads). AreHeadsOf c.args.file.syntax.now c.args.file.rounds.now c.args.file.names.now.declared.items c.args.file.values.now c.in_ok-refused.refused.items c.args.types.now c.heads_of.new.types hs) (sym c.headed_by-headed.ensures.heads)
+          (subst (λ (bits : List Bool). AreHeadsOf c.args.file.syntax.now c.args.file.rounds.now c.args.file.names.now.declared.items c.args.file.values.now bits c.args.types.now c.heads_of.new.types c.in_ok-heads.heads) c.as_slice.ensures.value c.in_ok-heads.ensures.heads);
+      grows = c.in_ok-heads.ensures.kept;
       is = is;
     }) c.check_headed.result c.check_headed.ensures.first

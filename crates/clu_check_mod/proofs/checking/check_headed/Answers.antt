@@ -1,11 +1,11 @@
-use Rattle.std.proofs.Common.{◌≡◌, List, subst}
+use Rattle.std.proofs.Common.{◌≡◌, List, None, subst}
 use Rattle.std.proofs.lemmas.Result.{err_from_is_err_and}
 use Rattle.clu_tree.specs.declared.node.Node.{Node}
 use Rattle.clu_tree.specs.Nodes.{modules}
 use Rattle.clu_types.specs.declared.spec.Spec.{Spec}
-use Rattle.clu_check_mod.specs.Answered.{IsFirstOf}
+use Rattle.clu_check_mod.specs.Answered.{IsFirstBy, IsFirstOf}
 use Rattle.clu_check_mod.specs.Modules.{AreOf}
-use Rattle.clu_check_mod.proofs.Answered.{no_more, not_of_tree}
+use Rattle.clu_check_mod.proofs.Answered.{error_more, first_by, no_more, not_of_tree}
 use Rattle.clu_check_mod.proofs.checking.check_headed.Goals as goal
 
 pub returns-clause-found : goal.returns-clause-found
@@ -26,7 +26,22 @@ returns-in_err-own-clause-refused c =
 pub returns-in_err-own-clause-first : goal.returns-in_err-own-clause-first
 returns-in_err-own-clause-first c =
     let p = err_from_is_err_and c.from_residual-in_err-own.result c.from_residual-in_err-own.ensures.1 in
-    rw (p.1, p.2) (no_more (IsFirstOf c.args.headed c.args.lists.now c.args.long.now c.args.extent) c.in_err-own.field-0.0 c.in_ok-ask.ensures.first c.in_err-own.ensures.refused)
+    rw (p.1, p.2)
+    (no_more (IsFirstBy c.args.headed c.args.types.now c.args.lists.now c.args.long.now c.args.extent) c.in_err-own.field-0.0
+    (first_by c.args.headed c.args.types.now c.facts_of.new.types c.args.lists.now c.args.long.now c.args.extent c.in_ok-facts.facts.value c.deref_mut.result.now c.deref_mut.ensures.value
+    c.in_ok-facts.ensures.known c.in_ok-facts.ensures.sound c.in_ok-facts.ensures.kept None c.in_ok-ask.ensures.first)
+    c.in_err-own.ensures.refused)
+
+pub returns-in_err-ask-clause-first : goal.returns-in_err-ask-clause-first
+returns-in_err-ask-clause-first c =
+    let p = err_from_is_err_and c.from_residual-in_err-ask.result c.from_residual-in_err-ask.ensures.1 in
+    rw (p.1, p.2)
+    (error_more (IsFirstOf c.args.headed c.facts_of.new.types c.deref_mut.result.now c.args.lists.now c.args.long.now c.args.extent) (IsFirstBy c.args.headed c.args.types.now c.args.lists.now c.args.long.now c.args.extent)
+    (first_by c.args.headed c.args.types.now c.facts_of.new.types c.args.lists.now c.args.long.now c.args.extent c.in_ok-facts.facts.value c.deref_mut.result.now c.deref_mut.ensures.value
+    c.in_ok-facts.ensures.known c.in_ok-facts.ensures.sound c.in_ok-facts.ensures.kept)
+    c.in_err-ask.field-0.0 c.in_err-ask.ensures.first)
 
 pub returns-clause-first : goal.returns-clause-first
-returns-clause-first c = c.in_ok-ask.ensures.first
+returns-clause-first c =
+    first_by c.args.headed c.args.types.now c.facts_of.new.types c.args.lists.now c.args.long.now c.args.extent c.in_ok-facts.facts.value c.deref_mut.result.now c.deref_mut.ensures.value
+    c.in_ok-facts.ensures.known c.in_ok-facts.ensures.sound c.in_ok-facts.ensures.kept None c.in_ok-ask.ensures.first

@@ -7,13 +7,13 @@ use Rattle.clu_settle.proofs.Found.{told_there}
 use Rattle.clu_settle.proofs.literals.literal_value.Goals as goal
 
 pub returns-in-Nil-clause-lost : goal.returns-in-Nil-clause-lost
-returns-in-Nil-clause-lost c = ok_more _ _ c.keep.result c.keep.ensures.known (λ v p lost. absurd (told_there [] c.keep.new.constants.items v _ (p []) lost))
+returns-in-Nil-clause-lost c = ok_more _ _ c.keep.result c.keep.ensures.known (λ v p lost. absurd (told_there [] c.keep.new.constants v _ (p []) lost))
 
 pub returns-in-True-clause-lost : goal.returns-in-True-clause-lost
-returns-in-True-clause-lost c = ok_more _ _ c.keep-in-True.result c.keep-in-True.ensures.known (λ v p lost. absurd (told_there [] c.keep-in-True.new.constants.items v _ (p []) lost))
+returns-in-True-clause-lost c = ok_more _ _ c.keep-in-True.result c.keep-in-True.ensures.known (λ v p lost. absurd (told_there [] c.keep-in-True.new.constants v _ (p []) lost))
 
 pub returns-in-False-clause-lost : goal.returns-in-False-clause-lost
-returns-in-False-clause-lost c = ok_more _ _ c.keep-in-False.result c.keep-in-False.ensures.known (λ v p lost. absurd (told_there [] c.keep-in-False.new.constants.items v _ (p []) lost))
+returns-in-False-clause-lost c = ok_more _ _ c.keep-in-False.result c.keep-in-False.ensures.known (λ v p lost. absurd (told_there [] c.keep-in-False.new.constants v _ (p []) lost))
 
 pub returns-in-Integer-clause-lost : goal.returns-in-Integer-clause-lost
 returns-in-Integer-clause-lost c = ok_more _ _ c.integer_value.result c.integer_value.ensures.lost (λ v p lost. ap (λ (l : Literal). is_too_large (literal_told l)) c.in-Integer.is ∙ p lost)

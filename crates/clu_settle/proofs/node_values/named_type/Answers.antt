@@ -1,5 +1,6 @@
-use Rattle.std.proofs.Common.{sym, subst}
+use Rattle.std.proofs.Common.{◌∙◌, ap, sym, subst}
 use Rattle.clu_settle.specs.declared.meanings.Meaning.{Meaning}
+use Rattle.clu_settle.specs.Standing.{is_lost, right_named}
 use Rattle.clu_settle.specs.Lost.{IsNameLost}
 use Rattle.clu_meaning.specs.Settling.{value_of_meaning}
 use Rattle.clu_settle.proofs.Made.{ok_more, meant_as}
@@ -16,3 +17,6 @@ returns-clause-within c = ok_more _ _ c.as_type.result c.as_type.ensures.within 
 pub returns-clause-lost : goal.returns-clause-lost
 returns-clause-lost c = ok_more _ _ c.as_type.result c.as_type.ensures.lost (λ v p lost within.
     subst (λ (m : Meaning). IsNameLost c.args.values.now c.args.constants.now c.args.given.now m) c.meaning_at-meaning.ensures (c.in_ok-value.ensures.lost (p lost) within))
+
+pub returns-clause-same : goal.returns-clause-same
+returns-clause-same c = ok_more _ _ c.as_type.result c.as_type.ensures.same (λ v p r e. p ∙ ap is_lost (c.in_ok-value.ensures.same r (ap right_named c.meaning_at-meaning.ensures ∙ e)))

@@ -16,3 +16,6 @@ returns-clause-known c = ok_more _ _ c.named_type.result c.named_type.ensures.kn
 
 pub returns-clause-lost : goal.returns-clause-lost
 returns-clause-lost c = ok_more _ _ c.named_type.result c.named_type.ensures.lost (λ v p lost within. p lost within)
+
+pub returns-clause-same : goal.returns-clause-same
+returns-clause-same c = ok_more _ _ c.named_type.result c.named_type.ensures.same (λ v p r e. p r e)

@@ -1,13 +1,23 @@
-use Rattle.std.proofs.Common.{◌∙◌, ap, List, Some}
-use Rattle.clu_base.specs.declared.constants.Const.{Const}
-use Rattle.clu_settle.specs.Values.{constant_at}
+use Rattle.std.proofs.Common.{◌∙◌, subst}
+use Rattle.clu_settle.specs.Operators.{IsJoinedBy}
 use Rattle.clu_settle.proofs.Made.{ok_more}
-use Rattle.clu_settle.proofs.Folded.{folded_as}
+use Rattle.clu_settle.proofs.Joined.{folded_still, joined_told, joined_within, kept_still}
 use Rattle.clu_settle.proofs.operators.folded_value.Goals as goal
 
-pub returns-clause-known : goal.returns-clause-known
-returns-clause-known c = ok_more _ _ c.keep.result c.keep.ensures.known (λ v p types. p types ∙ ap Some
-    (folded_as c.args.operator c.folded_by.result c.in_ok-left.left c.in_ok-right.right (constant_at c.args.constants.now.items c.args.a) (constant_at c.args.constants.now.items c.args.b) c.in_ok-found.found c.folded_by.ensures
-    (c.in_ok-left.ensures ∙ ap (λ (xs : List Const). constant_at xs c.args.a) c.as_slice.ensures.value)
-    (c.in_ok-right.ensures ∙ ap (λ (xs : List Const). constant_at xs c.args.b) c.as_slice-2.ensures.value)
-    c.in_range.ensures c.in_range-2.ensures c.in_ok-found.ensures))
+pub returns-in-Some-clause-known : goal.returns-in-Some-clause-known
+returns-in-Some-clause-known c = joined_told c.args.operator c.args.constants.now c.joined_place.new.constants c.args.a c.args.b c.in-Some.place
+    (subst (IsJoinedBy c.args.operator c.args.constants.now c.joined_place.new.constants c.args.a c.args.b) c.in-Some.is c.in_ok-place.ensures.joined)
+
+pub returns-in-Some-clause-constant_in : goal.returns-in-Some-clause-constant_in
+returns-in-Some-clause-constant_in c = joined_within c.args.operator c.args.constants.now c.joined_place.new.constants c.args.a c.args.b c.in-Some.place
+    (subst (IsJoinedBy c.args.operator c.args.constants.now c.joined_place.new.constants c.args.a c.args.b) c.in-Some.is c.in_ok-place.ensures.joined)
+
+pub returns-in-None-clause-known : goal.returns-in-None-clause-known
+returns-in-None-clause-known c =
+    let same = subst (IsJoinedBy c.args.operator c.args.constants.now c.joined_place.new.constants c.args.a c.args.b) c.in-None.is c.in_ok-place.ensures.joined in
+    ok_more _ _ c.folded_constants.result c.folded_constants.ensures.known (λ v p types. p types ∙ folded_still c.args.constants.now c.joined_place.new.constants same c.args.operator c.args.a c.args.b)
+
+pub returns-in-None-clause-kept : goal.returns-in-None-clause-kept
+returns-in-None-clause-kept c =
+    let same = subst (IsJoinedBy c.args.operator c.args.constants.now c.joined_place.new.constants c.args.a c.args.b) c.in-None.is c.in_ok-place.ensures.joined in
+    kept_still c.args.constants.now c.joined_place.new.constants same c.folded_constants.new.constants c.folded_constants.ensures.kept

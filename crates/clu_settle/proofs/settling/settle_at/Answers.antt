@@ -5,7 +5,7 @@ use Rattle.clu_settle.proofs.settling.settle_at.Goals as goal
 
 pub returns-else-place-len-clause-known : goal.returns-else-place-len-clause-known
 returns-else-place-len-clause-known c = λ order p at passed. rw (add-one p)
-    (none_more c.args.asked.syntax.now c.args.asked.meanings.now order p c.args.types.now c.args.constants.now.items c.args.values.now passed)
+    (none_more c.args.asked.syntax.now c.args.asked.meanings.now order p c.args.types.now c.args.constants.now c.args.values.now passed)
 
 pub returns-else-place-len-clause-lost : goal.returns-else-place-len-clause-lost
 returns-else-place-len-clause-lost c = λ order p ordered at passed lost.

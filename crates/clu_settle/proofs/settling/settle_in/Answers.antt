@@ -6,6 +6,7 @@ use Rattle.clu_settle.specs.declared.value.Value.TheVariants as value
 use Rattle.clu_settle.specs.Steps.{ArePassed}
 use Rattle.clu_settle.specs.Lost.{AreLost}
 use Rattle.clu_settle.proofs.Passing.{length_replicate, none_passed, all_passed}
+use Rattle.clu_settle.proofs.Reading.{read_after}
 use Rattle.clu_settle.proofs.Lasting.{none_lost, lost_after}
 use Rattle.clu_settle.proofs.settling.settle_in.Goals as goal
 
@@ -27,8 +28,8 @@ returns-clause-known c = λ scope meant.
     let passed = ensured.known in
     let size : c.len-len.result ≡ length c.args.asked.syntax.now = c.len-len.ensures.len ∙ ap length c.tree.ensures.same in
     let all : length c.settle_all.new.values ≡ c.in_ok-values.values.len = passed.size ∙ sym (c.in_ok-values.values.ok.0 ∙ ap length c.in_ok-values.ensures ∙ length_replicate c.len-len.result value.Lost ∙ size) in
-    all_passed c.args.asked.syntax.now c.args.asked.meanings.now c.args.order.now c.settle_all.new.types c.settle_all.new.constants.items _ c.requires.distinct
-    (subst (λ (values : List Value). ArePassed c.args.asked.syntax.now c.args.asked.meanings.now c.args.order.now (length c.args.order.now) c.settle_all.new.types c.settle_all.new.constants.items values)
+    all_passed c.args.asked.syntax.now c.args.asked.meanings.now c.args.order.now c.settle_all.new.types c.settle_all.new.constants _ c.requires.distinct
+    (subst (λ (values : List Value). ArePassed c.args.asked.syntax.now c.args.asked.meanings.now c.args.order.now (length c.args.order.now) c.settle_all.new.types c.settle_all.new.constants values)
     (sym (take_at c.settle_all.new.values _ c.in_ok-values.values.len all)) passed) scope meant
 
 pub returns-clause-lost : goal.returns-clause-lost
@@ -40,3 +41,13 @@ returns-clause-lost c =
     lost_after c.args.asked.syntax.now c.args.asked.meanings.now c.args.order.now _ c.requires.order
     (subst (λ (values : List Value). AreLost c.args.asked.syntax.now c.args.asked.meanings.now c.args.order.now (length c.args.order.now) values)
     (sym (take_at c.settle_all.new.values _ c.in_ok-values.values.len all)) ensured.lost)
+
+pub returns-clause-read : goal.returns-clause-read
+returns-clause-read c =
+    let ensured = c.in_ok-settle_all.ensures {u = tt} in
+    let passed = ensured.known in
+    let size : c.len-len.result ≡ length c.args.asked.syntax.now = c.len-len.ensures.len ∙ ap length c.tree.ensures.same in
+    let all : length c.settle_all.new.values ≡ c.in_ok-values.values.len = passed.size ∙ sym (c.in_ok-values.values.ok.0 ∙ ap length c.in_ok-values.ensures ∙ length_replicate c.len-len.result value.Lost ∙ size) in
+    let final = (subst (λ (values : List Value). AreLost c.args.asked.syntax.now c.args.asked.meanings.now c.args.order.now (length c.args.order.now) values)
+    (sym (take_at c.settle_all.new.values _ c.in_ok-values.values.len all)) ensured.lost) in
+    read_after c.args.asked.syntax.now c.args.asked.meanings.now c.args.order.now c.requires.order _ final.read
