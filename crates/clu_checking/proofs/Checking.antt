@@ -15,7 +15,7 @@ use Rattle.clu_literal.specs.Literal.{with_byte}
 use Rattle.clu_layout.specs.Computing.{computing}
 use Rattle.clu_meaning.specs.Settling.{unfolded_to}
 use Rattle.clu_checking.specs.Specifications.{Specification}
-use Rattle.clu_checking.specs.Equates.{leads_far, set_in}
+use Rattle.clu_checking.specs.Equates.{leads_far, can_go_on, leads_to_cvt, set_in}
 use Rattle.clu_checking.specs.Refusals.{is_bad_by, checked_file, refusal}
 
 -- a node: its kind, its place, its first and last token, its children, names and value, and the token of the value
@@ -50,5 +50,5 @@ IsFine nodes = IsFineUnder [] nodes
 
 -- all that doesn't unfold by itself
 unfoldable pub checking : Unit {0}
-unfolding after_heads last_of_items last_of_body leading leading_types leading_items leading_before are_digits item_to rounds_in set_all declared_to with_byte computing unfolded_to leads_far set_in is_bad_by digits
+unfolding after_heads last_of_items last_of_body leading leading_types leading_items leading_before are_digits item_to rounds_in set_all declared_to with_byte computing unfolded_to leads_far can_go_on leads_to_cvt set_in is_bad_by digits
 checking = tt

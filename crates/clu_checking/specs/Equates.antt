@@ -6,11 +6,11 @@ use Rattle.clu_tree.specs.declared.node.NodeKind.{NodeKind}
 use Rattle.clu_tree.specs.declared.node.NodeKind.TheVariants as kind
 use Rattle.clu_types.specs.CluType.{CluType}
 use Rattle.clu_syntax.specs.declared.words.SimpleType.TheVariants as simple
-use Rattle.clu_syntax.specs.Syntax.{Identifier, a_name, an_expression, TypeExpression, a_simple_type, a_list_type, a_fields_type, a_routine_type, a_named_type, Equate, an_equate, a_set_equate, TypeSet, Typed, a_type_set, Restriction, has_operations, is_in, is_in_set}
-use Rattle.clu_meaning.specs.Scoping.{Meaning, is_type_parameter, Scope, binding, meaning_of}
+use Rattle.clu_syntax.specs.Syntax.{Identifier, Expression, a_name, a_paren, an_index, Constant, an_expression, a_type, TypeExpression, a_simple_type, a_list_type, a_fields_type, a_routine_type, a_named_type, Equate, an_equate, a_set_equate, TypeSet, Typed, a_type_set, Restriction, has_operations, is_in, is_in_set}
+use Rattle.clu_meaning.specs.Scoping.{Meaning, is_equate, is_type_parameter, Scope, binding, meaning_of}
 use Rattle.clu_meaning.specs.Settling.{type_settled}
 use Rattle.clu_checking.specs.Specifications.{Demand}
-use Rattle.clu_checking.specs.Files.{File, item, kind_in, names, below, is_refused, equate_named}
+use Rattle.clu_checking.specs.Files.{File, item, kind_in, is_kind, children, children_at, names, below, is_refused, equate_named}
 
 -- the node of a type
 abbrev pub type_node : TypeExpression → ℕ
@@ -56,6 +56,58 @@ module _ (f : File) where
 
   abbrev pub is_circular_at : Option ℕ → Bool
   is_circular_at e = leads_on is_circular e
+
+  -- ---- what leads to a circle, or to `cvt`, from any node
+
+  abbrev pub first_equate : List (Option ℕ) → Option ℕ
+  first_equate (e ∷ es) = e
+  first_equate [] = None
+
+  -- the right side of an equate, if it is no type set
+  abbrev pub right_child : List ℕ → List ℕ
+  right_child (c ∷ cs) = if is_kind f kind.TypeSet c then [] else c ∷ []
+  right_child [] = []
+
+  -- a node is made from its children, and from the right side of the equate that it names
+  abbrev pub made_from : ℕ → List ℕ
+  made_from n = children f n ++ right_child (children_at f (first_equate (equates_named n)))
+
+  unfoldable pub can_go_on : ℕ → ℕ → Bool
+  can_go_on zero n = true
+  can_go_on (suc steps) n = list_any (can_go_on steps) (made_from n)
+
+  -- a circle is met: from the node one can go on for as many steps as there are nodes
+  abbrev pub meets_circle : ℕ → Bool
+  meets_circle n = can_go_on (length f.nodes) n
+
+  abbrev pub means_cvt : (Constant → Bool) → Meaning → Bool
+  means_cvt leads (is_equate c) = leads c
+  means_cvt leads _ = false
+
+  abbrev pub is_cvt_type : (Constant → Bool) → TypeExpression → Bool
+  is_cvt_type leads (a_simple_type n simple.Cvt) = true
+  is_cvt_type leads (a_simple_type n simple.Rep) = means_cvt leads (meaning_of f.scope n (codes "rep"))
+  is_cvt_type leads (a_named_type n name cs) = means_cvt leads (meaning_of f.scope n name)
+  is_cvt_type leads _ = false
+
+  abbrev pub is_cvt_expression : (Constant → Bool) → Expression → Bool
+  is_cvt_expression leads (a_name n name) = means_cvt leads (meaning_of f.scope n name)
+  is_cvt_expression leads (a_paren n e) = is_cvt_expression leads e
+  is_cvt_expression leads (an_index n (a_name m name) cs) = means_cvt leads (meaning_of f.scope m name)
+  is_cvt_expression leads _ = false
+
+  abbrev pub is_cvt_constant : (Constant → Bool) → Constant → Bool
+  is_cvt_constant leads (an_expression e) = is_cvt_expression leads e
+  is_cvt_constant leads (a_type t) = is_cvt_type leads t
+
+  -- for so many steps of unfolding
+  unfoldable pub leads_to_cvt : ℕ → Constant → Bool
+  leads_to_cvt zero c = false
+  leads_to_cvt (suc steps) c = is_cvt_constant (leads_to_cvt steps) c
+
+  -- the type is `cvt`, or an equate for it
+  abbrev pub is_cvt : TypeExpression → Bool
+  is_cvt t = is_cvt_type (leads_to_cvt (length f.scope.declarations)) t
 
   -- ---- type sets
 

@@ -16,7 +16,7 @@ use Rattle.clu_meaning.specs.Programs.{HeadingType, plain, cvt, Formal, Exceptio
 use Rattle.clu_meaning.specs.Resolving.{Place, cluster_place, heading_type, heading_types, formals_of, exceptions_of}
 use Rattle.clu_checking.specs.Specifications.{Demand, Heading, of_routine, of_cluster, Specification, specification_in}
 use Rattle.clu_checking.specs.Files.{File, kind_in, children, stands_below, is_refused, is_refused_at, declaration, equate_named, cluster_round, parameters_round, round}
-use Rattle.clu_checking.specs.Equates.{type_node, demands_in}
+use Rattle.clu_checking.specs.Equates.{type_node, meets_circle, is_cvt, demands_in}
 
 -- ---- in ascending order, each once
 
@@ -81,6 +81,10 @@ kind_of_type int_type = Some param.Int
 kind_of_type char_type = Some param.Char
 kind_of_type string_type = Some param.Str
 kind_of_type _ = None
+
+abbrev pub kind_unless : Bool → Option ParamKind → Option ParamKind
+kind_unless true k = None
+kind_unless false k = k
 
 abbrev pub types_in : List Parameter → List (Option TypeExpression)
 types_in ps = flat_map (λ p. map (λ name. p.type) p.names) ps
@@ -147,10 +151,14 @@ module _ (f : File) where
 
   -- ---- parameters
 
+  -- `cvt`, an equate for it, and what leads to a circle of equates
+  abbrev pub is_no_parameter_type : TypeExpression → Bool
+  is_no_parameter_type t = is_cvt f t || meets_circle f (type_node t)
+
   -- a parameter of another type has no kind
   abbrev pub kind_of_parameter : Option TypeExpression → Option ParamKind
   kind_of_parameter None = Some param.OfType
-  kind_of_parameter (Some t) = kind_of_type (type_settled f.scope t)
+  kind_of_parameter (Some t) = kind_unless (is_no_parameter_type t) (kind_of_type (type_settled f.scope t))
 
   abbrev pub kinds_in : List Parameter → List (Option ParamKind)
   kinds_in ps = flat_map (λ p. map (λ name. kind_of_parameter p.type) p.names) ps
@@ -161,7 +169,7 @@ module _ (f : File) where
 
   -- its type, if it has one that parameters may have
   abbrev pub parameter_type_of : Option TypeExpression → Option CluType
-  parameter_type_of (Some t) = legal_type (type_settled f.scope t) (kind_of_type (type_settled f.scope t))
+  parameter_type_of (Some t) = legal_type (type_settled f.scope t) (kind_of_parameter (Some t))
   parameter_type_of None = None
 
   abbrev pub parameter_type : ℕ → ℕ → Option CluType

@@ -32,7 +32,7 @@ use Rattle.clu_passes.proofs.Sugared.{infix_said, negated_said, prefix_said}
 
 module _ (f : File) (terms : List Term) (arena : IsArena terms) (facts : Facts) where
   -- the type of what was found
-  found_typed : (its : Operation) (x : Option Found) → IsFound terms facts its x → IsType terms (operation_type facts its) (found_type x)
+  pub found_typed : (its : Operation) (x : Option Found) → IsFound terms facts its x → IsType terms (operation_type facts its) (found_type x)
   found_typed operation.Missing None is = tt
   found_typed operation.Missing (Some x) is = absurd is
   found_typed (operation.Found id) None is = absurd is
@@ -41,7 +41,7 @@ module _ (f : File) (terms : List Term) (arena : IsArena terms) (facts : Facts) 
   found_typed (operation.Object of) (Some x) is = is
 
   -- of what is invoked it is that of the only result
-  result_typed : (its : Operation) (x : Option Found) → IsFound terms facts its x → IsType terms (result_of terms (operation_type facts its)) (option_and_then typing.result_of (found_type x))
+  pub result_typed : (its : Operation) (x : Option Found) → IsFound terms facts its x → IsType terms (result_of terms (operation_type facts its)) (option_and_then typing.result_of (found_type x))
   result_typed its x is = results_same terms arena (operation_type facts its) (found_type x) (found_typed its x is)
 
   abbrev Typed : Applied → Option CluType → Type 0

@@ -19,11 +19,11 @@ got_last : (xs : List ℕ) (x : ℕ) → slice_get (xs ++ x ∷ []) (length xs) 
 got_last [] x = refl
 got_last (y ∷ ys) x = got_last ys x
 
-dropped_front : {X : Type 0} (xs ys : List X) → drop (length xs) (xs ++ ys) ≡ ys
+pub dropped_front : {X : Type 0} (xs ys : List X) → drop (length xs) (xs ++ ys) ≡ ys
 dropped_front [] ys = refl
 dropped_front (x ∷ xs) ys = dropped_front xs ys
 
-taken_front : {X : Type 0} (xs ys : List X) → take (length xs) (xs ++ ys) ≡ xs
+pub taken_front : {X : Type 0} (xs ys : List X) → take (length xs) (xs ++ ys) ≡ xs
 taken_front [] ys = refl
 taken_front (x ∷ xs) ys = ap (λ zs. x ∷ zs) (taken_front xs ys)
 
@@ -31,7 +31,7 @@ module _ (of : ℕ → List Demanded) where
   abbrev so_far : ℕ → ℕ
   so_far n = length (demands_to of n)
 
-  demands_next : (n : ℕ) → demands_to of (suc n) ≡ demands_to of n ++ of n
+  pub demands_next : (n : ℕ) → demands_to of (suc n) ≡ demands_to of n ++ of n
   unfolding demands_to
   demands_next n = refl
 
@@ -39,7 +39,7 @@ module _ (of : ℕ → List Demanded) where
   unfolding starts_to
   starts_next n = refl
 
-  starts_size : (n : ℕ) → length (starts_to of n) ≡ n
+  pub starts_size : (n : ℕ) → length (starts_to of n) ≡ n
   unfolding starts_to
   starts_size zero = refl
   starts_size (suc n) = length-append (starts_to of n) (so_far n ∷ []) ∙ omega (arith, starts_size n)
@@ -60,7 +60,7 @@ module _ (of : ℕ → List Demanded) where
           ∙ got_last (starts_to of n) (so_far n)
           ∙ ap (λ (x : ℕ). Some (so_far x)) (sym same)
 
-  begins_with : (n k : ℕ) → (rest : List Demanded) × (demands_to of (n + k) ≡ demands_to of n ++ rest)
+  pub begins_with : (n k : ℕ) → (rest : List Demanded) × (demands_to of (n + k) ≡ demands_to of n ++ rest)
   begins_with n zero = ([], ap (demands_to of) (omega arith) ∙ sym (append-nil (demands_to of n)))
   begins_with n (suc k) =
       let before = begins_with n k in (
@@ -86,22 +86,28 @@ module _ (of : ℕ → List Demanded) where
         ap (λ (b : Bool). if b && nat_le to (length demands) then take (to - from) (drop from demands) else []) (le-leb from to ordered)
         ∙ ap (λ (b : Bool). if b then take (to - from) (drop from demands) else []) (le-leb to (length demands) within)
 
-    pub piece : (n : ℕ) → n < size → map untyped (demands_of demands (starts_to of size) n) ≡ of n
+    -- what the node n asks, by how much is asked before it
+    pub of_node : (n : ℕ) → n < size → demands_of demands (starts_to of size) n ≡ take (so_far (suc n) - so_far n) (drop (so_far n) demands)
     unfolding demands_of
+    of_node n less =
+        let rest = begins_with (suc n) (size - suc n) in
+        let whole : so_far size ≡ so_far (suc n) + length rest.0 = ap so_far (omega (arith, less)) ∙ ap length rest.1 ∙ length-append (demands_to of (suc n)) rest.0 in
+        let own : so_far (suc n) ≡ so_far n + length (of n) = ap length (demands_next n) ∙ length-append (demands_to of n) (of n) in
+        let all_of : length demands ≡ so_far size = many in
+        let from : start_in (length demands) (slice_get (starts_to of size) n) ≡ so_far n = start_is n (omega (arith, less)) in
+        let to : start_in (length demands) (slice_get (starts_to of size) (n + 1)) ≡ so_far (suc n) = start_is (n + 1) (omega (arith, less)) ∙ ap so_far (add-one n) in
+        ap (λ (x : ℕ). between demands x (start_in (length demands) (slice_get (starts_to of size) (n + 1)))) from
+        ∙ ap (λ (x : ℕ). between demands (so_far n) x) to
+        ∙ between_is (so_far n) (so_far (suc n)) (omega (arith, own)) (omega (arith, own, whole, all_of))
+
+    pub piece : (n : ℕ) → n < size → map untyped (demands_of demands (starts_to of size) n) ≡ of n
     piece n less =
         let rest = begins_with (suc n) (size - suc n) in
         let whole : demands_to of size ≡ demands_to of n ++ (of n ++ rest.0) =
         ap (demands_to of) (omega (arith, less)) ∙ rest.1 ∙ ap (λ (xs : List Demanded). xs ++ rest.0) (demands_next n) ∙ append_assoc (demands_to of n) (of n) rest.0 in
         let own : so_far (suc n) ≡ so_far n + length (of n) = ap length (demands_next n) ∙ length-append (demands_to of n) (of n) in
-        let sizes : so_far size ≡ so_far n + length (of n ++ rest.0) = ap length whole ∙ length-append (demands_to of n) (of n ++ rest.0) in
-        let behind : length (of n ++ rest.0) ≡ length (of n) + length rest.0 = length-append (of n) rest.0 in
-        let all_of : length demands ≡ so_far size = many in
-        let from : start_in (length demands) (slice_get (starts_to of size) n) ≡ so_far n = start_is n (omega (arith, less)) in
-        let to : start_in (length demands) (slice_get (starts_to of size) (n + 1)) ≡ so_far (suc n) = start_is (n + 1) (omega (arith, less)) ∙ ap so_far (add-one n) in
         let count : so_far (suc n) - so_far n ≡ length (of n) = omega (arith, own) in
-        ap (λ (x : ℕ). map untyped (between demands x (start_in (length demands) (slice_get (starts_to of size) (n + 1))))) from
-        ∙ ap (λ (x : ℕ). map untyped (between demands (so_far n) x)) to
-        ∙ ap (map untyped) (between_is (so_far n) (so_far (suc n)) (omega (arith, own)) (omega (arith, own, sizes, behind, all_of)))
+        ap (map untyped) (of_node n less)
         ∙ sym (take-map untyped (so_far (suc n) - so_far n) (drop (so_far n) demands))
         ∙ ap (take (so_far (suc n) - so_far n)) (sym (drop-map untyped (so_far n) demands) ∙ ap (drop (so_far n)) (all ∙ whole) ∙ dropped_front (demands_to of n) (of n ++ rest.0))
         ∙ ap (λ (x : ℕ). take x (of n ++ rest.0)) count

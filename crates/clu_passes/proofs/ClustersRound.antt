@@ -77,7 +77,7 @@ module _ (nodes : List Node) (rounds : List Round) where
     pub stand : (m : ℕ) → Stands m
     stand m = from_end (length nodes) m (omega arith)
 
-there_kind : (nodes : List Node) (k : NodeKind) (n : ℕ) → is_there k (slice_get nodes n) ≡ true → kind_at nodes n ≡ k
+pub there_kind : (nodes : List Node) (k : NodeKind) (n : ℕ) → is_there k (slice_get nodes n) ≡ true → kind_at nodes n ≡ k
 there_kind nodes k n is = by (slice_get nodes n) refl is
   where
     by : (o : Option Node) → slice_get nodes n ≡ o → is_there k o ≡ true → kind_at nodes n ≡ k

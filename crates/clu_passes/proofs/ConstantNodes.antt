@@ -52,7 +52,7 @@ use Rattle.clu_name_rules.specs.declared.tables.Tables.{Tables}
 use Rattle.clu_name_rules.specs.NameRules as table
 use Rattle.clu_name_rules.specs.NameRules.{is_marked}
 use Rattle.clu_name_rules.specs.ConstantRules as of_tables
-use Rattle.clu_passes.specs.ConstantTables.{file_with, IsMeant, wanted_told, AreTables, AreBad, AreParametersKnown, IsKnown, IsWantedKnown}
+use Rattle.clu_passes.specs.ConstantTables.{file_with, IsMeant, wanted_told, AreTables, AreBad, IsKnown, IsWantedKnown}
 use Rattle.clu_passes.proofs.Marked.{circle_is}
 use Rattle.clu_passes.proofs.OwnPlaces.{there_is}
 use Rattle.clu_declares.proofs.Below.{same_kind}
@@ -203,11 +203,11 @@ module _ (t : Tables) (scope : Scope) (library : List Specification) (refused : 
     type_kind_if false ks zero = refl
     type_kind_if false ks (suc place) = refl
 
-    takes_same : AreParametersKnown r → (siblings : List ℕ) (m n place : ℕ) → IsMeant f r m (first_name_at f m) → place ≡ place_in f siblings n → wants.wants_type_as f siblings m (first_name_at f m) n ≡ named.takes_type r m place
-    takes_same parameters siblings m n place m_is at =
+    takes_same : (siblings : List ℕ) (m n place : ℕ) → IsMeant f r m (first_name_at f m) → place ≡ place_in f siblings n → wants.wants_type_as f siblings m (first_name_at f m) n ≡ named.takes_type r m place
+    takes_same siblings m n place m_is at =
         ap (λ (k : ℕ). is_of_module f m (first_name_at f m) && wants.is_type_kind f (slice_get (kinds_of (specification f (first_name_at f m))) k)) (sym at)
         ∙ type_kind_if (is_of_module f m (first_name_at f m)) (kinds_of (specification f (first_name_at f m))) place
-        ∙ ap (λ (ks : List (Option ParamKind)). named.is_type_kind (optional (slice_get ks place))) (sym (m_is.kinds parameters))
+        ∙ ap (λ (ks : List (Option ParamKind)). named.is_type_kind (optional (slice_get ks place))) (sym (m_is.kinds are.legal))
 
     -- of the children of an Index, of which one is wanted as a constant
     behind_first : (c : ℕ) (cs : List ℕ) (n : ℕ) → rules_of.is_constant_wanted (wanted_in_brackets f (begins_instance f (c ∷ cs)) (is_first_of f (c ∷ cs) n)) ≡ true → (is_kind f kind.Name c ≡ true) × ((c == n) ≡ false)
@@ -219,31 +219,31 @@ module _ (t : Tables) (scope : Scope) (library : List Specification) (refused : 
         by true is false d e h = absurd (true≢false (sym h))
         by false is b d e h = absurd (true≢false (sym h))
 
-    index_same : AreParametersKnown r → (p n : ℕ) (cs : List ℕ) → children f p ≡ cs → parent f n ≡ Some p → rules_of.is_constant_wanted (wanted_in_brackets f (begins_instance f cs) (is_first_of f cs n)) ≡ true → wants.wants_type_in f kind.Index p cs n ≡ named.takes_type_before r cs n
-    index_same parameters p n [] is round h = refl
-    index_same parameters p n (c ∷ cs) is round h =
+    index_same : (p n : ℕ) (cs : List ℕ) → children f p ≡ cs → parent f n ≡ Some p → rules_of.is_constant_wanted (wanted_in_brackets f (begins_instance f cs) (is_first_of f cs n)) ≡ true → wants.wants_type_in f kind.Index p cs n ≡ named.takes_type_before r cs n
+    index_same p n [] is round h = refl
+    index_same p n (c ∷ cs) is round h =
         let first = behind_first c cs n h in
         let place : read.place_in r n ≡ (if c == n then 0 else suc (place_in f cs n)) = are.places n p round ∙ ap (λ (xs : List ℕ). place_in f xs n) is in
         let next : read.place_in r n ≡ suc (place_in f cs n) = place ∙ ap (λ (b : Bool). if b then 0 else suc (place_in f cs n)) first.1 in
-        takes_same parameters cs c n (read.place_in r n - 1) (are.named c (same_kind kind.Name (kind_at nodes c) first.0)) (omega (arith, next))
+        takes_same cs c n (read.place_in r n - 1) (are.named c (same_kind kind.Name (kind_at nodes c) first.0)) (omega (arith, next))
 
-    wants_in : AreParametersKnown r → (n p : ℕ) → parent f n ≡ Some p → rules_of.is_constant_wanted (wants.wanted f n) ≡ true → (k : NodeKind) → kind_at nodes p ≡ k → wants.wants_type_in f k p (children f p) n ≡ named.wants_type_in r k p n
-    wants_in parameters n p round h kind.Equate is = ap has_no_name (names_same (slice_get nodes p))
-    wants_in parameters n p round h kind.NameT is = takes_same parameters (children f p) p n (read.place_in r n) (are.named_types p is) (are.places n p round)
-    wants_in parameters n p round h kind.Index is =
+    wants_in : (n p : ℕ) → parent f n ≡ Some p → rules_of.is_constant_wanted (wants.wanted f n) ≡ true → (k : NodeKind) → kind_at nodes p ≡ k → wants.wants_type_in f k p (children f p) n ≡ named.wants_type_in r k p n
+    wants_in n p round h kind.Equate is = ap has_no_name (names_same (slice_get nodes p))
+    wants_in n p round h kind.NameT is = takes_same (children f p) p n (read.place_in r n) (are.named_types p is) (are.places n p round)
+    wants_in n p round h kind.Index is =
         let inside : checking.is_kind_at f kind.Index (parent f n) ≡ true = ap (checking.is_kind_at f kind.Index) round ∙ ap (is_of kind.Index) is in
         let brackets : wants.wanted f n ≡ wanted_in_brackets f (begins_instance f (children f p)) (is_first_of f (children f p) n) =
         ap (λ (b : Bool). wants.wanted_by f b n) inside ∙ ap (λ (o : Option ℕ). wanted_in_brackets f (begins_instance f (children_at f o)) (is_first_of f (children_at f o) n)) round in
-        index_same parameters p n (children f p) refl round (sym (ap rules_of.is_constant_wanted brackets) ∙ h)
+        index_same p n (children f p) refl round (sym (ap rules_of.is_constant_wanted brackets) ∙ h)
         ∙ ap (λ (cs : List ℕ). named.takes_type_before r cs n) (children_same (slice_get nodes p))
-    wants_in parameters n p round h _ is = refl
+    wants_in n p round h _ is = refl
 
-    pub wants_same : AreParametersKnown r → (n : ℕ) → rules_of.is_constant_wanted (wants.wanted f n) ≡ true → wants.wants_type f n ≡ named.wants_type r n
-    wants_same parameters n h = by (parent f n) refl
+    pub wants_same : (n : ℕ) → rules_of.is_constant_wanted (wants.wanted f n) ≡ true → wants.wants_type f n ≡ named.wants_type r n
+    wants_same n h = by (parent f n) refl
       where
         by : (o : Option ℕ) → parent f n ≡ o → wants.wants_type_at f o n ≡ named.wants_type_at r o n
         by None round = refl
-        by (Some p) round = wants_in parameters n p round h (kind_at nodes p) refl
+        by (Some p) round = wants_in n p round h (kind_at nodes p) refl
 
     -- ---- names of bad equates
 

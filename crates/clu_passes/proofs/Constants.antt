@@ -59,7 +59,7 @@ use Rattle.clu_bindings.specs.Readers.{value_in, wanted_in, meaning_in, module_o
 use Rattle.clu_bindings.specs.Named as named
 use Rattle.clu_name_rules.specs.declared.tables.Tables.{Tables}
 use Rattle.clu_name_rules.specs.ConstantRules as of_tables
-use Rattle.clu_passes.specs.ConstantTables.{file_with, Means, is_equated, wanted_told, AreTables, AreBad, AreBracketsKnown, AreParametersKnown, IsKnown, IsEquateKnown, IsFirstKnown, IsIndexKnown, IsWantedKnown}
+use Rattle.clu_passes.specs.ConstantTables.{file_with, Means, is_equated, wanted_told, AreTables, AreBad, AreBracketsKnown, IsKnown, IsEquateKnown, IsFirstKnown, IsIndexKnown, IsOperatorKnown, IsTypeNameKnown, IsWantedKnown}
 use Rattle.clu_passes.proofs.ByNodes.{any_mapped}
 use Rattle.clu_passes.proofs.ByNodes as by_nodes
 use Rattle.clu_declares.proofs.Below.{same_kind}
@@ -143,6 +143,29 @@ or_five false true c d e = refl
 or_five false false true d e = refl
 or_five false false false d e = refl
 
+second : (a b c : Bool) → b ≡ true → (a || (b || c)) ≡ true
+second true b c e = refl
+second false b c e = ap (λ (x : Bool). x || c) e
+
+fourth : (a b c d e : Bool) → d ≡ true → (a || (b || (c || (d || e)))) ≡ true
+fourth true b c d e h = refl
+fourth false true c d e h = refl
+fourth false false true d e h = refl
+fourth false false false d e h = ap (λ (x : Bool). x || e) h
+
+operator_known_in : (r : Read) (k : NodeKind) (n : ℕ) → IsKnown r n → IsOperatorKnown r k n
+operator_known_in r kind.Infix n known = known
+operator_known_in r kind.Prefix n known = known
+operator_known_in r kind.Paren n known = known
+operator_known_in r kind.File n known = tt
+operator_known_in r _ n known = tt
+
+type_name_known_in : (r : Read) (k : NodeKind) (n : ℕ) → IsEquateKnown r (meaning_in r n) → IsTypeNameKnown r k n
+type_name_known_in r kind.NameT n known = known
+type_name_known_in r kind.Simple n known = λ word. known
+type_name_known_in r kind.File n known = tt
+type_name_known_in r _ n known = tt
+
 second_same : (its : List Identifier) → 2 ≤ length its → not (bytes_eq (name_at 1 its) (first_name its)) ≡ of_tables.is_second_other its
 second_same [] more = absurd (omega (arith, more))
 second_same (a ∷ []) more = absurd (omega (arith, more))
@@ -214,22 +237,22 @@ module _ (t : Tables) (scope : Scope) (library : List Specification) (refused : 
     no_value : (n : ℕ) → IsKnown r n → is_expression (kind_at nodes n) ≡ true → rules_of.is_no_value f n ≡ not (of_tables.is_constant_value (value_in r n))
     no_value n known e = ap not (constant_value types_there r.constants.now (value_in r n) (value_settled scope (item f n).constant) known (so.value_agrees t scope library refused shaped tree are n known (expression_is_constant nodes n e)))
 
-    no_constant : (n : ℕ) → IsKnown r n → IsIndexKnown r n → (k : NodeKind) → kind_at nodes n ≡ k → rules_of.is_no_constant f k n ≡ of_tables.is_no_constant r k n
-    no_constant n known brackets kind.Literal is = refl
-    no_constant n known brackets kind.Name is = named_object n is
-    no_constant n known brackets kind.Index is = index_is n brackets is
-    no_constant n known brackets kind.Infix is = no_value n known (ap is_expression is)
-    no_constant n known brackets kind.Prefix is = no_value n known (ap is_expression is)
-    no_constant n known brackets kind.Paren is = no_value n known (ap is_expression is)
-    no_constant n known brackets _ is = refl
+    no_constant : (n : ℕ) → IsIndexKnown r n → (k : NodeKind) → IsOperatorKnown r k n → kind_at nodes n ≡ k → rules_of.is_no_constant f k n ≡ of_tables.is_no_constant r k n
+    no_constant n brackets kind.Literal known is = refl
+    no_constant n brackets kind.Name known is = named_object n is
+    no_constant n brackets kind.Index known is = index_is n brackets is
+    no_constant n brackets kind.Infix known is = no_value n known (ap is_expression is)
+    no_constant n brackets kind.Prefix known is = no_value n known (ap is_expression is)
+    no_constant n brackets kind.Paren known is = no_value n known (ap is_expression is)
+    no_constant n brackets _ known is = refl
 
-    neither_same : (n : ℕ) → IsKnown r n → AreBracketsKnown r n → rules_of.is_neither f n ≡ of_tables.is_neither r n
+    neither_same : (n : ℕ) → IsOperatorKnown r (kind_at nodes n) n → AreBracketsKnown r n → rules_of.is_neither f n ≡ of_tables.is_neither r n
     neither_same n known brackets =
         ap (λ (b : Bool). b && rules_of.is_no_constant f (kind_in f n) n) (so.constant_wanted_at t scope library refused shaped tree are n brackets.round)
-        ∙ ap (λ (b : Bool). of_tables.is_constant_wanted (wanted_in r n) && b) (no_constant n known brackets.own (kind_at nodes n) refl)
+        ∙ ap (λ (b : Bool). of_tables.is_constant_wanted (wanted_in r n) && b) (no_constant n brackets.own (kind_at nodes n) known refl)
 
-    neither_wants : AreParametersKnown r → (n : ℕ) → rules_of.is_neither f n ≡ true → wants.wants_type f n ≡ named.wants_type r n
-    neither_wants parameters n h = so.wants_same t scope library refused shaped tree are parameters n (and_parts (rules_of.is_constant_wanted (wants.wanted f n)) (rules_of.is_no_constant f (kind_in f n) n) h).0
+    neither_wants : (n : ℕ) → rules_of.is_neither f n ≡ true → wants.wants_type f n ≡ named.wants_type r n
+    neither_wants n h = so.wants_same t scope library refused shaped tree are n (and_parts (rules_of.is_constant_wanted (wants.wanted f n)) (rules_of.is_no_constant f (kind_in f n) n) h).0
 
     -- ---- right sides of equates
 
@@ -237,7 +260,7 @@ module _ (t : Tables) (scope : Scope) (library : List Specification) (refused : 
     stands_same k other None = refl
     stands_same k other (Some p) = there_is k other (slice_get nodes p)
 
-    side_same : (n : ℕ) → rules_of.is_right_side f n ≡ of_tables.is_right_side r n
+    pub side_same : (n : ℕ) → rules_of.is_right_side f n ≡ of_tables.is_right_side r n
     side_same n =
         ap (λ (b : Bool). b && not (is_kind f kind.TypeSet n)) (stands_same kind.Equate refl (parent f n))
         ∙ ap (λ (b : Bool). bound.stands_in nodes r.rounds.now kind.Equate n && not b) (there_is kind.TypeSet refl (slice_get nodes n))
@@ -256,15 +279,15 @@ module _ (t : Tables) (scope : Scope) (library : List Specification) (refused : 
     long_type (value.Constant k) s known within e = ap rules_of.is_long_type e
     long_type (value.Parameter k) s known within e = ap rules_of.is_long_type e
 
-    too_long_constant : (n : ℕ) → IsKnown r n → rules_of.is_too_long f rules_of.is_long_constant n ≡ (of_tables.is_right_side r n && of_tables.is_long_constant t.long_constants.now (value_in r n))
+    pub too_long_constant : (n : ℕ) → (is_constant nodes n ≡ true → IsKnown r n) → rules_of.is_too_long f rules_of.is_long_constant n ≡ (of_tables.is_right_side r n && of_tables.is_long_constant t.long_constants.now (value_in r n))
     too_long_constant n known =
         guarded (rules_of.is_right_side f n) (of_tables.is_right_side r n) (rules_of.is_long_constant (value_settled scope (item f n).constant)) (of_tables.is_long_constant t.long_constants.now (value_in r n)) (side_same n)
-        (λ h. long_constant (value_in r n) (value_settled scope (item f n).constant) known (so.value_within t scope library refused shaped tree are n) (so.value_agrees t scope library refused shaped tree are n known (are.sides n h)))
+        (λ h. long_constant (value_in r n) (value_settled scope (item f n).constant) (known (are.sides n h)) (so.value_within t scope library refused shaped tree are n) (so.value_agrees t scope library refused shaped tree are n (known (are.sides n h)) (are.sides n h)))
 
-    too_long_type : (n : ℕ) → IsKnown r n → rules_of.is_too_long f rules_of.is_long_type n ≡ (of_tables.is_right_side r n && of_tables.is_long_type t.long_types.now (value_in r n))
+    pub too_long_type : (n : ℕ) → (is_constant nodes n ≡ true → IsKnown r n) → rules_of.is_too_long f rules_of.is_long_type n ≡ (of_tables.is_right_side r n && of_tables.is_long_type t.long_types.now (value_in r n))
     too_long_type n known =
         guarded (rules_of.is_right_side f n) (of_tables.is_right_side r n) (rules_of.is_long_type (value_settled scope (item f n).constant)) (of_tables.is_long_type t.long_types.now (value_in r n)) (side_same n)
-        (λ h. long_type (value_in r n) (value_settled scope (item f n).constant) known (so.value_within t scope library refused shaped tree are n) (so.value_agrees t scope library refused shaped tree are n known (are.sides n h)))
+        (λ h. long_type (value_in r n) (value_settled scope (item f n).constant) (known (are.sides n h)) (so.value_within t scope library refused shaped tree are n) (so.value_agrees t scope library refused shaped tree are n (known (are.sides n h)) (are.sides n h)))
 
     -- ---- the right side of `rep`
 
@@ -281,16 +304,20 @@ module _ (t : Tables) (scope : Scope) (library : List Specification) (refused : 
     rep_stands None h = absurd (true≢false (sym h))
     rep_stands (Some e) h = (and_parts (is_kind f kind.Equate e) (has_no_name (names f e)) h).0
 
-    side_known : (items : ℕ → Item) (n : ℕ) → IsKnown r n → (k : NodeKind) → kind_at nodes n ≡ k → (is_of kind.TypeSet k ≡ false → is_constant nodes n ≡ true) → rules_of.is_no_type_side f k n ≡ of_tables.is_no_type_side r items k n
+    side_known : (items : ℕ → Item) (n : ℕ) → (is_constant nodes n ≡ true → IsKnown r n) → (k : NodeKind) → kind_at nodes n ≡ k → (is_of kind.TypeSet k ≡ false → is_constant nodes n ≡ true) → rules_of.is_no_type_side f k n ≡ of_tables.is_no_type_side r items k n
     side_known items n known kind.TypeSet is is_so = refl
     side_known items n known _ is is_so =
-        ap (λ (b : Bool). not b && not (rules_of.is_real_literal (item f n).expression)) (type_value types_there r.constants.now (value_in r n) (value_settled scope (item f n).constant) known (so.value_agrees t scope library refused shaped tree are n known (is_so refl)))
+        ap (λ (b : Bool). not b && not (rules_of.is_real_literal (item f n).expression)) (type_value types_there r.constants.now (value_in r n) (value_settled scope (item f n).constant) (known (is_so refl)) (so.value_agrees t scope library refused shaped tree are n (known (is_so refl)) (is_so refl)))
         ∙ ap (λ (b : Bool). not (of_tables.is_type_value (value_in r n)) && not b) (real_is items nodes n)
 
-    bad_rep : (items : ℕ → Item) (n : ℕ) → IsKnown r n → rules_of.is_bad_rep f n ≡ of_tables.is_bad_rep r items n
-    bad_rep items n known =
+    -- where both say the same of what no type is there
+    pub bad_rep_by : (items : ℕ → Item) (n : ℕ) → ((is_of kind.TypeSet (kind_at nodes n) ≡ false → is_constant nodes n ≡ true) → rules_of.is_no_type_side f (kind_in f n) n ≡ of_tables.is_no_type_side r items (kind_at nodes n) n) → rules_of.is_bad_rep f n ≡ of_tables.is_bad_rep r items n
+    bad_rep_by items n same =
         guarded (rules_of.is_rep_equate f (parent f n)) (of_tables.is_rep_at r (parent f n)) (rules_of.is_no_type_side f (kind_in f n) n) (of_tables.is_no_type_side r items (kind_at nodes n) n) (rep_at_same (parent f n))
-        (λ h. side_known items n known (kind_at nodes n) refl (λ other. are.sides n (ap (λ (b : Bool). b && not (is_kind f kind.TypeSet n)) (rep_stands (parent f n) h) ∙ ap not other)))
+        (λ h. same (λ apart. are.sides n (ap (λ (b : Bool). b && not (is_kind f kind.TypeSet n)) (rep_stands (parent f n) h) ∙ ap not apart)))
+
+    pub bad_rep : (items : ℕ → Item) (n : ℕ) → (is_constant nodes n ≡ true → IsKnown r n) → rules_of.is_bad_rep f n ≡ of_tables.is_bad_rep r items n
+    bad_rep items n known = bad_rep_by items n (side_known items n known (kind_at nodes n) refl)
 
     -- ---- names of types
 
@@ -326,13 +353,13 @@ module _ (t : Tables) (scope : Scope) (library : List Specification) (refused : 
     no_rep_same n meant.RoutineOfCluster m known is = ap (no_rep n) is
     no_rep_same n (meant.Module its) m known is = ap (no_rep n) is
 
-    no_type_rep : (items : ℕ → Item) (n : ℕ) → IsEquateKnown r (meaning_in r n) → kind_at nodes n ≡ kind.Simple → rules_of.is_no_type_rep f n ≡ of_tables.is_no_type_rep r items n
+    no_type_rep : (items : ℕ → Item) (n : ℕ) → (rules_of.is_word simple.Rep (item f n).type ≡ true → IsEquateKnown r (meaning_in r n)) → kind_at nodes n ≡ kind.Simple → rules_of.is_no_type_rep f n ≡ of_tables.is_no_type_rep r items n
     no_type_rep items n known is = by (rules_of.is_word simple.Rep (item f n).type) refl ∙ ap (λ (b : Bool). b && (of_tables.is_of_cluster r n && not (of_tables.names_equated_type r (meaning_in r n)))) (word_is items nodes n is simple.Rep)
       where
         named_so : rules_of.is_word simple.Rep (item f n).type ≡ true → (is_none (equate_named f n rep) || rules_of.is_no_type_name f n rep) ≡ not (of_tables.names_equated_type r (meaning_in r n))
         named_so word =
             ap (λ (b : Bool). b || rules_of.is_no_type_name f n rep) (none_is (equate_named f n rep) ∙ ap not (are.equates n rep))
-            ∙ no_rep_same n (meaning_in r n) (meaning f n rep) known (are.reps n is word)
+            ∙ no_rep_same n (meaning_in r n) (meaning f n rep) (known word) (are.reps n is word)
 
         by : (b : Bool) → rules_of.is_word simple.Rep (item f n).type ≡ b →
             (b && rules_of.is_cluster_round f n && (is_none (equate_named f n rep) || rules_of.is_no_type_name f n rep)) ≡ (b && (of_tables.is_of_cluster r n && not (of_tables.names_equated_type r (meaning_in r n))))
@@ -385,50 +412,55 @@ module _ (t : Tables) (scope : Scope) (library : List Specification) (refused : 
         ∙ second_same x.node.names (omega (arith, least, size))
         ∙ ap (λ (its : Option Node). of_tables.is_second_other (names_of its)) (sym x.at)
 
-    no_type : (items : ℕ → Item) (n : ℕ) → IsEquateKnown r (meaning_in r n) → (k : NodeKind) → kind_at nodes n ≡ k → rules_of.is_no_type f k n ≡ of_tables.is_no_type r items k n
-    no_type items n known kind.NameT is = let m = are.named_types n is in no_type_same n (first_name_at f n) (meaning_in r n) (meaning f n (first_name_at f n)) known m.means m.routine
-    no_type items n known kind.Simple is = no_type_rep items n known is
-    no_type items n known kind.Restrict is =
+    no_type : (items : ℕ → Item) (n : ℕ) (k : NodeKind) → IsTypeNameKnown r k n → kind_at nodes n ≡ k → rules_of.is_no_type f k n ≡ of_tables.is_no_type r items k n
+    no_type items n kind.NameT known is = let m = are.named_types n is in no_type_same n (first_name_at f n) (meaning_in r n) (meaning f n (first_name_at f n)) known m.means m.routine
+    no_type items n kind.Simple known is = no_type_rep items n known is
+    no_type items n kind.Restrict known is =
         ap (λ (b : Bool). not b || rules_of.has_no_set f (item f n).restriction) (parameter_same (meaning_in r n) (meaning f n (first_name_at f n)) (are.restricted n is))
         ∙ ap (λ (b : Bool). not (of_tables.is_type_parameter (meaning_in r n)) || b) (no_set items n is)
-    no_type items n known kind.TypeSet is = other_variable n is
-    no_type items n known _ is = refl
+    no_type items n kind.TypeSet known is = other_variable n is
+    no_type items n _ known is = refl
 
     module _ (bits : List Bool) (bad : ℕ → Bool) (are_bad : AreBad f bits bad) where
       -- ---- V8 and V9
 
-      round_wanted : AreParametersKnown r → (o : Option ℕ) → ((p : ℕ) → o ≡ Some p → IsWantedKnown r p) → rules_of.wants_type_round f bad o ≡ of_tables.wants_type_round r o
-      round_wanted parameters None known = refl
-      round_wanted parameters (Some p) known = guarded (rules_of.is_constant_wanted (wants.wanted f p)) (of_tables.is_constant_wanted (wanted_in r p)) (wants.wants_type f p) (named.wants_type r p) (so.constant_wanted_at t scope library refused shaped tree are p (known p refl)) (so.wants_same t scope library refused shaped tree are parameters p)
+      round_wanted : (o : Option ℕ) → ((p : ℕ) → o ≡ Some p → IsWantedKnown r p) → rules_of.wants_type_round f bad o ≡ of_tables.wants_type_round r o
+      round_wanted None known = refl
+      round_wanted (Some p) known = guarded (rules_of.is_constant_wanted (wants.wanted f p)) (of_tables.is_constant_wanted (wanted_in r p)) (wants.wants_type f p) (named.wants_type r p) (so.constant_wanted_at t scope library refused shaped tree are p (known p refl)) (so.wants_same t scope library refused shaped tree are p)
 
-      type_wanted : AreParametersKnown r → (n : ℕ) → AreBracketsKnown r n → rules_of.is_type_wanted f bad (wants.wanted f n) n ≡ of_tables.is_type_wanted r (wanted_in r n) n
-      type_wanted parameters n brackets = by (wanted_in r n) (sym (are.wanted n brackets.round))
+      type_wanted : (n : ℕ) → AreBracketsKnown r n → rules_of.is_type_wanted f bad (wants.wanted f n) n ≡ of_tables.is_type_wanted r (wanted_in r n) n
+      type_wanted n brackets = by (wanted_in r n) (sym (are.wanted n brackets.round))
         where
           by : (w : WantedThere) → wants.wanted f n ≡ wanted_told w → rules_of.is_type_wanted f bad (wants.wanted f n) n ≡ of_tables.is_type_wanted r w n
-          by wanted.Constant is = ap (λ (w : Wanted). rules_of.is_type_wanted f bad w n) is ∙ so.wants_same t scope library refused shaped tree are parameters n (ap rules_of.is_constant_wanted is)
-          by wanted.NameWithActuals is = ap (λ (w : Wanted). rules_of.is_type_wanted f bad w n) is ∙ round_wanted parameters (parent f n) brackets.above
+          by wanted.Constant is = ap (λ (w : Wanted). rules_of.is_type_wanted f bad w n) is ∙ so.wants_same t scope library refused shaped tree are n (ap rules_of.is_constant_wanted is)
+          by wanted.NameWithActuals is = ap (λ (w : Wanted). rules_of.is_type_wanted f bad w n) is ∙ round_wanted (parent f n) brackets.above
           by wanted.Object is = ap (λ (w : Wanted). rules_of.is_type_wanted f bad w n) is
           by wanted.Objects is = ap (λ (w : Wanted). rules_of.is_type_wanted f bad w n) is
           by wanted.LoopCall is = ap (λ (w : Wanted). rules_of.is_type_wanted f bad w n) is
           by wanted.Type is = ap (λ (w : Wanted). rules_of.is_type_wanted f bad w n) is
           by wanted.Nothing is = ap (λ (w : Wanted). rules_of.is_type_wanted f bad w n) is
 
-      name_bad : (n : ℕ) → kind_at nodes n ≡ kind.Name → equates.is_bad_name f bad n (first_name_at f n) ≡ of_tables.is_bad_first t bits n
+      pub name_bad : (n : ℕ) → kind_at nodes n ≡ kind.Name → equates.is_bad_name f bad n (first_name_at f n) ≡ of_tables.is_bad_first t bits n
       name_bad n is = so.bad_first t scope library refused shaped tree are bits bad are_bad n kind.Name refl (λ node. refl) refl is
 
-      bad_constant : AreParametersKnown r → (n : ℕ) → AreBracketsKnown r n → (k : NodeKind) → kind_at nodes n ≡ k → rules_of.has_bad_constant f bad k n ≡ of_tables.has_bad_constant t bits k n
-      bad_constant parameters n brackets kind.Name is =
+      pub bad_constant : (n : ℕ) → AreBracketsKnown r n → (k : NodeKind) → kind_at nodes n ≡ k → rules_of.has_bad_constant f bad k n ≡ of_tables.has_bad_constant t bits k n
+      bad_constant n brackets kind.Name is =
           ap (λ (b : Bool). b && not (rules_of.is_type_wanted f bad (wants.wanted f n) n)) (name_bad n is)
-          ∙ ap (λ (b : Bool). of_tables.is_bad_first t bits n && not b) (type_wanted parameters n brackets)
-      bad_constant parameters n brackets _ is = refl
+          ∙ ap (λ (b : Bool). of_tables.is_bad_first t bits n && not b) (type_wanted n brackets)
+      bad_constant n brackets _ is = refl
 
-      pub v8_is : (n : ℕ) → IsKnown r n → AreBracketsKnown r n → AreParametersKnown r → rules_of.v8 f bad n ≡ of_tables.v8 t bits n
-      v8_is n known brackets parameters =
+      -- where both say the same of a text that is too long
+      pub v8_by : (n : ℕ) → IsOperatorKnown r (kind_at nodes n) n → AreBracketsKnown r n →
+          rules_of.is_too_long f rules_of.is_long_constant n ≡ (of_tables.is_right_side r n && of_tables.is_long_constant t.long_constants.now (value_in r n)) → rules_of.v8 f bad n ≡ of_tables.v8 t bits n
+      v8_by n known brackets long =
           ap (λ (a : Bool). a || rules_of.has_bad_constant f bad (kind_in f n) n || rules_of.is_too_long f rules_of.is_long_constant n)
-          (guarded (rules_of.is_neither f n) (of_tables.is_neither r n) (not (wants.wants_type f n)) (not (named.wants_type r n)) (neither_same n known brackets) (λ h. ap not (neither_wants parameters n h)))
-          ∙ ap (λ (b : Bool). (of_tables.is_neither r n && not (named.wants_type r n)) || b || rules_of.is_too_long f rules_of.is_long_constant n) (bad_constant parameters n brackets (kind_at nodes n) refl)
-          ∙ ap (λ (c : Bool). (of_tables.is_neither r n && not (named.wants_type r n)) || of_tables.has_bad_constant t bits (kind_at nodes n) n || c) (too_long_constant n known)
+          (guarded (rules_of.is_neither f n) (of_tables.is_neither r n) (not (wants.wants_type f n)) (not (named.wants_type r n)) (neither_same n known brackets) (λ h. ap not (neither_wants n h)))
+          ∙ ap (λ (b : Bool). (of_tables.is_neither r n && not (named.wants_type r n)) || b || rules_of.is_too_long f rules_of.is_long_constant n) (bad_constant n brackets (kind_at nodes n) refl)
+          ∙ ap (λ (c : Bool). (of_tables.is_neither r n && not (named.wants_type r n)) || of_tables.has_bad_constant t bits (kind_at nodes n) n || c) long
           ∙ or_three (of_tables.is_neither r n && not (named.wants_type r n)) (of_tables.has_bad_constant t bits (kind_at nodes n) n) (of_tables.is_right_side r n && of_tables.is_long_constant t.long_constants.now (value_in r n))
+
+      pub v8_is : (n : ℕ) → IsKnown r n → AreBracketsKnown r n → rules_of.v8 f bad n ≡ of_tables.v8 t bits n
+      v8_is n known brackets = v8_by n (operator_known_in r (kind_at nodes n) n known) brackets (too_long_constant n (λ side. known))
 
       any_bad : (n : ℕ) (its : List Identifier) → list_any (equates.is_bad_name f bad n) its ≡ list_any (λ name. of_tables.is_bad t bits (found ds name n)) its
       any_bad n [] = refl
@@ -463,26 +495,42 @@ module _ (t : Tables) (scope : Scope) (library : List Specification) (refused : 
           ∙ ap (λ (its : Option Node). of_tables.is_bad t bits (optional (slice_get (bound_at ds n its) 0))) (sym x.at)
           ∙ ap (λ (bounds : List (Option ℕ)). of_tables.is_bad t bits (optional (slice_get bounds 0))) (sym (bound_is f r.names.now are.names n))
 
-      bad_type : AreParametersKnown r → (n : ℕ) → AreBracketsKnown r n → (k : NodeKind) → kind_at nodes n ≡ k → rules_of.has_bad_type f bad k n ≡ of_tables.has_bad_type t bits k n
-      bad_type parameters n brackets kind.Name is =
+      pub bad_type : (n : ℕ) → AreBracketsKnown r n → (k : NodeKind) → kind_at nodes n ≡ k → rules_of.has_bad_type f bad k n ≡ of_tables.has_bad_type t bits k n
+      bad_type n brackets kind.Name is =
           ap (λ (b : Bool). b && rules_of.is_type_wanted f bad (wants.wanted f n) n) (name_bad n is)
-          ∙ ap (λ (b : Bool). of_tables.is_bad_first t bits n && b) (type_wanted parameters n brackets)
-      bad_type parameters n brackets kind.NameT is = so.bad_first t scope library refused shaped tree are bits bad are_bad n kind.NameT refl (λ node. refl) refl is
-      bad_type parameters n brackets kind.Simple is = rep_bad n is
-      bad_type parameters n brackets kind.Restrict is = restricted_bad n is
-      bad_type parameters n brackets _ is = refl
+          ∙ ap (λ (b : Bool). of_tables.is_bad_first t bits n && b) (type_wanted n brackets)
+      bad_type n brackets kind.NameT is = so.bad_first t scope library refused shaped tree are bits bad are_bad n kind.NameT refl (λ node. refl) refl is
+      bad_type n brackets kind.Simple is = rep_bad n is
+      bad_type n brackets kind.Restrict is = restricted_bad n is
+      bad_type n brackets _ is = refl
 
-      pub v9_is : (items : ℕ → Item) (n : ℕ) → IsKnown r n → IsEquateKnown r (meaning_in r n) → AreBracketsKnown r n → AreParametersKnown r → rules_of.v9 f bad n ≡ of_tables.v9 t bits items n
-      v9_is items n known equated brackets parameters =
+      -- where both say the same of the right side of `rep` too
+      pub v9_by : (items : ℕ → Item) (n : ℕ) → IsOperatorKnown r (kind_at nodes n) n → IsTypeNameKnown r (kind_at nodes n) n → AreBracketsKnown r n → rules_of.is_bad_rep f n ≡ of_tables.is_bad_rep r items n →
+          rules_of.is_too_long f rules_of.is_long_type n ≡ (of_tables.is_right_side r n && of_tables.is_long_type t.long_types.now (value_in r n)) → rules_of.v9 f bad n ≡ of_tables.v9 t bits items n
+      v9_by items n known equated brackets rep_side long =
           let a : Bool = of_tables.is_neither r n && named.wants_type r n in
           let b : Bool = of_tables.is_bad_rep r items n in
           let c : Bool = of_tables.is_no_type r items (kind_at nodes n) n in
           let d : Bool = of_tables.has_bad_type t bits (kind_at nodes n) n in
           let e : Bool = of_tables.is_right_side r n && of_tables.is_long_type t.long_types.now (value_in r n) in
           ap (λ (x : Bool). x || rules_of.is_bad_rep f n || rules_of.is_no_type f (kind_in f n) n || rules_of.has_bad_type f bad (kind_in f n) n || rules_of.is_too_long f rules_of.is_long_type n)
-          (guarded (rules_of.is_neither f n) (of_tables.is_neither r n) (wants.wants_type f n) (named.wants_type r n) (neither_same n known brackets) (neither_wants parameters n))
-          ∙ ap (λ (x : Bool). a || x || rules_of.is_no_type f (kind_in f n) n || rules_of.has_bad_type f bad (kind_in f n) n || rules_of.is_too_long f rules_of.is_long_type n) (bad_rep items n known)
-          ∙ ap (λ (x : Bool). a || b || x || rules_of.has_bad_type f bad (kind_in f n) n || rules_of.is_too_long f rules_of.is_long_type n) (no_type items n equated (kind_at nodes n) refl)
-          ∙ ap (λ (x : Bool). a || b || c || x || rules_of.is_too_long f rules_of.is_long_type n) (bad_type parameters n brackets (kind_at nodes n) refl)
-          ∙ ap (λ (x : Bool). a || b || c || d || x) (too_long_type n known)
+          (guarded (rules_of.is_neither f n) (of_tables.is_neither r n) (wants.wants_type f n) (named.wants_type r n) (neither_same n known brackets) (neither_wants n))
+          ∙ ap (λ (x : Bool). a || x || rules_of.is_no_type f (kind_in f n) n || rules_of.has_bad_type f bad (kind_in f n) n || rules_of.is_too_long f rules_of.is_long_type n) rep_side
+          ∙ ap (λ (x : Bool). a || b || x || rules_of.has_bad_type f bad (kind_in f n) n || rules_of.is_too_long f rules_of.is_long_type n) (no_type items n (kind_at nodes n) equated refl)
+          ∙ ap (λ (x : Bool). a || b || c || x || rules_of.is_too_long f rules_of.is_long_type n) (bad_type n brackets (kind_at nodes n) refl)
+          ∙ ap (λ (x : Bool). a || b || c || d || x) long
           ∙ or_five a b c d e
+
+      pub v9_is : (items : ℕ → Item) (n : ℕ) → IsKnown r n → IsEquateKnown r (meaning_in r n) → AreBracketsKnown r n → rules_of.v9 f bad n ≡ of_tables.v9 t bits items n
+      v9_is items n known equated brackets =
+          v9_by items n (operator_known_in r (kind_at nodes n) n known) (type_name_known_in r (kind_at nodes n) n equated) brackets (bad_rep items n (λ side. known)) (too_long_type n (λ side. known))
+
+      -- the name of a bad equate where a type is wanted: V9 is violated by both, whatever else is lost
+      pub v9_of_bad : (items : ℕ → Item) (n : ℕ) → of_tables.has_bad_type t bits (kind_at nodes n) n ≡ true → of_tables.v9 t bits items n ≡ true
+      v9_of_bad items n hit =
+          fourth (of_tables.is_neither r n && named.wants_type r n) (of_tables.is_bad_rep r items n) (of_tables.is_no_type r items (kind_at nodes n) n) (of_tables.has_bad_type t bits (kind_at nodes n) n)
+          (of_tables.is_right_side r n && of_tables.is_long_type t.long_types.now (value_in r n)) hit
+
+      pub v8_of_bad : (n : ℕ) → of_tables.has_bad_constant t bits (kind_at nodes n) n ≡ true → of_tables.v8 t bits n ≡ true
+      v8_of_bad n hit =
+          second (of_tables.is_neither r n && not (named.wants_type r n)) (of_tables.has_bad_constant t bits (kind_at nodes n) n) (of_tables.is_right_side r n && of_tables.is_long_constant t.long_constants.now (value_in r n)) hit

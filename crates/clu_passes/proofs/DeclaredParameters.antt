@@ -91,7 +91,7 @@ module _ (t : Text) (nodes : List Node) (rounds : List Round) (parsed : IsParsed
       children_below : (c : ℕ) (th : There nodes c kind.Parm) → All (λ d. d < c) th.node.children
       children_below c th = parsed.tree.below c th.node th.at
 
-  parms_types : (d : ℕ) (cs : List ℕ) → AreParts nodes (is_of kind.Parm) d cs → AreTypes nodes (of_parms nodes cs) (types_in (parameters_at (before d (item_at nodes)) cs))
+  pub parms_types : (d : ℕ) (cs : List ℕ) → AreParts nodes (is_of kind.Parm) d cs → AreTypes nodes (of_parms nodes cs) (types_in (parameters_at (before d (item_at nodes)) cs))
   unfolding of_parms
   parms_types d [] ps = tt
   parms_types d (c ∷ cs) ps =
@@ -105,7 +105,7 @@ module _ (t : Text) (nodes : List Node) (rounds : List Round) (parsed : IsParsed
     abbrev pub facts : ModuleIs t nodes rounds parsed are u node
     facts = module_at t nodes rounds parsed are u node at is
 
-    last_is : last_child node ≡ facts.last
+    pub last_is : last_child node ≡ facts.last
     last_is = ap (λ (cs : List ℕ). get_or cs (length cs - 1) 0) (sym facts.is_last) ∙ last_of (run nodes kind.Equate node.children) facts.last
 
     pub headline_is : headline_at nodes u ≡ defined_in nodes (slice_get nodes facts.last)

@@ -15,7 +15,7 @@ use Rattle.clu_meaning.specs.Resolving.{heading_type}
 use Rattle.clu_checking.specs.Settled.{value_settled}
 use Rattle.clu_checking.specs.Specifications.{Demand, Heading, Form, of_routine, of_cluster, Specification, heading_named}
 use Rattle.clu_checking.specs.Files.{File, item, meaning, routine_round, cluster_round, variable_number}
-use Rattle.clu_checking.specs.Headings.{legal_type, kind_of_type, for_body, is_represented, is_refused_rep, is_refused_inside, place_at, own_type, known_inside, declared_parameter, parameter_type_of, parameter_type, routines_of, specification}
+use Rattle.clu_checking.specs.Headings.{legal_type, kind_of_parameter, for_body, is_represented, is_refused_rep, is_refused_inside, place_at, own_type, known_inside, declared_parameter, parameter_type_of, parameter_type, routines_of, specification}
 use Rattle.clu_checking.specs.Operations.{Found, is_given, given_of, builtin_type, builtin_found, routine_found, given_by_set, sets_round, given_by_sets, given_by_routine, given_by_cluster, given_at, exported_headings, headings_seen, given_found, operation_found}
 use Rattle.clu_checking.specs.Typing.{only, result_of, literal_type, constant_type, representation_of, found_in, heading_in, found_type, value_type, module_found, own_found, type_of_meaning, name_type, takes_actuals, sugar_found, sugar_type, infix_type, rep_value, representation, instance_found, index_type, type_of}
 use Rattle.clu_passes.specs.Ascending.{Ascends, TypesAscend, ActualsAscend, AscendsIf, SpecificationsAscend}
@@ -130,8 +130,8 @@ module _ (f : File) (library : SpecificationsAscend f.library) where
 
   -- ---- names
 
-  legal_up : (t : TypeExpression) → AscendsIf (legal_type (type_settled f.scope t) (kind_of_type (type_settled f.scope t)))
-  legal_up t = by (kind_of_type (type_settled f.scope t))
+  legal_up : (t : TypeExpression) → AscendsIf (legal_type (type_settled f.scope t) (kind_of_parameter f (Some t)))
+  legal_up t = by (kind_of_parameter f (Some t))
     where
       by : (k : Option ParamKind) → AscendsIf (legal_type (type_settled f.scope t) k)
       by (Some k) = type_settled_ascends f.scope t
@@ -178,13 +178,16 @@ module _ (f : File) (library : SpecificationsAscend f.library) where
   named_up n name is_module = found_type_up (module_found f name no_actuals) (module_up name no_actuals tt)
   named_up n name _ = tt
 
-  name_up : (n : ℕ) (name : Identifier) → AscendsIf (name_type f n name)
+  pub name_up : (n : ℕ) (name : Identifier) → AscendsIf (name_type f n name)
   name_up n name = named_up n name (meaning f n name)
 
   -- ---- sugar
 
-  sugar_up : (n : ℕ) (name : Identifier) (t : Option CluType) → AscendsIf t → AscendsIf (sugar_type f n name t)
+  pub sugar_up : (n : ℕ) (name : Identifier) (t : Option CluType) → AscendsIf t → AscendsIf (sugar_type f n name t)
   sugar_up n name t up = result_if_up (found_type (sugar_found f n name t)) (found_type_up (sugar_found f n name t) (operation_if_up n t up name))
+
+  pub sugar_result_up : (n : ℕ) (t : CluType) → Ascends t → (name : Identifier) → AscendsIf (option_and_then result_of (found_type (operation_found f n t name)))
+  sugar_result_up n t up name = result_if_up (found_type (operation_found f n t name)) (found_type_up (operation_found f n t name) (operation_found_up n t up name))
 
   infix_up : (n : ℕ) (its : Sugar) (t : Option CluType) → AscendsIf t → AscendsIf (infix_type f n its t)
   infix_up n is_cand t up = tt

@@ -158,7 +158,7 @@ module _ (t : Text) (nodes : List Node) (rounds : List Round) (parsed : IsParsed
   root = parsed.file.0
 
   -- a Module is a child of the root
-  of_root : (n : ℕ) (node : Node) → slice_get nodes n ≡ Some node → node.kind ≡ kind.Module → IsIn n root.children
+  pub of_root : (n : ℕ) (node : Node) → slice_get nodes n ≡ Some node → node.kind ≡ kind.Module → IsIn n root.children
   of_root n node at is = elim (cases_lt n (length nodes - 1)) [
     | inl less ↦ by (has_parent nodes parsed.order n less)
     | inr more ↦

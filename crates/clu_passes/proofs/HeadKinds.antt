@@ -1,4 +1,4 @@
--- The kinds of parameters that a head lists are those of the definition, where the types of the parameters are known.
+-- The kinds of parameters that a head lists are those of the definition.
 use Rattle.std.proofs.Common.{◌≡◌, ◌∙◌, ℕ, ◌<◌, List, [], ◌∷◌, ◌++◌, map, length, Option, Some, None, if◌then◌else◌, refl, sym, ap, subst}
 use Rattle.std.specs.Prelude.{All, flat_map, slice_get}
 use Rattle.std.proofs.lemmas.Option.{none-some, same_Some}
@@ -25,7 +25,8 @@ use Rattle.clu_settle.proofs.Within.{value_within}
 use Rattle.clu_head.specs.Outside.{times}
 use Rattle.clu_head.specs.ParameterKinds as head
 use Rattle.clu_head.specs.ParameterKinds.{kinds_of}
-use Rattle.clu_passes.specs.ParameterKinds.{kind_known, kind_by, kinds_at, IsKnownParm}
+use Rattle.clu_passes.specs.Legal.{AreLegalKnown}
+use Rattle.clu_passes.specs.ParameterKinds.{kind_known, kind_by, kinds_at, IsParm}
 use Rattle.clu_passes.proofs.Actuals.{type_kind}
 use Rattle.clu_passes.proofs.ParameterKinds.{kinds_are}
 
@@ -36,31 +37,33 @@ type_within types constants (value.Constant k) id within e = absurd (none-some i
 type_within types constants (value.Parameter k) id within e = absurd (none-some id e)
 type_within types constants (value.Type other) id within e = subst (λ (t : TypeId). t.0 < types) (same_Some other id e) within.0
 
-module _ (f : File) (types : List Term) (constants : List Const) (values : List Value) (settled : AreSettled f.nodes f.scope types constants values) (tree : IsTree f.nodes) (arena : IsArena types) where
-  kind_same : (o : Option ℕ) → ((c : ℕ) → o ≡ Some c → (id : TypeId) × (type_id (value_of values c) ≡ Some id)) → head.kind_declared types values o ≡ kind_by (types_of types) values o
-  kind_same None known = refl
-  kind_same (Some c) known =
-      let k = known c refl in
-      let less : k.0.0 < length types = type_within (length types) (length constants) (value_of values c) k.0 (value_within (length types) (length constants) values c settled.within) k.1 in
-      ap (head.kind_of_type types) k.1 ∙ sym (type_kind types arena k.0 less) ∙ ap (kind_known (types_of types)) (sym k.1)
+module _ (f : File) (types : List Term) (constants : List Const) (values : List Value) (settled : AreSettled f.nodes f.scope types constants values) (tree : IsTree f.nodes) (arena : IsArena types) (legal : AreLegalKnown f values) where
+  kind_same : (o : Option ℕ) → head.kind_declared types values o ≡ kind_by (types_of types) values o
+  kind_same None = refl
+  kind_same (Some c) = by (type_id (value_of values c)) refl
+    where
+      by : (k : Option TypeId) → type_id (value_of values c) ≡ k → head.kind_of_type types (type_id (value_of values c)) ≡ kind_known (types_of types) (type_id (value_of values c))
+      by None e = ap (head.kind_of_type types) e ∙ sym (ap (kind_known (types_of types)) e)
+      by (Some id) e =
+          let less : id.0 < length types = type_within (length types) (length constants) (value_of values c) id (value_within (length types) (length constants) values c settled.within) e in
+          ap (head.kind_of_type types) e ∙ sym (type_kind types arena id less) ∙ ap (kind_known (types_of types)) (sym e)
 
   of_parm : (node : Node) → node.kind ≡ kind.Parm → head.kinds_in types values f.nodes node ≡ times (head.kind_declared types values (type_of f.nodes node.children)) node.names
   of_parm node is = ap (λ (k : NodeKind). if is_of kind.Parm k then times (head.kind_declared types values (type_of f.nodes node.children)) node.names else []) is
 
-  kinds_same : (n : ℕ) → IsKnownParm f.nodes values n → head.kinds_at types values f.nodes (slice_get f.nodes n) ≡ kinds_at (types_of types) values f.nodes n
+  kinds_same : (n : ℕ) → IsParm f.nodes n → head.kinds_at types values f.nodes (slice_get f.nodes n) ≡ kinds_at (types_of types) values f.nodes n
   kinds_same n parm =
       ap (head.kinds_at types values f.nodes) parm.there
       ∙ of_parm parm.node parm.of_kind
-      ∙ ap (λ (k : Option ParamKind). map (λ name. k) parm.node.names)
-      (kind_same (type_of f.nodes parm.node.children) (λ c e. parm.known c (ap (λ (o : Option Node). type_of f.nodes (children_of o)) parm.there ∙ e)))
+      ∙ ap (λ (k : Option ParamKind). map (λ name. k) parm.node.names) (kind_same (type_of f.nodes parm.node.children))
       ∙ ap (λ (o : Option Node). map (λ name. kind_by (types_of types) values (type_of f.nodes (children_of o))) (names_of o)) (sym parm.there)
 
-  all_same : (ns : List ℕ) → All (IsKnownParm f.nodes values) ns → kinds_of types values f.nodes ns ≡ flat_map (kinds_at (types_of types) values f.nodes) ns
+  all_same : (ns : List ℕ) → All (IsParm f.nodes) ns → kinds_of types values f.nodes ns ≡ flat_map (kinds_at (types_of types) values f.nodes) ns
   unfolding kinds_of
   all_same [] all = refl
   all_same (n ∷ ns) all =
-      ap (λ (ks : List (Option ParamKind)). ks ++ kinds_of types values f.nodes ns) (kinds_same n (All-head (IsKnownParm f.nodes values) n ns all))
-      ∙ ap (λ (ks : List (Option ParamKind)). kinds_at (types_of types) values f.nodes n ++ ks) (all_same ns (All-tail (IsKnownParm f.nodes values) n ns all))
+      ap (λ (ks : List (Option ParamKind)). ks ++ kinds_of types values f.nodes ns) (kinds_same n (All-head (IsParm f.nodes) n ns all))
+      ∙ ap (λ (ks : List (Option ParamKind)). kinds_at (types_of types) values f.nodes n ++ ks) (all_same ns (All-tail (IsParm f.nodes) n ns all))
 
-  pub kinds_listed : (ns : List ℕ) → All (IsKnownParm f.nodes values) ns → kinds_of types values f.nodes ns ≡ kinds_in f (map (λ n. (item f n).parameter) ns)
-  kinds_listed ns all = all_same ns all ∙ sym (kinds_are f types constants values settled tree ns all)
+  pub kinds_listed : (ns : List ℕ) → All (IsParm f.nodes) ns → kinds_of types values f.nodes ns ≡ kinds_in f (map (λ n. (item f n).parameter) ns)
+  kinds_listed ns all = all_same ns all ∙ sym (kinds_are f types constants values settled tree legal ns all)

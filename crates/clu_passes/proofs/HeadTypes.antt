@@ -156,8 +156,25 @@ module _ (k : Known) (scope : Scope) (library : List Specification) (refused : L
               (type_found new arena id (term_of (routines.kind_in x.node) h) found (slice_get_within new id.0 (term_of (routines.kind_in x.node) h) found)
               ∙ heading_told f shaped tree place new constants k.values.now known own home n x h so)
 
+      -- a head that has a type has that of the definition
+      pub type_there : (id : TypeId) → IsNumbered old new made (Some id) → Some (type_at (types_of new) id) ≡ (heading_of f place r).type
+      type_there id is = by (headings.is_refused_heading f r) refl outside refl
+        where
+          by : (b : Bool) → headings.is_refused_heading f r ≡ b → (o : Option Heading) → outside ≡ o → Some (type_at (types_of new) id) ≡ (if b then None else Some (outside_type f place r))
+          by true refused o so = absurd (subst (λ (t : Option Term). IsNumbered old new t (Some id)) (made_is true o refused so) is)
+          by false refused None so = absurd (subst (λ (t : Option Term). IsNumbered old new t (Some id)) (made_is false None refused so) is)
+          by false refused (Some h) so =
+              let found : slice_get new id.0 ≡ Some (term_of (routines.kind_in x.node) h) = subst (λ (t : Option Term). IsNumbered old new t (Some id)) (made_is false (Some h) refused so) is in
+              ap Some
+              (type_found new arena id (term_of (routines.kind_in x.node) h) found (slice_get_within new id.0 (term_of (routines.kind_in x.node) h) found)
+              ∙ heading_told f shaped tree place new constants k.values.now known own home n x h so)
+
   pub head_type : (n : ℕ) (node : Node) → slice_get nodes n ≡ Some node → node.kind ≡ kind.Routine → (place : Place) (old new : List Term) → IsArena new → (constants : List Const) → AreSettled nodes place.scope new constants k.values.now → (own : Option TypeId) → option_map (type_at (types_of new)) own ≡ place.home
       → (heading_outside own nodes k.values.now (arguments_in nodes node) (results_in nodes node) (exceptions_in nodes node) ≡ None → headings.is_refused_heading f (item_at nodes n).routine ≡ true)
       → ((t : Term) → term_at k own n (slice_get nodes n) ≡ Some t → PartsBelow (length old) t)
       → (of : Option TypeId) → IsNumbered old new (term_at k own n (slice_get nodes n)) of → option_map (type_at (types_of new)) of ≡ (heading_of f place (item_at nodes n).routine).type
   head_type n node at is place old new arena constants known own home = type_told n (record { node = node; at = at; is = is }) place old new arena constants known own home
+
+  pub head_there : (n : ℕ) (node : Node) → slice_get nodes n ≡ Some node → node.kind ≡ kind.Routine → (place : Place) (old new : List Term) → IsArena new → (constants : List Const) → AreSettled nodes place.scope new constants k.values.now → (own : Option TypeId) → option_map (type_at (types_of new)) own ≡ place.home
+      → (id : TypeId) → IsNumbered old new (term_at k own n (slice_get nodes n)) (Some id) → Some (type_at (types_of new) id) ≡ (heading_of f place (item_at nodes n).routine).type
+  head_there n node at is place old new arena constants known own home = type_there n (record { node = node; at = at; is = is }) place old new arena constants known own home

@@ -137,7 +137,7 @@ as_kinds : (nodes : List Node) (cs : List ℕ) → AllByRecursion (λ (k : NodeK
 as_kinds nodes [] all = tt
 as_kinds nodes (c ∷ cs) all = (all.0, as_kinds nodes cs all.1)
 
-children_pass : (nodes : List Node) → HaveForms nodes → (i : ℕ) (its : Node) → slice_get nodes i ≡ Some its → is_of_constant its.kind ≡ true → Pass nodes is_of_constant its.children
+pub children_pass : (nodes : List Node) → HaveForms nodes → (i : ℕ) (its : Node) → slice_get nodes i ≡ Some its → is_of_constant its.kind ≡ true → Pass nodes is_of_constant its.children
 children_pass nodes shaped i its at is = as_kinds nodes its.children (all_fit (slots its.kind) (map (kind_at nodes) its.children) (slots_fit its.kind is) (children_fit nodes shaped i its at))
 
 pub in_constants : (nodes : List Node) (rounds : List Round) → HaveForms nodes → IsPostOrder nodes → IsTree nodes → AreRounds nodes rounds → (e : ℕ) (its : Node) → slice_get nodes e ≡ Some its → is_of_constant its.kind ≡ true →

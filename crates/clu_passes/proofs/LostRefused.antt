@@ -2,19 +2,16 @@
 use Rattle.std.proofs.Common.{◌≡◌, ◌∙◌, ◌⊎◌, ℕ, zero, suc, ◌+◌, ◌-◌, ◌^◌, ◌==◌, ◌<◌, ◌≤◌, if◌then◌else◌, ◌&&◌, ◌||◌, not, nat_le, nat_lt, Bool, true, false, List, [], ◌∷◌, ◌++◌, length, map, codes, is_some, Option, Some, None, inl, inr, refl, sym, ap, subst, arith, rules}
 use Rattle.std.specs.Prelude.{slice_get}
 use Rattle.std.specs.List.{list_any, range_with_len, AllByRecursion}
-use Rattle.std.proofs.lemmas.Bool.{true≢false, cases_lt, cases_Bool}
+use Rattle.std.proofs.lemmas.Bool.{true≢false, cases_lt}
 use Rattle.std.proofs.lemmas.Option.{none-some, same_Some, slice_get_within, slice_get_past}
 use Rattle.clu_base.specs.declared.rules.Rule.{Rule}
 use Rattle.clu_base.specs.declared.rules.Rule.TheVariants as rule
 use Rattle.clu_tree.specs.declared.node.Node.{Node}
 use Rattle.clu_tree.specs.declared.node.NodeKind.{NodeKind}
 use Rattle.clu_tree.specs.declared.node.NodeKind.TheVariants as kind
-use Rattle.clu_tree.specs.contracts.node.NodeKind.{the_type}
-use Rattle.clu_syntax.specs.declared.round.Round.{Round}
 use Rattle.clu_syntax.specs.declared.words.SimpleType.{SimpleType}
 use Rattle.clu_syntax.specs.declared.words.SimpleType.TheVariants as simple
 use Rattle.clu_syntax.specs.Kinds.{kind_at, kind_of}
-use Rattle.clu_syntax.specs.Rounds.{round_at}
 use Rattle.clu_syntax.specs.Splits.{is_of, children_of, first_name}
 use Rattle.clu_syntax.specs.Syntax.{Identifier, Literal, integer, TypeExpression, a_simple_type}
 use Rattle.clu_syntax.specs.Words.{symbol_in, simple_type, literal_of}
@@ -22,13 +19,13 @@ use Rattle.clu_names.specs.declared.scopes.Declared.{Declared}
 use Rattle.clu_names.specs.Denotes.{found, bound_at, names_in}
 use Rattle.clu_meaning.specs.Constants.{number_after}
 use Rattle.clu_meaning.specs.Scoping.{declaration_at}
-use Rattle.clu_checking.specs.Files.{File, item, kind_in, is_kind, is_kind_at, round, parent, parent_of, stands_in, names, node_names, below, declared_by, declaring_node, equate_of, equate_named, declaration}
+use Rattle.clu_checking.specs.Files.{File, item, kind_in, is_kind, round, names, below, declaring_node, equate_of, equate_named, declaration}
 use Rattle.clu_checking.specs.Equates.{names_unfolded, word_named, equates_at, equates_named, leads_on, leads_far, is_circular, is_circular_at, bad_unless, is_bad_at, is_bad_name}
-use Rattle.clu_checking.specs.NameRules.{is_out_of_range, is_literal_out_of_range, has_bad_literal, is_long, leads_to_circle, v4, v7}
-use Rattle.clu_checking.specs.ConstantRules.{is_word, is_neither, is_bad_rep, is_no_type, is_too_long, is_long_type, is_long_constant, is_type_wanted, has_bad_constant, has_bad_type, is_cluster_round, is_of_heading, v31_at, v31}
+use Rattle.clu_checking.specs.NameRules.{v4, is_out_of_range, is_literal_out_of_range, has_bad_literal, is_long, leads_to_circle}
+use Rattle.clu_checking.specs.ConstantRules.{is_word, is_neither, is_bad_rep, is_no_type, is_too_long, is_long_type, is_long_constant, is_type_wanted, has_bad_constant, has_bad_type, v31}
 use Rattle.clu_checking.specs.Wanted.{wanted, wants_type, first_name_at}
 use Rattle.clu_checking.specs.Rules.{violates, least}
-use Rattle.clu_checking.specs.Refusals.{right_side, is_bad_by, is_bad_of, rules_of_types, is_no_type_at}
+use Rattle.clu_checking.specs.Refusals.{is_bad_of, rules_of_types, is_no_type_at}
 use Rattle.clu_settle.specs.declared.meanings.Meaning.{Meaning}
 use Rattle.clu_settle.specs.declared.meanings.Meaning.TheVariants as meaning
 use Rattle.clu_settle.specs.Names.{meaning_in}
@@ -37,24 +34,18 @@ use Rattle.clu_settle.specs.Meant as meant
 use Rattle.clu_settle.specs.Lost as lost
 use Rattle.clu_settle.specs.Lost.{is_source, is_lost_word, is_too_large, is_cvt, made_from, is_lost_in, IsLost}
 use Rattle.clu_settle.specs.Parameters.{counted_in, number_at}
-use Rattle.clu_tree.specs.Nodes.{IsTree}
-use Rattle.clu_parser.specs.Order.{IsForest, none, tree}
-use Rattle.clu_parser.specs.Shape.{forms}
 use Rattle.clu_syntax.specs.Nodes.{item_at}
-use Rattle.clu_parts.proofs.Fitting.{children_before}
-use Rattle.clu_declares.proofs.Around.{IsAround, there, around}
-use Rattle.clu_declares.proofs.Facts.{further}
-use Rattle.clu_declares.proofs.Parents.{IsIn, of_all, HasParent, no_form, kind_of_child}
+use Rattle.clu_declares.proofs.Around.{there}
 use Rattle.clu_declares.proofs.Each.{meaning_there, grown, grown_size, none_declared, more_declared}
-use Rattle.clu_passes.specs.Trees.{IsFileOfTree, is_of_constant}
-use Rattle.clu_passes.specs.Losing.{IsWholeCvt, IsReason, HasReason}
-use Rattle.clu_passes.proofs.BadEquates.{any_same, none_in, least_same, violates_same, names_same}
+use Rattle.clu_passes.specs.Trees.{IsFileOfTree}
+use Rattle.clu_passes.specs.Losing.{IsReason, HasReason}
+use Rattle.clu_passes.proofs.BadEquates.{none_in}
 use Rattle.clu_passes.proofs.ByNodes.{names_same as unfolded_names, type_there}
-use Rattle.clu_passes.proofs.InEquates.{in_constants}
+use Rattle.clu_passes.proofs.CvtPlaces.{IsTop, cvt_refused, equate_top}
 use Rattle.clu_passes.proofs.Literals.{literal_is}
+use Rattle.clu_passes.proofs.StepsEnough.{bad_unfolds, leads_in}
 use Rattle.clu_passes.proofs.Subtrees.{AreFirst, firsts_of, is_subtree}
 use Rattle.clu_passes.proofs.Within.{AreIn, all_first, forest_goes_on, roots_in}
-use denote.Enum.Bare.{same_true}
 
 -- ---- rules and lists
 
@@ -102,32 +93,6 @@ none_left false b e = refl
 large : (n : ℕ) → nat_le (2 ^ 63) n ≡ true → nat_lt 9223372036854775807 n ≡ true
 large n e = e
 
-no_exception_below : (k : NodeKind) → (not (is_of kind.Exc k) || no_form (forms kind.Equate) k) ≡ true
-unfolding no_form
-no_exception_below kind.Exc = refl
-no_exception_below _ = refl
-
-no_child : (k : NodeKind) → not (is_of kind.Exc k) ≡ true → is_of kind.Exc k ≡ false
-no_child kind.Exc e = absurd (true≢false (sym e))
-no_child kind.File e = refl
-no_child _ e = refl
-
--- `cvt` that stands in no heading is misplaced
-misplaced : (cvt cluster heading other : Bool) → cvt ≡ true → heading ≡ false → ((cvt && not (cluster && heading)) || other) ≡ true
-misplaced true true false other a b = refl
-misplaced true false false other a b = refl
-misplaced true true true other a b = absurd (true≢false b)
-misplaced true false true other a b = absurd (true≢false b)
-misplaced false cluster heading other a b = absurd (true≢false (sym a))
-
--- a part of a heading
-neither : (decl routine results exc outer : Bool) → decl ≡ false → (results ≡ true → routine ≡ false) → (exc ≡ true → outer ≡ false) → ((decl && routine) || (results && routine) || (exc && outer)) ≡ false
-neither true routine results exc outer a b c = absurd (true≢false a)
-neither false routine true true outer a b c = ap (λ (x : Bool). x || outer) (b refl) ∙ c refl
-neither false routine true false outer a b c = ap (λ (x : Bool). x || false) (b refl)
-neither false routine false true outer a b c = c refl
-neither false routine false false outer a b c = refl
-
 -- ---- what is not lost after so many steps is not lost after more
 
 module _ (nodes : List Node) (meanings : List Meaning) where
@@ -158,7 +123,7 @@ module _ (nodes : List Node) (meanings : List Meaning) where
   none_later : (s t : ℕ) → s ≤ t → (ns : List ℕ) → list_any (is_lost_in nodes meanings s) ns ≡ false → list_any (is_lost_in nodes meanings t) ns ≡ false
   none_later s t l = next_any (is_lost_in nodes meanings s) (is_lost_in nodes meanings t) (λ n. later s t n l)
 
-  one_step : (s n : ℕ) → is_source (slice_get nodes n) ≡ false → list_any (is_lost_in nodes meanings s) (made_from nodes meanings n) ≡ false → is_lost_in nodes meanings (suc s) n ≡ false
+  pub one_step : (s n : ℕ) → is_source (slice_get nodes n) ≡ false → list_any (is_lost_in nodes meanings s) (made_from nodes meanings n) ≡ false → is_lost_in nodes meanings (suc s) n ≡ false
   unfolding is_lost_in
   one_step s n source never = ap (λ (b : Bool). b || list_any (is_lost_in nodes meanings s) (made_from nodes meanings n)) source ∙ never
 
@@ -179,24 +144,24 @@ module _ (f : File) (of : IsFileOfTree f) where
   abbrev table : List Meaning
   table = meant.declared_to f.nodes f.rounds ds (length ds)
 
-  abbrev meanings : List Meaning
+  abbrev pub meanings : List Meaning
   meanings = meant.meanings_of f.nodes f.rounds ds
 
   -- the right side is the first child of an Equate
-  record IsSideOf (e right : ℕ) : Type 0 where
-    its : Node
-    at : slice_get f.nodes e ≡ Some its
-    is : its.kind ≡ kind.Equate
-    rest : List ℕ
-    children : its.children ≡ right ∷ rest
+  pub record IsSideOf (e right : ℕ) : Type 0 where
+    pub its : Node
+    pub at : slice_get f.nodes e ≡ Some its
+    pub is : its.kind ≡ kind.Equate
+    pub rest : List ℕ
+    pub children : its.children ≡ right ∷ rest
 
-  record HasEquate (n right : ℕ) : Type 0 where
-    name : Identifier
-    others : List Identifier
-    listed : names_unfolded f (kind_in f n) n ≡ name ∷ others
-    equate : ℕ
-    named : equate_named f n name ≡ Some equate
-    side_of : IsSideOf equate right
+  pub record HasEquate (n right : ℕ) : Type 0 where
+    pub name : Identifier
+    pub others : List Identifier
+    pub listed : names_unfolded f (kind_in f n) n ≡ name ∷ others
+    pub equate : ℕ
+    pub named : equate_named f n name ≡ Some equate
+    pub side_of : IsSideOf equate right
 
   no_side : {A : Type 0} (m : Meaning) (right : ℕ) → is_side m ≡ false → m ≡ meaning.Equate right → A
   no_side m right other e = absurd (true≢false (sym (ap is_side e) ∙ other))
@@ -263,7 +228,7 @@ module _ (f : File) (of : IsFileOfTree f) where
       let x = by_found n name right (found ds name n) refl e in
       record { name = name; others = others; listed = are; equate = x.0; named = x.1; side_of = x.2 }
 
-  has_equate : (n right : ℕ) → n < length f.nodes → meaning_in (slice_get meanings n) ≡ meaning.Equate right → HasEquate n right
+  pub has_equate : (n right : ℕ) → n < length f.nodes → meaning_in (slice_get meanings n) ≡ meaning.Equate right → HasEquate n right
   has_equate n right inside e =
       let m = there f.nodes n inside in
       let same : if_used m.0.kind (map (λ name. found ds name n) (names_in m.0.kind m.0)) ≡ map (λ name. found ds name n) (names_unfolded f m.0.kind n) = unfolded_names f of.shaped n m.0 m.1 m.0.kind refl in
@@ -277,10 +242,10 @@ module _ (f : File) (of : IsFileOfTree f) where
 
   -- ---- nodes of which a type is refused
 
-  abbrev types_bad : ℕ → Bool
+  abbrev pub types_bad : ℕ → Bool
   types_bad = is_bad_of f (rules_of_types f)
 
-  refused_by : (n i : ℕ) (r : Rule) → slice_get (rules_of_types f) i ≡ Some r → violates f types_bad n r ≡ true → is_no_type_at f n ≡ true
+  pub refused_by : (n i : ℕ) (r : Rule) → slice_get (rules_of_types f) i ≡ Some r → violates f types_bad n r ≡ true → is_no_type_at f n ≡ true
   refused_by n i r at e = some_least (violates f types_bad n) (rules_of_types f) i r at e
 
   here : (n : ℕ) → n < length f.nodes → IsReason f n → HasReason f n
@@ -298,14 +263,14 @@ module _ (f : File) (of : IsFileOfTree f) where
       ap (λ (its : List Identifier). list_any (is_circular_at f) (equates_at f n its)) x.listed
       ∙ or_left (is_circular_at f (equate_named f n x.name)) (list_any (is_circular_at f) (equates_at f n x.others)) (ap (is_circular_at f) x.named ∙ circle)
 
-  circle_there : (k : NodeKind) (n right : ℕ) (x : HasEquate n right) → kind_in f n ≡ k → is_circular f x.equate ≡ true → leads_to_circle f k n ≡ true
+  pub circle_there : (k : NodeKind) (n right : ℕ) (x : HasEquate n right) → kind_in f n ≡ k → is_circular f x.equate ≡ true → leads_to_circle f k n ≡ true
   circle_there kind.Restrict n right x is circle = no_more x.name x.others (sym (ap (λ (k : NodeKind). names_unfolded f k n) is) ∙ x.listed)
   circle_there kind.File n right x is circle = circle_named n right x circle
   circle_there _ n right x is circle = circle_named n right x circle
 
   -- ---- the name of a bad equate is told by V8 or V9
 
-  word_first : (t : TypeExpression) (name : Identifier) (others : List Identifier) → word_named f t ≡ name ∷ others → (is_word simple.Rep t ≡ true) × (name ≡ codes "rep")
+  pub word_first : (t : TypeExpression) (name : Identifier) (others : List Identifier) → word_named f t ≡ name ∷ others → (is_word simple.Rep t ≡ true) × (name ≡ codes "rep")
   word_first (a_simple_type m simple.Rep) name others e = (refl, sym (ap first_name e))
   word_first (a_simple_type m _) name others e = no_more name others e
   word_first _ name others e = no_more name others e
@@ -326,7 +291,7 @@ module _ (f : File) (of : IsFileOfTree f) where
   no_constant : (n : ℕ) → has_bad_constant f types_bad (kind_in f n) n ≡ true → is_no_type_at f n ≡ true
   no_constant n e = refused_by n 3 rule.NotConstant refl (either_constant (is_neither f n && not (wants_type f n)) (has_bad_constant f types_bad (kind_in f n) n) (is_too_long f is_long_constant n) e)
 
-  bad_there : (k : NodeKind) (n right : ℕ) (x : HasEquate n right) → kind_in f n ≡ k → is_bad_name f types_bad n x.name ≡ true → is_no_type_at f n ≡ true
+  pub bad_there : (k : NodeKind) (n right : ℕ) (x : HasEquate n right) → kind_in f n ≡ k → is_bad_name f types_bad n x.name ≡ true → is_no_type_at f n ≡ true
   bad_there kind.Name n right x is bad = by (is_type_wanted f types_bad (wanted f n) n) refl
     where
       first : first_name_at f n ≡ x.name
@@ -358,177 +323,36 @@ module _ (f : File) (of : IsFileOfTree f) where
   bad_there kind.File n right x is bad = no_more x.name x.others (sym (ap (λ (k : NodeKind). names_unfolded f k n) is) ∙ x.listed)
   bad_there _ n right x is bad = no_more x.name x.others (sym (ap (λ (k : NodeKind). names_unfolded f k n) is) ∙ x.listed)
 
-  bad_named : (n right : ℕ) (x : HasEquate n right) → is_circular f x.equate ≡ false → types_bad x.equate ≡ true → is_bad_name f types_bad n x.name ≡ true
+  pub bad_named : (n right : ℕ) (x : HasEquate n right) → is_circular f x.equate ≡ false → types_bad x.equate ≡ true → is_bad_name f types_bad n x.name ≡ true
   bad_named n right x circle bad = ap (is_bad_at f types_bad) x.named ∙ ap (λ (b : Bool). bad_unless f types_bad b x.equate) circle ∙ bad
 
-  -- ---- an equate is bad if a type is refused in it: one step more changes nothing where no circle is
-
-  abbrev fault : (ℕ → Bool) → ℕ → Bool
-  fault bad n = is_some (least (violates f bad n) (rules_of_types f))
-
-  abbrev IsStable : ℕ → Type 0
-  IsStable s = (e : ℕ) → is_kind f kind.Equate e ≡ true → is_circular f e ≡ false → leads_far f s e ≡ false → (t u : ℕ) → s ≤ t → s ≤ u → is_bad_by f (rules_of_types f) t e ≡ is_bad_by f (rules_of_types f) u e
-
-  abbrev leads_in : ℕ → ℕ → Bool
-  leads_in s n = list_any (leads_on f (leads_far f s)) (equates_named f n)
-
-  abbrev bad_after : ℕ → ℕ → Bool
-  bad_after t = is_bad_by f (rules_of_types f) t
-
-  steps_same : (s t u : ℕ) → IsStable s → s ≤ t → s ≤ u → (n : ℕ) → is_of_constant (kind_in f n) ≡ true → leads_in s n ≡ false → fault (bad_after t) n ≡ fault (bad_after u) n
-  steps_same s t u had l m n const never =
-      ap is_some (least_same (violates f (bad_after t) n) (violates f (bad_after u) n)
-      (violates_same f of (bad_after t) (bad_after u) n const
-      (names_same f (bad_after t) (bad_after u) (leads_far f s) (λ e equate far circle. had e equate circle far t u l m) n (names_unfolded f (kind_in f n) n) never))
-      (rules_of_types f))
-
-  equate_there : (e : ℕ) → is_kind f kind.Equate e ≡ true → (its : Node) × (slice_get f.nodes e ≡ Some its) × (its.kind ≡ kind.Equate)
-  equate_there e is = by (slice_get f.nodes e) refl is
-    where
-      by : (o : Option Node) → slice_get f.nodes e ≡ o → is_of kind.Equate (kind_of o) ≡ true → (its : Node) × (slice_get f.nodes e ≡ Some its) × (its.kind ≡ kind.Equate)
-      by None at is = absurd (true≢false (sym is))
-      by (Some its) at is = (its, at, same_true the_type (search rules) its.kind kind.Equate is)
-
-  in_equate : (e : ℕ) (its : Node) → slice_get f.nodes e ≡ Some its → its.kind ≡ kind.Equate → (n : ℕ) → (round f e).first ≤ n → n < e → is_of_constant (kind_in f n) ≡ true
-  in_equate e its at is = in_constants f.nodes f.rounds of.shaped of.ordered of.tree of.surrounded e its at (ap is_of_constant is)
-
-  stable : (s : ℕ) → IsStable s
-  unfolding leads_far is_bad_by
-  stable zero e equate circle far t u l m = absurd (true≢false far)
-  stable (suc s) e equate circle far zero u l m = absurd (omega (arith, l))
-  stable (suc s) e equate circle far (suc t) zero l m = absurd (omega (arith, m))
-  stable (suc s) e equate circle far (suc t) (suc u) l m =
-      let x = equate_there e equate in
-      let had : IsStable s = stable s in
-      any_same (fault (bad_after t)) (fault (bad_after u)) (round f e).first (e - (round f e).first) (λ n low high.
-      let inside : n < e = omega (arith, low, high) in
-      steps_same s t u had (omega (arith, l)) (omega (arith, m)) n (in_equate e x.0 x.1 x.2 n low inside)
-      (none_in (leads_in s) (round f e).first (suc e - (round f e).first) far n low (omega (arith, inside, low))))
-
-  one_more : (e m : ℕ) → (round f e).first ≤ m → m < e → is_no_type_at f m ≡ true → bad_after (suc (length ds)) e ≡ true
-  unfolding is_bad_by
-  one_more e m low high refused = any_there (fault types_bad) (round f e).first (e - (round f e).first) m low (omega (arith, low, high)) refused
+  -- ---- an equate is bad if a type is refused in it
 
   bad_by_fault : (e m : ℕ) → is_kind f kind.Equate e ≡ true → is_circular f e ≡ false → (round f e).first ≤ m → m < e → is_no_type_at f m ≡ true → types_bad e ≡ true
   bad_by_fault e m equate circle low high refused =
-      stable (length ds) e equate circle circle (length ds) (suc (length ds)) (omega arith) (omega arith) ∙ one_more e m low high refused
-
-  -- ---- `cvt` may not stand in an equate
-
-  pub record HasParentIn (low high c : ℕ) : Type 0 where
-    pub parent_is : HasParent f.nodes c
-    pub above : low ≤ parent_is.parent
-    pub below_it : parent_is.parent ≤ high
-
-  wider : (low high top bottom : ℕ) {c : ℕ} → HasParentIn low high c → bottom ≤ low → high ≤ top → HasParentIn bottom top c
-  wider low high top bottom p l m =
-      let above : low ≤ p.parent_is.parent = p.above in
-      let under : p.parent_is.parent ≤ high = p.below_it in
-      record { parent_is = p.parent_is; above = omega (arith, above, l); below_it = omega (arith, under, m) }
-
-  covered : (from to : ℕ) (roots : List ℕ) → IsForest f.nodes from roots to → (c : ℕ) → from ≤ c → c < to → IsIn c roots ⊎ HasParentIn from to c
-  covered from to _ (none _) c l m = absurd (omega (arith, l, m))
-  covered from to _ (tree _ root _ n roots at inside behind) c l m =
-      let under : from ≤ root = forest_goes_on f.nodes from root n.children inside in
-      let beyond : root + 1 ≤ to = forest_goes_on f.nodes (root + 1) to roots behind in
-      elim (cases_lt c root) [
-        | inl less ↦ elim (covered from root n.children inside c l less) [
-          | inl i ↦ inr (record { parent_is = record { parent = root; node = n; at = at; child = i }; above = under; below_it = omega (arith, beyond) })
-          | inr p ↦ inr (wider from root to from p (omega arith) (omega (arith, beyond)))
-        ]
-        | inr more ↦ elim (cases_lt root c) [
-          | inl after ↦ elim (covered (root + 1) to roots behind c (omega (arith, after)) m) [ inl i ↦ inl (inr i) | inr p ↦ inr (wider (root + 1) to to from p (omega (arith, under)) (omega arith)) ]
-          | inr upto ↦ inl (inl (omega (arith, more, upto)))
-        ]
-      ]
-
-  -- the parent of what stands below a node stands there too, or is the node
-  pub parent_in : (e : ℕ) (its : Node) → slice_get f.nodes e ≡ Some its → (c : ℕ) → (round f e).first ≤ c → c < e → HasParentIn (round f e).first e c
-  parent_in e its at c low high = elim (covered (round f e).first e its.children (is_subtree f.nodes f.rounds of.tree of.surrounded of.ordered e its at) c low high) [
-    | inl i ↦ record { parent_is = record { parent = e; node = its; at = at; child = i }; above = omega (arith, low, high); below_it = omega arith }
-    | inr p ↦ p
-  ]
-
-  parent_told : (c : ℕ) (q : HasParent f.nodes c) → parent f c ≡ Some q.parent
-  parent_told c q =
-      let inside : q.parent < length f.nodes = slice_get_within f.nodes q.parent q.node q.at in
-      (of_all (IsAround f.rounds q.parent q.node) c q.node.children
-      (around f.nodes f.rounds q.parent q.node of.surrounded q.at (further q.parent (length f.nodes) q.node.children (omega (arith, inside)) (children_before f.nodes of.tree q.parent q.node q.at))) q.child).parent
-
-  kind_is : (k : NodeKind) (c : ℕ) (q : HasParent f.nodes c) → stands_in f k c ≡ is_of k q.node.kind
-  kind_is k c q = ap (is_kind_at f k) (parent_told c q) ∙ ap (λ (o : Option Node). is_of k (kind_of o)) q.at
-
-  of_constants : (k : NodeKind) → is_of_constant k ≡ true → (is_of kind.Decl k ≡ false) × (is_of kind.Routine k ≡ false)
-  of_constants kind.Decl e = absurd (true≢false (sym e))
-  of_constants kind.Routine e = absurd (true≢false (sym e))
-  of_constants kind.File e = absurd (true≢false (sym e))
-  of_constants _ e = (refl, refl)
-
-  module _ (e : ℕ) (its : Node) (at : slice_get f.nodes e ≡ Some its) (is : its.kind ≡ kind.Equate) where
-    here_or_in : (c : ℕ) → (round f e).first ≤ c → c ≤ e → is_of_constant (kind_in f c) ≡ true
-    here_or_in c low high = elim (cases_lt c e) [
-      | inl less ↦ in_equate e its at is c low less
-      | inr more ↦ let same : e ≡ c = omega (arith, high, more) in subst (λ (n : ℕ). is_of_constant (kind_in f n) ≡ true) same (ap (λ (o : Option Node). is_of_constant (kind_of o)) at ∙ ap is_of_constant is)
-    ]
-
-    no_routine : (c : ℕ) → (round f e).first ≤ c → c < e → stands_in f kind.Routine c ≡ false
-    no_routine c low high =
-        let p = parent_in e its at c low high in
-        kind_is kind.Routine c p.parent_is
-        ∙ sym (ap (λ (o : Option Node). is_of kind.Routine (kind_of o)) p.parent_is.at)
-        ∙ (of_constants (kind_in f p.parent_is.parent) (here_or_in p.parent_is.parent p.above p.below_it)).1
-
-    -- of an equate itself nothing is said but that it is none of these
-    not_equate : (k : NodeKind) → is_of k kind.Equate ≡ false → (p : ℕ) → p ≤ e → is_kind f k p ≡ true → p < e
-    not_equate k other p high hit = elim (cases_lt p e) [
-      | inl less ↦ less
-      | inr more ↦
-          let same : p ≡ e = omega (arith, high, more) in
-          absurd (true≢false (sym hit ∙ ap (is_kind f k) same ∙ ap (λ (o : Option Node). is_of k (kind_of o)) at ∙ ap (is_of k) is ∙ other))
-    ]
-
-    no_exception : (p : ℕ) (q : HasParent f.nodes p) → is_kind f kind.Exc p ≡ true → q.parent ≡ e → ⊥
-    no_exception p q hit same =
-        let alike : q.node ≡ its = same_Some q.node its (sym q.at ∙ ap (slice_get f.nodes) same ∙ at) in
-        true≢false (sym hit ∙ no_child (kind_at f.nodes p) (kind_of_child f.nodes of.tree q.parent q.node q.at (of.shaped q.parent q.node q.at) p q.child (λ k. not (is_of kind.Exc k)) (λ k. ap (λ (j : NodeKind). not (is_of kind.Exc k) || no_form (forms j) k) (ap (λ (m : Node). m.kind) alike ∙ is) ∙ no_exception_below k)))
-
-    no_heading : (p : ℕ) → (round f e).first ≤ p → p ≤ e → is_of_heading f (Some p) ≡ false
-    no_heading p low high =
-        neither (is_kind f kind.Decl p) (stands_in f kind.Routine p) (is_kind f kind.Results p) (is_kind f kind.Exc p) (is_kind_at f kind.Routine (parent_of f (parent f p)))
-        (of_constants (kind_in f p) (here_or_in p low high)).0
-        (λ hit. no_routine p low (not_equate kind.Results refl p high hit))
-        (λ hit. let less = not_equate kind.Exc refl p high hit in
-        let q = parent_in e its at p low less in
-        let inner : q.parent_is.parent < e = elim (cases_lt q.parent_is.parent e) [
-          | inl less ↦ less
-          | inr more ↦ let top : q.parent_is.parent ≤ e = q.below_it in absurd (no_exception p q.parent_is hit (omega (arith, more, top)))
-        ] in
-        ap (λ (o : Option ℕ). is_kind_at f kind.Routine (parent_of f o)) (parent_told p q.parent_is) ∙ no_routine q.parent_is.parent q.above inner)
-
-    cvt_refused : (m : ℕ) → (round f e).first ≤ m → m < e → IsWholeCvt f m → ⊥
-    cvt_refused m low high x =
-        let p = parent_in e its at m low high in
-        let heading : is_of_heading f (parent f m) ≡ false = ap (is_of_heading f) (parent_told m p.parent_is) ∙ no_heading p.parent_is.parent p.above p.below_it in
-        true≢false (sym (misplaced (is_word simple.Cvt (item f m).type) (is_cluster_round f m) (is_of_heading f (parent f m)) (is_word simple.Rep (item f m).type && not (is_cluster_round f m)) x.word heading)
-        ∙ ap (λ (k : NodeKind). v31_at f k m) (sym x.of_word) ∙ x.placed)
+      bad_unfolds f of (rules_of_types f) e equate circle
+      ∙ any_there (λ n. is_some (least (violates f types_bad n) (rules_of_types f))) (round f e).first (e - (round f e).first) m low (omega (arith, low, high)) refused
 
   -- ---- why a value is lost: what it is made from is, or a word
 
-  abbrev NotLost : ℕ → Type 0
+  abbrev pub NotLost : ℕ → Type 0
   NotLost n = (s : ℕ) × (is_lost_in f.nodes meanings s n ≡ false)
 
-  abbrev AreNotLost : List ℕ → Type 0
+  abbrev pub AreNotLost : List ℕ → Type 0
   AreNotLost ns = (s : ℕ) × (list_any (is_lost_in f.nodes meanings s) ns ≡ false)
 
   too_large : (literal : Literal) → is_too_large literal ≡ true → is_out_of_range literal ≡ true
   too_large (integer digits) e = large (number_after 0 digits) e
   too_large _ e = absurd (true≢false (sym e))
 
+  -- a literal that is too large is told by V4
+  pub literal_told : (n : ℕ) (node : Node) → slice_get f.nodes n ≡ Some node → node.kind ≡ kind.Literal → is_lost_word kind.Literal node.value ≡ true → v4 f n ≡ true
+  literal_told n node at is e =
+      or_right (list_any is_long (names f n)) (has_bad_literal f (kind_in f n) n)
+      (ap (λ (k : NodeKind). has_bad_literal f k n) (ap kind_of at ∙ is) ∙ ap is_literal_out_of_range (literal_is f.nodes n node at is) ∙ too_large (literal_of node.value) e)
+
   word_reason : (k : NodeKind) (n : ℕ) (node : Node) → slice_get f.nodes n ≡ Some node → node.kind ≡ k → is_lost_word k node.value ≡ true → IsReason f n
-  word_reason kind.Literal n node at is e =
-      inl (refused_by n 0 rule.LiteralRange refl
-      (or_right (list_any is_long (names f n)) (has_bad_literal f (kind_in f n) n)
-      (ap (λ (k : NodeKind). has_bad_literal f k n) (ap kind_of at ∙ is) ∙ ap is_literal_out_of_range (literal_is f.nodes n node at is) ∙ too_large (literal_of node.value) e)))
+  word_reason kind.Literal n node at is e = inl (refused_by n 0 rule.LiteralRange refl (literal_told n node at is e))
   word_reason kind.Simple n node at is e = by (v31 f n) refl
     where
       cvt : (w : SimpleType) → is_cvt w ≡ true → is_word simple.Cvt (a_simple_type n w) ≡ true
@@ -545,9 +369,13 @@ module _ (f : File) (of : IsFileOfTree f) where
   word_reason kind.File n node at is e = absurd (true≢false (sym e))
   word_reason _ n node at is e = absurd (true≢false (sym e))
 
+  pub both : (xs ys : List ℕ) → AreNotLost xs → AreNotLost ys → AreNotLost (xs ++ ys)
+  both xs ys a b =
+      (a.0 + b.0, any_append (is_lost_in f.nodes meanings (a.0 + b.0)) xs ys (none_later f.nodes meanings a.0 (a.0 + b.0) (omega arith) xs a.1) (none_later f.nodes meanings b.0 (a.0 + b.0) (omega arith) ys b.1))
+
   -- ---- by the equates that are named: all are decided that lead no further
 
-  abbrev AreDecided : (ℕ → Bool) → Type 0
+  abbrev pub AreDecided : (ℕ → Bool) → Type 0
   AreDecided leads = (e right : ℕ) → IsSideOf e right → is_circular f e ≡ false → leads e ≡ false → (types_bad e ≡ true) ⊎ NotLost right
 
   named_reason : (leads : ℕ → Bool) → AreDecided leads → (n right : ℕ) (x : HasEquate n right) → list_any (leads_on f leads) (equates_named f n) ≡ false → IsReason f n ⊎ NotLost right
@@ -574,10 +402,6 @@ module _ (f : File) (of : IsFileOfTree f) where
     ]
     sides_decided n inside never meaning.Other e = inr (0, refl)
     sides_decided n inside never _ e = inr (0, refl)
-
-    both : (xs ys : List ℕ) → AreNotLost xs → AreNotLost ys → AreNotLost (xs ++ ys)
-    both xs ys a b =
-        (a.0 + b.0, any_append (is_lost_in f.nodes meanings (a.0 + b.0)) xs ys (none_later f.nodes meanings a.0 (a.0 + b.0) (omega arith) xs a.1) (none_later f.nodes meanings b.0 (a.0 + b.0) (omega arith) ys b.1))
 
     abbrev IsDecided : ℕ → Type 0
     IsDecided n = HasReason f n ⊎ NotLost n
@@ -634,14 +458,14 @@ module _ (f : File) (of : IsFileOfTree f) where
 
   -- ---- all equates, by how far they lead
 
-  side_inside : (e right : ℕ) (x : IsSideOf e right) → ((round f e).first ≤ (round f right).first) × (right < e)
+  pub side_inside : (e right : ℕ) (x : IsSideOf e right) → ((round f e).first ≤ (round f right).first) × (right < e)
   side_inside e right x =
       let forest = is_subtree f.nodes f.rounds of.tree of.surrounded of.ordered e x.its x.at in
       let within : AreIn (round f e).first e (right ∷ x.rest) = subst (AreIn (round f e).first e) x.children (roots_in f.nodes (round f e).first e x.its.children forest) in
       let firsts = all_first f.rounds (round f e).first e (round f e).first (right ∷ x.rest) (omega arith) (subst (AreFirst f.rounds (round f e).first) x.children (firsts_of f.nodes f.rounds of.tree of.surrounded e x.its x.at)) within in
       (firsts.0, within.0.1)
 
-  is_equate_node : (e right : ℕ) (x : IsSideOf e right) → is_kind f kind.Equate e ≡ true
+  pub is_equate_node : (e right : ℕ) (x : IsSideOf e right) → is_kind f kind.Equate e ≡ true
   is_equate_node e right x = ap (λ (o : Option Node). is_of kind.Equate (kind_of o)) x.at ∙ ap (is_of kind.Equate) x.is
 
   side_told : (e right : ℕ) → IsSideOf e right → is_circular f e ≡ false → (round f e).first ≤ (round f right).first → right < e → HasReason f right ⊎ NotLost right → (types_bad e ≡ true) ⊎ NotLost right
@@ -651,7 +475,7 @@ module _ (f : File) (of : IsFileOfTree f) where
       let high : r.node ≤ right = r.upto in
       elim r.reason [
         | inl refused ↦ inl (bad_by_fault e r.node (is_equate_node e right x) circle (omega (arith, low, least)) (omega (arith, high, less)) refused)
-        | inr cvt ↦ absurd (cvt_refused e x.its x.at x.is r.node (omega (arith, low, least)) (omega (arith, high, less)) cvt)
+        | inr cvt ↦ absurd (cvt_refused f of e x.its x.at (subst IsTop (sym x.is) equate_top) r.node (omega (arith, low, least)) (omega (arith, high, less)) cvt)
       ]
 
   equates_decided : (s : ℕ) → AreDecided (leads_far f s)
@@ -664,14 +488,14 @@ module _ (f : File) (of : IsFileOfTree f) where
       let less : right < e = lies.1 in
       side_told e right x circle least less
       (all_decided (leads_far f s) (equates_decided s) (suc right) right (omega arith) (omega (arith, less, inside)) (λ m low high.
-      none_in (leads_in s) (round f e).first (suc e - (round f e).first) far m (omega (arith, low, least)) (omega (arith, low, high, less, least))))
+      none_in (leads_in f of s) (round f e).first (suc e - (round f e).first) far m (omega (arith, low, least)) (omega (arith, low, high, less, least))))
 
   -- ---- all nodes: a circular equate leads on, and no other one does
 
   abbrev is_circle : ℕ → Bool
   is_circle = is_circular f
 
-  any_decided : AreDecided (λ e. false)
+  pub any_decided : AreDecided (λ e. false)
   any_decided e right x circle far = equates_decided (length ds) e right x circle circle
 
   leads_none : (os : List (Option ℕ)) → list_any (leads_on f (λ e. false)) os ≡ false
@@ -679,7 +503,7 @@ module _ (f : File) (of : IsFileOfTree f) where
   leads_none (None ∷ os) = leads_none os
   leads_none (Some e ∷ os) = leads_none os
 
-  reason_there : (n : ℕ) → n < length f.nodes → HasReason f n ⊎ NotLost n
+  pub reason_there : (n : ℕ) → n < length f.nodes → HasReason f n ⊎ NotLost n
   reason_there n inside = all_decided (λ e. false) any_decided (suc n) n (omega arith) inside (λ m low high. leads_none (equates_named f m))
 
 pub lost_refused : (f : File) → IsFileOfTree f → (n : ℕ) → n < length f.nodes → IsLost f.nodes (meant.meanings_of f.nodes f.rounds f.scope.declarations) n → HasReason f n

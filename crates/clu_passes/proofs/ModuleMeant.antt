@@ -50,7 +50,8 @@ use Rattle.clu_bindings.specs.declared.meaning.ModuleId.{ModuleId}
 use Rattle.clu_bindings.specs.Modules.{named, AreModules, modules_in}
 use Rattle.clu_bindings.specs.Bindings.{AreBindings}
 use Rattle.clu_bindings.specs.Readers.{known_in, kinds_known, kinds_in, is_routine_known, is_routine, meaning_in, module_in}
-use Rattle.clu_passes.specs.ConstantTables.{Means, IsMeant, file_with, AreParametersKnown}
+use Rattle.clu_passes.specs.ConstantTables.{Means, IsMeant, file_with}
+use Rattle.clu_passes.specs.Legal.{AreLegalKnown}
 use Rattle.clu_passes.specs.Tables.{AreNames}
 use Rattle.clu_passes.proofs.FileModules.{Has, not_found, names_there, root, modules_are, declares}
 use Rattle.clu_passes.proofs.ModulesSaid.{AreSame, modules_said, its, unit_name}
@@ -58,7 +59,7 @@ use Rattle.clu_passes.proofs.NamesMean.{is_module_meant, first_means, first_modu
 
 -- ---- tests
 
-denotes_same : (f : File) (m : means.Meaning) → denotes_module f m ≡ is_module_meant m
+pub denotes_same : (f : File) (m : means.Meaning) → denotes_module f m ≡ is_module_meant m
 denotes_same f means.is_module = refl
 denotes_same f means.is_type_set = refl
 denotes_same f _ = refl
@@ -79,7 +80,7 @@ routine_said P (Some k) None same = absurd same
 routine_said P None (Some s) same = absurd same
 routine_said P None None same = refl
 
-rep_word : (w : SimpleType) → rules_of.same_word simple.Rep w ≡ settled.is_rep w
+pub rep_word : (w : SimpleType) → rules_of.same_word simple.Rep w ≡ settled.is_rep w
 rep_word simple.Rep = refl
 rep_word simple.Null = refl
 rep_word _ = refl
@@ -105,13 +106,13 @@ module _ (t : Text) (r : Read) (library : List Specification) (refused : List �
 
   -- ---- modules of the file
 
-  file_is : file_of nodes ≡ modules_at (item_at nodes) (root t nodes r.rounds.now parsed are).children
+  pub file_is : file_of nodes ≡ modules_at (item_at nodes) (root t nodes r.rounds.now parsed are).children
   file_is = (root_parts t nodes r.rounds.now parsed are).1
 
   parts_are : AreParts nodes (is_of kind.Module) (top t nodes r.rounds.now parsed are) (root t nodes r.rounds.now parsed are).children
   parts_are = (root_parts t nodes r.rounds.now parsed are).0
 
-  same_module : (name : Identifier) → AreSame (AreParametersKnown r) (known_in r (of name)) (specification f name)
+  pub same_module : (name : Identifier) → AreSame (AreLegalKnown f r.values.now) (known_in r (of name)) (specification f name)
   same_module name =
       modules_said t r scope library refused types arena known parsed are tables (top t nodes r.rounds.now parsed are) (root t nodes r.rounds.now parsed are).children parts_are (modules_are t nodes r.rounds.now parsed are) file_is kept there_are few_modules name
 
@@ -135,7 +136,7 @@ module _ (t : Text) (r : Read) (library : List Specification) (refused : List �
         by true hit rest = absurd (unnamed e s u ps.0.1 hit)
         by false hit rest = rest
 
-    none_own : found ds name n ≡ None → is_stream name ≡ false → specification_in (own_specifications f) name ≡ None
+    pub none_own : found ds name n ≡ None → is_stream name ≡ false → specification_in (own_specifications f) name ≡ None
     none_own e s = ap (λ (ms : List Module). specification_in (map (specification_of f) ms) name) file_is ∙ none_in e s (root t nodes r.rounds.now parsed are).children parts_are
 
     undeclared : is_some (declaration f n name) ≡ false → found ds name n ≡ None
@@ -173,14 +174,14 @@ module _ (t : Text) (r : Read) (library : List Specification) (refused : List �
 
     -- where it stands first among the names of a node
     module _ (node : Node) (rest : List Identifier) (at : slice_get nodes n ≡ Some node) (e : names_in node.kind node ≡ name ∷ rest) (first : slice_get node.names 0 ≡ Some name) where
-      module_is : module_in r n ≡ (if is_module_meant (meaning f n name) then of name else None)
+      pub module_is : module_in r n ≡ (if is_module_meant (meaning f n name) then of name else None)
       module_is = first_module t r library refused parsed are few its_names tables n node name rest at e first
 
-      kinds_are : AreParametersKnown r → kinds_in r (module_in r n) ≡ (if is_of_module f n name then kinds_of (specification f name) else [])
+      kinds_are : AreLegalKnown f r.values.now → kinds_in r (module_in r n) ≡ (if is_of_module f n name then kinds_of (specification f name) else [])
       kinds_are p = ap (λ (o : Option ModuleId). kinds_known (known_in r o)) module_is ∙ by (is_module_meant (meaning f n name)) ∙ sym (chosen kinds_of)
         where
           by : (b : Bool) → kinds_known (known_in r (if b then of name else None)) ≡ (if b then kinds_of (specification f name) else kinds_of None)
-          by true = kinds_said (AreParametersKnown r) (known_in r (of name)) (specification f name) (same_module name) p
+          by true = kinds_said (AreLegalKnown f r.values.now) (known_in r (of name)) (specification f name) (same_module name) p
           by false = refl
 
       routine_is : is_routine r (module_in r n) ≡ is_module_routine f n name
@@ -189,7 +190,7 @@ module _ (t : Text) (r : Read) (library : List Specification) (refused : List �
           ∙ sym (and_if (is_of_module f n name) (rules_of.is_routine (specification f name)))
         where
           by : (b : Bool) → is_routine_known (known_in r (if b then of name else None)) ≡ (if b then rules_of.is_routine (specification f name) else rules_of.is_routine None)
-          by true = routine_said (AreParametersKnown r) (known_in r (of name)) (specification f name) (same_module name)
+          by true = routine_said (AreLegalKnown f r.values.now) (known_in r (of name)) (specification f name) (same_module name)
           by false = refl
 
       meant_so : IsMeant f r n name

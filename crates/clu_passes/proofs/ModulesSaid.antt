@@ -31,7 +31,7 @@ use Rattle.clu_meaning.specs.Scoping.{Scope}
 use Rattle.clu_meaning.specs.Settling.{Value as Settled, settled, settled_type, type_settled, value_of_constant}
 use Rattle.clu_checking.specs.Specifications.{Specification, specification_in, specification_told, form_told}
 use Rattle.clu_checking.specs.Files.{File, parameters_in}
-use Rattle.clu_checking.specs.Headings.{kind_of_type, kind_of_parameter, kinds_in, types_in, specification, specification_of, own_specifications, or_kept}
+use Rattle.clu_checking.specs.Headings.{kind_of_type, kind_unless, kind_of_parameter, kinds_in, types_in, specification, specification_of, own_specifications, or_kept}
 use Rattle.clu_checking.specs.ConstantRules as rules_of
 use Rattle.clu_settle.specs.declared.value.Value.{Value}
 use Rattle.clu_settle.specs.declared.value.Value.TheVariants as value
@@ -56,7 +56,8 @@ use Rattle.clu_bindings.specs.Bindings.{AreBindings}
 use Rattle.clu_bindings.specs.Readers as read
 use Rattle.clu_bindings.specs.Readers.{known_in, declared_parameter}
 use Rattle.clu_bindings.proofs.Appending.{own_none, own_more}
-use Rattle.clu_passes.specs.ConstantTables.{file_with, IsTypeOf, IsKnown, AreParametersKnown}
+use Rattle.clu_passes.specs.ConstantTables.{file_with, IsTypeOf, IsKnown}
+use Rattle.clu_passes.specs.Legal.{AreLegalKnown}
 use Rattle.clu_passes.proofs.Actuals.{type_kind}
 use Rattle.clu_passes.proofs.ConstantNodes.{within_at}
 use Rattle.clu_passes.proofs.DeclaredParameters.{AreTypes, facts, headline_is, unit_types, of_node}
@@ -96,7 +97,7 @@ map_size g (x ∷ xs) = ap suc (map_size g xs)
 
 -- ---- the first of a name
 
-abbrev first_known : List (Identifier × ModuleKnown) → Identifier → Option ModuleKnown
+abbrev pub first_known : List (Identifier × ModuleKnown) → Identifier → Option ModuleKnown
 first_known [] name = None
 first_known (m ∷ ms) name = if bytes_eq m.0 name then Some m.1 else first_known ms name
 
@@ -113,7 +114,7 @@ same_first P (m ∷ ms) (s ∷ ss) a name =
     by false x y same = same
 
 -- what a place that is found says
-abbrev PlaceSays : ℕ → List (Identifier × ModuleKnown) → Option ℕ → Option ModuleKnown → Type 0
+abbrev pub PlaceSays : ℕ → List (Identifier × ModuleKnown) → Option ℕ → Option ModuleKnown → Type 0
 PlaceSays k ms None o = o ≡ None
 PlaceSays k ms (Some j) o = (i : ℕ) × (j ≡ k + i) × (i < length ms) × (slice_get (map (λ m. m.1) ms) i ≡ o)
 
@@ -121,7 +122,7 @@ later_says : (k : ℕ) (m : Identifier × ModuleKnown) (ms : List (Identifier ×
 later_says k m ms None o e = e
 later_says k m ms (Some j) o (i, e, l, at) = (suc i, omega (arith, e), omega (arith, l), at)
 
-place_says : (k : ℕ) (ms : List (Identifier × ModuleKnown)) (name : Identifier) → PlaceSays k ms (place_from k ms name) (first_known ms name)
+pub place_says : (k : ℕ) (ms : List (Identifier × ModuleKnown)) (name : Identifier) → PlaceSays k ms (place_from k ms name) (first_known ms name)
 place_says k [] name = refl
 place_says k (m ∷ ms) name = by (bytes_eq m.0 name) (place_says (suc k) ms name)
   where
@@ -139,7 +140,7 @@ module _ (r : Read) (ms : List (Identifier × ModuleKnown)) (are : AreModules r.
       ∙ ap (λ (xs : List ModuleKnown). slice_get xs i) are.known ∙ at
 
   -- what is known of the module of a name
-  found_known : (name : Identifier) (s : Bool) → is_stream name ≡ s → known_in r (named r.bindings.now.modules name) ≡ (if s then None else first_known ms name)
+  pub found_known : (name : Identifier) (s : Bool) → is_stream name ≡ s → known_in r (named r.bindings.now.modules name) ≡ (if s then None else first_known ms name)
   found_known name true e = ap (known_in r) (are.named name ∙ ap (λ (s : Bool). if s then None else option_map module_id (place_from 0 ms name)) e)
   found_known name false e =
       ap (known_in r) (are.named name ∙ ap (λ (s : Bool). if s then None else option_map module_id (place_from 0 ms name)) e)
@@ -159,7 +160,7 @@ kept_size : (library : List Spec) → length (kept_in library) ≡ length librar
 kept_size [] = refl
 kept_size (s ∷ library) = ap suc (kept_size library)
 
-kept_more : (f : File) (ss : List Specification) (name : Identifier) → or_kept f (specification_in ss name) name ≡ specification_in (ss ++ f.library) name
+pub kept_more : (f : File) (ss : List Specification) (name : Identifier) → or_kept f (specification_in ss name) name ≡ specification_in (ss ++ f.library) name
 kept_more f [] name = refl
 kept_more f (s ∷ ss) name = by (bytes_eq s.name name) (specification_in ss name) (specification_in (ss ++ f.library) name) (kept_more f ss name)
   where
@@ -178,7 +179,7 @@ each_same g x [] = refl
 each_same g x (name ∷ names) = ap (λ (zs : List _). g x ∷ zs) (each_same g x names)
 
 -- of the definitions, by the types with which they are declared
-kinds_by_types : (f : File) (ps : List Parameter) → kinds_in f ps ≡ map (kind_of_parameter f) (types_in ps)
+pub kinds_by_types : (f : File) (ps : List Parameter) → kinds_in f ps ≡ map (kind_of_parameter f) (types_in ps)
 kinds_by_types f [] = refl
 kinds_by_types f (p ∷ ps) =
     ap₂ (λ (xs ys : List (Option ParamKind)). xs ++ ys) (each_same (kind_of_parameter f) p.type p.names) (kinds_by_types f ps)
@@ -197,7 +198,7 @@ module _ (types : List Term) (values : List Value) (nodes : List Node) where
       by false = refl
 
   -- of the table, likewise
-  kinds_by_nodes : (ns : List ℕ) → kinds_of types values nodes ns ≡ map of_type (of_parms nodes ns)
+  pub kinds_by_nodes : (ns : List ℕ) → kinds_of types values nodes ns ≡ map of_type (of_parms nodes ns)
   unfolding kinds_of of_parms
   kinds_by_nodes [] = refl
   kinds_by_nodes (n ∷ ns) =
@@ -237,25 +238,39 @@ module _ (t : Text) (r : Read) (scope : Scope) (library : List Specification) (r
       by (value.Parameter k) at here within e = absurd (cc)
       by (value.Type id) at here within e = record { id = id; value = ap type_id at; less = within }
 
-  kind_same : (x : Option ℕ) (y : Option TypeExpression) → IsTypeOf nodes x y → ((c : ℕ) → x ≡ Some c → IsKnown r c) → kind_declared types r.values.now x ≡ kind_of_parameter f y
-  kind_same None None is here = refl
-  kind_same None (Some y) is here = absurd is
-  kind_same (Some c) None is here = absurd is
-  kind_same (Some c) (Some y) is here =
-      let k : HasType c = has_type c is.0 (here c refl) in
-      ap (head.kind_of_type types) k.value
-      ∙ sym (type_kind types arena k.id k.less)
-      ∙ sym (ap kind_of_type (type_told nodes scope types r.constants.now r.values.now known c is.0 k.id k.value))
-      ∙ ap (λ (y : TypeExpression). kind_of_type (type_settled scope y)) is.1
+  -- one that isn't known has no kind
+  legal_kind : AreLegalKnown f r.values.now → (c : ℕ) → is_type (kind_at nodes c) ≡ true → head.kind_of_type types (type_id (value_of r.values.now c)) ≡ kind_of_parameter f (Some (item_at nodes c).type)
+  legal_kind legal c is = by (value_of r.values.now c) refl
+    where
+      known_kind : (value_of r.values.now c ≡ value.Lost → ⊥) → head.kind_of_type types (type_id (value_of r.values.now c)) ≡ kind_of_parameter f (Some (item_at nodes c).type)
+      known_kind here =
+          let k : HasType c = has_type c is (λ e. here (sym (value_same r.values.now c) ∙ e)) in
+          ap (head.kind_of_type types) k.value
+          ∙ sym (type_kind types arena k.id k.less)
+          ∙ sym (ap kind_of_type (type_told nodes scope types r.constants.now r.values.now known c is k.id k.value))
+          ∙ sym (ap (λ (b : Bool). kind_unless b (kind_of_type (type_settled scope (item_at nodes c).type))) ((legal c is).found here))
 
-  kinds_same : (xs : List (Option ℕ)) (ys : List (Option TypeExpression)) → AreTypes nodes xs ys → ((i c : ℕ) → slice_get xs i ≡ Some (Some c) → IsKnown r c) → map (kind_declared types r.values.now) xs ≡ map (kind_of_parameter f) ys
-  kinds_same [] [] is here = refl
-  kinds_same [] (y ∷ ys) is here = absurd is
-  kinds_same (x ∷ xs) [] is here = absurd is
-  kinds_same (x ∷ xs) (y ∷ ys) is here =
+      by : (v : Value) → value_of r.values.now c ≡ v → head.kind_of_type types (type_id (value_of r.values.now c)) ≡ kind_of_parameter f (Some (item_at nodes c).type)
+      by value.Lost at = ap (λ (v : Value). head.kind_of_type types (type_id v)) at ∙ sym ((legal c is).lost at)
+      by value.Nothing at = known_kind (λ e. cc)
+      by (value.Type id) at = known_kind (λ e. cc)
+      by (value.Constant k) at = known_kind (λ e. cc)
+      by (value.Parameter k) at = known_kind (λ e. cc)
+
+  kind_same : AreLegalKnown f r.values.now → (x : Option ℕ) (y : Option TypeExpression) → IsTypeOf nodes x y → kind_declared types r.values.now x ≡ kind_of_parameter f y
+  kind_same legal None None is = refl
+  kind_same legal None (Some y) is = absurd is
+  kind_same legal (Some c) None is = absurd is
+  kind_same legal (Some c) (Some y) is = legal_kind legal c is.0 ∙ ap (λ (y : TypeExpression). kind_of_parameter f (Some y)) is.1
+
+  kinds_same : AreLegalKnown f r.values.now → (xs : List (Option ℕ)) (ys : List (Option TypeExpression)) → AreTypes nodes xs ys → map (kind_declared types r.values.now) xs ≡ map (kind_of_parameter f) ys
+  kinds_same legal [] [] is = refl
+  kinds_same legal [] (y ∷ ys) is = absurd is
+  kinds_same legal (x ∷ xs) [] is = absurd is
+  kinds_same legal (x ∷ xs) (y ∷ ys) is =
       ap₂ (λ (k : Option ParamKind) (ks : List (Option ParamKind)). k ∷ ks)
-      (kind_same x y is.0 (λ c e. here 0 c (ap Some e)))
-      (kinds_same xs ys is.1 (λ i c e. here (suc i) c e))
+      (kind_same legal x y is.0)
+      (kinds_same legal xs ys is.1)
 
   -- ---- a module of the file
 
@@ -263,21 +278,11 @@ module _ (t : Text) (r : Read) (scope : Scope) (library : List Specification) (r
     abbrev pub its : ModuleIs t nodes rounds parsed are u node
     its = facts t nodes rounds parsed are u node at is
 
-    unit_there : (round_at rounds its.last).unit ≡ Some u
-    unit_there = its.round.unit ∙ ap (λ (k : NodeKind). unit_in k u (round_at rounds u)) is
-
-    parameter_known : AreParametersKnown r → (i c : ℕ) → slice_get (of_unit nodes u) i ≡ Some (Some c) → IsKnown r c
-    parameter_known parameters i c e =
-        parameters its.last (suc i) c
-        (ap (λ (o : Option ℕ). read.declared_in r.bindings.now.parameters o (suc i)) unit_there
-        ∙ ap (λ (xs : List (Option ℕ)). optional (slice_get xs i)) (of_node t r parsed are tables u (slice_get_within nodes u node at))
-        ∙ ap optional e)
-
-    unit_kinds : (h : Headline) → headline_at nodes u ≡ Some h → AreParametersKnown r → kinds_of types r.values.now nodes h.parameters ≡ kinds_in f (parameters_in (item_at nodes u).module_)
+    unit_kinds : (h : Headline) → headline_at nodes u ≡ Some h → AreLegalKnown f r.values.now → kinds_of types r.values.now nodes h.parameters ≡ kinds_in f (parameters_in (item_at nodes u).module_)
     unit_kinds h e parameters =
         kinds_by_nodes types r.values.now nodes h.parameters
         ∙ sym (ap (λ (o : Option Headline). map (kind_declared types r.values.now) (of_headline nodes o)) e)
-        ∙ kinds_same (of_unit nodes u) (types_in (parameters_in (item_at nodes u).module_)) (unit_types t nodes rounds parsed are u node at is) (parameter_known parameters)
+        ∙ kinds_same parameters (of_unit nodes u) (types_in (parameters_in (item_at nodes u).module_)) (unit_types t nodes rounds parsed are u node at is)
         ∙ sym (kinds_by_types f (parameters_in (item_at nodes u).module_))
 
     -- its definition
@@ -285,9 +290,9 @@ module _ (t : Text) (r : Read) (scope : Scope) (library : List Specification) (r
       headline : headline_at nodes u ≡ Some (headline_of nodes b th.node)
       headline = headline_is t nodes rounds parsed are u node at is ∙ ap (defined_in nodes) th.at ∙ ap (λ (k : NodeKind). headline_by nodes k th.node) th.is ∙ by
 
-      alike : (s : Specification) → first_name th.node.names ≡ s.name → kinds_in f (parameters_in (item_at nodes u).module_) ≡ s.kinds → b ≡ rules_of.is_routine_form s.form → AreAlike (AreParametersKnown r) (own_headed types r.values.now nodes (headline_at nodes u)) (s ∷ [])
+      alike : (s : Specification) → first_name th.node.names ≡ s.name → kinds_in f (parameters_in (item_at nodes u).module_) ≡ s.kinds → b ≡ rules_of.is_routine_form s.form → AreAlike (AreLegalKnown f r.values.now) (own_headed types r.values.now nodes (headline_at nodes u)) (s ∷ [])
       alike s name kinds routine =
-          subst (λ (o : Option Headline). AreAlike (AreParametersKnown r) (own_headed types r.values.now nodes o) (s ∷ [])) (sym headline)
+          subst (λ (o : Option Headline). AreAlike (AreLegalKnown f r.values.now) (own_headed types r.values.now nodes o) (s ∷ [])) (sym headline)
           (record { name = name; kinds = λ p. unit_kinds (headline_of nodes b th.node) headline p ∙ kinds; routine = routine }, tt)
 
     routine_name : (th : There nodes its.last kind.Routine) → first_name th.node.names ≡ (item_at nodes its.last).routine.name
@@ -308,7 +313,7 @@ module _ (t : Text) (r : Read) (scope : Scope) (library : List Specification) (r
     ]
 
     abbrev Said : Module → Type 0
-    Said m = AreAlike (AreParametersKnown r) (own_headed types r.values.now nodes (headline_at nodes u)) (specification_of f m ∷ [])
+    Said m = AreAlike (AreLegalKnown f r.values.now) (own_headed types r.values.now nodes (headline_at nodes u)) (specification_of f m ∷ [])
 
     module_said : Said (item_at nodes u).module_
     module_said = elim its.defines [
@@ -324,23 +329,23 @@ module _ (t : Text) (r : Read) (scope : Scope) (library : List Specification) (r
 
   -- ---- all of them
 
-  own_alike : (top : ℕ) (ns : List ℕ) → AreParts nodes (is_of kind.Module) top ns → AreAlike (AreParametersKnown r) (own_in types r.values.now nodes ns) (map (specification_of f) (modules_at (item_at nodes) ns))
-  own_alike top [] ps = subst (λ (ms : List (Identifier × ModuleKnown)). AreAlike (AreParametersKnown r) ms []) (sym (own_none types r.values.now nodes)) tt
+  own_alike : (top : ℕ) (ns : List ℕ) → AreParts nodes (is_of kind.Module) top ns → AreAlike (AreLegalKnown f r.values.now) (own_in types r.values.now nodes ns) (map (specification_of f) (modules_at (item_at nodes) ns))
+  own_alike top [] ps = subst (λ (ms : List (Identifier × ModuleKnown)). AreAlike (AreLegalKnown f r.values.now) ms []) (sym (own_none types r.values.now nodes)) tt
   own_alike top (n ∷ ns) ps =
       let th : There nodes n kind.Module = there nodes n kind.Module refl (same_kind kind.Module (kind_at nodes n) ps.0.1) in
-      subst (λ (ms : List (Identifier × ModuleKnown)). AreAlike (AreParametersKnown r) ms (map (specification_of f) (modules_at (item_at nodes) (n ∷ ns)))) (sym (own_more types r.values.now nodes n ns))
-      (both_alike (AreParametersKnown r) (own_headed types r.values.now nodes (headline_at nodes n)) (specification_of f (item_at nodes n).module_ ∷ []) (own_in types r.values.now nodes ns) (map (specification_of f) (modules_at (item_at nodes) ns))
+      subst (λ (ms : List (Identifier × ModuleKnown)). AreAlike (AreLegalKnown f r.values.now) ms (map (specification_of f) (modules_at (item_at nodes) (n ∷ ns)))) (sym (own_more types r.values.now nodes n ns))
+      (both_alike (AreLegalKnown f r.values.now) (own_headed types r.values.now nodes (headline_at nodes n)) (specification_of f (item_at nodes n).module_ ∷ []) (own_in types r.values.now nodes ns) (map (specification_of f) (modules_at (item_at nodes) ns))
       (module_said n th.node th.at th.is) (own_alike top ns ps.1))
 
   abbrev pub P : Type 0
-  P = AreParametersKnown r
+  P = AreLegalKnown f r.values.now
 
   module _ (top : ℕ) (ns : List ℕ) (ps : AreParts nodes (is_of kind.Module) top ns) (same : modules nodes ≡ ns) (file : file_of nodes ≡ modules_at (item_at nodes) ns) (kept : library ≡ map specification_told r.library.now)
       (there_are : AreModules r.bindings.now.modules (modules_in types r.values.now nodes r.library.now)) (few : length r.bindings.now.modules.known.items < 2 ^ 32 - 1) where
-    abbrev all : List (Identifier × ModuleKnown)
+    abbrev pub all : List (Identifier × ModuleKnown)
     all = modules_in types r.values.now nodes r.library.now
 
-    abbrev specifications : List Specification
+    abbrev pub specifications : List Specification
     specifications = own_specifications f ++ f.library
 
     few_all : length all < 2 ^ 32 - 1
@@ -356,7 +361,7 @@ module _ (t : Text) (r : Read) (scope : Scope) (library : List Specification) (r
           absurd (omega (arith, long, size, less)))
     ]
 
-    all_alike : AreAlike P all specifications
+    pub all_alike : AreAlike P all specifications
     all_alike =
         both_alike P (own_in types r.values.now nodes (modules nodes)) (own_specifications f) (kept_in (take 4294967295 r.library.now)) library
         (subst (λ (ms : List ℕ). AreAlike P (own_in types r.values.now nodes ms) (own_specifications f)) (sym same)

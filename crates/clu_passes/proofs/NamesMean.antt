@@ -174,13 +174,13 @@ module _ (t : Text) (r : Read) (library : List Specification) (refused : List �
       ap (λ (xs : List ℕ). get_or xs p 0) (tables.parameters.numbers ∙ ap (λ (ds : List Declared). numbers_to nodes rounds ds (length ds)) its_names.declared ∙ numbers_are nodes rounds ds (length ds))
       ∙ get_or_from_slice_get (table_to (λ p. number_at nodes rounds ds p (slice_get ds p)) (length ds)) p (number_at nodes rounds ds p (slice_get ds p)) 0 (table_at (λ p. number_at nodes rounds ds p (slice_get ds p)) (length ds) p l)
 
-  abbrev at : ℕ → Meaning
+  abbrev pub at : ℕ → Meaning
   at p = table.declared_at nodes rounds of counts (get_or numbers p 0) (slice_get ds p)
 
   table_is : r.bindings.now.declared.items ≡ table_to at (length ds)
   table_is = tables.declared ∙ ap (λ (ds : List Declared). table.declared_of nodes rounds of counts numbers ds) its_names.declared
 
-  there : (p : ℕ) → p < length ds → get_or r.bindings.now.declared.items p table.nothing ≡ at p
+  pub there : (p : ℕ) → p < length ds → get_or r.bindings.now.declared.items p table.nothing ≡ at p
   there p l = ap (λ (xs : List Meaning). get_or xs p table.nothing) table_is ∙ get_or_from_slice_get (table_to at (length ds)) p (at p) table.nothing (table_at at (length ds) p l)
 
   settled_there : (p : ℕ) → p < length ds → slice_get (settled_as.declared_to nodes rounds ds (length ds)) p ≡ Some (settled_as.declared_at nodes rounds ds p (slice_get ds p))

@@ -4,7 +4,6 @@ use Rattle.std.proofs.lemmas.Bool.{true≢false}
 use Rattle.clu_tree.specs.declared.node.Node.{Node}
 use Rattle.clu_tree.specs.declared.node.NodeKind.{NodeKind}
 use Rattle.clu_tree.specs.declared.node.NodeKind.TheVariants as kind
-use Rattle.clu_types.specs.CluType.{CluType}
 use Rattle.clu_types.specs.declared.term.TypeId.{TypeId}
 use Rattle.clu_types.specs.declared.term.Term.{Term}
 use Rattle.clu_syntax.specs.Kinds.{is_expression, kind_of, kind_at}
@@ -28,9 +27,9 @@ use Rattle.clu_typing.specs.Facts as tables
 use Rattle.clu_typing.specs.Invoking.{lists_of}
 use Rattle.clu_typing.specs.Nodes.{is_used_as}
 use Rattle.clu_passes.specs.ConstantTables.{file_with, wanted_told}
-use Rattle.clu_passes.specs.FactTables.{AreTypes, AreFound, AreInvocations}
+use Rattle.clu_passes.specs.FactTables.{AreFound, AreInvocations}
 use Rattle.clu_passes.specs.NotedLists.{One, Noted, nothing_noted, types_given, applied_noted, node_noted, operations_of, AreNoted, AreOnes}
-use Rattle.clu_passes.specs.StandsFor.{IsKindOf, operands, node_operands, named_of, StandsFor, NodeStandsFor}
+use Rattle.clu_passes.specs.StandsFor.{IsKindOf, AreOperandsOf, AreOperands, named_of, StandsFor, NodeStandsFor}
 use Rattle.clu_passes.proofs.FactNodes.{object_wanted}
 use Rattle.clu_passes.proofs.NotedRead.{invocations_read, operations_read}
 use Rattle.clu_passes.proofs.OnesSaid.{expression_ones, statement_ones, expression_named, statement_named}
@@ -155,8 +154,8 @@ module _ (r : Read) (scope : Scope) (library : List Specification) (refused : Li
   abbrev noted_if : Bool → NodeKind → Noted
   noted_if b k = if b then applied_noted types its k ns else nothing_noted
 
-  abbrev Given : List (Option CluType) → Type 0
-  Given ts = AreTypes terms (types_given types ns) ts
+  abbrev Given : Expression → Type 0
+  Given e = AreOperandsOf f terms (types_given types ns) e
 
   -- what is noted there is so
   abbrev IsSo : Noted → NodeKind → Type 0
@@ -165,7 +164,7 @@ module _ (r : Read) (scope : Scope) (library : List Specification) (refused : Li
   abbrev e : Expression
   e = (item f n).expression
 
-  expression_so : (b : Bool) → is_object_wanted (wanted f n) ≡ b → StandsFor f terms facts e its → Given (operands f e) → IsSo (noted_if b (form e)) (form e)
+  expression_so : (b : Bool) → is_object_wanted (wanted f n) ≡ b → StandsFor f terms facts e its → Given e → IsSo (noted_if b (form e)) (form e)
   expression_so b is stands given = (
     subst (λ (xs : List Invocation). AreOnes terms facts (noted_if b (form e)).invoked xs) (sym (invocations_are f n b is e refl)) (ones b),
     subst (λ (xs : List (Option Found)). AreFound terms facts (noted_if b (form e)).named xs) (sym (names_are f n b is e refl)) (names b),
@@ -183,37 +182,37 @@ module _ (r : Read) (scope : Scope) (library : List Specification) (refused : Li
   wanted_here = bound.is_object_wanted (wanted_in r n)
 
   module _ (are : wanted_told (wanted_in r n) ≡ wanted f n) where
-    kind_so : (k : NodeKind) → is_expression k ≡ true → kind_at nodes n ≡ k → StandsFor f terms facts e its → Given (operands f e) → IsSo (noted_if wanted_here k) k
+    kind_so : (k : NodeKind) → is_expression k ≡ true → kind_at nodes n ≡ k → StandsFor f terms facts e its → Given e → IsSo (noted_if wanted_here k) k
     kind_so k is at stands given =
         subst (λ (j : NodeKind). IsSo (noted_if wanted_here j) j) (form_at nodes n (subst (λ (j : NodeKind). is_expression j ≡ true) (sym at) is) ∙ at)
         (expression_so wanted_here (ap is_object_wanted (sym are) ∙ object_wanted (wanted_in r n)) stands given)
 
-    node_so : (k : NodeKind) → kind_at nodes n ≡ k → NodeStandsFor f terms facts k n its → Given (node_operands f k n) → IsSo (noted_if (is_used_as r k n) k) k
+    node_so : (k : NodeKind) → kind_at nodes n ≡ k → NodeStandsFor f terms facts k n its → AreOperands f terms (types_given types ns) k n → IsSo (noted_if (is_used_as r k n) k) k
     node_so kind.SetField at stands given = (statement_ones f terms facts types kind.SetField ns (item f n).statement its refl stands given, statement_named f terms facts types kind.SetField ns (item f n).statement its stands)
     node_so kind.SetIndex at stands given = (statement_ones f terms facts types kind.SetIndex ns (item f n).statement its refl stands given, statement_named f terms facts types kind.SetIndex ns (item f n).statement its stands)
-    node_so kind.Infix at stands given = kind_so kind.Infix refl at (stands refl) given
-    node_so kind.Prefix at stands given = kind_so kind.Prefix refl at (stands refl) given
-    node_so kind.Paren at stands given = kind_so kind.Paren refl at (stands refl) given
-    node_so kind.Literal at stands given = kind_so kind.Literal refl at (stands refl) given
-    node_so kind.Name at stands given = kind_so kind.Name refl at (stands refl) given
-    node_so kind.Index at stands given = kind_so kind.Index refl at (stands refl) given
-    node_so kind.Get at stands given = kind_so kind.Get refl at (stands refl) given
-    node_so kind.Call at stands given = kind_so kind.Call refl at (stands refl) given
-    node_so kind.Fields at stands given = kind_so kind.Fields refl at (stands refl) given
-    node_so kind.Elems at stands given = kind_so kind.Elems refl at (stands refl) given
-    node_so kind.OperOf at stands given = kind_so kind.OperOf refl at (stands refl) given
-    node_so kind.Force at stands given = kind_so kind.Force refl at (stands refl) given
-    node_so kind.Up at stands given = kind_so kind.Up refl at (stands refl) given
-    node_so kind.Down at stands given = kind_so kind.Down refl at (stands refl) given
+    node_so kind.Infix at stands given = kind_so kind.Infix refl at (stands refl) (given refl)
+    node_so kind.Prefix at stands given = kind_so kind.Prefix refl at (stands refl) (given refl)
+    node_so kind.Paren at stands given = kind_so kind.Paren refl at (stands refl) (given refl)
+    node_so kind.Literal at stands given = kind_so kind.Literal refl at (stands refl) (given refl)
+    node_so kind.Name at stands given = kind_so kind.Name refl at (stands refl) (given refl)
+    node_so kind.Index at stands given = kind_so kind.Index refl at (stands refl) (given refl)
+    node_so kind.Get at stands given = kind_so kind.Get refl at (stands refl) (given refl)
+    node_so kind.Call at stands given = kind_so kind.Call refl at (stands refl) (given refl)
+    node_so kind.Fields at stands given = kind_so kind.Fields refl at (stands refl) (given refl)
+    node_so kind.Elems at stands given = kind_so kind.Elems refl at (stands refl) (given refl)
+    node_so kind.OperOf at stands given = kind_so kind.OperOf refl at (stands refl) (given refl)
+    node_so kind.Force at stands given = kind_so kind.Force refl at (stands refl) (given refl)
+    node_so kind.Up at stands given = kind_so kind.Up refl at (stands refl) (given refl)
+    node_so kind.Down at stands given = kind_so kind.Down refl at (stands refl) (given refl)
     node_so _ at stands given = (tt, tt)
 
-    pub node_said : NodeStandsFor f terms facts (kind_at nodes n) n its → Given (node_operands f (kind_at nodes n) n) → AreOnes terms facts (node_noted types r its n).invoked (invocations f n) × AreFound terms facts (operations_of (node_noted types r its n)) (operations_at f n)
+    pub node_said : NodeStandsFor f terms facts (kind_at nodes n) n its → AreOperands f terms (types_given types ns) (kind_at nodes n) n → AreOnes terms facts (node_noted types r its n).invoked (invocations f n) × AreFound terms facts (operations_of (node_noted types r its n)) (operations_at f n)
     node_said stands given =
         let so : IsSo (node_noted types r its n) (kind_at nodes n) = node_so (kind_at nodes n) refl stands given in
         (so.0, found_append terms facts (map (λ (one : One). one.operation) (node_noted types r its n).invoked) (node_noted types r its n).named (map (λ (x : Invocation). x.invoked) (invocations f n)) (operations_by f (kind_at nodes n) n) (ones_found terms facts (node_noted types r its n).invoked (invocations f n) so.0) so.1)
 
     -- of the lists of all nodes, what is read at this one
-    pub node_read : (of : ℕ → Noted) (m : ℕ) → AreNoted of (lists_of facts.invocations) m → n < m → of n ≡ node_noted types r its n → NodeStandsFor f terms facts (kind_at nodes n) n its → Given (node_operands f (kind_at nodes n) n) → AreInvocations terms facts (tables.invocations facts n) (invocations f n) × AreFound terms facts (tables.operations_at facts n) (operations_at f n)
+    pub node_read : (of : ℕ → Noted) (m : ℕ) → AreNoted of (lists_of facts.invocations) m → n < m → of n ≡ node_noted types r its n → NodeStandsFor f terms facts (kind_at nodes n) n its → AreOperands f terms (types_given types ns) (kind_at nodes n) n → AreInvocations terms facts (tables.invocations facts n) (invocations f n) × AreFound terms facts (tables.operations_at facts n) (operations_at f n)
     node_read of m noted less here stands given =
         let so = node_said stands given in (
           invocations_read terms facts of m noted n less (invocations f n) (subst (λ (x : Noted). AreOnes terms facts x.invoked (invocations f n)) (sym here) so.0),

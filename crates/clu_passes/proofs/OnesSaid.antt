@@ -26,7 +26,7 @@ use Rattle.clu_typing.specs.Operators.{infix_operation, is_negated, prefix_opera
 use Rattle.clu_passes.specs.FactTables.{IsType, AreTypes, AreFound}
 use Rattle.clu_passes.specs.Sugar.{operation_of, negates}
 use Rattle.clu_passes.specs.NotedLists.{Noted, nothing_noted, types_given, call_noted, children_noted, kind_noted, applied_noted, AreOnes}
-use Rattle.clu_passes.specs.StandsFor.{is_call, IsKindOf, operands, operands_of_statement, named_of, IsNot, IsSugar, IsSugarIf, IsIndex, IsNamed, IsOwnNamed, StandsFor, StatementStandsFor}
+use Rattle.clu_passes.specs.StandsFor.{is_call, IsKindOf, operands_of_statement, named_of, IsNot, IsSugar, IsSugarIf, IsIndex, IsNamed, IsOwnNamed, StandsFor, StatementStandsFor, AreOperandsOf}
 use Rattle.clu_passes.proofs.Sugared.{infix_said, negated_said, prefix_said}
 
 module _ (f : File) (terms : List Term) (facts : Facts) (types : List (Option TypeId)) (k : NodeKind) (ns : List ℕ) where
@@ -127,7 +127,7 @@ module _ (f : File) (terms : List Term) (facts : Facts) (types : List (Option Ty
 
   -- ---- expressions and statements
 
-  pub expression_ones : (e : Expression) (its : Applied) → IsKindOf e k → StandsFor f terms facts e its → Given (operands f e) → Ones its (by_expression f e)
+  pub expression_ones : (e : Expression) (its : Applied) → IsKindOf e k → StandsFor f terms facts e its → AreOperandsOf f terms (types_given types ns) e → Ones its (by_expression f e)
   expression_ones (an_infix m o a b) its is said given = infix_ones o m a b its is said given
   expression_ones (a_prefix m s e) its is said given =
       sugar_ones m (prefix_name s) (type_of f e) [] its is (subst (λ (name : Identifier). IsSugar f terms facts false m name (type_of f e) its) (prefix_said s) said) given

@@ -14,11 +14,11 @@ use Rattle.clu_syntax.specs.Syntax.{Identifier, TypeExpression, Parameter, Clust
 use Rattle.clu_meaning.specs.Scoping.{own_names, own_actuals, parameter_number}
 use Rattle.clu_meaning.specs.Settling.{type_settled}
 use Rattle.clu_checking.specs.Files.{File}
-use Rattle.clu_checking.specs.Headings.{kind_of_type, kind_of_parameter, kinds_in}
+use Rattle.clu_checking.specs.Headings.{kind_of_type, kind_unless, is_no_parameter_type, kind_of_parameter, kinds_in}
 use Rattle.clu_head.specs.OwnTypes.{number_at, is_type_parameter, IsOwn, IsOwnActual, AreOwn, IsOwnType}
 
 -- a type is the kind of no parameter by itself
-no_type_parameter : (t : CluType) → is_type_parameter (kind_of_type t) ≡ false
+pub no_type_parameter : (t : CluType) → is_type_parameter (kind_of_type t) ≡ false
 no_type_parameter null_type = refl
 no_type_parameter bool_type = refl
 no_type_parameter int_type = refl
@@ -36,6 +36,10 @@ no_type_parameter (proc_of args results ss) = refl
 no_type_parameter (iter_of args results ss) = refl
 no_type_parameter (cluster_of name given) = refl
 no_type_parameter (parameter n) = refl
+
+pub unless_no : (b : Bool) (k : Option ParamKind) → is_type_parameter k ≡ false → is_type_parameter (kind_unless b k) ≡ false
+unless_no true k e = refl
+unless_no false k e = e
 
 number_is : (place : ℕ) → suc place ≤ 4294967295 → number_at place ≡ suc place
 number_is place few = ap (λ (b : Bool). if b then place + 1 else 4294967295) (lt-ltb place 4294967295 few) ∙ next
@@ -62,7 +66,7 @@ module _ (f : File) (types : List Term) (arena : IsArena types) where
   one_own : (o : Option TypeExpression) (n : ℕ) (a : Actual) (rest : Actuals) → IsOwnActual types (kind_of_parameter f o) n a → actual_at (types_of types) a rest ≡ own_actual o n rest
   unfolding IsOwnActual
   one_own None n a rest is = type_own n a rest is
-  one_own (Some t) n a rest is = constant_own n a rest (subst (λ (b : Bool). IsOwn types b n a) (no_type_parameter (type_settled f.scope t)) is)
+  one_own (Some t) n a rest is = constant_own n a rest (subst (λ (b : Bool). IsOwn types b n a) (unless_no (is_no_parameter_type f t) (kind_of_type (type_settled f.scope t)) (no_type_parameter (type_settled f.scope t))) is)
 
   more_own : (o : Option TypeExpression) (n : ℕ) (name : Identifier) (names : List Identifier) (rest : Actuals) → own_names o n (name ∷ names) rest ≡ own_actual o n (own_names o (suc n) names rest)
   more_own None n name names rest = refl

@@ -25,7 +25,7 @@ use Rattle.clu_checking.specs.Refusals.{Walk, fault_at, is_no_type_at}
 use Rattle.clu_passes.specs.Agreeing.{AgreeAt}
 use Rattle.clu_passes.specs.Losing.{is_definition, is_plain, IsPlain, walk_by, walk_of, HasRefusedBelow, AreNotRefused}
 use Rattle.clu_passes.specs.Trees.{IsFileOfTree}
-use Rattle.clu_passes.proofs.LostRefused.{HasParentIn, parent_in}
+use Rattle.clu_passes.proofs.CvtPlaces.{HasParentIn, parent_in}
 use Rattle.clu_passes.proofs.Within.{forest_goes_on}
 use Rattle.clu_passes.proofs.RefusedFaults.{refused_faulty}
 use Rattle.clu_passes.proofs.Subtrees.{AreFirst, firsts_of, is_subtree}
@@ -110,7 +110,7 @@ module _ (nodes : List Node) (rounds : List Round) (n : ℕ) (node : Node) (plai
 
 module _ (f : File) (of : IsFileOfTree f) where
   -- no node begins before the one below which it stands
-  begins_in : (from to : ℕ) (roots : List ℕ) → IsForest f.nodes from roots to → AreFirst f.rounds from roots → (c : ℕ) → from ≤ c → c < to → from ≤ (round f c).first
+  pub begins_in : (from to : ℕ) (roots : List ℕ) → IsForest f.nodes from roots to → AreFirst f.rounds from roots → (c : ℕ) → from ≤ c → c < to → from ≤ (round f c).first
   begins_in from to _ (none _) firsts c l m = absurd (omega (arith, l, m))
   begins_in from to _ (tree _ root _ its roots at inside behind) firsts c l m = elim (cases_lt c root) [
     | inl less ↦ begins_in from root its.children inside (subst (λ (first : ℕ). AreFirst f.rounds first its.children) firsts.0 (firsts_of f.nodes f.rounds of.tree of.surrounded root its at)) c l less
@@ -124,9 +124,9 @@ module _ (f : File) (of : IsFileOfTree f) where
     pub begins : (c : ℕ) → (round f n).first ≤ c → c < n → (round f n).first ≤ (round f c).first
     begins = begins_in (round f n).first n node.children (is_subtree f.nodes f.rounds of.tree of.surrounded of.ordered n node at) (firsts_of f.nodes f.rounds of.tree of.surrounded n node at)
 
-    record IsAlike (c : ℕ) : Type 0 where
-      its_kind : IsPlain (kind_in f c)
-      heading : (round f c).heading ≡ (round f n).heading
+    pub record IsAlike (c : ℕ) : Type 0 where
+      pub its_kind : IsPlain (kind_in f c)
+      pub heading : (round f c).heading ≡ (round f n).heading
 
     child_plain : (c : ℕ) (q : HasParent f.nodes c) → IsPlain q.node.kind → (k : NodeKind) → kind_in f c ≡ k → is_plain k ≡ true
     child_plain c q up kind.File is = absurd (never_file f.nodes of.tree q.parent q.node q.at (of.shaped q.parent q.node q.at) c q.child is)
@@ -149,7 +149,7 @@ module _ (f : File) (of : IsFileOfTree f) where
     self_alike : IsAlike n
     self_alike = record { its_kind = subst IsPlain (sym (ap kind_of at)) plain; heading = refl }
 
-    alike_to : (d c : ℕ) → (round f n).first ≤ c → c < n → n ≤ c + d → IsAlike c
+    pub alike_to : (d c : ℕ) → (round f n).first ≤ c → c < n → n ≤ c + d → IsAlike c
     alike_to zero c l m h = absurd (omega (arith, m, h))
     alike_to (suc d) c l m h =
         let p = parent_in f of n node at c l m in

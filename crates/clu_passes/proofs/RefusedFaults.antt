@@ -86,7 +86,7 @@ module _ (f : File) (b c : ℕ → Bool) (more : (e : ℕ) → b e ≡ true → 
   at_more None h = absurd (true≢false (sym h))
   at_more (Some e) h = unless_more (is_circular f e) e h
 
-  name_more : (name : Identifier) → is_bad_name f b n name ≡ true → is_bad_name f c n name ≡ true
+  pub name_more : (name : Identifier) → is_bad_name f b n name ≡ true → is_bad_name f c n name ≡ true
   name_more name h = at_more (equate_named f n name) h
 
   and_more : (x y z : Bool) → (x ≡ true → y ≡ true) → (x && z) ≡ true → (y && z) ≡ true
@@ -142,12 +142,12 @@ module _ (f : File) where
   abbrev fault : List Rule → (ℕ → Bool) → ℕ → Bool
   fault rules bad n = is_some (least (violates f bad n) rules)
 
-  fault_more : (b c : ℕ → Bool) → ((e : ℕ) → b e ≡ true → c e ≡ true) → (n : ℕ) → fault (rules_of_types f) b n ≡ true → fault all_rules c n ≡ true
+  pub fault_more : (b c : ℕ → Bool) → ((e : ℕ) → b e ≡ true → c e ≡ true) → (n : ℕ) → fault (rules_of_types f) b n ≡ true → fault all_rules c n ≡ true
   fault_more b c more n h =
       found_least f (violates f b n) (fault all_rules c n ≡ true)
       (λ r i at is v. some_least (violates f c n) all_rules i r at (violated_more f b c more n r is v)) h
 
-  bad_more : (steps e : ℕ) → is_bad_by f (rules_of_types f) steps e ≡ true → is_bad_by f all_rules steps e ≡ true
+  pub bad_more : (steps e : ℕ) → is_bad_by f (rules_of_types f) steps e ≡ true → is_bad_by f all_rules steps e ≡ true
   unfolding is_bad_by
   bad_more zero e h = h
   bad_more (suc steps) e h =

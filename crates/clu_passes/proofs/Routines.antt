@@ -37,7 +37,7 @@ module _ {X : Type 0} (P : X → Type 0) (rank : X → List ℕ) where
       by Less more = All-cons P d (e ∷ es) p all
       by Greater more = All-cons P e (with_one (before rank) (same rank) first_of d es) (All-head P e es all) more
 
-  listed_all : (xs : List X) → All P xs → All P (listed (before rank) (same rank) first_of xs)
+  pub listed_all : (xs : List X) → All P xs → All P (listed (before rank) (same rank) first_of xs)
   listed_all [] all = all
   listed_all (x ∷ xs) all = with_all x (listed (before rank) (same rank) first_of xs) (All-head P x xs all) (listed_all xs (All-tail P x xs all))
 

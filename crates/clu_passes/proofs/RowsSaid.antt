@@ -41,7 +41,7 @@ use Rattle.clu_passes.specs.FactTables.{AreTypes}
 use Rattle.clu_passes.specs.NotedLists.{types_given}
 use Rattle.clu_passes.specs.Raised.{has_actuals, inside_as, own_as, own_raises, own_raises_of, passed_from, row_as, row_of}
 use Rattle.clu_passes.specs.RowsTold.{StandsElsewhere}
-use Rattle.clu_passes.specs.StandsFor.{NodeStandsFor, StandsFor, StatementStandsFor, node_operands, operands}
+use Rattle.clu_passes.specs.StandsFor.{AreOperands, AreOperandsOf, NodeStandsFor, StandsFor, StatementStandsFor}
 use Rattle.clu_passes.proofs.AtNodes.{kids_are}
 use Rattle.clu_passes.proofs.RowsOwn.{by_applied, by_nothing, expression_told, operated, statement_told, typed_told}
 use Rattle.clu_passes.proofs.RowsPassed.{at_except, at_resignal, passed_here, passed_there}
@@ -187,15 +187,15 @@ module _ (r : Read) (scope : Scope) (library : List Specification) (refused : Li
         (first_alone (failure ∷ []) (invoked_told terms (first_operation facts its)) (invoked_told terms (second_operation facts its)) (by_nothing f terms facts its none)
         ∙ sym (elements_raise of x.node.value_token (drop 1 x.node.children)))
 
-    module _ (given : AreTypes terms (types_given facts.types.items (children_in r n)) (node_operands f (kind_at nodes n) n)) (means_so : kind_at nodes n ≡ kind.Name → (if is_variable (meaning_in r n) then failure ∷ [] else []) ≡ by_name f n (first_name_at f n))
+    module _ (given : AreOperands f terms (types_given facts.types.items (children_in r n)) (kind_at nodes n) n) (means_so : kind_at nodes n ≡ kind.Name → (if is_variable (meaning_in r n) then failure ∷ [] else []) ≡ by_name f n (first_name_at f n))
         (actuals : kind_at nodes n ≡ kind.Index → read.has_actuals r n ≡ has_actuals f (item f n).expression) where
       call_own : (x : There nodes n kind.Call) → kind_at nodes n ≡ kind.Call → own_by kind.Call ≡ own_raises f (item f n).expression
       call_own x is =
           let none : its ≡ applied.Nothing = subst (λ (e : Expression). StandsFor f terms facts e its) (its_expression kind.Call x) (stands_at kind.Call is refl) in
           let called : invoked_told terms (called_in facts (children_in r n)) ≡ invoked (type_of f (items (child 0 x.node)).expression) =
           called_told terms facts (children_in r n) (type_of f (items (child 0 x.node)).expression) (types_of f (expressions_at items (drop 1 x.node.children)))
-          (subst (λ (e : Expression). AreTypes terms (types_given facts.types.items (children_in r n)) (operands f e)) (its_expression kind.Call x)
-          (subst (λ (k : NodeKind). AreTypes terms (types_given facts.types.items (children_in r n)) (node_operands f k n)) is given)) in
+          (subst (λ (e : Expression). AreOperandsOf f terms (types_given facts.types.items (children_in r n)) e) (its_expression kind.Call x)
+          (subst (λ (k : NodeKind). AreOperands f terms (types_given facts.types.items (children_in r n)) k n) is given refl)) in
           own_so kind.Call x
           (ap (λ (a : Applied). invoked_told terms (called_in facts (children_in r n)) ++ invoked_told terms (second_operation facts a)) none
           ∙ append-nil (invoked_told terms (called_in facts (children_in r n)))

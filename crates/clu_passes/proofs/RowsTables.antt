@@ -32,11 +32,10 @@ use Rattle.clu_typing.specs.Nodes as read
 use Rattle.clu_typing.specs.Raises.{raised_told, row_told}
 use Rattle.clu_typing.specs.Sets.{HaveSame}
 use Rattle.clu_passes.specs.ConstantTables.{file_with, AreTables, IsEquateKnown, IsFirstKnown, IsIndexKnown}
-use Rattle.clu_passes.specs.FactTables.{AreTypes}
 use Rattle.clu_passes.specs.NotedLists.{types_given}
 use Rattle.clu_passes.specs.Raised.{has_actuals, row_of}
 use Rattle.clu_passes.specs.RowsTold.{StandsElsewhere}
-use Rattle.clu_passes.specs.StandsFor.{NodeStandsFor, node_operands}
+use Rattle.clu_passes.specs.StandsFor.{AreOperands, NodeStandsFor}
 use Rattle.clu_passes.proofs.ConstantNodes.{AName, NoName, is_name, name_or_none}
 use Rattle.clu_passes.proofs.RowsPassed.{stands}
 use Rattle.clu_passes.proofs.RowsSaid.{name_told, row_said}
@@ -86,7 +85,7 @@ module _ (t : Text) (its_tables : Tables) (scope : Scope) (library : List Specif
       ∙ index_actuals n _ (λ cs. constants_at (before n (item_at nodes)) (drop 1 cs)) x.node.children (subst (λ (cs : List ℕ). IsFirstKnown r cs) own (known is)) (stands t nodes parsed n kind.Index x _ refl)
       ∙ sym (ap (λ (e : Expression). has_actuals f e) (ap (λ (i : Item). i.expression) (item_there nodes n x.node x.at) ∙ ap (λ (k : NodeKind). expression_of (before n (item_at nodes)) nodes n x.node k) x.is))
 
-  pub row_by_tables : (facts : Facts) (n : ℕ) (its : Applied) → IsIndexKnown r n → NodeStandsFor f its_tables.types.now facts (kind_in r n) n its → StandsElsewhere (kind_in r n) its → AreTypes its_tables.types.now (types_given facts.types.items (children_in r n)) (node_operands f (kind_in r n) n)
+  pub row_by_tables : (facts : Facts) (n : ℕ) (its : Applied) → IsIndexKnown r n → NodeStandsFor f its_tables.types.now facts (kind_in r n) n its → StandsElsewhere (kind_in r n) its → AreOperands f its_tables.types.now (types_given facts.types.items (children_in r n)) (kind_in r n) n
       → HaveSame (row_told r its_tables.types.now facts its n) (row_of f (raised_told its_tables.types.now facts) n)
   row_by_tables facts n its known stand elsewhere given =
       row_said r scope library refused t parsed its_tables.types.now facts n its stand elsewhere given

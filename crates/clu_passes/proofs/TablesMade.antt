@@ -1,5 +1,5 @@
 -- The tables that the rules on names, constants and types read, as the calls before the rules make them, are those of the file.
-use Rattle.std.proofs.Common.{◌≡◌, ◌&&◌, ℕ, List}
+use Rattle.std.proofs.Common.{◌≡◌, ◌&&◌, ℕ, List, subst}
 use Rattle.clu_tree.specs.declared.node.NodeKind.TheVariants as kind
 use Rattle.clu_parser.specs.Trees.{Text}
 use Rattle.clu_types.specs.declared.term.Term.{Term}
@@ -8,14 +8,21 @@ use Rattle.clu_checking.specs.Specifications.{Specification}
 use Rattle.clu_checking.specs.Files.{File, is_kind, scope_in}
 use Rattle.clu_checking.specs.Typing as typing
 use Rattle.clu_checking.specs.Wanted.{first_name_at}
+use Rattle.clu_names.specs.declared.scopes.Declared.{Declared}
+use Rattle.clu_settle.specs.Lost.{AreRead}
+use Rattle.clu_settle.specs.Meant.{meanings_of}
 use Rattle.clu_bindings.specs.declared.file.File.{File as Read}
 use Rattle.clu_bindings.specs.Readers as read
 use Rattle.clu_bindings.specs.Readers.{meaning_in}
 use Rattle.clu_name_rules.specs.declared.tables.Tables.{Tables}
 use Rattle.clu_passes.specs.ConstantTables.{AreTables, IsEquateKnown, file_with}
+use Rattle.clu_declares.proofs.Each.{are_meanings}
+use Rattle.clu_passes.specs.Legal.{AreLegalKnown}
 use Rattle.clu_passes.specs.Made.{AreMade, IsMade}
+use Rattle.clu_passes.specs.Trees.{IsFileOfTree}
 use Rattle.clu_passes.proofs.DeclaredParameters.{parameters_declared}
 use Rattle.clu_passes.proofs.EquatesSaid.{equates_said}
+use Rattle.clu_passes.proofs.LegalTypes.{legal_known}
 use Rattle.clu_passes.proofs.LongTexts.{long_constants_told, long_types_told}
 use Rattle.clu_passes.proofs.ModuleMeant.{named_said, named_types_said, reps_said, restricted_said}
 use Rattle.clu_passes.proofs.PlacesSaid.{places_said}
@@ -44,12 +51,20 @@ module _ (t : Text) (its : Tables) (library : List Specification) (refused : Lis
   takers : (n : ℕ) → IsEquateKnown r (meaning_in r n) → read.takes_actuals r n ≡ (is_kind f kind.Name n && typing.takes_actuals f n (first_name_at f n))
   takers = takers_said t r library refused types made.values made.parsed made.rounds made.few made.names made.bindings (sets_said t r library refused made.parsed made.names made.bindings)
 
+  of : IsFileOfTree f
+  of = record { shaped = made.parsed.forms; ordered = made.parsed.order; tree = made.parsed.tree; surrounded = made.rounds }
+
+  legal : AreLegalKnown f r.values.now
+  legal = legal_known f of r.values.now (are_meanings t r.syntax.now r.rounds.now made.parsed made.rounds made.few)
+      (subst (λ (ds : List Declared). AreRead r.syntax.now (meanings_of r.syntax.now r.rounds.now ds) r.values.now) made.names.declared made.read)
+
   pub tables_are : AreTables f its
   tables_are = record {
     names = made.names;
     marks = marks_told f made.rounds r.names.now made.names its.circular.now all.circular;
     arena = made.arena;
     values = made.values;
+    legal = legal;
     named = named_said t r library refused types made.arena made.values made.parsed made.rounds made.few made.names made.bindings made.kept made.modules made.few_modules;
     named_types = named_types_said t r library refused types made.arena made.values made.parsed made.rounds made.few made.names made.bindings made.kept made.modules made.few_modules;
     restricted = restricted_said t r library refused types made.arena made.values made.parsed made.rounds made.few made.names made.bindings made.kept made.modules made.few_modules;

@@ -5,14 +5,18 @@ use Rattle.clu_tree.specs.declared.node.Node.{Node}
 use Rattle.clu_tree.specs.declared.node.NodeKind.{NodeKind}
 use Rattle.clu_tree.specs.declared.node.NodeKind.TheVariants as kind
 use Rattle.clu_types.specs.declared.term.Field.{Field}
-use Rattle.clu_syntax.specs.Kinds.{is_type}
+use Rattle.clu_syntax.specs.declared.round.Round.{Round}
+use Rattle.clu_syntax.specs.Kinds.{is_type, kind_at}
 use Rattle.clu_syntax.specs.Items.{Item}
 use Rattle.clu_syntax.specs.Syntax.{Identifier}
+use Rattle.clu_names.specs.Scopes.{is_stream}
 use Rattle.clu_meaning.specs.Scoping as means
+use Rattle.clu_checking.specs.Specifications.{Specification, specification_in}
 use Rattle.clu_checking.specs.Files.{File, item, kind_in, stands_in, parent, children, names, meaning, is_of_module}
 use Rattle.clu_checking.specs.Headings as headings
 use Rattle.clu_checking.specs.NameRules.{stands_twice}
 use Rattle.clu_checking.specs.Wanted.{first_name_at}
+use Rattle.clu_settle.specs.Parameters.{is_parameter}
 use Rattle.clu_bindings.specs.declared.file.File.{File as Read}
 use Rattle.clu_bindings.specs.declared.meaning.Meaning.{Meaning}
 use Rattle.clu_bindings.specs.declared.meaning.Meaning.TheVariants as meant
@@ -30,6 +34,14 @@ use Rattle.clu_passes.specs.FactTables.{IsType}
 -- the types that stand at nodes, as the body in which a node stands sees them, but where something is lost
 pub record AreInside (f : File) (k : Known) (lost : ℕ → Bool) : Type 0 where
   pub types : (items : ℕ → Item) (n t : ℕ) → is_type (kind_in f t) ≡ true → lost t ≡ false → IsType k.tables.types.now (type_inside k.tables.file items n t) (Some (headings.type_inside f n (item f t).type))
+
+-- each Parm is a parameter of a module: no routine of a cluster has one, as the grammar has it
+abbrev pub AreOfModules : List Node → List Round → Type 0
+AreOfModules nodes rounds = (n : ℕ) → kind_at nodes n ≡ kind.Parm → is_parameter nodes rounds n ≡ true
+
+-- none of these is named as the type `stream`
+abbrev pub HaveNoStream : List Specification → Type 0
+HaveNoStream library = (name : Identifier) → is_stream name ≡ true → is_some (specification_in library name) ≡ false
 
 -- the name of a Name is that of a module just if the table has one for it
 abbrev pub TellModules : File → Read → Type 0

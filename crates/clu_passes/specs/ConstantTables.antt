@@ -1,9 +1,11 @@
 -- The tables that the rules on constants and types read.
-use Rattle.std.specs.Prelude.{◌≡◌, ◌<◌, ◌&&◌, ℕ, Bool, true, false, List, [], ◌∷◌, length, slice_get, is_some, if◌then◌else◌, codes, Option, Some, None}
+use Rattle.std.specs.Prelude.{◌≡◌, ◌<◌, ◌&&◌, ℕ, Bool, true, false, List, [], ◌∷◌, length, slice_get, is_none, is_some, if◌then◌else◌, codes, Option, Some, None}
 use Rattle.std.specs.List.{AllByRecursion}
+use Rattle.std.specs.Option.{option_and_then}
 use Rattle.clu_specs.specs.Texts.{type_text}
 use Rattle.clu_specs.specs.Constants.{constant_text}
 use Rattle.clu_tree.specs.declared.node.Node.{Node}
+use Rattle.clu_tree.specs.declared.node.NodeKind.{NodeKind}
 use Rattle.clu_tree.specs.declared.node.NodeKind.TheVariants as kind
 use Rattle.clu_types.specs.declared.term.TypeId.{TypeId}
 use Rattle.clu_types.specs.Arena.{types_of, type_at, IsArena}
@@ -27,15 +29,18 @@ use Rattle.clu_settle.specs.declared.value.Value.TheVariants as value
 use Rattle.clu_settle.specs.Values.{constant_at}
 use Rattle.clu_settle.specs.Settled.{AreSettled}
 use Rattle.clu_settle.specs.Names.{is_constant}
+use Rattle.clu_head.specs.ParameterKinds as head
 use Rattle.clu_head.specs.Refused.{is_set}
 use Rattle.clu_bindings.specs.declared.file.File.{File as Read}
 use Rattle.clu_bindings.specs.declared.meaning.Meaning.{Meaning}
 use Rattle.clu_bindings.specs.declared.meaning.Meaning.TheVariants as meant
 use Rattle.clu_bindings.specs.declared.wanted.Wanted.{Wanted as WantedThere}
 use Rattle.clu_bindings.specs.declared.wanted.Wanted.TheVariants as wanted
+use Rattle.clu_bindings.specs.Named as table
 use Rattle.clu_bindings.specs.Readers as read
 use Rattle.clu_bindings.specs.Readers.{kind_in, round_in, value_in, wanted_in, meaning_in, module_in, kinds_in, is_routine, set_at, children_in, declared_parameter}
 use Rattle.clu_name_rules.specs.declared.tables.Tables.{Tables}
+use Rattle.clu_passes.specs.Legal.{AreLegalKnown}
 use Rattle.clu_passes.specs.Marks.{AreMarks}
 use Rattle.clu_passes.specs.Tables.{AreNames}
 
@@ -90,10 +95,6 @@ abbrev pub IsEquateKnown : Read → Meaning → Type 0
 IsEquateKnown r (meant.Equate c) = IsKnown r c
 IsEquateKnown r _ = Unit {0}
 
--- the types of the parameters of modules are known
-abbrev pub AreParametersKnown : Read → Type 0
-AreParametersKnown r = (n k c : ℕ) → declared_parameter r n k ≡ Some c → IsKnown r c
-
 -- the value of an equate that stands before the brackets of an Index is known, so it is known what stands in them
 abbrev pub IsFirstKnown : Read → List ℕ → Type 0
 IsFirstKnown r [] = Unit {0}
@@ -116,6 +117,19 @@ pub record AreBracketsKnown (r : Read) (n : ℕ) : Type 0 where
   pub round : IsWantedKnown r n
   pub above : (p : ℕ) → (round_in r n).parent ≡ Some p → IsWantedKnown r p
 
+-- the value of an operator or of what stands in parentheses is known
+abbrev pub IsOperatorKnown : Read → NodeKind → ℕ → Type 0
+IsOperatorKnown r kind.Infix n = IsKnown r n
+IsOperatorKnown r kind.Prefix n = IsKnown r n
+IsOperatorKnown r kind.Paren n = IsKnown r n
+IsOperatorKnown r _ n = Unit {0}
+
+-- that of the equate which a type by its name or the word `rep` denotes
+abbrev pub IsTypeNameKnown : Read → NodeKind → ℕ → Type 0
+IsTypeNameKnown r kind.NameT n = IsEquateKnown r (meaning_in r n)
+IsTypeNameKnown r kind.Simple n = is_word simple.Rep (item_at r.syntax.now n).type ≡ true → IsEquateKnown r (meaning_in r n)
+IsTypeNameKnown r _ n = Unit {0}
+
 -- of all in which nodes stand at which nothing is lost
 abbrev pub AreWantedKnown : Read → (ℕ → Bool) → Type 0
 AreWantedKnown r lost = (n : ℕ) → lost n ≡ false → IsWantedKnown r n
@@ -126,7 +140,7 @@ AreWantedKnown r lost = (n : ℕ) → lost n ≡ false → IsWantedKnown r n
 -- a routine
 pub record IsMeant (f : File) (r : Read) (n : ℕ) (name : Identifier) : Type 0 where
   pub means : Means f.nodes (meaning_in r n) (meaning f n name)
-  pub kinds : AreParametersKnown r → kinds_in r (module_in r n) ≡ (if is_of_module f n name then kinds_of (specification f name) else [])
+  pub kinds : AreLegalKnown f r.values.now → kinds_in r (module_in r n) ≡ (if is_of_module f n name then kinds_of (specification f name) else [])
   pub routine : is_routine r (module_in r n) ≡ is_module_routine f n name
 
 -- ---- the tables
@@ -137,6 +151,8 @@ pub record AreTables (f : File) (t : Tables) : Type 0 where
   pub arena : IsArena t.types.now
   -- what is known of a value is so
   pub values : AreSettled f.nodes f.scope t.types.now t.file.constants.now t.file.values.now
+  -- a type whose value is lost is none that a parameter may have
+  pub legal : AreLegalKnown f t.file.values.now
   -- the first name of a Name, of a type by its name and of a Restrict, and the word `rep`
   pub named : (n : ℕ) → kind_at f.nodes n ≡ kind.Name → IsMeant f t.file n (first_name_at f n)
   pub named_types : (n : ℕ) → kind_at f.nodes n ≡ kind.NameT → IsMeant f t.file n (first_name_at f n)

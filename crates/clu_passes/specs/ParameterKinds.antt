@@ -30,9 +30,8 @@ declared_type nodes n = type_of nodes (children_of (slice_get nodes n))
 abbrev pub kinds_at : List CluType → List Value → List Node → ℕ → List (Option ParamKind)
 kinds_at types values nodes n = map (λ name. kind_by types values (declared_type nodes n)) (names_of (slice_get nodes n))
 
--- a Parm that is there, whose type is known if it has one
-pub record IsKnownParm (nodes : List Node) (values : List Value) (n : ℕ) : Type 0 where
+-- a Parm that is there
+pub record IsParm (nodes : List Node) (n : ℕ) : Type 0 where
   pub node : Node
   pub there : slice_get nodes n ≡ Some node
   pub of_kind : node.kind ≡ kind.Parm
-  pub known : (c : ℕ) → declared_type nodes n ≡ Some c → (id : TypeId) × (type_id (value_of values c) ≡ Some id)

@@ -3,10 +3,11 @@ use Rattle.std.specs.Prelude.{◌≡◌, ℕ, ◌++◌, Bool, true, false, List,
 use Rattle.std.specs.Option.{option_and_then}
 use Rattle.clu_types.specs.CluType.{CluType}
 use Rattle.clu_types.specs.declared.term.Term.{Term}
+use Rattle.clu_types.specs.declared.term.TypeId.{TypeId}
 use Rattle.clu_tree.specs.declared.node.NodeKind.{NodeKind}
 use Rattle.clu_tree.specs.declared.node.NodeKind.TheVariants as kind
 use Rattle.clu_syntax.specs.Kinds.{is_expression}
-use Rattle.clu_syntax.specs.Syntax.{Identifier, Expression, an_infix, a_prefix, a_name, an_index, a_get, a_call, an_operation, Statement, a_set_field, a_set_index}
+use Rattle.clu_syntax.specs.Syntax.{Identifier, Expression, an_infix, a_prefix, a_paren, a_name, an_index, a_get, a_call, an_operation, Statement, a_set_field, a_set_index}
 use Rattle.clu_meaning.specs.Constants.{sugar}
 use Rattle.clu_meaning.specs.Scoping.{Meaning, is_routine_of_cluster}
 use Rattle.clu_meaning.specs.Settling.{type_settled}
@@ -21,7 +22,7 @@ use Rattle.clu_typing.specs.declared.applied.Applied.TheVariants as applied
 use Rattle.clu_typing.specs.declared.facts.Facts.{Facts}
 use Rattle.clu_typing.specs.Operators.{infix_operation, is_negated, prefix_operation}
 use Rattle.clu_passes.specs.Sugar.{operation_of}
-use Rattle.clu_passes.specs.FactTables.{IsType, IsFound}
+use Rattle.clu_passes.specs.FactTables.{IsType, AreTypes, IsFound}
 
 abbrev pub is_call : NodeKind → Bool
 is_call kind.Call = true
@@ -48,10 +49,22 @@ module _ (f : File) where
   operands_of_statement (a_set_index m a i e) = type_of f a ∷ type_of f i ∷ type_of f e ∷ []
   operands_of_statement _ = []
 
-  abbrev pub node_operands : NodeKind → ℕ → List (Option CluType)
-  node_operands kind.SetField n = operands_of_statement (item f n).statement
-  node_operands kind.SetIndex n = operands_of_statement (item f n).statement
-  node_operands k n = operands (item f n).expression
+  -- These are the numbers of their types, and of that of an expression in parentheses.
+  module _ (terms : List Term) (ids : List (Option TypeId)) where
+    abbrev pub AreOperandsOf : Expression → Type 0
+    AreOperandsOf (an_infix m o a b) = AreTypes terms ids (operands (an_infix m o a b))
+    AreOperandsOf (a_prefix m s e) = AreTypes terms ids (operands (a_prefix m s e))
+    AreOperandsOf (a_paren m e) = AreTypes terms ids (type_of f e ∷ [])
+    AreOperandsOf (an_index m e cs) = AreTypes terms ids (operands (an_index m e cs))
+    AreOperandsOf (a_get m e name) = AreTypes terms ids (operands (a_get m e name))
+    AreOperandsOf (a_call m e es) = AreTypes terms ids (operands (a_call m e es))
+    AreOperandsOf _ = Unit {0}
+
+    -- of a node of this kind
+    abbrev pub AreOperands : NodeKind → ℕ → Type 0
+    AreOperands kind.SetField n = AreTypes terms ids (operands_of_statement (item f n).statement)
+    AreOperands kind.SetIndex n = AreTypes terms ids (operands_of_statement (item f n).statement)
+    AreOperands k n = is_expression k ≡ true → AreOperandsOf (item f n).expression
 
   -- ---- the operations that an expression names, or for which it stands
 

@@ -12,16 +12,16 @@ ghost use Rattle.clu_bindings.specs.declared.file.File.{File};
 ghost use Rattle.clu_bindings.specs.Readers.{meaning_in};
 ghost use Rattle.clu_name_rules.specs.declared.tables.Tables.{Tables};
 ghost use Rattle.clu_name_rules.specs.ConstantRules as of_tables;
-ghost use Rattle.clu_passes.specs.ConstantTables.{file_with, AreTables, AreBad, IsKnown, IsEquateKnown, AreBracketsKnown, AreChildrenKnown, AreParametersKnown};
+ghost use Rattle.clu_passes.specs.ConstantTables.{file_with, AreTables, AreBad, IsKnown, IsEquateKnown, AreBracketsKnown, AreChildrenKnown};
 
 /// V8.
 pub fn v8_by_tables()
-    ensures { (t : Tables) (scope : Scope) (library : List Specification) (refused : List ℕ) → HaveForms t.file.syntax.now → IsTree t.file.syntax.now → AreTables (file_with t.file scope library refused) t → (bits : List Bool) (bad : ℕ → Bool) → AreBad (file_with t.file scope library refused) bits bad → (n : ℕ) → IsKnown t.file n → AreBracketsKnown t.file n → AreParametersKnown t.file → v8 (file_with t.file scope library refused) bad n ≡ of_tables.v8 t bits n }
+    ensures { (t : Tables) (scope : Scope) (library : List Specification) (refused : List ℕ) → HaveForms t.file.syntax.now → IsTree t.file.syntax.now → AreTables (file_with t.file scope library refused) t → (bits : List Bool) (bad : ℕ → Bool) → AreBad (file_with t.file scope library refused) bits bad → (n : ℕ) → IsKnown t.file n → AreBracketsKnown t.file n → v8 (file_with t.file scope library refused) bad n ≡ of_tables.v8 t bits n }
 {}
 
 /// V9.
 pub fn v9_by_tables()
-    ensures { (t : Tables) (scope : Scope) (library : List Specification) (refused : List ℕ) → HaveForms t.file.syntax.now → IsTree t.file.syntax.now → AreTables (file_with t.file scope library refused) t → (bits : List Bool) (bad : ℕ → Bool) → AreBad (file_with t.file scope library refused) bits bad → (items : ℕ → Item) (n : ℕ) → IsKnown t.file n → IsEquateKnown t.file (meaning_in t.file n) → AreBracketsKnown t.file n → AreParametersKnown t.file → v9 (file_with t.file scope library refused) bad n ≡ of_tables.v9 t bits items n }
+    ensures { (t : Tables) (scope : Scope) (library : List Specification) (refused : List ℕ) → HaveForms t.file.syntax.now → IsTree t.file.syntax.now → AreTables (file_with t.file scope library refused) t → (bits : List Bool) (bad : ℕ → Bool) → AreBad (file_with t.file scope library refused) bits bad → (items : ℕ → Item) (n : ℕ) → IsKnown t.file n → IsEquateKnown t.file (meaning_in t.file n) → AreBracketsKnown t.file n → v9 (file_with t.file scope library refused) bad n ≡ of_tables.v9 t bits items n }
 {}
 
 /// V10.
@@ -31,7 +31,7 @@ pub fn v10_by_tables()
 
 /// V19.
 pub fn v19_by_tables()
-    ensures { (t : Tables) (scope : Scope) (library : List Specification) (refused : List ℕ) → HaveForms t.file.syntax.now → IsTree t.file.syntax.now → AreTables (file_with t.file scope library refused) t → (n : ℕ) → AreChildrenKnown t.file n → AreBracketsKnown t.file n → AreParametersKnown t.file → v19 (file_with t.file scope library refused) n ≡ of_tables.v19 t n }
+    ensures { (t : Tables) (scope : Scope) (library : List Specification) (refused : List ℕ) → HaveForms t.file.syntax.now → IsTree t.file.syntax.now → AreTables (file_with t.file scope library refused) t → (n : ℕ) → AreChildrenKnown t.file n → AreBracketsKnown t.file n → v19 (file_with t.file scope library refused) n ≡ of_tables.v19 t n }
 {}
 
 /// V31 of a tree of the grammar.

@@ -52,7 +52,8 @@ ghost use Rattle.clu_head.specs.Restricting.{restricted_to};
 ghost use Rattle.clu_head.specs.Sets.{kept_at, said_of, set_led};
 ghost use Rattle.clu_head.specs.Terms.{IsNumbered, term_of};
 ghost use Rattle.clu_passes.specs.Heads.{AreCounted, AreRestricted, IsRestricted, file_known, without_type};
-ghost use Rattle.clu_passes.specs.ParameterKinds.{IsKnownParm};
+ghost use Rattle.clu_passes.specs.Legal.{AreLegalKnown};
+ghost use Rattle.clu_passes.specs.ParameterKinds.{IsParm};
 ghost use Rattle.clu_passes.specs.Told.{demand_told, routine_told, AreNamed, AreHeadsOf, listed_names};
 
 /// What a head lists of demands tells what the definition lists of what they tell.
@@ -78,9 +79,9 @@ pub fn types_seen()
     ensures { (nodes : List Node) (place : Place) (types : List Term) (constants : List Const) (values : List Value) → AreSettled nodes place.scope types constants values → (own : Option TypeId) → option_map (type_at (types_of types)) own ≡ place.home → (ns : List ℕ) (ids : List TypeId) → All (λ n. is_type (kind_at nodes n) ≡ true) ns → types_behind own nodes values [] ns ≡ Some ids → types_by for_callers (heading_types place (expressions_at (item_at nodes) ns)) ≡ types_at (types_of types) ids }
 {}
 
-/// The kinds of the parameters of these Parms, where their types are known, are those of the definition.
+/// The kinds of the parameters of these Parms are those of the definition.
 pub fn kinds_listed()
-    ensures { (f : File) (types : List Term) (constants : List Const) (values : List Value) → AreSettled f.nodes f.scope types constants values → IsTree f.nodes → IsArena types → (ns : List ℕ) → All (IsKnownParm f.nodes values) ns → kinds_of types values f.nodes ns ≡ kinds_in f (map (λ n. (item f n).parameter) ns) }
+    ensures { (f : File) (types : List Term) (constants : List Const) (values : List Value) → AreSettled f.nodes f.scope types constants values → IsTree f.nodes → IsArena types → AreLegalKnown f values → (ns : List ℕ) → All (IsParm f.nodes) ns → kinds_of types values f.nodes ns ≡ kinds_in f (map (λ n. (item f n).parameter) ns) }
 {}
 
 /// The type set that a name stands for is the one to which the table of sets leads from the declaration that the name denotes.

@@ -1,21 +1,23 @@
 //! That the tables which the code makes of a file are those which the rules read: fields of `AreTables`, each of what is said of
 //! the call that makes its table, and all of them.
 
-ghost use Rattle.std.specs.Prelude.{◌≡◌, ◌<◌, ◌↔◌, ℕ, Bool, true, List, Some, length, map, nat_lt, slice_get};
+ghost use Rattle.std.specs.Prelude.{◌≡◌, ◌<◌, ◌≤◌, ◌↔◌, ℕ, Bool, true, List, Some, length, map, nat_lt, slice_get};
 ghost use Rattle.clu_base.specs.declared.constants.Const.{Const};
 ghost use Rattle.clu_parser.specs.Trees.{Text};
 ghost use Rattle.clu_types.specs.declared.term.Term.{Term};
 ghost use Rattle.clu_types.specs.declared.term.TypeId.{TypeId};
-ghost use Rattle.clu_types.specs.Arena.{type_at, types_of};
-ghost use Rattle.clu_syntax.specs.Rounds.{AreRounds};
+ghost use Rattle.clu_types.specs.Arena.{IsArena, type_at, types_of};
+ghost use Rattle.clu_syntax.specs.Nodes.{item_at};
+ghost use Rattle.clu_syntax.specs.Rounds.{AreRounds, round_at};
 ghost use Rattle.clu_names.specs.declared.binding.Names.{Names};
 ghost use Rattle.clu_names.specs.Denotes.{bound_to, starts_to};
 ghost use Rattle.clu_names.specs.Scopes.{declarations};
-ghost use Rattle.clu_meaning.specs.Scoping.{Scope};
+ghost use Rattle.clu_meaning.specs.Scoping.{Scope, parameter_number};
 ghost use Rattle.clu_checking.specs.Specifications.{Specification};
 ghost use Rattle.clu_specs.specs.Constants.{constant_text};
 ghost use Rattle.clu_specs.specs.Texts.{type_text};
 ghost use Rattle.clu_checking.specs.Files.{File, scope_in};
+ghost use Rattle.clu_checking.specs.Headings as headings;
 ghost use Rattle.clu_checking.specs.ConstantRules.{is_long_text};
 ghost use Rattle.clu_settle.specs.declared.settling.Values.{Values};
 ghost use Rattle.clu_settle.specs.Circular.{is_circular};
@@ -25,9 +27,13 @@ ghost use Rattle.clu_settle.specs.Settled.{AreSettled};
 ghost use Rattle.clu_settle.specs.Values.{constant_at};
 ghost use Rattle.clu_declares.specs.Declares.{AreFew, IsParsed};
 ghost use Rattle.clu_head.specs.Refused.{is_set};
+ghost use Rattle.clu_bindings.specs.declared.file.File.{File as Read};
+ghost use Rattle.clu_bindings.specs.Inside.{own_type};
+ghost use Rattle.clu_bindings.specs.Owned.{AreOwned};
 ghost use Rattle.clu_name_rules.specs.declared.tables.Tables.{Tables};
 ghost use Rattle.clu_name_rules.specs.Lengths.{constant_length, lengths_of};
 ghost use Rattle.clu_passes.specs.ConstantTables.{AreTables, file_with};
+ghost use Rattle.clu_passes.specs.FactTables.{IsType};
 ghost use Rattle.clu_passes.specs.Made.{AreMade};
 ghost use Rattle.clu_passes.specs.Marks.{AreMarks};
 ghost use Rattle.clu_passes.specs.Tables.{AreNames};
@@ -60,4 +66,10 @@ pub fn long_constants_told()
 /// All fields, of a file that was made so.
 pub fn tables_are()
     ensures { (t : Text) (its : Tables) (library : List Specification) (refused : List ℕ) → AreMade t its library refused → AreTables (file_with its.file (scope_in its.file.syntax.now its.file.rounds.now) library refused) its }
+{}
+
+/// The own type that the table has of the cluster round each node is that of the definition, if no cluster has more parameters
+/// than 32 bits count.
+pub fn own_types_said()
+    ensures { (t : Text) (r : Read) (scope : Scope) (library : List Specification) (refused : List ℕ) (types : List Term) → IsArena types → IsParsed t r.syntax.now → AreRounds r.syntax.now r.rounds.now → AreOwned types r.values.now r.syntax.now (length r.syntax.now) r.bindings.now.own.items → ((n m : ℕ) → (round_at r.rounds.now n).cluster ≡ Some m → parameter_number (item_at r.syntax.now m).cluster.parameters ≤ 4294967295) → (n : ℕ) → IsType types (own_type r n) (headings.own_type (file_with r scope library refused) n) }
 {}

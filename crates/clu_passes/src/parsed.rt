@@ -5,7 +5,7 @@ ghost use Rattle.std.specs.List.{list_any};
 ghost use Rattle.clu_tree.specs.declared.node.Node.{Node};
 ghost use Rattle.clu_tree.specs.Nodes.{IsTree};
 ghost use Rattle.clu_parser.specs.Shape.{HaveForms};
-ghost use Rattle.clu_parser.specs.Trees.{Text};
+ghost use Rattle.clu_parser.specs.Trees.{Built, IsBuilt, Text};
 ghost use Rattle.clu_syntax.specs.declared.round.Round.{Round};
 ghost use Rattle.clu_syntax.specs.Rounds.{AreRounds};
 ghost use Rattle.clu_syntax.specs.Syntax.{Identifier};
@@ -25,6 +25,7 @@ ghost use Rattle.clu_bindings.specs.Files.{bound_in};
 ghost use Rattle.clu_name_rules.specs.NameRules.{bound_defined, has_redefined};
 ghost use Rattle.clu_name_rules.specs.Own.{own_places};
 ghost use Rattle.clu_declares.specs.Declares.{IsParsed};
+ghost use Rattle.clu_passes.specs.Bound.{AreOfModules};
 ghost use Rattle.clu_passes.specs.Notes.{DeclareModules, HaveParents, HaveRoutines};
 ghost use Rattle.clu_passes.specs.Owns.{declares_all};
 ghost use Rattle.clu_passes.specs.Tables.{AreFoundStrings, AreNames, OpenOfOne};
@@ -62,4 +63,9 @@ pub fn right_sides()
 /// Of a node that declares all its names, each once, one of them is redefined just if the places say so.
 pub fn redefined_by_places()
     ensures { (t : Text) (f : File) → IsParsed t f.nodes → AreRounds f.nodes f.rounds → f.scope.declarations ≡ declarations f.nodes f.rounds → length f.nodes < 2 ^ 32 → (table : Names) → AreNames f table → (with_variable : Bool) (n : ℕ) → declares_all (kind_in f n) ≡ true → stands_twice (names_defined f (kind_in f n) n) ≡ false → list_any (is_redefined f n) (names_defined f (kind_in f n) n) ≡ has_redefined f.scope.declarations (get_or (own_places f.scope.declarations (length f.nodes)) n (length f.scope.declarations)) (bound_defined (kind_in f n) (names_of (slice_get f.nodes n)) with_variable (bound_in table n)) }
+{}
+
+/// Each Parm is a parameter of a module, since the grammar has none of a routine of a cluster.
+pub fn parms_of_modules()
+    ensures { (t : Text) (nodes : List Node) (rounds : List Round) → IsParsed t nodes → AreRounds nodes rounds → (z : Built) → IsBuilt t z → z.nodes ≡ nodes → AreOfModules nodes rounds }
 {}

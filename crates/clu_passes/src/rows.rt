@@ -21,16 +21,15 @@ ghost use Rattle.clu_typing.specs.Raises.{raised_told, row_told};
 ghost use Rattle.clu_typing.specs.Raising.{AreRaises, IsSet};
 ghost use Rattle.clu_typing.specs.Sets.{HaveSame};
 ghost use Rattle.clu_passes.specs.ConstantTables.{file_with, AreTables, IsIndexKnown};
-ghost use Rattle.clu_passes.specs.FactTables.{AreTypes};
 ghost use Rattle.clu_passes.specs.NotedLists.{types_given};
 ghost use Rattle.clu_passes.specs.Raised.{raises_of, row_of};
 ghost use Rattle.clu_passes.specs.RowsTold.{StandsElsewhere};
-ghost use Rattle.clu_passes.specs.StandsFor.{node_operands, NodeStandsFor};
+ghost use Rattle.clu_passes.specs.StandsFor.{AreOperands, NodeStandsFor};
 ghost use Rattle.clu_passes.specs.TableRaises.{AreSame};
 
 /// Where that for which the node stands and the types of its children are so.
 pub fn rows_told()
-    ensures { (t : Text) (tables : Tables) (scope : Scope) (library : List Specification) (refused : List ℕ) → IsParsed t tables.file.syntax.now → AreTables (file_with tables.file scope library refused) tables → (facts : Facts) (n : ℕ) (its : Applied) → IsIndexKnown tables.file n → NodeStandsFor (file_with tables.file scope library refused) tables.types.now facts (kind_in tables.file n) n its → StandsElsewhere (kind_in tables.file n) its → AreTypes tables.types.now (types_given facts.types.items (children_in tables.file n)) (node_operands (file_with tables.file scope library refused) (kind_in tables.file n) n) → HaveSame (row_told tables.file tables.types.now facts its n) (row_of (file_with tables.file scope library refused) (raised_told tables.types.now facts) n) }
+    ensures { (t : Text) (tables : Tables) (scope : Scope) (library : List Specification) (refused : List ℕ) → IsParsed t tables.file.syntax.now → AreTables (file_with tables.file scope library refused) tables → (facts : Facts) (n : ℕ) (its : Applied) → IsIndexKnown tables.file n → NodeStandsFor (file_with tables.file scope library refused) tables.types.now facts (kind_in tables.file n) n its → StandsElsewhere (kind_in tables.file n) its → AreOperands (file_with tables.file scope library refused) tables.types.now (types_given facts.types.items (children_in tables.file n)) (kind_in tables.file n) n → HaveSame (row_told tables.file tables.types.now facts its n) (row_of (file_with tables.file scope library refused) (raised_told tables.types.now facts) n) }
 {}
 
 /// A set of raises that is right, and tells what a statement raises, has each raise that the definition has, and no other.

@@ -17,9 +17,14 @@ ghost use Rattle.clu_checking.specs.Files.{File, item};
 ghost use Rattle.clu_checking.specs.Headings.{for_callers, kinds_in};
 ghost use Rattle.clu_settle.specs.declared.value.Value.{Value};
 ghost use Rattle.clu_settle.specs.Lists.{type_id, value_of};
+ghost use Rattle.clu_settle.specs.Lost.{AreRead};
+ghost use Rattle.clu_settle.specs.Meant.{meanings_of};
+ghost use Rattle.clu_settle.specs.Names.{AreMeanings};
 ghost use Rattle.clu_settle.specs.Settled.{AreSettled};
 ghost use Rattle.clu_head.specs.Seen.{seen_type};
-ghost use Rattle.clu_passes.specs.ParameterKinds.{kinds_at, IsKnownParm};
+ghost use Rattle.clu_passes.specs.Legal.{AreLegalKnown};
+ghost use Rattle.clu_passes.specs.ParameterKinds.{kinds_at, IsParm};
+ghost use Rattle.clu_passes.specs.Trees.{IsFileOfTree};
 
 /// A type whose node has a value that is known comes to that type.
 pub fn type_told()
@@ -31,7 +36,13 @@ pub fn type_seen()
     ensures { (nodes : List Node) (place : Place) (types : List Term) (constants : List Const) (values : List Value) → AreSettled nodes place.scope types constants values → (own : Option TypeId) → option_map (type_at (types_of types)) own ≡ place.home → (n : ℕ) → is_type (kind_at nodes n) ≡ true → (id : TypeId) → seen_type own (item_at nodes n).type (value_of values n) ≡ Some id → for_callers (heading_type place (item_at nodes n).type) ≡ type_at (types_of types) id }
 {}
 
-/// The kinds of the parameters of these Parms, if their types are known, are those of these types.
+/// A type whose value is lost has no kind as the type of a parameter, and one whose value is found leads neither to `cvt` nor to a
+/// circle of equates.
+pub fn legal_known()
+    ensures { (f : File) → IsFileOfTree f → (values : List Value) → AreMeanings f.nodes f.scope (meanings_of f.nodes f.rounds f.scope.declarations) → AreRead f.nodes (meanings_of f.nodes f.rounds f.scope.declarations) values → AreLegalKnown f values }
+{}
+
+/// The kinds of the parameters of these Parms are those of the types that are known.
 pub fn kinds_told()
-    ensures { (f : File) (types : List Term) (constants : List Const) (values : List Value) → AreSettled f.nodes f.scope types constants values → IsTree f.nodes → (ns : List ℕ) → All (IsKnownParm f.nodes values) ns → kinds_in f (map (λ n. (item f n).parameter) ns) ≡ flat_map (kinds_at (types_of types) values f.nodes) ns }
+    ensures { (f : File) (types : List Term) (constants : List Const) (values : List Value) → AreSettled f.nodes f.scope types constants values → IsTree f.nodes → AreLegalKnown f values → (ns : List ℕ) → All (IsParm f.nodes) ns → kinds_in f (map (λ n. (item f n).parameter) ns) ≡ flat_map (kinds_at (types_of types) values f.nodes) ns }
 {}
