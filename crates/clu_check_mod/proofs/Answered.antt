@@ -1,5 +1,5 @@
 -- From what one function answers of a file to what the one answers that calls it.
-use Rattle.std.proofs.Common.{◌≡◌, ◌∙◌, ℕ, List, length, Option, Some, None, Result, Ok, Err, ap, subst, sym}
+use Rattle.std.proofs.Common.{◌≡◌, ◌∙◌, ℕ, List, length, Option, Some, None, Result, Ok, Err, IfErr, ap, subst, sym}
 use Rattle.clu_base.specs.declared.rules.Refused.{Refused}
 use Rattle.clu_tree.specs.declared.node.Node.{Node}
 use Rattle.clu_syntax.specs.declared.round.Round.{Round}
@@ -19,7 +19,7 @@ use Rattle.clu_bindings.specs.Modules.{AreModules, modules_in}
 use Rattle.clu_bindings.specs.Owned.{AreOwned}
 use Rattle.clu_typing.specs.declared.facts.Facts.{Facts}
 use Rattle.clu_typing.specs.Pass.{AreKnown, HaveTypes, IsSound}
-use Rattle.clu_check_mod.specs.Answered.{AreLists, AreNamed, AreValues, IsAnswer, IsAnswerBy, IsFirst, IsFirstBy, IsFirstIn, IsFirstOf, IsFirstWith, IsNoRefusal}
+use Rattle.clu_check_mod.specs.Answered.{AreLists, AreNamed, AreValues, IsAnswer, IsAnswerBy, IfLost, IsFirst, IsFirstBy, IsFirstIn, IsFirstOf, IsFirstWith, IsNoLoss, IsNoRefusal, IsUnspecified, IsUnspecifiedIn, IsUnspecifiedWith}
 use Rattle.clu_check_mod.specs.Refusals.{IsOfTree, IsTold}
 use Rattle.clu_check_mod.specs.declared.checking.Lists.{Lists}
 use Rattle.clu_check_mod.specs.declared.checking.Long.{Long}
@@ -27,28 +27,28 @@ use Rattle.clu_check_mod.specs.declared.errors.CheckError.{CheckError}
 use Rattle.clu_check_mod.specs.declared.errors.CheckError.TheVariants as error
 use Rattle.clu_check_mod.specs.declared.walk.Extent.{Extent}
 
-module _ (First Second : Option Refused → Type 0) (more : (o : Option Refused) → First o → Second o) where
-  pub error_more : (e : CheckError) → IsAnswerBy First e → IsAnswerBy Second e
+module _ (First Second : Option Refused → Type 0) (Lost Later : Type 0) (more : (o : Option Refused) → First o → Second o) (later : Lost → Later) where
+  pub error_more : (e : CheckError) → IsAnswerBy First Lost e → IsAnswerBy Second Later e
   error_more (error.Refused r) is = more (Some r) is
   error_more error.Memory is = tt
-  error_more error.NotYet is = more None is
+  error_more error.NotYet is = later is
 
-  pub answer_more : {A : Type 0} (r : Result A CheckError) → IsAnswer First r → IsAnswer Second r
+  pub answer_more : {A : Type 0} (r : Result A CheckError) → IsAnswer First Lost r → IsAnswer Second Later r
   answer_more (Ok found) is = more None is
   answer_more (Err e) is = error_more e is
 
 -- what the walks tell by each way to read the nodes
-pub told_answer : {A X : Type 0} {P : Type 0} (First : Option Refused → Type 0) (first : X → Option Refused) (r : Result A CheckError) → ((x : X) → P → IsTold r (first x)) → ((o : Option Refused) → ((x : X) → P → first x ≡ o) → First o) → IsAnswer First r
-told_answer First first (Ok found) told gives = gives None told
-told_answer First first (Err (error.Refused r)) told gives = gives (Some r) told
-told_answer First first (Err error.Memory) told gives = tt
-told_answer First first (Err error.NotYet) told gives = gives None (λ x p. absurd (told x p))
+pub told_answer : {A X : Type 0} {P : X → Type 0} (First : Option Refused → Type 0) (first : X → Option Refused) (r : Result A CheckError) → IfErr r IsNoLoss → ((x : X) → P x → IsTold r (first x)) → ((o : Option Refused) → ((x : X) → P x → first x ≡ o) → First o) → IsAnswer First ⊥ r
+told_answer First first (Ok found) decided told gives = gives None told
+told_answer First first (Err (error.Refused r)) decided told gives = gives (Some r) told
+told_answer First first (Err error.Memory) decided told gives = tt
+told_answer First first (Err error.NotYet) decided told gives = decided
 
 -- behind the walks nothing is refused
-pub no_more : (First : Option Refused → Type 0) (e : CheckError) → First None → IsNoRefusal e → IsAnswerBy First e
-no_more First (error.Refused r) is none = absurd none
-no_more First error.Memory is none = tt
-no_more First error.NotYet is none = is
+pub no_more : (First : Option Refused → Type 0) (P Lost : Type 0) (e : CheckError) → (P → Lost) → IsNoRefusal e → IfLost e P → IsAnswerBy First Lost e
+no_more First P Lost (error.Refused r) gives none lost = absurd none
+no_more First P Lost error.Memory gives none lost = tt
+no_more First P Lost error.NotYet gives none lost = gives lost
 
 pub not_of_tree : (nodes : List Node) (e : CheckError) → IsNoRefusal e → IsOfTree nodes e
 not_of_tree nodes (error.Refused r) none = absurd none
@@ -72,13 +72,16 @@ module _ (headed : Headed) (before terms : List Term) (lists : Lists) (long : Lo
 -- ---- what names and values are answered by, from what is said of the file that is made of them
 
 module _ (nodes : List Node) (rounds : List Round) (names : Names) (settled : Values) (library : List Spec) (asked : Extent) {A : Type 0} (r : Result A CheckError) where
-  pub first_with : (file : File) (types : List Term) (lists : Lists) → IsAnswer (IsFirstIn file types lists asked) r →
+  pub first_with : (file : File) (types : List Term) (lists : Lists) → IsAnswer (IsFirstIn file types lists asked) (IsUnspecifiedIn file types lists asked) r →
       file.syntax.now ≡ nodes → file.rounds.now ≡ rounds → file.names.now ≡ names → file.values.now ≡ settled.values.items → file.constants.now ≡ settled.constants → file.library.now ≡ library →
       AreBindings nodes rounds names settled.values.items file.bindings.now → AreModules file.bindings.now.modules (modules_in settled.types settled.values.items nodes library) → AreOwned types settled.values.items nodes (length nodes) file.bindings.now.own.items → Grows settled.types types → AreLists nodes rounds names lists →
-      IsAnswer (IsFirstWith nodes rounds names settled library asked) r
+      IsAnswer (IsFirstWith nodes rounds names settled library asked) (IsUnspecifiedWith nodes rounds names settled library asked) r
   first_with file types lists answer nodes_are rounds_are names_are values constants library_is bindings modules own grows lists_are =
-      answer_more (IsFirstIn file types lists asked) (IsFirstWith nodes rounds names settled library asked)
-      (λ o is. record {
+      answer_more (IsFirstIn file types lists asked) (IsFirstWith nodes rounds names settled library asked) (IsUnspecifiedIn file types lists asked) (IsUnspecifiedWith nodes rounds names settled library asked) with_first
+      (λ none. record { is = with_first None none.is; lost = none.lost }) r answer
+    where
+      with_first : (o : Option Refused) → IsFirstIn file types lists asked o → IsFirstWith nodes rounds names settled library asked o
+      with_first o is = record {
         file = file;
         types = types;
         lists = lists;
@@ -94,7 +97,7 @@ module _ (nodes : List Node) (rounds : List Round) (names : Names) (settled : Va
         grows = grows;
         lists_are = lists_are;
         is = is;
-      }) r answer
+      }
 
 -- ---- what a tree is answered by, from what is said of its nodes where each table is made
 
@@ -120,3 +123,7 @@ module _ (nodes first second : List Node) (all before between rounds : List Roun
     values = subst (AreValues nodes rounds names) (sym settled_is) (subst (λ (rs : List Round). AreValues nodes rs names made) (between_are ∙ sym rounds_are) values);
     is = is;
   }
+
+  pub unspecified_of_tree : IsUnspecifiedWith nodes rounds names settled library asked → IsUnspecified nodes library asked
+  unfolding first_of_tree
+  unspecified_of_tree none = record { is = first_of_tree None none.is; lost = none.lost }

@@ -1,7 +1,8 @@
 -- The first of a list that passes a test, item by item; and the first fault of a walk, node by node.
-use Rattle.std.proofs.Common.{◌≡◌, ◌∙◌, ℕ, ◌+◌, ◌<◌, ◌≤◌, Bool, true, false, List, [], ◌∷◌, length, cond, drop, get_or, Option, Some, None, sym, ap, subst, add-one, Result}
+use Rattle.std.proofs.Common.{◌≡◌, ◌∙◌, ◌⊎◌, inl, inr, ℕ, ◌+◌, ◌<◌, ◌≤◌, arith, Bool, true, false, List, [], ◌∷◌, length, cond, drop, get_or, Option, Some, None, sym, ap, subst, add-one, Result}
 use Rattle.std.specs.Prelude.{find, slice_get}
 use Rattle.std.proofs.Math.Seq.{drop-cons}
+use Rattle.std.proofs.lemmas.Bool.{cases_lt}
 use Rattle.std.proofs.lemmas.List.{drop_all}
 use Rattle.std.proofs.lemmas.Option.{get_or_from_slice_get, slice_get_within}
 use Rattle.clu_base.specs.declared.rules.Rule.{Rule}
@@ -46,6 +47,13 @@ module _ (fault : ℕ → Option Rule) (nodes : List Node) where
 
   pub walk_end : (n : ℕ) → length nodes ≤ n → Goes n → first_fault fault 0 nodes ≡ None
   walk_end n past had = sym had ∙ ap (first_fault fault n) (drop_all n nodes past)
+
+-- there is none before the next node
+pub none_next : (fault : ℕ → Option Rule) (n : ℕ) → ((m : ℕ) → m < n → fault m ≡ None) → fault n ≡ None → (m : ℕ) → m < n + 1 → fault m ≡ None
+none_next fault n before none m less = elim (cases_lt m n) [
+  | inl earlier ↦ before m earlier
+  | inr later ↦ (let same : n ≡ m = omega (arith, less, later) in subst (λ (i : ℕ). fault i ≡ None) same none)
+]
 
 -- two walks, one after the other
 pub told_at_once : (e : CheckError) (a b : Option Refused) → IsToldBy e a → IsToldBy e (first_of a b)

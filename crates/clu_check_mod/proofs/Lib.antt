@@ -1,7 +1,9 @@
 pub mod Answered
+pub mod Ascending
 pub mod Closed
 pub mod Finding
 pub mod Looking
+pub mod Losing
 pub mod Modules
 pub mod OwnSpecs
 pub mod Places

@@ -1,9 +1,15 @@
 -- Nodes that are asked one after the other, and what is left of their numbers.
-use Rattle.std.proofs.Common.{◌≡◌, ◌∙◌, ℕ, suc, ◌+◌, ◌-◌, ◌<◌, ◌||◌, Bool, List, [], ◌∷◌, ◌++◌, fold, map, Option, sym, ap, arith, append_assoc}
+use Rattle.std.proofs.Common.{◌≡◌, ◌∙◌, ℕ, zero, suc, ◌+◌, ◌-◌, ◌<◌, ◌≤◌, ◌||◌, Bool, true, false, List, [], ◌∷◌, ◌++◌, fold, get_or, length, map, Option, None, refl, sym, ap, arith, append_assoc}
+use Rattle.std.proofs.lemmas.Option.{slice_get_read}
 use Rattle.std.specs.Prelude.{slice_get}
 use Rattle.std.specs.List.{range_with_len}
+use Rattle.clu_tree.specs.declared.node.Node.{Node}
+use Rattle.clu_tree.specs.declared.node.NodeKind.TheVariants as kind
+use Rattle.clu_syntax.specs.declared.round.Round.{Round}
+use Rattle.clu_names.specs.declared.scopes.Declared.{Declared}
+use Rattle.clu_head.specs.There.{is_there}
 use Rattle.clu_bindings.specs.Tables.{optional}
-use Rattle.clu_type_rules.specs.Walking.{Looked, answer, looked, noted}
+use Rattle.clu_type_rules.specs.Walking.{Asked, Looked, answer, asked_equate, asked_if, asked_in, asked_of, looked, noted}
 
 pub range_next : (n size : ℕ) → n < size → range_with_len n (size - n) ≡ n ∷ range_with_len (n + 1) (size - (n + 1))
 range_next n size less = let more : size - n ≡ suc (size - (n + 1)) = omega (arith, less) in ap (λ (k : ℕ). range_with_len n k) more
@@ -30,3 +36,23 @@ looked_next fault bad its faulty new before found now n size whole less same say
     ∙ ap (λ (b : Bool). fold (looked fault bad) (record { faulty = noted (optional (slice_get faulty n)) faulty n (fault bad n); found = b }) later) (is ∙ ap (λ (b : Bool). b || before) one)
     ∙ fold_next (looked fault bad) (record { faulty = faulty; found = before }) n size less
     ∙ had
+
+-- ---- the declaration of this place
+
+past_get : {X : Type 0} (xs : List X) (i : ℕ) → length xs ≤ i → slice_get xs i ≡ None
+past_get [] i past = refl
+past_get (x ∷ xs) zero past = absurd (omega (arith, past))
+past_get (x ∷ xs) (suc i) past = past_get xs i (omega (arith, past))
+
+module _ (nodes : List Node) (rounds : List Round) (fault : List Bool → ℕ → Bool) (declared : List Declared) (a : Asked) (place : ℕ) where
+  -- is an equate
+  pub equate_here : (one : Declared) → place < length declared → one ≡ get_or declared place one → is_there kind.Equate (slice_get nodes one.node) ≡ true → asked_equate nodes rounds fault declared a place ≡ asked_in rounds fault a one.node
+  equate_here one inside at is = ap (asked_of nodes rounds fault a) (slice_get_read declared (length declared) place one refl inside at) ∙ ap (λ (b : Bool). asked_if rounds fault b a one.node) is
+
+  -- or another one
+  pub equate_other : (one : Declared) → place < length declared → one ≡ get_or declared place one → is_there kind.Equate (slice_get nodes one.node) ≡ false → asked_equate nodes rounds fault declared a place ≡ a
+  equate_other one inside at is = ap (asked_of nodes rounds fault a) (slice_get_read declared (length declared) place one refl inside at) ∙ ap (λ (b : Bool). asked_if rounds fault b a one.node) is
+
+  -- or there is none
+  pub equate_past : length declared ≤ place → asked_equate nodes rounds fault declared a place ≡ a
+  equate_past past = ap (asked_of nodes rounds fault a) (past_get declared place past)

@@ -45,9 +45,9 @@ use Rattle.clu_type_rules.specs.Askers.{AreAskers, AreFoundAt, FindsOn, with_fin
 use Rattle.clu_type_rules.specs.Disagreeing.{with_clauses}
 use Rattle.clu_type_rules.specs.Needs.{Looks, Setting, world}
 use Rattle.clu_type_rules.specs.Routines.{parts_to}
-use Rattle.clu_check_mod.specs.Asking.{KnownAscend}
-use Rattle.clu_check_mod.specs.Bad.{bad_of_all, refused_of}
-use Rattle.clu_check_mod.specs.Walks.{first_in}
+use Rattle.clu_check_mod.specs.Modules.{AreSpecified}
+use Rattle.clu_check_mod.specs.Bad.{EquatesAscend, bad_of_all, refused_of}
+use Rattle.clu_check_mod.specs.Walks.{WalksAscend, first_in}
 use Rattle.clu_check_mod.specs.declared.checking.Lists.{Lists}
 use Rattle.clu_check_mod.specs.declared.checking.Long.{Long}
 use Rattle.clu_check_mod.specs.declared.errors.CheckError.{CheckError}
@@ -56,20 +56,31 @@ use Rattle.clu_check_mod.specs.declared.walk.Extent.{Extent}
 
 -- ---- an answer, by what is the first fault of a file, if it has one
 
--- a refusal is answered if it is the first fault; what is found, and that a specification is lost, only if there is none
-abbrev pub IsAnswerBy : (Option Refused → Type 0) → CheckError → Type 0
-IsAnswerBy IsFirst (error.Refused r) = IsFirst (Some r)
-IsAnswerBy IsFirst error.Memory = Unit {0}
-IsAnswerBy IsFirst error.NotYet = IsFirst None
+-- a refusal is answered if it is the first fault; what is found only if there is none, and that a specification is lost if this is so
+abbrev pub IsAnswerBy : (Option Refused → Type 0) → Type 0 → CheckError → Type 0
+IsAnswerBy IsFirst Unspecified (error.Refused r) = IsFirst (Some r)
+IsAnswerBy IsFirst Unspecified error.Memory = Unit {0}
+IsAnswerBy IsFirst Unspecified error.NotYet = Unspecified
 
-abbrev pub IsAnswer : (Option Refused → Type 0) → {A : Type 0} → Result A CheckError → Type 0
-IsAnswer IsFirst (Ok found) = IsFirst None
-IsAnswer IsFirst (Err e) = IsAnswerBy IsFirst e
+abbrev pub IsAnswer : (Option Refused → Type 0) → Type 0 → {A : Type 0} → Result A CheckError → Type 0
+IsAnswer IsFirst Unspecified (Ok found) = IsFirst None
+IsAnswer IsFirst Unspecified (Err e) = IsAnswerBy IsFirst Unspecified e
 
 abbrev pub IsNoRefusal : CheckError → Type 0
 IsNoRefusal (error.Refused r) = ⊥
 IsNoRefusal error.Memory = Unit {0}
 IsNoRefusal error.NotYet = Unit {0}
+
+-- no specification is lost, or what is so if one is
+abbrev pub IsNoLoss : CheckError → Type 0
+IsNoLoss (error.Refused r) = Unit {0}
+IsNoLoss error.Memory = Unit {0}
+IsNoLoss error.NotYet = ⊥
+
+abbrev pub IfLost : CheckError → Type 0 → Type 0
+IfLost (error.Refused r) P = Unit {0}
+IfLost error.Memory P = Unit {0}
+IfLost error.NotYet P = P
 
 -- ---- what is made of a tree
 
@@ -126,9 +137,10 @@ pub record IsFirstOf (headed : Headed) (terms : List Term) (facts : Facts) (list
   pub known : Known
   pub headed_is : known.headed ≡ headed
   pub tables : AreTables known.tables headed.file lists long
+  pub arena : IsArena known.tables.types.now
   pub routines : known.routines.now ≡ lists.routines.value
   pub asks : AreAsked headed terms facts known
-  pub is : (items : ℕ → Item) → KnownAscend known → first_in known (bad_of_all known items lists.circles.order.items) items asked ≡ first
+  pub is : (items : ℕ → Item) → EquatesAscend known → WalksAscend known (bad_of_all known items lists.circles.order.items) items asked → first_in known (bad_of_all known items lists.circles.order.items) items asked ≡ first
 
 -- where its headings are known, with these types
 pub record IsFirstBy (headed : Headed) (before : List Term) (lists : Lists) (long : Long) (asked : Extent) (first : Option Refused) : Type 0 where
@@ -183,3 +195,21 @@ pub record IsFirst (nodes : List Node) (library : List Spec) (asked : Extent) (f
   pub names_are : AreNamed nodes rounds names
   pub values : AreValues nodes rounds names settled
   pub is : IsFirstWith nodes rounds names settled library asked first
+
+-- ---- no fault comes first, and of a module there is no specification, though its headings are known
+
+pub record IsUnspecifiedBy (headed : Headed) (before : List Term) (lists : Lists) (long : Long) (asked : Extent) : Type 0 where
+  pub is : IsFirstBy headed before lists long asked None
+  pub lost : AreSpecified headed.file.syntax.now before headed.heads.now.modules.items → ⊥
+
+pub record IsUnspecifiedIn (file : File) (types : List Term) (lists : Lists) (asked : Extent) : Type 0 where
+  pub is : IsFirstIn file types lists asked None
+  pub lost : AreSpecified is.headed.file.syntax.now is.terms is.headed.heads.now.modules.items → ⊥
+
+pub record IsUnspecifiedWith (nodes : List Node) (rounds : List Round) (names : Names) (settled : Values) (library : List Spec) (asked : Extent) : Type 0 where
+  pub is : IsFirstWith nodes rounds names settled library asked None
+  pub lost : AreSpecified is.is.headed.file.syntax.now is.is.terms is.is.headed.heads.now.modules.items → ⊥
+
+pub record IsUnspecified (nodes : List Node) (library : List Spec) (asked : Extent) : Type 0 where
+  pub is : IsFirst nodes library asked None
+  pub lost : AreSpecified is.is.is.headed.file.syntax.now is.is.is.terms is.is.is.headed.heads.now.modules.items → ⊥

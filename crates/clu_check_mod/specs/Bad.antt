@@ -1,16 +1,20 @@
 -- Bad equates by the rules that are asked, and the nodes at which types are refused.
-use Rattle.std.specs.Prelude.{ℕ, Bool, List, find, is_some, length, map}
+use Rattle.std.specs.Prelude.{◌≡◌, ◌<◌, ◌≤◌, ℕ, ◌&&◌, ◌||◌, Bool, true, List, find, is_some, length, map, slice_get}
 use Rattle.std.specs.List.{range_with_len}
+use Rattle.clu_tree.specs.declared.node.NodeKind.TheVariants as kind
 use Rattle.clu_names.specs.declared.scopes.Declared.{Declared}
 use Rattle.clu_syntax.specs.Items.{Item}
 use Rattle.clu_syntax.specs.Kinds.{kind_at}
+use Rattle.clu_syntax.specs.Rounds.{round_at}
+use Rattle.clu_head.specs.There.{is_there}
 use Rattle.clu_bindings.specs.declared.file.File.{File}
+use Rattle.clu_bindings.specs.Files.{stands_in}
 use Rattle.clu_name_rules.specs.declared.tables.Tables.{Tables}
 use Rattle.clu_name_rules.specs.Constructors.{ValuesAscend}
 use Rattle.clu_type_rules.specs.declared.known.Known.{Known}
 use Rattle.clu_type_rules.specs.Asked.{rules_at}
 use Rattle.clu_type_rules.specs.Walking.{Asked, asked_equate, asked_arm, bad_in}
-use Rattle.clu_check_mod.specs.Asking.{KnownAscend, is_violated, is_violated_of_types}
+use Rattle.clu_check_mod.specs.Asking.{RulesAscend, is_violated, is_violated_of_types}
 use Rattle.clu_check_mod.specs.declared.bad.Asking.{Asking}
 use Rattle.clu_check_mod.specs.declared.bad.By.{By}
 use Rattle.clu_check_mod.specs.declared.bad.By.TheVariants as by
@@ -19,10 +23,34 @@ abbrev pub file_by : By → File
 file_by (by.Types t) = t.now.file
 file_by (by.All k) = k.now.tables.file
 
--- the components and tags that the rules look for by their names ascend
+-- what the rules look for by its name at the node m ascends
+abbrev pub NodeAscends : Known → ℕ → Type 0
+NodeAscends k m = RulesAscend k m (rules_at (kind_at k.tables.file.syntax.now m))
+
+-- at each node that stands in the node n
+abbrev pub InsideAscends : Known → ℕ → Type 0
+InsideAscends k n = (m : ℕ) → (round_at k.tables.file.rounds.now n).first ≤ m → m < n → NodeAscends k m
+
+-- an Equate, or a Decl of an arm
+abbrev pub is_settled : File → ℕ → Bool
+is_settled f n = is_there kind.Equate (slice_get f.syntax.now n) || (is_there kind.Decl (slice_get f.syntax.now n) && stands_in f.syntax.now f.rounds.now kind.When n)
+
+-- in each of these
+abbrev pub EquatesAscend : Known → Type 0
+EquatesAscend k = ValuesAscend k.tables × ((n : ℕ) → is_settled k.tables.file n ≡ true → InsideAscends k n)
+
+-- the same by the rules that are asked, of which those by which types are refused look for no tags
+abbrev pub AscendsAt : By → ℕ → Type 0
+AscendsAt (by.Types t) m = ValuesAscend t.now
+AscendsAt (by.All k) m = ValuesAscend k.now.tables × NodeAscends k.now m
+
+abbrev pub AscendIn : By → ℕ → Type 0
+AscendIn (by.Types t) n = ValuesAscend t.now
+AscendIn (by.All k) n = ValuesAscend k.now.tables × InsideAscends k.now n
+
 abbrev pub AscendBy : By → Type 0
 AscendBy (by.Types t) = ValuesAscend t.now
-AscendBy (by.All k) = KnownAscend k.now
+AscendBy (by.All k) = EquatesAscend k.now
 
 abbrev pub state : Asking → Asked
 state a = record { bad = a.bad.items; faulty = a.faulty.items }

@@ -4,6 +4,9 @@ use Rattle.std.specs.Prelude.{option_and_then}
 use Rattle.clu_tree.specs.declared.node.Node.{Node}
 use Rattle.clu_tree.specs.Nodes.{modules}
 use Rattle.clu_types.specs.declared.spec.Spec.{Spec}
+use Rattle.clu_types.specs.declared.term.Term.{Term}
+use Rattle.clu_head.specs.declared.head.Head.{Head}
+use Rattle.clu_head.specs.Whole.{IsWhole}
 use Rattle.clu_name_rules.specs.Closed.{IsClosed}
 
 -- the routine or cluster of a module: the last child of its node
@@ -25,3 +28,12 @@ BeginWithOwn nodes specs = AreOf nodes (modules nodes) (take (length (modules no
 -- V4 and V34 are not violated at the routine or cluster of a module
 abbrev pub IsClosedAt : List Node → ℕ → Type 0
 IsClosedAt nodes n = IfSome (definition_of nodes n) IsClosed
+
+-- this is the head of the module n, and of it there is a specification
+pub record IsSpecified (nodes : List Node) (types : List Term) (n : ℕ) (h : Head) : Type 0 where
+  pub named : name_of nodes n ≡ Some h.name
+  pub whole : IsWhole types h
+
+-- of each module of the tree, in the order of the text
+abbrev pub AreSpecified : List Node → List Term → List Head → Type 0
+AreSpecified nodes types heads = (i n : ℕ) → slice_get (modules nodes) i ≡ Some n → (h : Head) × (slice_get heads i ≡ Some h) × IsSpecified nodes types n h

@@ -1,5 +1,5 @@
 -- What the walks over a file show of it.
-use Rattle.std.specs.Prelude.{◌≡◌, ℕ, Bool, List, Option, Some, IsTrue, IsFalse, find, slice_get}
+use Rattle.std.specs.Prelude.{◌≡◌, ◌<◌, ℕ, Bool, List, Option, Some, None, IsTrue, IsFalse, find, length, slice_get}
 use Rattle.clu_base.specs.declared.rules.Refused.{Refused}
 use Rattle.clu_base.specs.declared.rules.Rule.{Rule}
 use Rattle.clu_base.specs.declared.rules.Rule.TheVariants as rule
@@ -13,7 +13,7 @@ use Rattle.clu_types.specs.declared.spec.Spec.{Spec}
 use Rattle.clu_name_rules.specs.Closed.{IsClosed, ends_as_named, has_long_name, is_definition}
 use Rattle.clu_type_rules.specs.Asked.{rules_of_headings, rules_of_rest}
 use Rattle.clu_type_rules.specs.declared.known.Known.{Known}
-use Rattle.clu_check_mod.specs.Asking.{is_violated}
+use Rattle.clu_check_mod.specs.Asking.{RulesAscend, is_violated}
 use Rattle.clu_type_rules.specs.Walking.{first_fault, first_of}
 use Rattle.clu_check_mod.specs.Modules.{AreOf}
 use Rattle.clu_check_mod.specs.declared.rules.Walk.{Walk}
@@ -58,3 +58,15 @@ module _ (k : Known) (bad : List Bool) (items : ℕ → Item) where
   abbrev pub first_in : Extent → Option Refused
   first_in extent.Headings = first_on walk.Headings
   first_in extent.Whole = first_of (first_on walk.Headings) (first_on walk.Rest)
+
+  -- ---- what the rules on a walk look for by its name ascends, at each node before which the walk finds nothing
+
+  abbrev pub NoneBefore : Walk → ℕ → Type 0
+  NoneBefore w n = (m : ℕ) → m < n → fault_at w m ≡ None
+
+  abbrev pub WalkAscends : Walk → Type 0
+  WalkAscends w = (n : ℕ) → n < length k.tables.file.syntax.now → NoneBefore w n → RulesAscend k n (rules_of w (kind_at k.tables.file.syntax.now n) (round_at k.tables.file.rounds.now n).heading)
+
+  -- on so much of the file: the rest is gone over if nothing is found in the headings
+  abbrev pub WalksAscend : Extent → Type 0
+  WalksAscend asked = WalkAscends walk.Headings × (asked ≡ extent.Whole → first_on walk.Headings ≡ None → WalkAscends walk.Rest)

@@ -6,7 +6,7 @@ ghost use Rattle.clu_tree.specs.declared.node.Node.{Node};
 ghost use Rattle.clu_syntax.specs.Items.{Item};
 ghost use Rattle.clu_name_rules.specs.Constructors.{ValuesAscend};
 ghost use Rattle.clu_name_rules.specs.Closed.{ends_as_named, has_long_name, is_definition};
-ghost use Rattle.clu_check_mod.specs.Asking.{KnownAscend, is_violated, is_violated_of_types};
+ghost use Rattle.clu_check_mod.specs.Asking.{RuleAscends, RulesAscend, is_violated, is_violated_of_types};
 ghost use Rattle.clu_check_mod.specs.Walks.{IsPassed};
 
 use clu_base::Rule;
@@ -41,7 +41,7 @@ fn violates_of_types(t: &Tables<'_>, bad: &[bool], n: u32, rule: Rule) -> bool
 /// Whether the node n violates this rule. `bad` says of each Equate and of each Decl of an arm whether it is bad.
 #[tactic(auto, unfolding(crate::specs::Asking::is_violated, crate::specs::Asking::is_violated_of_types))]
 fn violates(k: &Known<'_>, bad: &[bool], n: u32, rule: Rule) -> bool
-    ensures exact { (items : ℕ → Item) → KnownAscend k.now → result ≡ is_violated k.now bad.now items n rule }
+    ensures exact { (items : ℕ → Item) → ValuesAscend k.now.tables → RuleAscends k.now n rule → result ≡ is_violated k.now bad.now items n rule }
     ensures number { IsTrue result → 4 ≤ number_of rule }
     ensures lengths { rule ≡ Rule.LiteralRange → (node : Node) → slice_get k.now.tables.file.syntax.now n ≡ Some node → IsFalse result → IsFalse (has_long_name node) }
     ensures end { rule ≡ Rule.EndName → (node : Node) → slice_get k.now.tables.file.syntax.now n ≡ Some node → IsTrue (is_definition node.kind) → IsFalse result → IsTrue (ends_as_named node) }
@@ -87,9 +87,9 @@ fn violates(k: &Known<'_>, bad: &[bool], n: u32, rule: Rule) -> bool
 }
 
 /// The first of the rules that the node n violates.
-#[tactic(auto, using(crate::proofs::Closed::passed_more, crate::proofs::Finding::find_here, crate::proofs::Finding::find_none))]
+#[tactic(auto, using(crate::proofs::Closed::passed_more))]
 pub fn least(k: &Known<'_>, bad: &[bool], n: u32, rules: &[Rule]) -> Option<Rule>
-    ensures exact { (items : ℕ → Item) → KnownAscend k.now → result ≡ find (is_violated k.now bad.now items n) rules.now }
+    ensures exact { (items : ℕ → Item) → ValuesAscend k.now.tables → RulesAscend k.now n rules.now → result ≡ find (is_violated k.now bad.now items n) rules.now }
     ensures number { IfSome result (λ rule. 4 ≤ number_of rule) }
     ensures passed { (node : Node) → slice_get k.now.tables.file.syntax.now n ≡ Some node → result ≡ None → All (IsPassed node) rules.now }
 {

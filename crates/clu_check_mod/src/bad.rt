@@ -4,11 +4,13 @@
 ghost use Rattle.std.specs.Prelude.{◌≡◌, ℕ, IfOk, Some, fold, length, set, slice_get};
 ghost use Rattle.std.specs.List.{range_with_len};
 ghost use Rattle.clu_syntax.specs.Items.{Item};
+ghost use Rattle.clu_syntax.specs.Kinds.{kind_at};
 ghost use Rattle.clu_bindings.specs.Tables.{optional};
 ghost use Rattle.clu_name_rules.specs.Constructors.{ValuesAscend};
 ghost use Rattle.clu_type_rules.specs.Walking.{answer, asked_in, looked_inside, noted};
-ghost use Rattle.clu_check_mod.specs.Asking.{KnownAscend};
-ghost use Rattle.clu_check_mod.specs.Bad.{AscendBy, arms_by, bad_by, bad_of_all, bad_of_types, equates_by, fault_by, fault_of_all, fault_of_types, file_by, refused_of, state};
+ghost use Rattle.clu_type_rules.specs.Asked.{rules_at};
+ghost use Rattle.clu_check_mod.specs.Asking.{RulesAscend};
+ghost use Rattle.clu_check_mod.specs.Bad.{AscendBy, AscendIn, AscendsAt, EquatesAscend, arms_by, bad_by, bad_of_all, bad_of_types, equates_by, fault_by, fault_of_all, fault_of_types, file_by, refused_of, state};
 
 use crate::asking::{is_no_type, least};
 use crate::rules::rules_at;
@@ -45,9 +47,8 @@ fn is_refused(t: &Tables<'_>, bad: &[bool], n: u32) -> bool
 }
 
 /// Whether it violates any rule.
-#[tactic(auto, unfolding(crate::specs::Bad::fault_of_all))]
 fn is_wrong(k: &Known<'_>, bad: &[bool], n: u32) -> bool
-    ensures { (items : ℕ → Item) → KnownAscend k.now → result ≡ fault_of_all items k.now bad.now n }
+    ensures { (items : ℕ → Item) → ValuesAscend k.now.tables → RulesAscend k.now n (rules_at (kind_at k.now.tables.file.syntax.now n)) → result ≡ fault_of_all items k.now bad.now n }
 {
     least(k, bad, n, rules_at(k.tables.file.kind(n))).is_some()
 }
@@ -55,7 +56,7 @@ fn is_wrong(k: &Known<'_>, bad: &[bool], n: u32) -> bool
 /// Whether it violates one of those that are asked.
 #[tactic(auto, unfolding(crate::specs::Bad::fault_by))]
 fn is_faulty(by: By<'_>, bad: &[bool], n: u32) -> bool
-    ensures { (items : ℕ → Item) → AscendBy by.entry → result ≡ fault_by items by.entry bad.now n }
+    ensures { (items : ℕ → Item) → AscendsAt by.entry n → result ≡ fault_by items by.entry bad.now n }
 {
     match by {
         By::Types(t) => is_refused(t, bad, n),
@@ -84,8 +85,8 @@ fn note<T: Copy>(table: &mut [T], n: u32, item: T)
 impl Asking {
     /// Asks the node n, if it wasn't asked before, and says whether it violates a rule.
     fn ask(&mut self, by: By<'_>, n: u32) -> bool
-        ensures found { (items : ℕ → Item) → AscendBy by.entry → result ≡ answer (optional (slice_get self.old.faulty.items n)) (fault_by items by.entry self.old.bad.items n) }
-        ensures faulty { (items : ℕ → Item) → AscendBy by.entry → self.new.faulty.items ≡ noted (optional (slice_get self.old.faulty.items n)) self.old.faulty.items n (fault_by items by.entry self.old.bad.items n) }
+        ensures found { (items : ℕ → Item) → AscendsAt by.entry n → result ≡ answer (optional (slice_get self.old.faulty.items n)) (fault_by items by.entry self.old.bad.items n) }
+        ensures faulty { (items : ℕ → Item) → AscendsAt by.entry n → self.new.faulty.items ≡ noted (optional (slice_get self.old.faulty.items n)) self.old.faulty.items n (fault_by items by.entry self.old.bad.items n) }
         ensures bad { self.new.bad.items ≡ self.old.bad.items }
     {
         if let Some(is_faulty) = optional_at(self.faulty.as_slice(), n as usize) {
@@ -98,8 +99,8 @@ impl Asking {
 
     /// Asks all that stands in the node n, and says whether a rule is violated there.
     fn ask_inside(&mut self, by: By<'_>, n: u32) -> bool
-        ensures found { (items : ℕ → Item) → AscendBy by.entry → result ≡ (looked_inside (file_by by.entry).rounds.now (fault_by items by.entry) (state self.old) n).found }
-        ensures faulty { (items : ℕ → Item) → AscendBy by.entry → self.new.faulty.items ≡ (looked_inside (file_by by.entry).rounds.now (fault_by items by.entry) (state self.old) n).faulty }
+        ensures found { (items : ℕ → Item) → AscendIn by.entry n → result ≡ (looked_inside (file_by by.entry).rounds.now (fault_by items by.entry) (state self.old) n).found }
+        ensures faulty { (items : ℕ → Item) → AscendIn by.entry n → self.new.faulty.items ≡ (looked_inside (file_by by.entry).rounds.now (fault_by items by.entry) (state self.old) n).faulty }
         ensures bad { self.new.bad.items ≡ self.old.bad.items }
     {
         let mut is_bad = false;
@@ -113,7 +114,7 @@ impl Asking {
 
     /// Settles the node n by all that stands in it.
     fn settle(&mut self, by: By<'_>, n: u32)
-        ensures { (items : ℕ → Item) → AscendBy by.entry → state self.new ≡ asked_in (file_by by.entry).rounds.now (fault_by items by.entry) (state self.old) n }
+        ensures { (items : ℕ → Item) → AscendIn by.entry n → state self.new ≡ asked_in (file_by by.entry).rounds.now (fault_by items by.entry) (state self.old) n }
     {
         if self.ask_inside(by, n) {
             note(self.bad.as_mut_slice(), n, true);
@@ -141,6 +142,7 @@ impl Asking {
     }
 
     /// Settles the node n, if it is the declaration of an arm.
+    #[tactic(auto, using(crate::proofs::Ascending::in_arm))]
     fn settle_arm(&mut self, by: By<'_>, n: u32)
         ensures { (items : ℕ → Item) → AscendBy by.entry → state self.new ≡ arms_by by.entry items (state self.old) n }
     {
@@ -188,7 +190,7 @@ fn bad_of_types(alloc: Global, t: &Tables<'_>, order: &[usize]) -> Result<Vec<bo
 /// The same by all rules.
 #[tactic(auto, unfolding(crate::specs::Bad::fault_by))]
 pub fn bad_of_all(alloc: Global, k: &Known<'_>, order: &[usize]) -> Result<Vec<bool>, Memory>
-    ensures { IfOk result (λ bad. (items : ℕ → Item) → KnownAscend k.now → bad.items ≡ bad_of_all k.now items order.now) }
+    ensures { IfOk result (λ bad. (items : ℕ → Item) → EquatesAscend k.now → bad.items ≡ bad_of_all k.now items order.now) }
 {
     bad_by(alloc, By::All(k), order)
 }

@@ -3,8 +3,9 @@
 ghost use Rattle.std.specs.Prelude.{◌≡◌, All, IfErr, IfOk, OnOk, length, map, nat_lt};
 ghost use Rattle.clu_tree.specs.Nodes.{modules};
 ghost use Rattle.clu_names.specs.Denotes.{bound_to, starts_to};
+ghost use Rattle.clu_types.specs.Arena.{Grows};
 ghost use Rattle.clu_name_rules.specs.Lengths.{constant_length, lengths_of};
-ghost use Rattle.clu_check_mod.specs.Answered.{AreLists, AreValues, IsAnswer, IsFirst, IsFirstBy, IsFirstIn, IsFirstOf, IsFirstWith};
+ghost use Rattle.clu_check_mod.specs.Answered.{AreLists, AreValues, IsAnswer, IsFirst, IsFirstBy, IsFirstIn, IsFirstOf, IsFirstWith, IsUnspecified, IsUnspecifiedBy, IsUnspecifiedIn, IsUnspecifiedWith};
 ghost use Rattle.clu_check_mod.specs.Modules.{AreOf, BeginWithOwn, IsClosedAt};
 ghost use Rattle.clu_check_mod.specs.Refusals.{IsOfTree};
 ghost use Rattle.clu_check_mod.specs.Walks.{AreClosed, IsFound};
@@ -160,10 +161,12 @@ fn ask(
 ) -> Result<(), CheckError>
     ensures closed { extent ≡ Extent.Whole → OnOk result (AreClosed headed.entry.file.syntax.now) }
     ensures refused { IfErr result (IsOfTree headed.entry.file.syntax.now) }
-    ensures first { IsAnswer (IsFirstOf headed.entry types.old facts.old lists.now long.now extent) result }
+    ensures first { IsAnswer (IsFirstOf headed.entry types.old facts.old lists.now long.now extent) ⊥ result }
+    ensures kept { Grows types.old types.new }
 {
     let alloc = headed.file.alloc;
     let unmet = unmet_of(headed, types, facts)?;
+    types.sound();
     let nodes = headed.file.syntax.tree().len();
     let disagrees = disagreeing(alloc, &headed.heads.asked, nodes)?;
     let tables = tables(headed.file, types, lists, long);
@@ -200,7 +203,7 @@ fn check_headed(
 ) -> Result<Box<Found>, CheckError>
     ensures found { IfOk result (λ found. IsFound headed.entry.file.syntax.now extent found.value.own.items) }
     ensures refused { IfErr result (IsOfTree headed.entry.file.syntax.now) }
-    ensures first { IsAnswer (IsFirstBy headed.entry types.old lists.now long.now extent) result }
+    ensures first { IsAnswer (IsFirstBy headed.entry types.old lists.now long.now extent) (IsUnspecifiedBy headed.entry types.old lists.now long.now extent) result }
 {
     let alloc = headed.file.alloc;
     let mut facts = facts_of(headed, types)?;
@@ -222,7 +225,7 @@ fn check_file(
     requires starts { file.names.now.starts.items ≡ starts_to file.syntax.now file.names.now.declared.items (length file.syntax.now) }
     ensures found { IfOk result (λ found. IsFound file.entry.syntax.now extent found.value.own.items) }
     ensures refused { IfErr result (IsOfTree file.entry.syntax.now) }
-    ensures first { IsAnswer (IsFirstIn file.entry types.old lists.now extent) result }
+    ensures first { IsAnswer (IsFirstIn file.entry types.old lists.now extent) (IsUnspecifiedIn file.entry types.old lists.now extent) result }
 {
     let alloc = file.alloc;
     let long = long_of(alloc, types, file.constants)?;
@@ -256,7 +259,7 @@ fn check_settled(
     requires starts { names.now.starts.items ≡ starts_to syntax.now names.now.declared.items (length syntax.now) }
     ensures found { IfOk result (λ found. IsFound syntax.now extent found.value.own.items) }
     ensures refused { IfErr result (IsOfTree syntax.now) }
-    ensures first { IsAnswer (IsFirstWith syntax.now rounds.now names.now settled.old library.now extent) result }
+    ensures first { IsAnswer (IsFirstWith syntax.now rounds.now names.now settled.old library.now extent) (IsUnspecifiedWith syntax.now rounds.now names.now settled.old library.now extent) result }
 {
     let lists = lists_of(alloc, syntax, rounds, names)?;
     let types = &mut settled.types;
@@ -298,7 +301,7 @@ fn check_syntax(
 ) -> Result<(Box<Values>, Box<Found>), CheckError>
     ensures found { IfOk result (λ both. IsFound syntax.now extent both.1.value.own.items) }
     ensures refused { IfErr result (IsOfTree syntax.now) }
-    ensures first { IsAnswer (IsFirst syntax.now library.now extent) result }
+    ensures first { IsAnswer (IsFirst syntax.now library.now extent) (IsUnspecified syntax.now library.now extent) result }
 {
     let rounds = rounds(alloc, syntax.tree())?;
     let names = names_of(alloc, syntax.tree(), rounds.as_slice())?;
@@ -356,7 +359,7 @@ pub fn check(alloc: Global, syntax: Syntax, library: &Specs) -> Result<Box<Check
     ensures specs { IfOk result (λ checked. BeginWithOwn syntax checked.value.specs.items) }
     ensures closed { OnOk result (All (IsClosedAt syntax) (modules syntax)) }
     ensures refused { IfErr result (IsOfTree syntax) }
-    ensures first { IsAnswer (IsFirst syntax library.now Extent.Whole) result }
+    ensures first { IsAnswer (IsFirst syntax library.now Extent.Whole) (IsUnspecified syntax library.now Extent.Whole) result }
 {
     let (settled, mut found) = check_syntax(alloc, &syntax, library, Extent::Whole)?;
     add_others(alloc, &mut found.own, library)?;
@@ -371,7 +374,7 @@ pub fn check(alloc: Global, syntax: Syntax, library: &Specs) -> Result<Box<Check
 pub fn specs_of(alloc: Global, syntax: &Syntax, library: &Specs) -> Result<Vec<Spec>, CheckError>
     ensures own { IfOk result (λ own. AreOf syntax.now (modules syntax.now) own.items) }
     ensures refused { IfErr result (IsOfTree syntax.now) }
-    ensures first { IsAnswer (IsFirst syntax.now library.now Extent.Headings) result }
+    ensures first { IsAnswer (IsFirst syntax.now library.now Extent.Headings) (IsUnspecified syntax.now library.now Extent.Headings) result }
 {
     let (_, found) = check_syntax(alloc, syntax, library, Extent::Headings)?;
     let Found { own, .. } = Box::into_inner(found);

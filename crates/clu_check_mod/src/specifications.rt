@@ -1,10 +1,12 @@
 //! The specifications under which a file is compiled: those of its own modules, and of all others of the library.
 
-ghost use Rattle.std.specs.Prelude.{◌≡◌, IfErr, IfOk, IfSome, List, OnOk, Some, slice_get};
+ghost use Rattle.std.specs.Prelude.{◌≡◌, ◌-◌, IfErr, IfOk, IfSome, IsSome, List, OnOk, Some, length, option_and_then, slice_get};
+ghost use Rattle.std.specs.Option.{option_copied};
 ghost use Rattle.clu_tree.specs.Nodes.{modules};
 ghost use Rattle.clu_tree.specs.declared.node.Node.{Node};
-ghost use Rattle.clu_check_mod.specs.Answered.{IsNoRefusal};
-ghost use Rattle.clu_check_mod.specs.Modules.{AreOf, BeginWithOwn, name_of};
+ghost use Rattle.clu_head.specs.Whole.{IsWhole};
+ghost use Rattle.clu_check_mod.specs.Answered.{IfLost, IsNoRefusal};
+ghost use Rattle.clu_check_mod.specs.Modules.{AreOf, AreSpecified, BeginWithOwn, IsSpecified, definition_of, name_of};
 
 use crate::errors::CheckError;
 use clu_base::{Bytes, Memory};
@@ -16,14 +18,35 @@ use std::alloc::Global;
 
 /// The name of the module n: the first of its routine or cluster.
 fn name_of(tree: &Tree, n: u32) -> Option<&Bytes>
-    ensures { IfSome result (λ name. name_of tree.now n ≡ Some name.now) }
+    ensures { option_copied result ≡ name_of tree.now n }
 {
-    let definition = node_at(tree, *node_at(tree, n)?.children.as_slice().last()?)?;
-    definition.names.as_slice().first()
+    match definition_of(tree, n) {
+        Some(definition) => definition.names.as_slice().first(),
+        None => None,
+    }
+}
+
+/// The routine or cluster of the module n: its last child.
+fn definition_of(tree: &Tree, n: u32) -> Option<&Node>
+    ensures { option_copied result ≡ definition_of tree.now n }
+{
+    match node_at(tree, n) {
+        Some(node) => last_child(tree, node),
+        None => None,
+    }
+}
+
+fn last_child<'a>(tree: &'a Tree, node: &Node) -> Option<&'a Node>
+    ensures { option_copied result ≡ option_and_then (slice_get tree.now) (slice_get node.now.children (length node.now.children - 1)) }
+{
+    match node.children.as_slice().last() {
+        Some(child) => node_at(tree, *child),
+        None => None,
+    }
 }
 
 fn node_at(tree: &Tree, n: u32) -> Option<&Node>
-    ensures { IfSome result (λ node. slice_get tree.now n ≡ Some node.now) }
+    ensures { option_copied result ≡ slice_get tree.now n }
 {
     if n < tree.len() {
         Some(tree.node(n))
@@ -33,22 +56,59 @@ fn node_at(tree: &Tree, n: u32) -> Option<&Node>
 }
 
 /// The specification of a module of this name, if this is its head and none of its types is lost.
+#[tactic(auto, using(crate::proofs::Losing::other_name))]
+fn spec_if(
+    alloc: Global,
+    types: &TypeArena,
+    head: &Head,
+    name: &Bytes,
+) -> Result<Option<Box<Spec>>, Memory>
+    ensures named { IfOk result (λ found. IfSome found (λ spec. spec.value.name ≡ name.now)) }
+    ensures whole { IfOk result (λ found. head.now.name ≡ name.now → IsWhole types.now head.now → IsSome found) }
+{
+    if head.name == *name {
+        Ok(spec_of(alloc, types, head)?)
+    } else {
+        Ok(None)
+    }
+}
+
+/// The same, if there is a head.
 fn spec_by(
     alloc: Global,
     types: &TypeArena,
     head: Option<&Head>,
     name: &Bytes,
 ) -> Result<Option<Box<Spec>>, Memory>
-    ensures { IfOk result (λ found. IfSome found (λ spec. spec.value.name ≡ name.now)) }
+    ensures named { IfOk result (λ found. IfSome found (λ spec. spec.value.name ≡ name.now)) }
+    ensures whole { IfOk result (λ found. IfSome (option_copied head.entry) (λ h. h.name ≡ name.now → IsWhole types.now h → IsSome found)) }
 {
     match head {
-        Some(head) if head.name == *name => spec_of(alloc, types, head),
-        _ => Ok(None),
+        Some(head) => Ok(spec_if(alloc, types, head, name)?),
+        None => Ok(None),
+    }
+}
+
+/// The same, without which the check can't go on.
+fn spec_named(
+    alloc: Global,
+    types: &TypeArena,
+    head: Option<&Head>,
+    name: &Bytes,
+) -> Result<Box<Spec>, CheckError>
+    ensures named { IfOk result (λ spec. spec.value.name ≡ name.now) }
+    ensures refused { IfErr result IsNoRefusal }
+    ensures lost { IfErr result (λ e. IfLost e (IfSome (option_copied head.entry) (λ h. h.name ≡ name.now → IsWhole types.now h → ⊥))) }
+{
+    match spec_by(alloc, types, head, name)? {
+        Some(spec) => Ok(spec),
+        None => Err(CheckError::NotYet),
     }
 }
 
 /// The specification of the module n. A type of a heading is lost only where a rule is violated in the heading, which the walk
 /// has found before.
+#[tactic(auto, using(crate::proofs::Losing::none_named, crate::proofs::Losing::none_unnamed))]
 fn own_spec(
     alloc: Global,
     tree: &Tree,
@@ -58,13 +118,18 @@ fn own_spec(
 ) -> Result<Box<Spec>, CheckError>
     ensures named { IfOk result (λ spec. name_of tree.now n ≡ Some spec.value.name) }
     ensures refused { IfErr result IsNoRefusal }
+    ensures lost { IfErr result (λ e. IfLost e (IfSome (option_copied head.entry) (λ h. IsSpecified tree.now types.now n h → ⊥))) }
 {
-    if let Some(name) = name_of(tree, n) {
-        if let Some(spec) = spec_by(alloc, types, head, name)? {
-            return Ok(spec);
-        }
+    match name_of(tree, n) {
+        Some(name) => Ok(spec_named(alloc, types, head, name)?),
+        None => Err(CheckError::NotYet),
     }
-    Err(CheckError::NotYet)
+}
+
+fn head_at(heads: &[Head], place: usize) -> Option<&Head>
+    ensures { option_copied result ≡ slice_get heads.now place }
+{
+    heads.get(place)
 }
 
 /// The specifications of the modules of a tree with these heads, in the order of the text.
@@ -76,11 +141,12 @@ pub fn own_specs(
 ) -> Result<Vec<Spec>, CheckError>
     ensures own { IfOk result (λ own. AreOf tree.now (modules tree.now) own.items) }
     ensures refused { IfErr result IsNoRefusal }
+    ensures lost { IfErr result (λ e. IfLost e (AreSpecified tree.now types.now heads.now → ⊥)) }
 {
     let mut own = Vec::new(alloc);
     let numbers = tree.modules();
     for n in numbers {
-        let spec = own_spec(alloc, tree, types, heads.get(own.len()), *n)?;
+        let spec = own_spec(alloc, tree, types, head_at(heads, own.len()), *n)?;
         own.push(Box::into_inner(spec))?;
     }
     Ok(own)

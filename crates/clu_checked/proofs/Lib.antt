@@ -1,2 +1,17 @@
+pub mod Ascending
+pub mod Checks
+pub mod DemandsRight
+pub mod Filled
+pub mod HeadsRight
+pub mod Later
+pub mod Placed
+pub mod Reached
+pub mod RefusedAgain
+pub mod Right
 pub mod Told
+pub mod TypesRight
 pub mod TypesTold
+pub mod Whole
+pub mod UnmetRight
+pub mod FactsRight
+pub mod RepsRight

@@ -111,7 +111,7 @@ module _ (text : Text) (nodes : List Node) (parsed : IsParsed text nodes) (libra
     abbrev counted : List Bool → List ℕ
     counted bits = counts_to bits (length bits)
 
-    counts_said : ValuesAscend t → (known nodes library asked first is).headed.refused.now ≡ counted (refused_bits t items its_bits)
+    pub counts_said : ValuesAscend t → (known nodes library asked first is).headed.refused.now ≡ counted (refused_bits t items its_bits)
     counts_said ascending =
         ap (λ (h : Headed). h.refused.now) is.is.is.is.is.headed_is
         ∙ is.is.is.counts

@@ -1,20 +1,45 @@
 -- The file of which a check answers, with the tables that it makes of it, and what is not shown of these yet.
-use Rattle.std.specs.Prelude.{ℕ, Bool, List, Option}
+use Rattle.std.specs.Prelude.{◌≡◌, ◌<◌, ℕ, Bool, true, false, List, length, map, Option, None}
 use Rattle.clu_base.specs.declared.rules.Refused.{Refused}
 use Rattle.clu_tree.specs.declared.node.Node.{Node}
+use Rattle.clu_tree.specs.Nodes.{modules}
 use Rattle.clu_syntax.specs.Items.{Item}
+use Rattle.clu_syntax.specs.Kinds.{kind_at}
 use Rattle.clu_types.specs.declared.spec.Spec.{Spec}
-use Rattle.clu_checking.specs.Specifications.{Specification}
+use Rattle.clu_checking.specs.Specifications.{Specification, specification_told}
 use Rattle.clu_checking.specs.Files.{File, plain_file}
 use Rattle.clu_checking.specs.Refusals.{checked_file}
+use Rattle.clu_bindings.specs.declared.file.Headed.{Headed}
 use Rattle.clu_name_rules.specs.declared.tables.Tables.{Tables}
 use Rattle.clu_type_rules.specs.declared.known.Known.{Known}
-use Rattle.clu_type_rules.specs.Rules.{violates}
-use Rattle.clu_passes.specs.Refusing.{AgreeInHeadings, AgreeInRest}
+use Rattle.clu_type_rules.specs.Asked.{rules_at}
+use Rattle.clu_type_rules.specs.StatementRules.{tags_by}
+use Rattle.clu_type_rules.specs.Tags.{TagsAscend}
+use Rattle.clu_passes.specs.Ascending.{SpecificationsAscend}
+use Rattle.clu_passes.specs.Bound.{HasTagsOnce}
+use Rattle.clu_passes.specs.Libraries.{HoldAscending}
+use Rattle.clu_passes.specs.KnownFiles.{AreRepsSettled}
+use Rattle.clu_passes.specs.Lost.{lost}
+use Rattle.clu_passes.specs.OwnModules.{AreOwnModules}
+use Rattle.clu_passes.specs.Reps.{AreReps}
+use Rattle.clu_passes.specs.Tags.{asks_tags}
 use Rattle.clu_check_mod.specs.Answered.{IsFirst}
-use Rattle.clu_check_mod.specs.Asking.{KnownAscend}
 use Rattle.clu_check_mod.specs.Bad.{bad_of_all, bad_of_types}
+use Rattle.clu_check_mod.specs.Walks.{NoneBefore, first_on}
+use Rattle.clu_check_mod.specs.declared.rules.Walk.TheVariants as walk
 use Rattle.clu_check_mod.specs.declared.walk.Extent.{Extent}
+use Rattle.clu_check_mod.specs.declared.walk.Extent.TheVariants as extent
+
+-- what is so of specifications that are kept of accepted files: what is looked for in them by its name ascends
+pub record IsLibrary (library : List Spec) : Type 0 where
+  pub components : SpecificationsAscend (map specification_told library)
+  pub operations : HoldAscending library
+
+-- the tags that a rule looks for ascend, at each node before which the walks find nothing
+abbrev pub TagsKnown : Known → List Bool → (ℕ → Item) → Extent → Type 0
+TagsKnown k bad items asked =
+    asked ≡ extent.Whole → first_on k bad items walk.Headings ≡ None → (n : ℕ) → n < length k.tables.file.syntax.now → NoneBefore k bad items walk.Rest n →
+    asks_tags (rules_at (kind_at k.tables.file.syntax.now n)) ≡ true → TagsAscend k n
 
 module _ (nodes : List Node) (library : List Spec) (asked : Extent) (first : Option Refused) (is : IsFirst nodes library asked first) where
   -- the file, under what these specifications say
@@ -46,9 +71,22 @@ module _ (nodes : List Node) (library : List Spec) (asked : Extent) (first : Opt
   abbrev pub bits_of_types : (ℕ → Item) → List Bool
   bits_of_types items = bad_of_types tables items order
 
-  -- what is not shown yet: that the components of each type that is looked at ascend, and that the rules over these tables say what the
-  -- definitions say, up to the first fault
-  pub record IsLeft (items : ℕ → Item) (specs : List Specification) : Type 0 where
-    pub ascending : KnownAscend known
-    pub in_headings : AgreeInHeadings (file specs) (violates known (bits items) items)
-    pub in_rest : AgreeInRest (file specs) (violates known (bits items) items)
+  -- the file again, as the rules read it in their tables
+  abbrev pub tabled : List Specification → File
+  tabled specs = checked_file known.tables.file.syntax.now known.tables.file.rounds.now specs
+
+  -- and as it is when its headings are known
+  abbrev pub headed : Headed
+  headed = is.is.is.headed
+
+  abbrev pub headed_file : List Specification → File
+  headed_file specs = checked_file headed.file.syntax.now headed.file.rounds.now specs
+
+  -- what is not shown yet of the tables
+  pub record IsLeft (specs : List Specification) : Type 0 where
+    -- of the file with its headings: by what `rep` is declared, that it comes to the same after one step more, and its modules
+    pub reps : AreReps (headed_file specs)
+    pub settled : AreRepsSettled (headed_file specs) headed.file
+    pub owned : AreOwnModules headed.file.bindings.now.modules (modules headed.file.syntax.now)
+    -- no tag of a type on which a Tagcase selects stands twice
+    pub once : (n : ℕ) → n < length (tabled specs).nodes → lost (tabled specs) n ≡ false → HasTagsOnce (tags_by known n)

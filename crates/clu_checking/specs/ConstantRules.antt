@@ -12,7 +12,7 @@ use Rattle.clu_syntax.specs.contracts.words.SimpleType.{the_type}
 use denote.Enum.Bare.{sameb}
 use Rattle.clu_syntax.specs.Kinds.{is_expression}
 use Rattle.clu_syntax.specs.Roles.{has_no_name}
-use Rattle.clu_syntax.specs.Syntax.{Identifier, real, Expression, a_name, a_literal, an_index, Constants, no_constants, constant_and, TypeExpression, a_simple_type, Restriction, is_in, TypeSet, a_type_set, Equate, an_equate, a_set_equate, Equates, no_equates, equate_and}
+use Rattle.clu_syntax.specs.Syntax.{Identifier, real, Expression, a_name, a_literal, an_index, Constant, an_expression, a_type, Constants, no_constants, constant_and, TypeExpression, a_simple_type, Restriction, is_in, TypeSet, a_type_set, Equate, an_equate, a_set_equate, Equates, no_equates, equate_and}
 use Rattle.clu_meaning.specs.Scoping.{Meaning, is_equate, is_type_set, is_type_parameter, is_constant_parameter, is_local, is_own_of_routine, is_own_of_cluster, is_routine_of_cluster, is_module}
 use Rattle.clu_meaning.specs.Settling.{Value, settled_type, settled_constant, settled_parameter}
 use Rattle.clu_checking.specs.Settled.{value_settled}
@@ -22,7 +22,7 @@ use Rattle.clu_checking.specs.Equates.{set_named, is_bad_name}
 use Rattle.clu_checking.specs.Headings.{specification, kind_of_parameter, parameter_type}
 use Rattle.clu_checking.specs.Typing.{is_type_value, takes_actuals}
 use Rattle.clu_checking.specs.Invocations.{is_object_wanted}
-use Rattle.clu_checking.specs.Wanted.{Wanted, a_constant, a_name_with_actuals, wanted, wants_type, Named, named_at, has_fitting_kinds, first_name_at}
+use Rattle.clu_checking.specs.Wanted.{Wanted, a_constant, wanted, wants_type, Named, named_at, has_fitting_kinds, first_name_at}
 
 abbrev pub is_routine_form : Form → Bool
 is_routine_form (of_routine h) = true
@@ -63,6 +63,10 @@ is_long_type _ = false
 abbrev pub is_long_constant : Value → Bool
 is_long_constant (settled_constant c) = is_long_text (constant_text c)
 is_long_constant _ = false
+
+abbrev pub is_cvt : Constant → Bool
+is_cvt (a_type t) = is_word simple.Cvt t
+is_cvt (an_expression e) = false
 
 abbrev pub is_rep : Equate → Bool
 is_rep (an_equate n None c) = true
@@ -128,13 +132,13 @@ module _ (f : File) where
   abbrev pub is_bad_rep : ℕ → Bool
   is_bad_rep n = is_rep_equate (parent f n) && is_no_type_side (kind_in f n) n
 
-  -- ---- a text that is too long, on the right side of an equate
+  -- ---- a text that is too long, on the right side of an equate; none is asked of `cvt`, which may not stand there
 
   abbrev pub is_right_side : ℕ → Bool
   is_right_side n = stands_in f kind.Equate n && not (is_kind f kind.TypeSet n)
 
   abbrev pub is_too_long : (Value → Bool) → ℕ → Bool
-  is_too_long test n = is_right_side n && test (value_settled f.scope (item f n).constant)
+  is_too_long test n = is_right_side n && (not (is_cvt (item f n).constant) && test (value_settled f.scope (item f n).constant))
 
   -- ---- names of types
 
@@ -230,14 +234,9 @@ module _ (f : File) where
 module _ (f : File) (bad : ℕ → Bool) where
   -- ---- names of equates that are bad
 
-  abbrev pub wants_type_round : Option ℕ → Bool
-  wants_type_round (Some p) = is_constant_wanted (wanted f p) && wants_type f p
-  wants_type_round None = false
-
-  -- a Name stands where a type is wanted, alone or before actuals
+  -- a Name stands alone where a type is wanted
   abbrev pub is_type_wanted : Wanted → ℕ → Bool
   is_type_wanted a_constant n = wants_type f n
-  is_type_wanted a_name_with_actuals n = wants_type_round (parent f n)
   is_type_wanted _ n = false
 
   abbrev pub has_bad_constant : NodeKind → ℕ → Bool

@@ -1,6 +1,6 @@
 -- A file as it is checked: the nodes of its tree, what surrounds them, its declarations, and the specifications of a
 -- library. What stands at a node, and what a name denotes there.
-use Rattle.std.specs.Prelude.{ℕ, suc, ◌+◌, ◌-◌, ◌&&◌, ◌||◌, nat_le, Bool, true, false, List, [], ◌∷◌, ◌++◌, length, slice_get, filter, flat_map, is_some, if◌then◌else◌, Option, Some, None}
+use Rattle.std.specs.Prelude.{ℕ, suc, ◌+◌, ◌-◌, ◌&&◌, ◌||◌, not, nat_le, Bool, true, false, List, [], ◌∷◌, ◌++◌, length, slice_get, filter, flat_map, is_some, bytes_eq, if◌then◌else◌, Option, Some, None}
 use Rattle.std.specs.List.{list_any, range_with_len}
 use Rattle.clu_tree.specs.declared.node.Node.{Node}
 use Rattle.clu_tree.specs.declared.node.NodeKind.{NodeKind}
@@ -29,6 +29,12 @@ pub record File : Type 0 where
 
 abbrev pub numbers : List Node → List ℕ
 numbers nodes = range_with_len 0 (length nodes)
+
+-- ---- modules
+
+abbrev pub module_name : Module → Identifier
+module_name (a_routine n es r) = r.name
+module_name (a_cluster n es c) = c.name
 
 -- ---- parameters
 
@@ -162,9 +168,13 @@ module _ (f : File) where
   denotes_module is_module = true
   denotes_module _ = false
 
-  -- the type stream is no module
+  -- the file has a module of this name
+  abbrev pub is_own_module : Identifier → Bool
+  is_own_module name = list_any (λ m. bytes_eq (module_name m) name) (file_of f.nodes)
+
+  -- a module of the file or of the library; the type stream is none
   abbrev pub is_of_module : ℕ → Identifier → Bool
-  is_of_module n name = denotes_module (meaning n name) && (is_some (declaration n name) || is_kept name)
+  is_of_module n name = denotes_module (meaning n name) && not (is_stream name) && (is_own_module name || is_kept name)
 
   abbrev pub declaring_node : Option Declared → Option ℕ
   declaring_node (Some d) = Some d.node

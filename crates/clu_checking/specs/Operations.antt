@@ -103,7 +103,7 @@ module _ (given : List Demand) (specified : Identifier → Option Specification)
     meets (struct_of fs) name wanted = is_met_by (part_meets fs) wanted (operation (struct_of fs) name)
     meets (oneof_of fs) name wanted = is_met_by (part_meets fs) wanted (operation (oneof_of fs) name)
     meets (variant_of fs) name wanted = is_met_by (part_meets fs) wanted (operation (variant_of fs) name)
-    meets (cluster_of c actuals) name wanted = is_met_in (actual_meets actuals) actuals wanted (exported_operation name (specified c))
+    meets (cluster_of c actuals) name wanted = is_met_in (λ k op w. actual_meets actuals k (is_included w (given_of given k op)) op w) actuals wanted (exported_operation name (specified c))
     meets (parameter k) name wanted = is_included wanted (given_of given k name)
     meets t name wanted = is_met_by (λ of op w. true) wanted (operation t name)
 
@@ -112,12 +112,12 @@ module _ (given : List Demand) (specified : Identifier → Option Specification)
     part_meets no_fields of name wanted = false
     part_meets (field_and selector t fs) of name wanted = if same_type t of then meets t name wanted else part_meets fs of name wanted
 
-    -- the actual of this number, from 1
-    pub actual_meets : Actuals → ℕ → Identifier → CluType → Bool
-    actual_meets no_actuals k name wanted = false
-    actual_meets (actual_type t rest) k name wanted = if k == 1 then meets t name wanted else actual_meets rest (k - 1) name wanted
-    actual_meets (actual_const c rest) k name wanted = actual_meets rest (k - 1) name wanted
-    actual_meets (actual_param p rest) k name wanted = actual_meets rest (k - 1) name wanted
+    -- the actual of this number, from 1; a type parameter that has no type for its actual stays, and counts by what is given of it
+    pub actual_meets : Actuals → ℕ → Bool → Identifier → CluType → Bool
+    actual_meets no_actuals k stays name wanted = stays
+    actual_meets (actual_type t rest) k stays name wanted = if k == 1 then meets t name wanted else actual_meets rest (k - 1) stays name wanted
+    actual_meets (actual_const c rest) k stays name wanted = actual_meets rest (k - 1) stays name wanted
+    actual_meets (actual_param p rest) k stays name wanted = actual_meets rest (k - 1) stays name wanted
 
 module _ (f : File) where
   -- ---- what where clauses give at a node: those of the routine before those of the cluster; and inside a type set, what

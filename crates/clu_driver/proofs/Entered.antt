@@ -1,20 +1,21 @@
 -- Why there is no library and no source, and what entering one into the other shows.
-use Rattle.std.proofs.Common.{◌≡◌, ◌≤◌, ◌⊎◌, ℕ, All, List, length, take, Option, Result, Ok, Err, IfErr, inl, inr, subst, sym, map}
+use Rattle.std.proofs.Common.{◌≡◌, ◌∙◌, ◌≤◌, ◌⊎◌, ℕ, List, length, take, Option, Result, Ok, Err, IfErr, inl, inr, subst, sym, map}
 use Rattle.std.specs.Char.{to_ascii_lowercase}
 use Rattle.clu_base.specs.Outside.{Files}
 use Rattle.clu_base.specs.declared.tokens.Token.{Token}
 use Rattle.clu_build.specs.Entering.{own_of, text_at}
 use Rattle.clu_core.specs.declared.checked.Checked.{Checked}
 use Rattle.clu_library.specs.Contents.{Contents}
-use Rattle.clu_check_mod.specs.Modules.{BeginWithOwn, IsClosedAt}
+use Rattle.clu_check_mod.specs.Modules.{BeginWithOwn}
 use Rattle.clu_tree.specs.Nodes.{modules}
 use Rattle.clu_tree.specs.declared.node.Node.{Node}
+use Rattle.clu_types.specs.declared.spec.Spec.{Spec}
 use Rattle.clu_driver.specs.Found.{IsFound, IsUnder, NotHad}
 use Rattle.clu_driver.specs.Held.{HasLibrary, IsLibraryFile, IsUnreadable, NotLibrary}
 use Rattle.clu_driver.specs.Libraries.{CompileShows, CompiledShows, EnteredShows, LinkShows, LinkedShows, NotBeside, NotGathered, SpecifiedShows, SpecifyShows}
 use Rattle.clu_driver.specs.Shows.{Reported}
 use Rattle.clu_driver.specs.declared.specifying.Kept.{Kept}
-use Rattle.clu_driver.specs.Sources.{IsParsed, IsSource, NotGot, NotSource}
+use Rattle.clu_driver.specs.Sources.{IsChecked, IsParsed, IsSource, NotGot, NotSource}
 use Rattle.clu_outcome.specs.declared.outcome.Outcome.{Outcome}
 use Rattle.clu_outcome.specs.declared.outcome.Outcome.TheVariants as outcome
 use Rattle.clu_driver.proofs.Found.{found_with, not_parsed}
@@ -55,11 +56,23 @@ compile_shows how library file bytes tokens nodes known files read files' faults
 
 -- the specifications and texts of a tree are those of what was checked
 pub compiled_shows : (how : Outcome) (name file : List ℕ) (known : Contents) (bytes : List ℕ) (tokens : List Token) (nodes : List Node) (c : Checked) (files files' : Option Files) (faults faults' : ℕ)
-    → c.syntax ≡ nodes → BeginWithOwn nodes c.specs.items → All (IsClosedAt nodes) (modules nodes) → EnteredShows how name known (own_of c) (text_at bytes tokens c.syntax) files faults files' faults'
+    → c.syntax ≡ nodes → BeginWithOwn nodes c.specs.items → IsChecked known.specs nodes → EnteredShows how name known (own_of c) (text_at bytes tokens c.syntax) files faults files' faults'
     → CompiledShows how name file known bytes tokens nodes files faults files' faults'
-compiled_shows how name file known bytes tokens nodes c files files' faults faults' tree own closed shown =
+compiled_shows how name file known bytes tokens nodes c files files' faults faults' tree own checked shown =
     let P : List Node → Type 0 = λ ns. EnteredShows how name known (take (length (modules ns)) c.specs.items) (text_at bytes tokens ns) files faults files' faults' in
-    inr (closed, (take (length (modules nodes)) c.specs.items, own, subst P tree shown))
+    inr (checked, (take (length (modules nodes)) c.specs.items, own, subst P tree shown))
+
+-- the same of what was lent of the library, the source and what was checked
+pub entered_compiled : (how : Outcome) (name file : List ℕ) (known lib : Contents) (bytes lent : List ℕ) (tokens read : List Token) (nodes tree : List Node) (c checked : Checked) (specs : List Spec) (files files' : Option Files) (faults faults' : ℕ)
+    → lib ≡ known → lent ≡ bytes → read ≡ tokens → checked ≡ c → c.syntax ≡ tree → BeginWithOwn tree c.specs.items → specs ≡ known.specs → tree ≡ nodes → IsChecked specs tree
+    → EnteredShows how name lib (own_of checked) (text_at lent read checked.syntax) files faults files' faults' → CompiledShows how name file known bytes tokens nodes files faults files' faults'
+entered_compiled how name file known lib bytes lent tokens read nodes tree c checked specs files files' faults faults' lib_is lent_is read_is checked_is syntax_is own specs_are tree_is accepted shown =
+    let of_library : EnteredShows how name known (own_of checked) (text_at lent read checked.syntax) files faults files' faults' = subst (λ (l : Contents). EnteredShows how name l (own_of checked) (text_at lent read checked.syntax) files faults files' faults') lib_is shown in
+    let of_checked : EnteredShows how name known (own_of c) (text_at lent read c.syntax) files faults files' faults' = subst (λ (x : Checked). EnteredShows how name known (own_of x) (text_at lent read x.syntax) files faults files' faults') checked_is of_library in
+    let of_bytes : EnteredShows how name known (own_of c) (text_at bytes read c.syntax) files faults files' faults' = subst (λ (b : List ℕ). EnteredShows how name known (own_of c) (text_at b read c.syntax) files faults files' faults') lent_is of_checked in
+    let of_tokens : EnteredShows how name known (own_of c) (text_at bytes tokens c.syntax) files faults files' faults' = subst (λ (t : List Token). EnteredShows how name known (own_of c) (text_at bytes t c.syntax) files faults files' faults') read_is of_bytes in
+    compiled_shows how name file known bytes tokens nodes c files files' faults faults' (syntax_is ∙ tree_is) (subst (λ (ns : List Node). BeginWithOwn ns c.specs.items) tree_is own)
+    (subst (λ (ns : List Node). IsChecked known.specs ns) tree_is (subst (λ (ss : List Spec). IsChecked ss tree) specs_are accepted)) of_tokens
 
 pub link_shows : (how : Outcome) (library program start : List ℕ) (known kept : Contents) (files read files' : Option Files) (faults between faults' : ℕ)
     → known ≡ kept → HasLibrary files library kept → read ≡ files → faults ≤ between → LinkedShows how library program (map to_ascii_lowercase start) known read between files' faults' → LinkShows how library program start files faults files' faults'

@@ -1,8 +1,8 @@
 -- What holds of the content that was read holds of the file.
-use Rattle.std.proofs.Common.{◌≡◌, ◌≢◌, ◌≤◌, ◌<◌, ◌+◌, ◌∙◌, ap, sym, inr, subst, arith, length, take, List, All, ℕ, IfErr, IfOk, Option, Some, None, Result, Ok, Err}
+use Rattle.std.proofs.Common.{◌≡◌, ◌≢◌, ◌≤◌, ◌<◌, ◌+◌, ◌∙◌, ap, sym, inr, subst, arith, length, take, List, [], ℕ, IfErr, IfOk, Option, Some, None, Result, Ok, Err}
 use Rattle.std.proofs.lemmas.List.{length-take, take_all}
 use Rattle.clu_base.specs.Outside.{Files}
-use Rattle.clu_check_mod.specs.Modules.{IsClosedAt}
+use Rattle.clu_check_mod.specs.Modules.{BeginWithOwn}
 use Rattle.clu_image.specs.Faults.{IsRefusal, fault_of}
 use Rattle.clu_base.specs.declared.errors.FormatError.TheVariants.{Bad}
 use Rattle.clu_base.specs.declared.errors.FormatError.{FormatError}
@@ -11,6 +11,7 @@ use Rattle.clu_parser.specs.Parsing as parser
 use Rattle.clu_parser.specs.declared.errors.ParseError.{ParseError}
 use Rattle.clu_tree.specs.Nodes.{modules}
 use Rattle.clu_tree.specs.declared.node.Node.{Node}
+use Rattle.clu_types.specs.declared.spec.Spec.{Spec}
 use Rattle.clu_words.specs.Command.{Limits}
 use Rattle.rv_isa.specs.Image.{Contents, IsImage}
 use Rattle.clu_asm.specs.AssemblyText.{asm_text}
@@ -18,7 +19,7 @@ use Rattle.clu_asm.specs.Faults.{IsFault, IsFaultAt}
 use Rattle.clu_driver.specs.Commands.{AsmShows, AssembledShows, GoShows, IsBadText, PutShows}
 use Rattle.clu_driver.specs.Puts.{NotPut}
 use Rattle.clu_driver.specs.Found.{IsFound}
-use Rattle.clu_driver.specs.Sources.{IsAccepted, IsParsed, IsRefusedBy, IsSource, NotCompiled, NotMade, NotParsed, NotSource}
+use Rattle.clu_driver.specs.Sources.{IsAccepted, IsChecked, IsParsed, IsRefusedBy, IsSource, NotBuilt, NotCompiled, NotMade, NotParsed, NotSource}
 use Rattle.clu_driver.specs.World.{Streams, World, world_of}
 use Rattle.clu_outcome.specs.declared.outcome.Outcome.{Outcome}
 use Rattle.clu_outcome.specs.declared.outcome.Outcome.TheVariants as outcome
@@ -70,8 +71,8 @@ bad_text_found files name bytes read at e found same is fault none =
     found_with (IsBadText at) files name bytes found (subst Q same (subst P is fault), none)
 
 -- a file that was parsed to this tree, which the check accepted, is accepted
-pub found_accepted : (files : Option Files) (name bytes : List ℕ) (tokens : List Token) (nodes : List Node) → IsFound files name (λ b. b ≡ bytes) → IsSource bytes tokens nodes → All (IsClosedAt nodes) (modules nodes) → IsFound files name IsAccepted
-found_accepted files name bytes tokens nodes found source closed = found_with IsAccepted files name bytes found (nodes, (tokens, source), closed)
+pub found_accepted : (files : Option Files) (name bytes : List ℕ) (tokens : List Token) (nodes : List Node) → IsFound files name (λ b. b ≡ bytes) → IsSource bytes tokens nodes → IsChecked [] nodes → IsFound files name IsAccepted
+found_accepted files name bytes tokens nodes found source checked = found_with IsAccepted files name bytes found (nodes, (tokens, source), checked)
 
 -- a file that was parsed to this tree, which is not compiled, is not compiled
 pub made_not : (how : Outcome) (name bytes : List ℕ) (tokens : List Token) (nodes : List Node) (files : Option Files) (faults faults' : ℕ) → IsFound files name (λ b. b ≡ bytes) → IsSource bytes tokens nodes
@@ -122,3 +123,8 @@ pub read_fault : (bytes read : List ℕ) (tokens lexed : List Token) (error know
 read_fault bytes read tokens lexed error known is same_bytes same_tokens fault =
     subst (λ t. parser.IsFault bytes t known) same_tokens
     (subst (λ b. parser.IsFault b lexed known) same_bytes (subst (λ e. parser.IsFault read lexed e) is fault))
+
+-- an accepted tree that is not built is not compiled
+pub unbuilt : {X : Type 0} (result : Result X Outcome) (name : List ℕ) (nodes : List Node) (specs : List Spec) → IsChecked [] nodes → BeginWithOwn nodes specs → IfErr result (λ how. NotBuilt how (take (length (modules nodes)) specs)) → IfErr result (λ how. NotMade how name nodes)
+unbuilt (Ok built) name nodes specs checked own refused = tt
+unbuilt (Err how) name nodes specs checked own refused = inr (checked, (take (length (modules nodes)) specs, own, refused))

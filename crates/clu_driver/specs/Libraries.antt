@@ -10,7 +10,8 @@ use Rattle.clu_library.specs.Contents.{Contents, program_of}
 use Rattle.clu_library.specs.LibraryFile.{library_bytes}
 use Rattle.clu_library.specs.Unmet.{TellsUnmet}
 use Rattle.clu_library.specs.declared.program.Program.{Program}
-use Rattle.clu_check_mod.specs.Modules.{AreOf, IsClosedAt}
+use Rattle.clu_check_mod.specs.Modules.{AreOf}
+use Rattle.clu_check_mod.specs.declared.walk.Extent.TheVariants as extent
 use Rattle.clu_tree.specs.Nodes.{modules}
 use Rattle.clu_tree.specs.declared.node.Node.{Node}
 use Rattle.clu_types.specs.declared.spec.Spec.{Spec}
@@ -20,7 +21,7 @@ use Rattle.clu_driver.specs.Held.{HasLibrary, IsLibraryFile, NotLibrary}
 use Rattle.clu_driver.specs.Puts.{IsPut, NotPut}
 use Rattle.clu_driver.specs.Refusals.{NotEntered, NotLinked, NotSpecified}
 use Rattle.clu_driver.specs.Shows.{RunShows, TextShows}
-use Rattle.clu_driver.specs.Sources.{IsParsed, IsSource, NotAccepted, NotGot, NotParsed}
+use Rattle.clu_driver.specs.Sources.{IsChecked, IsParsed, IsSource, NotAccepted, NotGot, NotParsed}
 use Rattle.clu_driver.specs.World.{IsUnrun, Streams, World}
 use Rattle.clu_outcome.specs.declared.outcome.Outcome.{Outcome}
 use Rattle.clu_outcome.specs.declared.outcome.Outcome.TheVariants as outcome
@@ -75,7 +76,7 @@ SpecsShow kept how name known specs files faults files' faults' =
 -- the headings of a tree were refused and no file changed, or the specifications of its modules were entered
 abbrev pub SpecifiedShows : Kept → Outcome → List ℕ → List ℕ → List Node → Contents → Option Files → ℕ → Option Files → ℕ → Type 0
 SpecifiedShows kept how name file nodes known files faults files' faults' =
-    (NotAccepted how file nodes × (files' ≡ files))
+    (NotAccepted extent.Headings how file known.specs nodes × (files' ≡ files))
     ⊎ ((specs : List Spec) × AreOf nodes (modules nodes) specs × SpecsShow kept how name known specs files faults files' faults')
 
 -- spec and replace: library or source was refused and no file changed, or the source is a file of the grammar and was specified
@@ -89,8 +90,8 @@ SpecifyShows kept how library file files faults files' faults' =
 -- a tree was refused and no file changed, or it was accepted and its modules were entered, with their texts in the source
 abbrev pub CompiledShows : Outcome → List ℕ → List ℕ → Contents → List ℕ → List Token → List Node → Option Files → ℕ → Option Files → ℕ → Type 0
 CompiledShows how name file known bytes tokens nodes files faults files' faults' =
-    (NotAccepted how file nodes × (files' ≡ files))
-    ⊎ (All (IsClosedAt nodes) (modules nodes)
+    (NotAccepted extent.Whole how file known.specs nodes × (files' ≡ files))
+    ⊎ (IsChecked known.specs nodes
     × ((own : List Spec) × AreOf nodes (modules nodes) own × EnteredShows how name known own (text_at bytes tokens nodes) files faults files' faults'))
 
 -- compile: library or source was refused and no file changed, or the source is a file of the grammar and was compiled

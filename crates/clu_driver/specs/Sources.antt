@@ -1,15 +1,18 @@
 -- Which sources are accepted, and why one is not or is not compiled.
-use Rattle.std.specs.Prelude.{◌≡◌, ◌<◌, ◌≤◌, ◌⊎◌, ℕ, List, All, Option, None, codes, find, length}
+use Rattle.std.specs.Prelude.{◌≡◌, ◌<◌, ◌≤◌, ◌⊎◌, ℕ, List, [], All, Option, Some, None, codes, find, length}
 use Rattle.std.specs.Str.{bytes_eq}
 use Rattle.clu_base.specs.Outside.{Files}
 use Rattle.clu_base.specs.declared.rules.Refused.{Refused}
 use Rattle.clu_base.specs.declared.rules.Rule.TheVariants as rule
 use Rattle.clu_base.specs.declared.tokens.Token.{Token}
 use Rattle.clu_reach.specs.Starts.{IsBadStart}
+use Rattle.clu_check_mod.specs.Answered.{IsFirst, IsUnspecified}
 use Rattle.clu_check_mod.specs.Modules.{AreOf, IsClosedAt}
 use Rattle.clu_check_mod.specs.Refusals.{IsOfTree}
 use Rattle.clu_check_mod.specs.declared.errors.CheckError.{CheckError}
 use Rattle.clu_check_mod.specs.declared.errors.CheckError.TheVariants as check
+use Rattle.clu_check_mod.specs.declared.walk.Extent.{Extent}
+use Rattle.clu_check_mod.specs.declared.walk.Extent.TheVariants as extent
 use Rattle.clu_lexer.specs.Tokens.{Tokens}
 use Rattle.clu_lexer.specs.Tokens as lexer
 use Rattle.clu_lexer.specs.declared.tokens.LexError.TheVariants as lex
@@ -32,9 +35,14 @@ pub record IsSource (bytes : List ℕ) (tokens : List Token) (nodes : List Node)
 abbrev pub IsParsed : List ℕ → List Node → Type 0
 IsParsed bytes nodes = (tokens : List Token) × IsSource bytes tokens nodes
 
--- the bytes are a file of the grammar, and at the routine or cluster of none of its modules V4 or V34 is violated
+-- under these specifications, by the tables that a check makes of the tree, no rule is violated; at the routine or cluster of none
+-- of its modules V4 or V34 is
+abbrev pub IsChecked : List Spec → List Node → Type 0
+IsChecked library nodes = All (IsClosedAt nodes) (modules nodes) × IsFirst nodes library extent.Whole None
+
+-- the bytes are a file of the grammar, and the check accepts its tree
 abbrev pub IsAccepted : List ℕ → Type 0
-IsAccepted bytes = (nodes : List Node) × IsParsed bytes nodes × All (IsClosedAt nodes) (modules nodes)
+IsAccepted bytes = (nodes : List Node) × IsParsed bytes nodes × IsChecked [] nodes
 
 -- the bytes are no more than a source may have, and the rule at this place is the first that they break: no token begins
 -- there, the tokens begin no file of the grammar with the one there, or the source is too deep there
@@ -69,13 +77,14 @@ IsRefusalOf (check.Refused r) _ name = ⊥
 IsRefusalOf check.Memory how name = how ≡ outcome.Memory
 IsRefusalOf check.NotYet how name = how ≡ outcome.NotYet
 
--- why a tree, or its headings, are not accepted: a rule on modules is refused at the place of one of its nodes, or memory was. No
--- definition says yet which rule it is, nor when NotYet comes
-abbrev pub NotAccepted : Outcome → List ℕ → List Node → Type 0
-NotAccepted (outcome.Refused n r) name nodes = (n.now ≡ name) × IsOfTree nodes (check.Refused r)
-NotAccepted outcome.Memory name nodes = Unit {0}
-NotAccepted outcome.NotYet name nodes = Unit {0}
-NotAccepted _ name nodes = ⊥
+-- why a tree, or its headings, are not accepted under these specifications: a rule on modules is refused at the place of one of its
+-- nodes, the first by the tables that a check makes of the tree, or memory was; NotYet comes only where no rule is violated and a
+-- specification is lost
+abbrev pub NotAccepted : Extent → Outcome → List ℕ → List Spec → List Node → Type 0
+NotAccepted asked (outcome.Refused n r) name library nodes = (n.now ≡ name) × IsOfTree nodes (check.Refused r) × IsFirst nodes library asked (Some r)
+NotAccepted asked outcome.Memory name library nodes = Unit {0}
+NotAccepted asked outcome.NotYet name library nodes = IsUnspecified nodes library asked
+NotAccepted asked _ name library nodes = ⊥
 
 -- of these specifications, the first of the module with which a program starts
 abbrev pub start_in : List Spec → Option Spec
@@ -95,11 +104,11 @@ NotBuilt _ specs = ⊥
 
 -- the tree is accepted, and its modules, with these specifications in the order of the text, are not built
 abbrev pub IsUnbuilt : Outcome → List Node → Type 0
-IsUnbuilt how nodes = All (IsClosedAt nodes) (modules nodes) × ((specs : List Spec) × AreOf nodes (modules nodes) specs × NotBuilt how specs)
+IsUnbuilt how nodes = IsChecked [] nodes × ((specs : List Spec) × AreOf nodes (modules nodes) specs × NotBuilt how specs)
 
 -- why a tree is not compiled
 abbrev pub NotMade : Outcome → List ℕ → List Node → Type 0
-NotMade how name nodes = NotAccepted how name nodes ⊎ IsUnbuilt how nodes
+NotMade how name nodes = NotAccepted extent.Whole how name [] nodes ⊎ IsUnbuilt how nodes
 
 -- why a source file is not compiled: it was not parsed, or it was, and its tree is not compiled
 abbrev pub NotCompiled : Outcome → List ℕ → Option Files → ℕ → ℕ → Type 0

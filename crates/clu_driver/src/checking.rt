@@ -1,9 +1,10 @@
 //! The check of a source's syntax over specifications, and what a refusal by it comes to.
 
-ghost use Rattle.std.specs.Prelude.{◌≡◌, All, IfErr, IfOk, OnOk};
-ghost use Rattle.clu_check_mod.specs.Modules.{AreOf, BeginWithOwn, IsClosedAt};
+ghost use Rattle.std.specs.Prelude.{◌≡◌, IfErr, IfOk, OnOk};
+ghost use Rattle.clu_check_mod.specs.Modules.{AreOf, BeginWithOwn};
+ghost use Rattle.clu_check_mod.specs.declared.walk.Extent.TheVariants as extent;
 ghost use Rattle.clu_tree.specs.Nodes.{modules};
-ghost use Rattle.clu_driver.specs.Sources.{IsRefusalOf, NotAccepted};
+ghost use Rattle.clu_driver.specs.Sources.{IsChecked, IsRefusalOf, NotAccepted};
 
 use clu_check_mod::{CheckError, check, specs_of};
 use clu_core::Checked;
@@ -22,8 +23,8 @@ pub fn checked<'a>(
 ) -> Result<Box<Checked>, Outcome<'a>>
     ensures syntax { IfOk result (λ checked. checked.value.syntax ≡ syntax) }
     ensures specs { IfOk result (λ checked. BeginWithOwn syntax checked.value.specs.items) }
-    ensures closed { OnOk result (All (IsClosedAt syntax) (modules syntax)) }
-    ensures refused { IfErr result (λ how. NotAccepted how name.now syntax) }
+    ensures accepted { OnOk result (IsChecked specs.now syntax) }
+    ensures refused { IfErr result (λ how. NotAccepted extent.Whole how name.now specs.now syntax) }
 {
     match check(alloc, syntax, specs) {
         Ok(checked) => Ok(checked),
@@ -40,7 +41,7 @@ pub fn headings<'a>(
     specs: &Specs,
 ) -> Result<Vec<Spec>, Outcome<'a>>
     ensures own { IfOk result (λ own. AreOf syntax.now (modules syntax.now) own.items) }
-    ensures refused { IfErr result (λ how. NotAccepted how name.now syntax.now) }
+    ensures refused { IfErr result (λ how. NotAccepted extent.Headings how name.now specs.now syntax.now) }
 {
     match specs_of(alloc, syntax, specs) {
         Ok(own) => Ok(own),

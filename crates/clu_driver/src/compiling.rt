@@ -1,14 +1,13 @@
 //! The command `go`: checks a source, links it, puts its image and runs it.
 
-ghost use Rattle.std.specs.Prelude.{◌≡◌, ◌≤◌, All, IfErr, IfOk, OnOk, length, take};
+ghost use Rattle.std.specs.Prelude.{◌≡◌, ◌≤◌, [], IfErr, IfOk, OnOk, length, take};
 ghost use Rattle.std.specs.Option.{is_some};
-ghost use Rattle.clu_check_mod.specs.Modules.{IsClosedAt};
 ghost use Rattle.clu_image.specs.ImageFile.{image_bytes};
 ghost use Rattle.clu_tree.specs.Nodes.{modules};
 ghost use Rattle.clu_words.specs.Command.{seen_limits};
 ghost use Rattle.clu_driver.specs.Commands.{GoShows, IsImagePut, PutShows};
 ghost use Rattle.clu_driver.specs.Puts.{NotPut};
-ghost use Rattle.clu_driver.specs.Sources.{IsAccepted, NotBuilt, NotCompiled, NotMade};
+ghost use Rattle.clu_driver.specs.Sources.{IsAccepted, IsChecked, NotBuilt, NotCompiled, NotMade};
 ghost use Rattle.clu_driver.specs.Found.{IsFound};
 ghost use Rattle.clu_driver.specs.Shows.{IsAsked, Reported, untraced};
 ghost use Rattle.clu_driver.specs.World.{streams_of, world_of};
@@ -111,7 +110,7 @@ fn image_of<'a>(
     flags: Flags,
 ) -> Result<Built, Outcome<'a>>
     ensures traced { IfOk result (λ built. is_some built.map ≡ flags.trace) }
-    ensures accepted { OnOk result (All (IsClosedAt source.syntax) (modules source.syntax)) }
+    ensures accepted { OnOk result (IsChecked [] source.syntax) }
     ensures refused { IfErr result (λ how. NotMade how name.now source.syntax) }
 {
     let Parsed {

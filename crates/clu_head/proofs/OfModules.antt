@@ -44,7 +44,6 @@ use Rattle.clu_head.specs.Modules.{definition_of, definition_at, is_defined, has
 use Rattle.clu_head.proofs.Adding.{adds_behind}
 use Rattle.clu_head.proofs.OfRoutines as OfRoutines
 use Rattle.clu_head.proofs.OfRoutines.{head_wider, heads_wider, same_grows, name_viewed}
-use Rattle.clu_head.proofs.Owning.{own_type_wider}
 
 -- ---- the parts of modules, by a reading of nodes that gives each number a part of its own
 
@@ -227,18 +226,22 @@ module _ (k : Known) (asked : Asked) (first old new last : List Term) (front : G
     form = routine_form_wider n h.form is.form;
   }
 
+module _ (k : Known) (asked : Asked) (first old new last : List Term) (front : Grows first old) (behind : Grows new last) where
   of_cluster_wider : (n : ℕ) (h : Head) → IsOfCluster k asked old new n h → IsOfCluster k asked first last n h
   of_cluster_wider n h is = record {
     name = is.name;
-    kinds = kinds_wider (parameters_in k.syntax.now (slice_get k.syntax.now n)) h.kinds is.kinds;
+    kinds = kinds_wider k asked first old new last front behind (parameters_in k.syntax.now (slice_get k.syntax.now n)) h.kinds is.kinds;
     own = is.own;
-    of_own = own_type_wider new last behind h.name h.kinds is.own is.of_own;
-    form = cluster_form_wider is.own (exports_in (slice_get k.syntax.now n)) (routines_in k.syntax.now (slice_get k.syntax.now n)) n h.form is.form;
+    between = is.between;
+    front = grows_on first old is.between front is.front;
+    behind = grows_on is.between new last is.behind behind;
+    of_own = is.of_own;
+    form = cluster_form_wider k asked is.between is.between new last (same_grows k asked None [] is.between) behind is.own (exports_in (slice_get k.syntax.now n)) (routines_in k.syntax.now (slice_get k.syntax.now n)) n h.form is.form;
   }
 
   of_definition_wider : (d : Definition) (h : Head) → IsOfDefinition k asked old new d h → IsOfDefinition k asked first last d h
   unfolding IsOfDefinition
-  of_definition_wider (defines.Routine n) h is = of_routine_wider n h is
+  of_definition_wider (defines.Routine n) h is = of_routine_wider k asked first old new last front behind n h is
   of_definition_wider (defines.Cluster n) h is = of_cluster_wider n h is
 
   pub of_module_wider : (n : ℕ) (h : Head) → IsOfModule k asked old new n h → IsOfModule k asked first last n h
@@ -312,14 +315,16 @@ module _ (k : Known) (asked : Asked) where
   of_cluster_made old mid new front behind n v own h f is told named kinds owns formed so =
       let its : Option Node = slice_get k.syntax.now n in
       let seen = told label in
-      let whole : IsClusterForm k asked old new own v.exports.now v.routines.now n f = cluster_form_wider k asked old mid new new front (same_grows k asked None [] new) own v.exports.now v.routines.now n f so in
       record {
         name = named ∙ cluster_name k.syntax.now n v its is seen;
         kinds = kinds_by k asked old old new (same_grows k asked None [] old) (grows_on old mid new front behind) v.parameters.now (parameters_in k.syntax.now its) h.kinds (cluster_parameters k.syntax.now n v its is seen) kinds;
         own = own;
-        of_own = own_type_wider mid new behind h.name h.kinds own (subst (λ (name : List ℕ). IsOwnType mid name h.kinds own) (sym named) owns);
+        between = mid;
+        front = front;
+        behind = behind;
+        of_own = subst (λ (name : List ℕ). IsOwnType mid name h.kinds own) (sym named) owns;
         form =
-            subst (IsClusterForm k asked old new own (exports_in its) (routines_in k.syntax.now its) n) (sym formed)
-            (subst (λ (exports : List (List ℕ)). IsClusterForm k asked old new own exports (routines_in k.syntax.now its) n f) (cluster_exports k.syntax.now n v its is seen)
-            (subst (λ (routines : List ℕ). IsClusterForm k asked old new own v.exports.now routines n f) (cluster_routines k.syntax.now n v its is seen) whole));
+            subst (IsClusterForm k asked mid new own (exports_in its) (routines_in k.syntax.now its) n) (sym formed)
+            (subst (λ (exports : List (List ℕ)). IsClusterForm k asked mid new own exports (routines_in k.syntax.now its) n f) (cluster_exports k.syntax.now n v its is seen)
+            (subst (λ (routines : List ℕ). IsClusterForm k asked mid new own v.exports.now routines n f) (cluster_routines k.syntax.now n v its is seen) so));
       }

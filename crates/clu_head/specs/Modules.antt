@@ -103,17 +103,21 @@ module _ (k : Known) (asked : Asked) (old new : List Term) where
     pub kinds : AreKinds (parameters_in k.syntax.now (slice_get k.syntax.now n)) h.kinds
     pub form : IsRoutineForm n h.form
 
-  -- that of a module that is the Cluster n
-  pub record IsOfCluster (n : ℕ) (h : Head) : Type 0 where
-    pub name : h.name ≡ name_at (slice_get k.syntax.now n)
-    pub kinds : AreKinds (parameters_in k.syntax.now (slice_get k.syntax.now n)) h.kinds
-    pub own : Option TypeId
-    pub of_own : IsOwnType new h.name h.kinds own
-    pub form : IsClusterForm own (exports_in (slice_get k.syntax.now n)) (routines_in k.syntax.now (slice_get k.syntax.now n)) n h.form
+-- that of a module that is the Cluster n: when its form is made, its own type stands in the arena
+pub record IsOfCluster (k : Known) (asked : Asked) (old new : List Term) (n : ℕ) (h : Head) : Type 0 where
+  pub name : h.name ≡ name_at (slice_get k.syntax.now n)
+  pub kinds : AreKinds k asked old new (parameters_in k.syntax.now (slice_get k.syntax.now n)) h.kinds
+  pub own : Option TypeId
+  pub between : List Term
+  pub front : Grows old between
+  pub behind : Grows between new
+  pub of_own : IsOwnType between h.name h.kinds own
+  pub form : IsClusterForm k asked between new own (exports_in (slice_get k.syntax.now n)) (routines_in k.syntax.now (slice_get k.syntax.now n)) n h.form
 
+module _ (k : Known) (asked : Asked) (old new : List Term) where
   unfoldable pub IsOfDefinition : Definition → Head → Type 0
-  IsOfDefinition (defines.Routine d) h = IsOfRoutine d h
-  IsOfDefinition (defines.Cluster d) h = IsOfCluster d h
+  IsOfDefinition (defines.Routine d) h = IsOfRoutine k asked old new d h
+  IsOfDefinition (defines.Cluster d) h = IsOfCluster k asked old new d h
 
   -- the head of the Module n
   unfoldable pub IsOfModule : ℕ → Head → Type 0

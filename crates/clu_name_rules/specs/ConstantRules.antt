@@ -150,14 +150,9 @@ module _ (f : File) where
 
   -- ---- where a type is wanted
 
-  abbrev pub wants_type_round : Option ℕ → Bool
-  wants_type_round (Some p) = is_constant_wanted (wanted_in f p) && wants_type f p
-  wants_type_round None = false
-
-  -- of a Name, alone or before actual parameters
+  -- of a Name that stands alone
   abbrev pub is_type_wanted : Wanted → ℕ → Bool
   is_type_wanted wanted.Constant n = wants_type f n
-  is_type_wanted wanted.NameWithActuals n = wants_type_round (round_in f n).parent
   is_type_wanted _ n = false
 
   -- ---- places of `cvt` and equates of `rep`

@@ -201,16 +201,12 @@ fn is_long_constant(long: &[bool], value: Value) -> bool
     }
 }
 
-/// Whether a Name stands where a type is wanted, alone or before actual parameters.
+/// Whether a Name stands alone where a type is wanted.
 fn is_type_wanted(f: File<'_>, n: u32) -> bool
     ensures { result ≡ is_type_wanted f.entry (wanted_in f.entry n) n }
 {
     match f.wanted(n) {
         Wanted::Constant => wants_type(f, n),
-        Wanted::NameWithActuals => match f.parent(n) {
-            Some(p) => is_constant_wanted(f, p) && wants_type(f, p),
-            None => false,
-        },
         _ => false,
     }
 }

@@ -150,7 +150,7 @@ module _ (t : Tables) (scope : Scope) (library : List Specification) (refused : 
         ap kind_of_type k.type ∙ type_kind types are.arena k.id k.less ∙ ap (head.kind_of_type types) (sym k.value)
 
     -- one that isn't known has no kind
-    legal_kind : (c : ℕ) → is_type (kind_at nodes c) ≡ true → kind_of_parameter f (Some (item f c).type) ≡ head.kind_of_type types (type_id (value_in r c))
+    pub legal_kind : (c : ℕ) → is_type (kind_at nodes c) ≡ true → kind_of_parameter f (Some (item f c).type) ≡ head.kind_of_type types (type_id (value_in r c))
     legal_kind c is = by (value_in r c) refl
       where
         known_so : IsKnown r c → kind_of_parameter f (Some (item f c).type) ≡ head.kind_of_type types (type_id (value_in r c))
@@ -224,7 +224,7 @@ module _ (t : Tables) (scope : Scope) (library : List Specification) (refused : 
         ∙ ap named.kind_of_place (sym (place_is r.constants.now k constant.Null within.1))
     value_kind n (value.Parameter k) s known within e = ap (wants.value_kind f n) e ∙ (parameter_same n k).0
 
-    fit_same : (n m : ℕ) (ks : List (Option ParamKind)) (cs : List ℕ) → AreParts nodes is_constant_kind m cs → AllByRecursion (IsKnown r) cs → wants.kinds_fit f n ks (constants_at (before m (item_at nodes)) cs) ≡ named.kinds_fit r types n ks cs
+    pub fit_same : (n m : ℕ) (ks : List (Option ParamKind)) (cs : List ℕ) → AreParts nodes is_constant_kind m cs → AllByRecursion (IsKnown r) cs → wants.kinds_fit f n ks (constants_at (before m (item_at nodes)) cs) ≡ named.kinds_fit r types n ks cs
     fit_same n m [] [] parts known = refl
     fit_same n m [] (c ∷ cs) parts known = refl
     fit_same n m (k ∷ ks) [] parts known = refl
@@ -269,7 +269,7 @@ module _ (t : Tables) (scope : Scope) (library : List Specification) (refused : 
     name_by n is wanted.Type = alone n is
     name_by n is wanted.Nothing = alone n is
 
-    no_named : (n : ℕ) (e : Expression) (cs : Constants) → is_name e ≡ false → wants.named_by f (an_index n e cs) ≡ []
+    pub no_named : (n : ℕ) (e : Expression) (cs : Constants) → is_name e ≡ false → wants.named_by f (an_index n e cs) ≡ []
     unfolding is_name
     no_named n (a_name m name) cs other = absurd (true≢false other)
     no_named n _ cs other = refl

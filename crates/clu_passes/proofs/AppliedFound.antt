@@ -38,7 +38,7 @@ use Rattle.clu_typing.specs.Operators.{infix_operation, is_negated, prefix_opera
 use Rattle.clu_typing.specs.Stands.{index_stands, name_stands, operation_stands, operator_stands, stands_by}
 use Rattle.clu_passes.specs.Ascending.{Ascends, AscendsIf, SpecificationsAscend}
 use Rattle.clu_passes.specs.ConstantTables.{Means, file_with}
-use Rattle.clu_passes.specs.FactTables.{AreTypes, IsFound, IsType}
+use Rattle.clu_passes.specs.FactTables.{AreTypes, IsAsking, IsFound, IsType, asks_found}
 use Rattle.clu_passes.specs.FoundTold.{TellHeads, found_of}
 use Rattle.clu_passes.specs.NodeTypes.{HasNames, number_of}
 use Rattle.clu_passes.specs.NotedLists.{types_given}
@@ -69,13 +69,19 @@ module _ (h : Headed) (scope : Scope) (library : List Specification) (refused : 
   found_is (Some id) there x e = subst (λ (x : Option Found). IsFound terms facts (operation.Found id) x) e (type_is terms (found_at facts.finding.founds.items id).of (type_below (length terms) facts.finding within id there))
   found_is None there x e = subst (λ (x : Option Found). IsFound terms facts operation.Missing x) e tt
 
+  pub asking_is : (found : Option FoundId) (x : Option Found) → option_map found_of (option_map (told types facts.finding) found) ≡ x → IsAsking terms facts (operation_of found) x
+  asking_is (Some id) x e = ap asks_found e
+  asking_is None x e = ap asks_found e
+
   use_is : (n : ℕ) (of : TypeId) (name : Identifier) (its : Use) → Ascends (type_at types of) → IsUseTold h terms facts.finding n of name its → IsOperation f terms facts n (type_at types of) name its
   use_is n of name its ascends u = (
     subst (λ (o : TypeId). IsType terms (Some o) (Some (type_at types of))) (sym u.same) (u.told.within, refl),
-    subst (λ (o : Operation). IsFound terms facts o (operation_found f n (type_at types of) name)) (sym u.told.is)
-        (found_is u.told.found u.told.there (operation_found f n (type_at types of) name)
-        (ap (option_map found_of) (u.told.tells (components_up (type_at types of) ascends)) ∙ operation_same h scope library refused terms arena tell facts.finding.words of u.told.within n its.name name u.named)),
+    subst (λ (o : Operation). IsFound terms facts o (operation_found f n (type_at types of) name)) (sym u.told.is) (found_is u.told.found u.told.there (operation_found f n (type_at types of) name) so),
+    subst (λ (o : Operation). IsAsking terms facts o (operation_found f n (type_at types of) name)) (sym u.told.is) (asking_is u.told.found (operation_found f n (type_at types of) name) so),
   )
+    where
+      so : option_map found_of (option_map (told types facts.finding) u.told.found) ≡ operation_found f n (type_at types of) name
+      so = ap (option_map found_of) (u.told.tells (components_up (type_at types of) ascends)) ∙ operation_same h scope library refused terms arena tell facts.finding.words of u.told.within n its.name name u.named
 
   one_is : (n : ℕ) (id : TypeId) (t : CluType) (name : Identifier) (its : Use) → IsType terms (Some id) (Some t) → Ascends t → IsUseTold h terms facts.finding n id name its → IsOperation f terms facts n t name its
   one_is n id t name its is ascends u = subst (λ (t : CluType). IsOperation f terms facts n t name its) (sym is.1) (use_is n id name its (subst Ascends is.1 ascends) u)

@@ -234,7 +234,7 @@ module _ (k : Known) (scope : Scope) (library : List Specification) (refused : L
     tagcase_is others n is here once fine =
         let x : There nodes n kind.Tagcase = there nodes n kind.Tagcase refl is in
         let told : Told (tags_by k n) (option_and_then statements.tags_of (statements.tagged_by f (item f n).statement)) =
-        tags_told k scope library refused shaped tree are lost facts n (λ c cs e. (subst (AllByRecursion (λ c. lost c ≡ false)) e (facts.below n here)).0) in
+        tags_told k scope library refused shaped tree are lost facts n (λ hit c cs e. (subst (AllByRecursion (λ c. lost c ≡ false)) e (facts.below n here)).0) in
         let its : (item f n).statement ≡ statement_of (items n) nodes n x.node kind.Tagcase =
         ap (λ (i : Item). i.statement) (item_there nodes n x.node x.at) ∙ ap (statement_of (items n) nodes n x.node) x.is in
         let code : of_tags.has_no_others_at k others n ≡ of_tags.has_no_others (statement_of others nodes n x.node kind.Tagcase) =

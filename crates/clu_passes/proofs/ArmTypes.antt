@@ -48,7 +48,7 @@ use Rattle.clu_type_rules.specs.ExceptionRules.{raised_first, raised_objects, ta
 use Rattle.clu_typing.specs.declared.raising.Raise.{Raise}
 use Rattle.clu_typing.specs.Facts.{raised_at}
 use Rattle.clu_typing.specs.Raised.{raises_of}
-use Rattle.clu_passes.specs.Bound.{AreInside, IsFirstKnown}
+use Rattle.clu_passes.specs.Bound.{AreInside, IsFirstKnown, has_arms}
 use Rattle.clu_passes.specs.ConstantTables.{AreTables}
 use Rattle.clu_passes.specs.FactTables.{IsType, AreFacts}
 use Rattle.clu_passes.specs.Notes.{has, HaveParents}
@@ -205,7 +205,7 @@ module _ (k : Known) (scope : Scope) (library : List Specification) (refused : L
       declared_known others n here =
           let cs : List ℕ = tables.children k n in
           in_their_order (of_objects.declared_types k others [] (run nodes kind.Decl cs)) (declared_types f (declarations_at (items n) (run nodes kind.Decl cs)))
-          (all_declared k scope library refused shaped tree are lost facts IsTyped (λ m. ⊥) others (inside.types others) (λ n m x mean never. absurd never) n (run nodes kind.Decl cs)
+          (all_declared k scope library refused shaped tree are lost facts IsTyped (λ n m. ⊥) others (inside.types others) (λ n m x mean never. absurd never) n (run nodes kind.Decl cs)
           (run_kinds nodes kind.Decl n cs (kids_before n)) (all_take (λ c. lost c ≡ false) (leading nodes kind.Decl cs) cs (below_is n here)))
         where
           kids_before : (n : ℕ) → AreBefore n (tables.children k n)
@@ -249,7 +249,7 @@ module _ (k : Known) (scope : Scope) (library : List Specification) (refused : L
             taken_by node at None above = refl
             taken_by node at (Some e) above =
                 let s : FirstStatement e = in_except e (above_is parents n e is above) in
-                let its : lost s.first ≡ false = round e s.first s.rest above (so.children_same k scope library refused (slice_get nodes e) ∙ s.kids) in
+                let its : lost s.first ≡ false = round e s.first s.rest above (ap has_arms (above_is parents n e is above)) (so.children_same k scope library refused (slice_get nodes e) ∙ s.kids) in
                 let wanted : AreWanted k (of_objects.declared_types k others [] (run nodes kind.Decl node.children)) (in_order (declared_types f (declarations_at (items n) (run nodes kind.Decl node.children)))) =
                 subst (λ (cs : List ℕ). AreWanted k (of_objects.declared_types k others [] (run nodes kind.Decl cs)) (in_order (declared_types f (declarations_at (items n) (run nodes kind.Decl cs))))) (ap children_of at) (declared_known others n here) in
                 ap not (takes_same e s (raises s.first s.is its) node.names (arm_takes_raise k others (run nodes kind.Decl node.children)) (checking.takes_raise f (declared_types f (declarations_at (items n) (run nodes kind.Decl node.children))))

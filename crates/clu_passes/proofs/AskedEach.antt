@@ -25,7 +25,7 @@ module _ (k : Known) (old new : List Term) where
   abbrev asks : ℕ → List Asking
   asks n = asked_at k.syntax.now k.rounds.now k.counts.now k.restricted.now n
 
-  asked_split : (xs ys : List Asking) (ds : List Demanded) → AreAsked k old new (xs ++ ys) ds → (front behind : List Demanded) × (ds ≡ front ++ behind) × AreAsked k old new xs front × AreAsked k old new ys behind
+  pub asked_split : (xs ys : List Asking) (ds : List Demanded) → AreAsked k old new (xs ++ ys) ds → (front behind : List Demanded) × (ds ≡ front ++ behind) × AreAsked k old new xs front × AreAsked k old new ys behind
   unfolding AreAsked
   asked_split xs ys ds are =
       let parts = zip_front (IsAskedBy k old new) xs ys are.0 are.2 in

@@ -43,7 +43,7 @@ same_place items m = by (nat_le m m && nat_le m (length items))
     by true = ap (λ (k : ℕ). take k (drop m items)) none_taken
     by false = refl
 
-past_none : (demands : List Demanded) (starts : List ℕ) (c : ℕ) → slice_get starts c ≡ None → slice_get starts (c + 1) ≡ None → demands_of demands starts c ≡ []
+pub past_none : (demands : List Demanded) (starts : List ℕ) (c : ℕ) → slice_get starts c ≡ None → slice_get starts (c + 1) ≡ None → demands_of demands starts c ≡ []
 unfolding demands_of
 past_none demands starts c here next =
     ap (λ (o : Option ℕ). between demands (start_in (length demands) o) (start_in (length demands) (slice_get starts (c + 1)))) here

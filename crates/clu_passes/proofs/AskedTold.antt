@@ -12,10 +12,10 @@ use Rattle.clu_parser.specs.Shape.{HaveForms}
 use Rattle.clu_types.specs.CluType.{CluType}
 use Rattle.clu_syntax.specs.declared.round.Round.{Round}
 use Rattle.clu_syntax.specs.Kinds.{kind_at}
-use Rattle.clu_syntax.specs.Splits.{is_of, one_of, run, after_run, parts, after_one, first_name, leading}
+use Rattle.clu_syntax.specs.Splits.{is_of, one_of, run, first_name}
 use Rattle.clu_syntax.specs.Syntax.{Identifier, TypeSet, Typed, Restriction, has_operations, is_in, is_in_set}
 use Rattle.clu_syntax.specs.Items.{Item, operations_at, restrictions_at}
-use Rattle.clu_syntax.specs.Nodes.{before, item_at, operation_of, type_set_of, restriction_of, restricted as restriction_with, routine_of, cluster_of}
+use Rattle.clu_syntax.specs.Nodes.{before, item_at, operation_of, type_set_of, restriction_of, restricted as restriction_with}
 use Rattle.clu_meaning.specs.Scoping.{Meaning, is_type_parameter, Scope, meaning_of}
 use Rattle.clu_meaning.specs.Settling.{type_settled}
 use Rattle.clu_checking.specs.Specifications.{Demand}
@@ -24,16 +24,17 @@ use Rattle.clu_checking.specs.Equates as checking
 use Rattle.clu_checking.specs.Equates.{operations_asked, asked_by, demands_in}
 use Rattle.clu_declares.proofs.Below.{same_kind, before_is, item_there}
 use Rattle.clu_declares.proofs.Facts.{There, there}
-use Rattle.clu_settle.proofs.Shapes.{AreParts, AreBefore, children_before, before_dropped, before_after_one, parts_of_first, run_parts, all_before}
+use Rattle.clu_settle.proofs.Shapes.{AreParts, children_before, run_parts}
 use Rattle.clu_head.specs.declared.head.Demanded.{Demanded}
 use Rattle.clu_head.specs.declared.restricted.Restricted.{Restricted}
 use Rattle.clu_head.specs.declared.clauses.InSet.{InSet}
 use Rattle.clu_head.specs.declared.clauses.Asking.{Asking}
 use Rattle.clu_head.specs.Asked.{demands_at}
-use Rattle.clu_head.specs.Asking.{asked_by_opers, asked_of_parameter, asked_by_parts, asked_by_restriction, asked_by_restrictions, asked_at, set_operations, had_operations, operations_by, restrictions_in, restricts_in, restricted_in, variable_of, demanded, demanded_by, demands_by, demands_by_all, names_in, opers_of, opers_in, operations_had, routine_restrictions, cluster_restrictions}
+use Rattle.clu_head.specs.Asking.{asked_by_opers, asked_of_parameter, asked_by_parts, asked_by_restriction, asked_by_restrictions, asked_at, set_operations, had_operations, operations_by, restrictions_in, restricted_in, variable_of, demanded, demanded_by, demands_by, demands_by_all, names_in, opers_of, opers_in, operations_had}
 use Rattle.clu_head.specs.There.{is_there}
 use Rattle.clu_passes.specs.Told.{demand_told}
 use Rattle.clu_passes.specs.Heads.{without_type, parameter_meant, set_meant, IsRestricted, AreRestricted}
+use Rattle.clu_passes.proofs.ClauseParts.{routine_clause, routine_parts, routine_restricts, routine_asks, cluster_clause, cluster_parts, cluster_restricts, cluster_asks}
 
 -- ---- lists
 
@@ -41,7 +42,7 @@ mapped : {X Y Z : Type 0} (g : Y → Z) (h : X → Y) (xs : List X) → map (λ 
 mapped g h [] = refl
 mapped g h (x ∷ xs) = ap (λ ys. g (h x) ∷ ys) (mapped g h xs)
 
-map_append : {X Y : Type 0} (g : X → Y) (xs ys : List X) → map g (xs ++ ys) ≡ map g xs ++ map g ys
+pub map_append : {X Y : Type 0} (g : X → Y) (xs ys : List X) → map g (xs ++ ys) ≡ map g xs ++ map g ys
 map_append g [] ys = refl
 map_append g (x ∷ xs) ys = ap (λ zs. g x ∷ zs) (map_append g xs ys)
 
@@ -114,13 +115,13 @@ module _ (f : File) (shaped : HaveForms f.nodes) (tree : IsTree f.nodes) (types 
 
   -- ---- of a type set
 
-  set_opers : (c : ℕ) (x : There nodes c kind.TypeSet) → set_operations nodes (slice_get nodes c) ≡ run nodes kind.Oper x.node.children
+  pub set_opers : (c : ℕ) (x : There nodes c kind.TypeSet) → set_operations nodes (slice_get nodes c) ≡ run nodes kind.Oper x.node.children
   unfolding set_operations
   set_opers c x =
       ap (λ (o : Option Node). if is_there kind.TypeSet o then opers_in nodes o else []) x.at
       ∙ ap (λ (j : NodeKind). if is_of kind.TypeSet j then opers_of nodes x.node else []) x.is
 
-  type_set_is : (c : ℕ) (x : There nodes c kind.TypeSet) → (item_at nodes c).type_set ≡ type_set_of (its c) nodes c x.node kind.TypeSet
+  pub type_set_is : (c : ℕ) (x : There nodes c kind.TypeSet) → (item_at nodes c).type_set ≡ type_set_of (its c) nodes c x.node kind.TypeSet
   type_set_is c x = ap (λ (i : Item). i.type_set) (item_there nodes c x.node x.at) ∙ ap (type_set_of (its c) nodes c x.node) x.is
 
   of_set : (k n variable c : ℕ) → kind_at nodes c ≡ kind.TypeSet → told (demands_by_all nodes (asked_by_opers k (Some (record { node = n; variable = variable })) (set_operations nodes (slice_get nodes c)))) ≡ map without_type (asked_by f n k (Some (item_at nodes c).type_set))
@@ -135,11 +136,11 @@ module _ (f : File) (shaped : HaveForms f.nodes) (tree : IsTree f.nodes) (types 
 
   -- ---- by one restriction
 
-  is_parameter : (m : Meaning) (k : ℕ) → parameter_meant m ≡ Some k → m ≡ is_type_parameter k
+  pub is_parameter : (m : Meaning) (k : ℕ) → parameter_meant m ≡ Some k → m ≡ is_type_parameter k
   is_parameter (is_type_parameter j) k e = ap is_type_parameter (same_Some j k e)
   is_parameter _ k e = absurd (none-some k e)
 
-  none_of : (r : Restriction) (m : Meaning) → parameter_meant m ≡ None → checking.restricted f r m ≡ []
+  pub none_of : (r : Restriction) (m : Meaning) → parameter_meant m ≡ None → checking.restricted f r m ≡ []
   none_of (has_operations n name operations) (is_type_parameter k) e = absurd (none-some k (sym e))
   none_of (has_operations n name operations) _ e = refl
   none_of (is_in n name set) (is_type_parameter k) e = absurd (none-some k (sym e))
@@ -150,7 +151,7 @@ module _ (f : File) (shaped : HaveForms f.nodes) (tree : IsTree f.nodes) (types 
   abbrev formed : ℕ → List Identifier → Option ℕ → List ℕ → Restriction
   formed n ns o cs = restriction_with (its n) nodes n ns o cs
 
-  node_is : (n : ℕ) (ns : List Identifier) (o : Option ℕ) (cs : List ℕ) → checking.restriction_node f (formed n ns o cs) ≡ (n, first_name ns)
+  pub node_is : (n : ℕ) (ns : List Identifier) (o : Option ℕ) (cs : List ℕ) → checking.restriction_node f (formed n ns o cs) ≡ (n, first_name ns)
   node_is n ns (Some c) cs = refl
   node_is n [] None cs = refl
   node_is n (a ∷ []) None cs = refl
@@ -178,7 +179,7 @@ module _ (f : File) (shaped : HaveForms f.nodes) (tree : IsTree f.nodes) (types 
         ∙ opers_told (λ d. d) k None (none_turned k) f.scope n cs ps
 
     module _ (restricted : List Restricted) (are : AreRestricted f restricted) where
-      had_is : (n : ℕ) (x : There nodes n kind.Restrict) → had_operations nodes (slice_get nodes n) ≡ operations_by nodes x.node.names (one_of nodes kind.TypeSet x.node.children) (run nodes kind.Oper x.node.children)
+      pub had_is : (n : ℕ) (x : There nodes n kind.Restrict) → had_operations nodes (slice_get nodes n) ≡ operations_by nodes x.node.names (one_of nodes kind.TypeSet x.node.children) (run nodes kind.Oper x.node.children)
       unfolding had_operations
       had_is n x =
           ap (λ (o : Option Node). if is_there kind.Restrict o then operations_had nodes o else []) x.at
@@ -241,29 +242,12 @@ module _ (f : File) (shaped : HaveForms f.nodes) (tree : IsTree f.nodes) (types 
           ∙ ap (λ (cs : List ℕ). told (demands_by_all nodes (asked_by_restrictions nodes rounds counts restricted cs))) are_these
           ∙ all_told n cs ps
 
-      parts_are : (n : ℕ) (rest : List ℕ) → AreBefore n rest → AreParts nodes (is_of kind.Restrict) n (restricts_in nodes rest)
-      parts_are n rest l =
-          run_parts nodes kind.Restrict n (parts nodes kind.Where rest)
-          (all_before nodes (is_of kind.Restrict) n (parts nodes kind.Where rest) (parts_of_first nodes tree shaped kind.Where (is_of kind.Restrict) refl n rest l))
-
       pub of_routine : (n : ℕ) (node : Node) → slice_get nodes n ≡ Some node → node.kind ≡ kind.Routine → told (demands_at nodes rounds counts restricted n) ≡ map without_type (demands_in f (item_at nodes n).routine.restrictions)
-      unfolding restrictions_in
       of_routine n node at is =
-          let parms : AreBefore n (after_run nodes kind.Parm node.children) = before_dropped nodes n (leading nodes kind.Parm node.children) node.children (children_before nodes tree shaped n node at) in
-          let decls : AreBefore n (after_run nodes kind.Decl (after_run nodes kind.Parm node.children)) = before_dropped nodes n (leading nodes kind.Decl (after_run nodes kind.Parm node.children)) (after_run nodes kind.Parm node.children) parms in
-          let rest : List ℕ = after_one nodes kind.Signals (after_one nodes kind.Results (after_run nodes kind.Decl (after_run nodes kind.Parm node.children))) in
-          of_node n node at (ap (is_of kind.TypeSet) is) (restricts_in nodes rest)
-          (ap (λ (o : Option Node). if is_there kind.Routine o then routine_restrictions nodes o else if is_there kind.Cluster o then cluster_restrictions nodes o else []) at
-          ∙ ap (λ (j : NodeKind). if is_of kind.Routine j then routine_restrictions nodes (Some node) else if is_of kind.Cluster j then cluster_restrictions nodes (Some node) else []) is)
-          (parts_are n rest (before_after_one nodes kind.Signals n (after_one nodes kind.Results (after_run nodes kind.Decl (after_run nodes kind.Parm node.children))) (before_after_one nodes kind.Results n (after_run nodes kind.Decl (after_run nodes kind.Parm node.children)) decls)))
-          ∙ sym (ap (λ (i : Item). map without_type (demands_in f i.routine.restrictions)) (item_there nodes n node at) ∙ ap (λ (j : NodeKind). map without_type (demands_in f (routine_of (its n) nodes n node j).restrictions)) is)
+          of_node n node at (ap (is_of kind.TypeSet) is) (routine_clause nodes tree shaped n node at) (routine_restricts nodes tree shaped n node at is) (routine_parts nodes tree shaped n node at)
+          ∙ sym (ap (λ (rs : List Restriction). map without_type (demands_in f rs)) (routine_asks nodes tree shaped n node at is))
 
       pub of_cluster : (n : ℕ) (node : Node) → slice_get nodes n ≡ Some node → node.kind ≡ kind.Cluster → told (demands_at nodes rounds counts restricted n) ≡ map without_type (demands_in f (item_at nodes n).cluster.restrictions)
-      unfolding restrictions_in
       of_cluster n node at is =
-          let parms : AreBefore n (after_run nodes kind.Parm node.children) = before_dropped nodes n (leading nodes kind.Parm node.children) node.children (children_before nodes tree shaped n node at) in
-          of_node n node at (ap (is_of kind.TypeSet) is) (restricts_in nodes (after_run nodes kind.Parm node.children))
-          (ap (λ (o : Option Node). if is_there kind.Routine o then routine_restrictions nodes o else if is_there kind.Cluster o then cluster_restrictions nodes o else []) at
-          ∙ ap (λ (j : NodeKind). if is_of kind.Routine j then routine_restrictions nodes (Some node) else if is_of kind.Cluster j then cluster_restrictions nodes (Some node) else []) is)
-          (parts_are n (after_run nodes kind.Parm node.children) parms)
-          ∙ sym (ap (λ (i : Item). map without_type (demands_in f i.cluster.restrictions)) (item_there nodes n node at) ∙ ap (λ (j : NodeKind). map without_type (demands_in f (cluster_of (its n) nodes n node j).restrictions)) is)
+          of_node n node at (ap (is_of kind.TypeSet) is) (cluster_clause nodes tree shaped n node at) (cluster_restricts nodes tree shaped n node at is) (cluster_parts nodes tree shaped n node at)
+          ∙ sym (ap (λ (rs : List Restriction). map without_type (demands_in f rs)) (cluster_asks nodes tree shaped n node at is))

@@ -1,5 +1,5 @@
 -- What is asked by operations, with the types that are wanted, is what the definition asks, where what is lost is refused.
-use Rattle.std.proofs.Common.{◌≡◌, ◌∙◌, ℕ, ◌<◌, Bool, true, false, if◌then◌else◌, List, [], ◌∷◌, ◌++◌, drop, map, length, get_or, Option, Some, None, refl, sym, ap, ap₂, subst, arith}
+use Rattle.std.proofs.Common.{◌≡◌, ◌∙◌, ℕ, ◌<◌, Bool, true, false, if◌then◌else◌, List, [], ◌∷◌, ◌++◌, map, length, get_or, Option, Some, None, inl, refl, sym, ap, ap₂, subst, arith}
 use Rattle.std.specs.Prelude.{slice_get}
 use Rattle.std.specs.List.{AllZip}
 use Rattle.std.specs.Option.{option_map}
@@ -17,7 +17,7 @@ use Rattle.clu_types.specs.declared.term.TypeId.{TypeId}
 use Rattle.clu_types.specs.declared.term.Term.{Term}
 use Rattle.clu_syntax.specs.Kinds.{is_type, kind_at}
 use Rattle.clu_syntax.specs.Slots.{one, slots}
-use Rattle.clu_syntax.specs.Splits.{is_of, child, children_of}
+use Rattle.clu_syntax.specs.Splits.{is_of, child}
 use Rattle.clu_syntax.specs.Syntax.{Identifier, Typed}
 use Rattle.clu_syntax.specs.Items.{Item, operations_at}
 use Rattle.clu_syntax.specs.Nodes.{before, item_at, operation_of, type_expression_of}
@@ -28,6 +28,7 @@ use Rattle.clu_checking.specs.Files.{File, is_refused}
 use Rattle.clu_checking.specs.Equates.{type_node, unless_refused, demands_for, operations_asked}
 use Rattle.clu_declares.proofs.Below.{same_kind, before_is, item_there}
 use Rattle.clu_declares.proofs.Facts.{There, there}
+use Rattle.clu_declares.proofs.Parents.{IsIn}
 use Rattle.clu_settle.specs.Lists.{type_id, value_of}
 use Rattle.clu_settle.specs.Settled.{AreSettled}
 use Rattle.clu_settle.proofs.Shapes.{AreParts, FirstPart, first_part}
@@ -35,12 +36,12 @@ use Rattle.clu_head.specs.declared.head.Demanded.{Demanded}
 use Rattle.clu_head.specs.declared.clauses.Asking.{Asking}
 use Rattle.clu_head.specs.declared.known.Known.{Known}
 use Rattle.clu_head.specs.Asking.{asked_by_opers, demanded, demanded_by, names_in}
-use Rattle.clu_head.specs.Refused.{grows_in}
 use Rattle.clu_head.specs.There.{is_there}
 use Rattle.clu_head.specs.Wanted.{wanted_at, first_wanted, wanted_of, IsWanted, IsAskedBy, one_list, AreAsked}
+use Rattle.clu_passes.specs.DemandsTold.{AreOpersCounted, AreOpersLost}
 use Rattle.clu_passes.specs.Told.{demand_told}
 use Rattle.clu_passes.specs.Heads.{file_known, AreCounted}
-use Rattle.clu_passes.proofs.Counted.{refused_is}
+use Rattle.clu_passes.proofs.OutsideBrackets.{outside_oper}
 use Rattle.clu_passes.proofs.Seen.{type_told}
 
 -- the node of a type is the one that stands there
@@ -55,7 +56,15 @@ map_append : {X Y : Type 0} (g : X → Y) (xs ys : List X) → map g (xs ++ ys) 
 map_append g [] ys = refl
 map_append g (x ∷ xs) ys = ap (λ zs. g x ∷ zs) (map_append g xs ys)
 
-module _ (k : Known) (scope : Scope) (library : List Specification) (refused : List ℕ) (shaped : HaveForms k.syntax.now) (tree : IsTree k.syntax.now) (bits : List Bool) (are : AreCounted k (file_known k scope library refused) bits)
+-- where refused nodes are counted, so is the type of each Oper
+pub opers_counted : (k : Known) (scope : Scope) (library : List Specification) (refused : List ℕ) → HaveForms k.syntax.now → IsTree k.syntax.now → AreCounted k (file_known k scope library refused) → AreOpersCounted (file_known k scope library refused) k.refused.now
+opers_counted k scope library refused shaped tree are c node at is =
+    let first : FirstPart k.syntax.now tree shaped is_type [] c node = first_part k.syntax.now tree shaped is_type [] c node at (ap slots is) in
+    let here : c < length k.syntax.now = slice_get_within k.syntax.now c node at in
+    let less : child 0 node < c = first.first.0 in
+    are.same (child 0 node) (omega (arith, here, less)) (outside_oper (file_known k scope library refused) are.of_tree are.parents c node at (child 0 node) (subst (IsIn (child 0 node)) (sym first.is) (inl refl)) is)
+
+module _ (k : Known) (scope : Scope) (library : List Specification) (refused : List ℕ) (shaped : HaveForms k.syntax.now) (tree : IsTree k.syntax.now) (counted : AreOpersCounted (file_known k scope library refused) k.refused.now)
     (old new : List Term) (constants : List Const) (known : AreSettled k.syntax.now scope new constants k.values.now) where
   abbrev f : File
   f = file_known k scope library refused
@@ -66,20 +75,10 @@ module _ (k : Known) (scope : Scope) (library : List Specification) (refused : L
   abbrev types : List CluType
   types = types_of new
 
-  -- what is lost of the type of an Oper is refused
-  abbrev pub AreLostRefused : Type 0
-  AreLostRefused = (c : ℕ) (node : Node) → slice_get nodes c ≡ Some node → node.kind ≡ kind.Oper → type_id (value_of k.values.now (child 0 node)) ≡ None → is_refused f (child 0 node) ≡ true
-
   abbrev told : List Demanded → List Demand
   told ds = map (demand_told types) ds
 
-  grows_so : (c : ℕ) → c < length nodes → is_refused f c ≡ grows_in k.refused.now (slice_get k.rounds.now c) c
-  grows_so c inside =
-      let begins = are.begins c inside in
-      let size : length bits ≡ length nodes = are.size in
-      refused_is f bits are.refused c begins.round (omega (arith, size, inside)) begins.there begins.ordered ∙ ap (λ (counts : List ℕ). grows_in counts (slice_get k.rounds.now c) c) (sym are.counts)
-
-  module _ (lost : AreLostRefused) where
+  module _ (lost : AreOpersLost f k.values.now) where
     module _ (c : ℕ) (x : There nodes c kind.Oper) where
       abbrev t : ℕ
       t = child 0 x.node
@@ -95,10 +94,10 @@ module _ (k : Known) (scope : Scope) (library : List Specification) (refused : L
       settled_so false (Some id) is known_as = ap Some (sym (type_told nodes scope new constants k.values.now known t its_first.first.1 id known_as))
       settled_so false None is known_as = absurd (true≢false (sym (lost c x.node x.at x.is known_as) ∙ is))
 
-      abbrev typed : Typed
+      abbrev pub typed : Typed
       typed = operation_of (before c (item_at nodes)) nodes c x.node kind.Oper
 
-      its_type : typed.type ≡ (item_at nodes t).type
+      pub its_type : typed.type ≡ (item_at nodes t).type
       its_type = ap (λ (i : Item). i.type) (before_is nodes c t its_first.first.0)
 
       its_node : type_node (item_at nodes t).type ≡ t
@@ -106,13 +105,13 @@ module _ (k : Known) (scope : Scope) (library : List Specification) (refused : L
           let node : Node = get_or nodes t x.node in
           ap (λ (i : Item). type_node i.type) (item_there nodes t node (slice_get-get_or nodes t x.node inside)) ∙ node_of_type (before t (item_at nodes)) nodes t node node.kind
 
-      wanted_so : option_map (type_at types) (wanted_of k.refused.now k.rounds.now k.values.now (slice_get nodes c)) ≡ unless_refused f (type_node typed.type) (type_settled scope typed.type)
+      pub wanted_so : option_map (type_at types) (wanted_of k.refused.now k.rounds.now k.values.now (slice_get nodes c)) ≡ unless_refused f (type_node typed.type) (type_settled scope typed.type)
       unfolding wanted_at
       wanted_so =
           ap (λ (its : Option Node). option_map (type_at types) (wanted_of k.refused.now k.rounds.now k.values.now its)) x.at
           ∙ ap (λ (j : NodeKind). option_map (type_at types) (if is_of kind.Oper j then first_wanted k.refused.now k.rounds.now k.values.now x.node.children else None)) x.is
           ∙ ap (λ (cs : List ℕ). option_map (type_at types) (first_wanted k.refused.now k.rounds.now k.values.now cs)) its_first.is
-          ∙ ap (λ (b : Bool). option_map (type_at types) (if b then None else type_id (value_of k.values.now t))) (sym (grows_so t inside))
+          ∙ ap (λ (b : Bool). option_map (type_at types) (if b then None else type_id (value_of k.values.now t))) (sym (counted c x.node x.at x.is))
           ∙ settled_so (is_refused f t) (type_id (value_of k.values.now t)) refl refl
           ∙ ap (λ (m : ℕ). unless_refused f m (type_settled scope (item_at nodes t).type)) (sym its_node)
           ∙ ap (λ y. unless_refused f (type_node y) (type_settled scope y)) (sym its_type)
@@ -136,7 +135,7 @@ module _ (k : Known) (scope : Scope) (library : List Specification) (refused : L
           ∙ ap (λ (j : NodeKind). if is_of kind.Oper j then demanded_by (asking c) is.0 x.node.names else []) x.is)
           ∙ names_told c is.0 (unless_refused f (type_node (typed c x).type) (type_settled scope (typed c x).type)) (ap (option_map (type_at types)) is.1 ∙ wanted_so c x) x.node.names
 
-      operation_is : (n c : ℕ) → c < n → (x : There nodes c kind.Oper) → (before n (item_at nodes) c).operation ≡ typed c x
+      pub operation_is : (n c : ℕ) → c < n → (x : There nodes c kind.Oper) → (before n (item_at nodes) c).operation ≡ typed c x
       operation_is n c less x = ap (λ (i : Item). i.operation) (before_is nodes n c less ∙ item_there nodes c x.node x.at) ∙ ap (operation_of (before c (item_at nodes)) nodes c x.node) x.is
 
       all_told : (n : ℕ) (cs : List ℕ) → AreParts nodes (is_of kind.Oper) n cs → (pieces : List (List Demanded)) → AllZip (IsAskedBy k old new) (asked_by_opers p None cs) pieces

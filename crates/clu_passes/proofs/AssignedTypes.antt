@@ -184,28 +184,28 @@ module _ (k : Known) (scope : Scope) (library : List Specification) (refused : L
 
     -- ---- of what is bound
 
-    variable_is : (others : ℕ → Item) (n : ℕ) (m : Meaning) (x : means.Meaning) → Means nodes m x → IsVariableKnown f lost m → IsVariable (variable_type k others n m) (statements.variable_type f n x)
+    variable_is : (others : ℕ → Item) (n : ℕ) (m : Meaning) (x : means.Meaning) → Means nodes m x → IsVariableKnown f k n m → IsVariable (variable_type k others n m) (statements.variable_type f n x)
     unfolding variable_type
     variable_is others n (meant.Equate c) x is here = subst (λ (x : means.Meaning). IsVariable None (statements.variable_type f n x)) (sym is.1) tt
     variable_is others n meant.TypeSet x is here = subst (λ (x : means.Meaning). IsVariable None (statements.variable_type f n x)) (sym is) tt
     variable_is others n (meant.TypeParameter j) x is here = subst (λ (x : means.Meaning). IsVariable None (statements.variable_type f n x)) (sym is) tt
     variable_is others n (meant.ConstantParameter j) x is here = subst (λ (x : means.Meaning). IsVariable None (statements.variable_type f n x)) (sym is) tt
-    variable_is others n (meant.Local t) x is here = subst (λ (x : means.Meaning). IsVariable (Some (type_inside k.tables.file others n t)) (statements.variable_type f n x)) (sym is) (inside.types others n t here.0 here.1)
-    variable_is others n (meant.OwnOfRoutine t) x is here = subst (λ (x : means.Meaning). IsVariable (Some (type_inside k.tables.file others n t)) (statements.variable_type f n x)) (sym is) (inside.types others n t here.0 here.1)
-    variable_is others n (meant.OwnOfCluster t) x is here = subst (λ (x : means.Meaning). IsVariable (Some (type_inside k.tables.file others n t)) (statements.variable_type f n x)) (sym is) (inside.types others n t here.0 here.1)
+    variable_is others n (meant.Local t) x is here = subst (λ (x : means.Meaning). IsVariable (Some (type_inside k.tables.file others n t)) (statements.variable_type f n x)) (sym is) (here others)
+    variable_is others n (meant.OwnOfRoutine t) x is here = subst (λ (x : means.Meaning). IsVariable (Some (type_inside k.tables.file others n t)) (statements.variable_type f n x)) (sym is) (here others)
+    variable_is others n (meant.OwnOfCluster t) x is here = subst (λ (x : means.Meaning). IsVariable (Some (type_inside k.tables.file others n t)) (statements.variable_type f n x)) (sym is) (here others)
     variable_is others n meant.RoutineOfCluster x is here = subst (λ (x : means.Meaning). IsVariable None (statements.variable_type f n x)) (sym is) tt
     variable_is others n (meant.Module its) x is here = subst (λ (x : means.Meaning). IsVariable None (statements.variable_type f n x)) (sym is) tt
 
-    targets_known : (j : NodeKind) (ms : List Meaning) → AreTargetsKnown f lost j ms → is_assigning j ≡ true → AllByRecursion (IsVariableKnown f lost) ms
-    targets_known kind.Assign ms all e = all
-    targets_known kind.For ms all e = all
-    targets_known _ ms all e = absurd (true≢false (sym e))
+    targets_known : (n : ℕ) (j : NodeKind) (ms : List Meaning) → AreTargetsKnown f k n j ms → is_assigning j ≡ true → AllByRecursion (IsVariableKnown f k n) ms
+    targets_known n kind.Assign ms all e = all
+    targets_known n kind.For ms all e = all
+    targets_known n _ ms all e = absurd (true≢false (sym e))
 
     module _ (targets : AreTargets f k) where
-      bound_fits : (others : ℕ → Item) (n : ℕ) (j : NodeKind) → kind_at nodes n ≡ j → lost n ≡ false → AreTargetsKnown f lost j (meanings k n) → list_any (λ x. not (statements.may_name f x.variables x.objects)) (bindings_in f j n) ≡ of_tables.is_misfit k (binding_at k others j n)
+      bound_fits : (others : ℕ → Item) (n : ℕ) (j : NodeKind) → kind_at nodes n ≡ j → lost n ≡ false → AreTargetsKnown f k n j (meanings k n) → list_any (λ x. not (statements.may_name f x.variables x.objects)) (bindings_in f j n) ≡ of_tables.is_misfit k (binding_at k others j n)
       bound_fits others n j is here all =
           misfits_are (binding_at k others j n) (bindings_in f j n)
-          (bound_is k scope library refused shaped tree are lost facts IsVariable (IsVariableKnown f lost) others (inside.types others) (variable_is others) targets n here j is (targets_known j (meanings k n) all))
+          (bound_is k scope library refused shaped tree are lost facts IsVariable (IsVariableKnown f k) others (inside.types others) (variable_is others) targets n here j is (targets_known n j (meanings k n) all))
 
       no_arm : (others : ℕ → Item) (n : ℕ) (j : NodeKind) → is_of kind.TagArm j ≡ false → of_tags.arm_misfits k others j n ≡ false
       no_arm others n kind.TagArm other = absurd (true≢false other)
@@ -215,7 +215,7 @@ module _ (k : Known) (scope : Scope) (library : List Specification) (refused : L
       bound_by n kind.TagArm other = absurd (true≢false other)
       bound_by n _ other = refl
 
-      pub v15_is : (others : ℕ → Item) (n : ℕ) → lost n ≡ false → AreTargetsKnown f lost (known.kind_in k n) (meanings k n) → IsFirstKnown f lost n → v15 f n ≡ of_tables.v15 k others n
+      pub v15_is : (others : ℕ → Item) (n : ℕ) → lost n ≡ false → AreTargetsKnown f k n (known.kind_in k n) (meanings k n) → IsFirstKnown f lost n → v15 f n ≡ of_tables.v15 k others n
       v15_is others n here all round = by (is_of kind.TagArm (kind_at nodes n)) refl
         where
           by : (b : Bool) → is_of kind.TagArm (kind_at nodes n) ≡ b → v15 f n ≡ of_tables.v15 k others n

@@ -147,7 +147,7 @@ module _ (k : Known) (scope : Scope) (library : List Specification) (refused : L
     some_name_in node form h e g = let m = g h.word (form_word node form h e) in first_named node.names m.0 (h.names_are ∙ m.1)
 
     -- what is bound by a relation V of variables, where P is known of what is assigned to
-    module _ (V : Option (Option TypeId) → Option CluType → Type 0) (P : Meaning → Type 0) (others : ℕ → Item) (inside : (n t : ℕ) → is_type (kind_at nodes t) ≡ true → lost t ≡ false → V (Some (type_inside k.tables.file others n t)) (Some (headings.type_inside f n (item f t).type))) (named : (n : ℕ) (m : Meaning) (x : means.Meaning) → Means nodes m x → P m → V (variable_type k others n m) (statements.variable_type f n x)) where
+    module _ (V : Option (Option TypeId) → Option CluType → Type 0) (P : ℕ → Meaning → Type 0) (others : ℕ → Item) (inside : (n t : ℕ) → is_type (kind_at nodes t) ≡ true → lost t ≡ false → V (Some (type_inside k.tables.file others n t)) (Some (headings.type_inside f n (item f t).type))) (named : (n : ℕ) (m : Meaning) (x : means.Meaning) → Means nodes m x → P n m → V (variable_type k others n m) (statements.variable_type f n x)) where
       abbrev IsSo : Option of_tables.Binding → List Binding → Type 0
       IsSo b xs = IsBound V b xs
 
@@ -190,7 +190,7 @@ module _ (k : Known) (scope : Scope) (library : List Specification) (refused : L
 
       -- ---- variables that are assigned to
 
-      targets_each : (n : ℕ) (ms : List Meaning) (xs : List Identifier) → AllMean nodes ms (map (λ name. meaning f n name) xs) → AllByRecursion P ms → Each V (map (variable_type k others n) ms) (target_types f n xs)
+      targets_each : (n : ℕ) (ms : List Meaning) (xs : List Identifier) → AllMean nodes ms (map (λ name. meaning f n name) xs) → AllByRecursion (P n) ms → Each V (map (variable_type k others n) ms) (target_types f n xs)
       targets_each n [] [] mean all = tt
       targets_each n [] (x ∷ xs) mean all = absurd mean
       targets_each n (m ∷ ms) [] mean all = absurd mean
@@ -344,7 +344,7 @@ module _ (k : Known) (scope : Scope) (library : List Specification) (refused : L
               on_end nodes n (λ (rest : List ℕ). rest ≡ []) refl (after_run nodes kind.Decl cs) r.rest
 
       module _ (targets : AreTargets f k) where
-        targets_bound : (n : ℕ) (node : Node) → slice_get nodes n ≡ Some node → is_assigning (kind_at nodes n) ≡ true → AllByRecursion P (meanings k n) → Each V (of_tables.targets k others n) (target_types f n node.names)
+        targets_bound : (n : ℕ) (node : Node) → slice_get nodes n ≡ Some node → is_assigning (kind_at nodes n) ≡ true → AllByRecursion (P n) (meanings k n) → Each V (of_tables.targets k others n) (target_types f n node.names)
         targets_bound n node at is all =
             targets_each n (meanings k n) node.names (subst (λ (xs : List Identifier). AllMean nodes (meanings k n) (map (λ name. meaning f n name) xs)) (ap (λ (its : Option Node). node_names f its) at) (targets n is)) all
 
@@ -353,7 +353,7 @@ module _ (k : Known) (scope : Scope) (library : List Specification) (refused : L
         looped n [] ds rest = by_call k ds rest
         looped n (name ∷ names) ds rest = by_call k (of_tables.targets k others n) rest
 
-        for_is : (n : ℕ) → kind_at nodes n ≡ kind.For → lost n ≡ false → AllByRecursion P (meanings k n) → IsSo (binding_at k others kind.For n) (bindings_in f kind.For n)
+        for_is : (n : ℕ) → kind_at nodes n ≡ kind.For → lost n ≡ false → AllByRecursion (P n) (meanings k n) → IsSo (binding_at k others kind.For n) (bindings_in f kind.For n)
         for_is n is here all =
             let x : There nodes n kind.For = there nodes n kind.For refl is in
             let cs : List ℕ = x.node.children in
@@ -435,7 +435,7 @@ module _ (k : Known) (scope : Scope) (library : List Specification) (refused : L
         assigned_each n xs each count (c ∷ []) ps here = one_assigned n xs each count c ps.0 here.0
         assigned_each n xs each count (c ∷ d ∷ cs) ps here = as_values n xs each count (c ∷ d ∷ cs) ps here refl (several_values f n xs (items n c).expression (items n d).expression (expressions_at (items n) cs))
 
-        assign_is : (n : ℕ) → kind_at nodes n ≡ kind.Assign → lost n ≡ false → AllByRecursion P (meanings k n) → IsSo (binding_at k others kind.Assign n) (bindings_in f kind.Assign n)
+        assign_is : (n : ℕ) → kind_at nodes n ≡ kind.Assign → lost n ≡ false → AllByRecursion (P n) (meanings k n) → IsSo (binding_at k others kind.Assign n) (bindings_in f kind.Assign n)
         assign_is n is here all =
             let x : There nodes n kind.Assign = there nodes n kind.Assign refl is in
             let cs : List ℕ = x.node.children in
@@ -446,7 +446,7 @@ module _ (k : Known) (scope : Scope) (library : List Specification) (refused : L
             (assigned_each n x.node.names (targets_bound n x.node x.at (ap is_assigning is) all) (means_count n (meanings k n) x.node.names mean) cs
             (all_parts nodes tree shaped is_expression n x.node x.at (ap slots x.is)) (below_is n x.node x.at here))
 
-        pub bound_is : (n : ℕ) → lost n ≡ false → (j : NodeKind) → kind_at nodes n ≡ j → (is_assigning j ≡ true → AllByRecursion P (meanings k n)) → IsSo (binding_at k others j n) (bindings_in f j n)
+        pub bound_is : (n : ℕ) → lost n ≡ false → (j : NodeKind) → kind_at nodes n ≡ j → (is_assigning j ≡ true → AllByRecursion (P n) (meanings k n)) → IsSo (binding_at k others j n) (bindings_in f j n)
         bound_is n here kind.Init is all = init_is n is here
         bound_is n here kind.Own is all = own_is n is here
         bound_is n here kind.For is all = for_is n is here (all refl)

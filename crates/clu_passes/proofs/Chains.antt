@@ -38,7 +38,7 @@ none_listed : {X : Type 0} (f : X → Bool) (xs : List X) → ((i : ℕ) (x : X)
 none_listed f [] none = refl
 none_listed f (x ∷ xs) none = ap (λ (b : Bool). b || list_any f xs) (none 0 x refl) ∙ none_listed f xs (λ i y at. none (suc i) y at)
 
-none_ranged : (f : ℕ → Bool) (a len : ℕ) → ((n : ℕ) → a ≤ n → n < a + len → f n ≡ false) → list_any f (range_with_len a len) ≡ false
+pub none_ranged : (f : ℕ → Bool) (a len : ℕ) → ((n : ℕ) → a ≤ n → n < a + len → f n ≡ false) → list_any f (range_with_len a len) ≡ false
 none_ranged f a zero none = refl
 none_ranged f a (suc len) none =
     ap (λ (b : Bool). b || list_any f (range_with_len (a + 1) len)) (none a (omega arith) (omega arith))

@@ -14,7 +14,7 @@ use Rattle.clu_types.specs.Arena.{types_of}
 use Rattle.clu_syntax.specs.declared.words.SimpleType.{SimpleType}
 use Rattle.clu_syntax.specs.declared.words.SimpleType.TheVariants as simple
 use Rattle.clu_syntax.specs.Enough.{least_names}
-use Rattle.clu_syntax.specs.Kinds.{kind_at, is_expression}
+use Rattle.clu_syntax.specs.Kinds.{kind_at, is_expression, is_type}
 use Rattle.clu_syntax.specs.Roles.{has_no_name}
 use Rattle.clu_syntax.specs.Slots.{slots, any}
 use Rattle.clu_syntax.specs.Slots.{is_constant as is_constant_kind}
@@ -43,7 +43,8 @@ use Rattle.clu_settle.specs.declared.value.Value.{Value}
 use Rattle.clu_settle.specs.declared.value.Value.TheVariants as value
 use Rattle.clu_settle.specs.Values.{told, Agrees, IsWithin}
 use Rattle.clu_settle.specs.Names.{is_constant, names_of}
-use Rattle.clu_settle.proofs.Parts.{before_is, expression_is_constant}
+use Rattle.clu_settle.specs.Standing.{is_cvt_type}
+use Rattle.clu_settle.proofs.Parts.{before_is, constant_is, expression_is_constant}
 use Rattle.clu_settle.proofs.Shapes.{first_part}
 use Rattle.clu_head.specs.There.{is_there}
 use Rattle.clu_bindings.specs.declared.file.File.{File as Read}
@@ -59,7 +60,7 @@ use Rattle.clu_bindings.specs.Readers.{value_in, wanted_in, meaning_in, module_o
 use Rattle.clu_bindings.specs.Named as named
 use Rattle.clu_name_rules.specs.declared.tables.Tables.{Tables}
 use Rattle.clu_name_rules.specs.ConstantRules as of_tables
-use Rattle.clu_passes.specs.ConstantTables.{file_with, Means, is_equated, wanted_told, AreTables, AreBad, AreBracketsKnown, IsKnown, IsEquateKnown, IsFirstKnown, IsIndexKnown, IsOperatorKnown, IsTypeNameKnown, IsWantedKnown}
+use Rattle.clu_passes.specs.ConstantTables.{file_with, Means, is_equated, wanted_told, AreTables, AreBad, AreBracketsKnown, IsKnown, IsEquateKnown, IsFirstKnown, IsIndexKnown, IsOperatorKnown, IsTypeNameKnown}
 use Rattle.clu_passes.proofs.ByNodes.{any_mapped}
 use Rattle.clu_passes.proofs.ByNodes as by_nodes
 use Rattle.clu_declares.proofs.Below.{same_kind}
@@ -272,22 +273,45 @@ module _ (t : Tables) (scope : Scope) (library : List Specification) (refused : 
     long_constant (value.Constant k) s known within e = ap rules_of.is_long_constant e ∙ sym (are.long_constants k within.1)
     long_constant (value.Parameter k) s known within e = ap rules_of.is_long_constant e
 
-    long_type : (v : Value) (s : Settled) → (v ≡ value.Lost → ⊥) → IsWithin (length t.types.now) (length r.constants.now) v → Agrees (told types_there r.constants.now v) s → rules_of.is_long_type s ≡ of_tables.is_long_type t.long_types.now v
-    long_type value.Nothing s known within e = ap rules_of.is_long_type e
-    long_type value.Lost s known within e = absurd (known refl)
-    long_type (value.Type id) s known within e = ap rules_of.is_long_type e ∙ sym (are.long_types id within.0)
-    long_type (value.Constant k) s known within e = ap rules_of.is_long_type e
-    long_type (value.Parameter k) s known within e = ap rules_of.is_long_type e
+    long_type : (n : ℕ) (v : Value) (s : Settled) → value_in r n ≡ v → (v ≡ value.Lost → ⊥) → Agrees (told types_there r.constants.now v) s → rules_of.is_long_type s ≡ of_tables.is_long_type t.long_types.now v
+    long_type n value.Nothing s is known e = ap rules_of.is_long_type e
+    long_type n value.Lost s is known e = absurd (known refl)
+    long_type n (value.Type id) s is known e = ap rules_of.is_long_type e ∙ sym (are.long_types n id is)
+    long_type n (value.Constant k) s is known e = ap rules_of.is_long_type e
+    long_type n (value.Parameter k) s is known e = ap rules_of.is_long_type e
+
+    cvt_word : (u : TypeExpression) → rules_of.is_word simple.Cvt u ≡ is_cvt_type u
+    cvt_word (a_simple_type n simple.Cvt) = refl
+    cvt_word (a_simple_type n _) = refl
+    cvt_word _ = refl
+
+    -- what is known is not that of `cvt`
+    not_cvt : (n : ℕ) → is_constant nodes n ≡ true → IsKnown r n → rules_of.is_cvt (item f n).constant ≡ false
+    not_cvt n const known = by (is_type (kind_at nodes n)) refl
+      where
+        of_type : (b : Bool) → rules_of.is_word simple.Cvt (item f n).type ≡ b → is_type (kind_at nodes n) ≡ true → b ≡ false
+        of_type true word is = absurd (known (are.cvt n is (sym (cvt_word (item f n).type) ∙ word)))
+        of_type false word is = refl
+
+        by : (b : Bool) → is_type (kind_at nodes n) ≡ b → rules_of.is_cvt (item f n).constant ≡ false
+        by true is = ap rules_of.is_cvt (constant_is nodes n true is) ∙ of_type (rules_of.is_word simple.Cvt (item f n).type) refl is
+        by false is = ap rules_of.is_cvt (constant_is nodes n false is)
+
+    -- where both say the same of the text
+    too_long : (test : Settled → Bool) (long : Value → Bool) (n : ℕ) → (is_constant nodes n ≡ true → IsKnown r n) → (is_constant nodes n ≡ true → IsKnown r n → test (value_settled scope (item f n).constant) ≡ long (value_in r n)) → rules_of.is_too_long f test n ≡ (of_tables.is_right_side r n && long (value_in r n))
+    too_long test long n known same =
+        guarded (rules_of.is_right_side f n) (of_tables.is_right_side r n) (not (rules_of.is_cvt (item f n).constant) && test (value_settled scope (item f n).constant)) (long (value_in r n)) (side_same n)
+        (λ h. ap (λ (b : Bool). not b && test (value_settled scope (item f n).constant)) (not_cvt n (are.sides n h) (known (are.sides n h))) ∙ same (are.sides n h) (known (are.sides n h)))
 
     pub too_long_constant : (n : ℕ) → (is_constant nodes n ≡ true → IsKnown r n) → rules_of.is_too_long f rules_of.is_long_constant n ≡ (of_tables.is_right_side r n && of_tables.is_long_constant t.long_constants.now (value_in r n))
     too_long_constant n known =
-        guarded (rules_of.is_right_side f n) (of_tables.is_right_side r n) (rules_of.is_long_constant (value_settled scope (item f n).constant)) (of_tables.is_long_constant t.long_constants.now (value_in r n)) (side_same n)
-        (λ h. long_constant (value_in r n) (value_settled scope (item f n).constant) (known (are.sides n h)) (so.value_within t scope library refused shaped tree are n) (so.value_agrees t scope library refused shaped tree are n (known (are.sides n h)) (are.sides n h)))
+        too_long rules_of.is_long_constant (of_tables.is_long_constant t.long_constants.now) n known
+        (λ const here. long_constant (value_in r n) (value_settled scope (item f n).constant) here (so.value_within t scope library refused shaped tree are n) (so.value_agrees t scope library refused shaped tree are n here const))
 
     pub too_long_type : (n : ℕ) → (is_constant nodes n ≡ true → IsKnown r n) → rules_of.is_too_long f rules_of.is_long_type n ≡ (of_tables.is_right_side r n && of_tables.is_long_type t.long_types.now (value_in r n))
     too_long_type n known =
-        guarded (rules_of.is_right_side f n) (of_tables.is_right_side r n) (rules_of.is_long_type (value_settled scope (item f n).constant)) (of_tables.is_long_type t.long_types.now (value_in r n)) (side_same n)
-        (λ h. long_type (value_in r n) (value_settled scope (item f n).constant) (known (are.sides n h)) (so.value_within t scope library refused shaped tree are n) (so.value_agrees t scope library refused shaped tree are n (known (are.sides n h)) (are.sides n h)))
+        too_long rules_of.is_long_type (of_tables.is_long_type t.long_types.now) n known
+        (λ const here. long_type n (value_in r n) (value_settled scope (item f n).constant) refl here (so.value_agrees t scope library refused shaped tree are n here const))
 
     -- ---- the right side of `rep`
 
@@ -424,16 +448,15 @@ module _ (t : Tables) (scope : Scope) (library : List Specification) (refused : 
     module _ (bits : List Bool) (bad : ℕ → Bool) (are_bad : AreBad f bits bad) where
       -- ---- V8 and V9
 
-      round_wanted : (o : Option ℕ) → ((p : ℕ) → o ≡ Some p → IsWantedKnown r p) → rules_of.wants_type_round f bad o ≡ of_tables.wants_type_round r o
-      round_wanted None known = refl
-      round_wanted (Some p) known = guarded (rules_of.is_constant_wanted (wants.wanted f p)) (of_tables.is_constant_wanted (wanted_in r p)) (wants.wants_type f p) (named.wants_type r p) (so.constant_wanted_at t scope library refused shaped tree are p (known p refl)) (so.wants_same t scope library refused shaped tree are p)
+      abbrev pub IsTypeWantedSame : ℕ → Type 0
+      IsTypeWantedSame n = rules_of.is_type_wanted f bad (wants.wanted f n) n ≡ of_tables.is_type_wanted r (wanted_in r n) n
 
-      type_wanted : (n : ℕ) → AreBracketsKnown r n → rules_of.is_type_wanted f bad (wants.wanted f n) n ≡ of_tables.is_type_wanted r (wanted_in r n) n
+      pub type_wanted : (n : ℕ) → AreBracketsKnown r n → IsTypeWantedSame n
       type_wanted n brackets = by (wanted_in r n) (sym (are.wanted n brackets.round))
         where
           by : (w : WantedThere) → wants.wanted f n ≡ wanted_told w → rules_of.is_type_wanted f bad (wants.wanted f n) n ≡ of_tables.is_type_wanted r w n
           by wanted.Constant is = ap (λ (w : Wanted). rules_of.is_type_wanted f bad w n) is ∙ so.wants_same t scope library refused shaped tree are n (ap rules_of.is_constant_wanted is)
-          by wanted.NameWithActuals is = ap (λ (w : Wanted). rules_of.is_type_wanted f bad w n) is ∙ round_wanted (parent f n) brackets.above
+          by wanted.NameWithActuals is = ap (λ (w : Wanted). rules_of.is_type_wanted f bad w n) is
           by wanted.Object is = ap (λ (w : Wanted). rules_of.is_type_wanted f bad w n) is
           by wanted.Objects is = ap (λ (w : Wanted). rules_of.is_type_wanted f bad w n) is
           by wanted.LoopCall is = ap (λ (w : Wanted). rules_of.is_type_wanted f bad w n) is
@@ -443,11 +466,11 @@ module _ (t : Tables) (scope : Scope) (library : List Specification) (refused : 
       pub name_bad : (n : ℕ) → kind_at nodes n ≡ kind.Name → equates.is_bad_name f bad n (first_name_at f n) ≡ of_tables.is_bad_first t bits n
       name_bad n is = so.bad_first t scope library refused shaped tree are bits bad are_bad n kind.Name refl (λ node. refl) refl is
 
-      pub bad_constant : (n : ℕ) → AreBracketsKnown r n → (k : NodeKind) → kind_at nodes n ≡ k → rules_of.has_bad_constant f bad k n ≡ of_tables.has_bad_constant t bits k n
-      bad_constant n brackets kind.Name is =
+      pub bad_constant : (n : ℕ) → IsTypeWantedSame n → (k : NodeKind) → kind_at nodes n ≡ k → rules_of.has_bad_constant f bad k n ≡ of_tables.has_bad_constant t bits k n
+      bad_constant n same kind.Name is =
           ap (λ (b : Bool). b && not (rules_of.is_type_wanted f bad (wants.wanted f n) n)) (name_bad n is)
-          ∙ ap (λ (b : Bool). of_tables.is_bad_first t bits n && not b) (type_wanted n brackets)
-      bad_constant n brackets _ is = refl
+          ∙ ap (λ (b : Bool). of_tables.is_bad_first t bits n && not b) same
+      bad_constant n same _ is = refl
 
       -- where both say the same of a text that is too long
       pub v8_by : (n : ℕ) → IsOperatorKnown r (kind_at nodes n) n → AreBracketsKnown r n →
@@ -455,7 +478,7 @@ module _ (t : Tables) (scope : Scope) (library : List Specification) (refused : 
       v8_by n known brackets long =
           ap (λ (a : Bool). a || rules_of.has_bad_constant f bad (kind_in f n) n || rules_of.is_too_long f rules_of.is_long_constant n)
           (guarded (rules_of.is_neither f n) (of_tables.is_neither r n) (not (wants.wants_type f n)) (not (named.wants_type r n)) (neither_same n known brackets) (λ h. ap not (neither_wants n h)))
-          ∙ ap (λ (b : Bool). (of_tables.is_neither r n && not (named.wants_type r n)) || b || rules_of.is_too_long f rules_of.is_long_constant n) (bad_constant n brackets (kind_at nodes n) refl)
+          ∙ ap (λ (b : Bool). (of_tables.is_neither r n && not (named.wants_type r n)) || b || rules_of.is_too_long f rules_of.is_long_constant n) (bad_constant n (type_wanted n brackets) (kind_at nodes n) refl)
           ∙ ap (λ (c : Bool). (of_tables.is_neither r n && not (named.wants_type r n)) || of_tables.has_bad_constant t bits (kind_at nodes n) n || c) long
           ∙ or_three (of_tables.is_neither r n && not (named.wants_type r n)) (of_tables.has_bad_constant t bits (kind_at nodes n) n) (of_tables.is_right_side r n && of_tables.is_long_constant t.long_constants.now (value_in r n))
 
@@ -495,14 +518,14 @@ module _ (t : Tables) (scope : Scope) (library : List Specification) (refused : 
           ∙ ap (λ (its : Option Node). of_tables.is_bad t bits (optional (slice_get (bound_at ds n its) 0))) (sym x.at)
           ∙ ap (λ (bounds : List (Option ℕ)). of_tables.is_bad t bits (optional (slice_get bounds 0))) (sym (bound_is f r.names.now are.names n))
 
-      pub bad_type : (n : ℕ) → AreBracketsKnown r n → (k : NodeKind) → kind_at nodes n ≡ k → rules_of.has_bad_type f bad k n ≡ of_tables.has_bad_type t bits k n
-      bad_type n brackets kind.Name is =
+      pub bad_type : (n : ℕ) → IsTypeWantedSame n → (k : NodeKind) → kind_at nodes n ≡ k → rules_of.has_bad_type f bad k n ≡ of_tables.has_bad_type t bits k n
+      bad_type n same kind.Name is =
           ap (λ (b : Bool). b && rules_of.is_type_wanted f bad (wants.wanted f n) n) (name_bad n is)
-          ∙ ap (λ (b : Bool). of_tables.is_bad_first t bits n && b) (type_wanted n brackets)
-      bad_type n brackets kind.NameT is = so.bad_first t scope library refused shaped tree are bits bad are_bad n kind.NameT refl (λ node. refl) refl is
-      bad_type n brackets kind.Simple is = rep_bad n is
-      bad_type n brackets kind.Restrict is = restricted_bad n is
-      bad_type n brackets _ is = refl
+          ∙ ap (λ (b : Bool). of_tables.is_bad_first t bits n && b) same
+      bad_type n same kind.NameT is = so.bad_first t scope library refused shaped tree are bits bad are_bad n kind.NameT refl (λ node. refl) refl is
+      bad_type n same kind.Simple is = rep_bad n is
+      bad_type n same kind.Restrict is = restricted_bad n is
+      bad_type n same _ is = refl
 
       -- where both say the same of the right side of `rep` too
       pub v9_by : (items : ℕ → Item) (n : ℕ) → IsOperatorKnown r (kind_at nodes n) n → IsTypeNameKnown r (kind_at nodes n) n → AreBracketsKnown r n → rules_of.is_bad_rep f n ≡ of_tables.is_bad_rep r items n →
@@ -517,7 +540,7 @@ module _ (t : Tables) (scope : Scope) (library : List Specification) (refused : 
           (guarded (rules_of.is_neither f n) (of_tables.is_neither r n) (wants.wants_type f n) (named.wants_type r n) (neither_same n known brackets) (neither_wants n))
           ∙ ap (λ (x : Bool). a || x || rules_of.is_no_type f (kind_in f n) n || rules_of.has_bad_type f bad (kind_in f n) n || rules_of.is_too_long f rules_of.is_long_type n) rep_side
           ∙ ap (λ (x : Bool). a || b || x || rules_of.has_bad_type f bad (kind_in f n) n || rules_of.is_too_long f rules_of.is_long_type n) (no_type items n (kind_at nodes n) equated refl)
-          ∙ ap (λ (x : Bool). a || b || c || x || rules_of.is_too_long f rules_of.is_long_type n) (bad_type n brackets (kind_at nodes n) refl)
+          ∙ ap (λ (x : Bool). a || b || c || x || rules_of.is_too_long f rules_of.is_long_type n) (bad_type n (type_wanted n brackets) (kind_at nodes n) refl)
           ∙ ap (λ (x : Bool). a || b || c || d || x) long
           ∙ or_five a b c d e
 

@@ -96,7 +96,7 @@ module _ (bits : List Bool) where
 
 -- ---- what passes in a part of a range
 
-any_filtered : (p q : ℕ → Bool) (xs : List ℕ) → list_any p (filter q xs) ≡ list_any (λ n. q n && p n) xs
+pub any_filtered : (p q : ℕ → Bool) (xs : List ℕ) → list_any p (filter q xs) ≡ list_any (λ n. q n && p n) xs
 any_filtered p q [] = refl
 any_filtered p q (x ∷ xs) = by (any_filtered p q xs) (q x)
   where
@@ -104,7 +104,7 @@ any_filtered p q (x ∷ xs) = by (any_filtered p q xs) (q x)
     by rest true = ap (λ (b : Bool). p x || b) rest
     by rest false = rest
 
-range_in : (f : ℕ → Bool) (count from n : ℕ) → from ≤ n → n < from + count → f n ≡ true → list_any f (range_with_len from count) ≡ true
+pub range_in : (f : ℕ → Bool) (count from n : ℕ) → from ≤ n → n < from + count → f n ≡ true → list_any f (range_with_len from count) ≡ true
 range_in f zero from n l m h = absurd (omega (arith, l, m))
 range_in f (suc count) from n l m h = elim (cases_eq n from) [
   | inl same ↦ ap (λ (b : Bool). b || list_any f (range_with_len (from + 1) count)) (sym (ap f same) ∙ h)

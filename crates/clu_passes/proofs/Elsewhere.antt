@@ -20,7 +20,7 @@ use Rattle.clu_checking.specs.Settled.{value_settled}
 use Rattle.clu_checking.specs.Files.{File, item, kind_in, is_kind, is_kind_at, stands_in, parent, names, node_names, round, routine_round, below, is_known}
 use Rattle.clu_checking.specs.NameRules.{is_long, has_bad_literal, v4, names_used, names_defined, stands_twice, is_redefined, v6_by, disagrees_at, leads_to_circle, stands_before, names_argument}
 use Rattle.clu_checking.specs.Equates.{is_circular_at, equates_at, names_unfolded}
-use Rattle.clu_checking.specs.ConstantRules.{is_no_constant, is_constant_wanted, is_neither, is_rep_equate, is_no_type_side, is_bad_rep, is_long_type, is_long_constant, is_too_long, is_no_type, is_real, has_bad_actuals, is_illegal_parameter, v31_at, has_bad_constant, has_bad_type, v8, v9}
+use Rattle.clu_checking.specs.ConstantRules.{is_no_constant, is_constant_wanted, is_neither, is_rep_equate, is_no_type_side, is_bad_rep, is_long_type, is_long_constant, is_cvt, is_too_long, is_no_type, is_real, has_bad_actuals, is_illegal_parameter, v31_at, has_bad_constant, has_bad_type, v8, v9}
 use Rattle.clu_checking.specs.Wanted.{wanted, wants_type, named_as}
 use Rattle.clu_checking.specs.Operations.{Asked, Found}
 use Rattle.clu_checking.specs.Invocations.{Invocation, invocations, invocations_by, operations_by, asks_of, asks_of_name}
@@ -320,7 +320,7 @@ module _ (f : File) (bad : ℕ → Bool) (n : ℕ) where
         by true so = absurd (true≢false (sym (right so) ∙ ap is_right_side is ∙ e))
 
     too_long_not : (test : Value → Bool) → stands_in f kind.Equate n ≡ false → is_too_long f test n ≡ false
-    too_long_not test e = ap (λ (b : Bool). (b && not (is_kind f kind.TypeSet n)) && test (value_settled f.scope (item f n).constant)) e
+    too_long_not test e = ap (λ (b : Bool). (b && not (is_kind f kind.TypeSet n)) && (not (is_cvt (item f n).constant) && test (value_settled f.scope (item f n).constant))) e
 
     rep_not : (o : Option ℕ) → is_kind_at f kind.Equate o ≡ false → is_rep_equate f o ≡ false
     rep_not None e = refl
@@ -357,11 +357,12 @@ module _ (f : File) (bad : ℕ → Bool) (n : ℕ) where
         (too_long_not is_long_type side)
 
     type_long : is_type (kind_in f n) ≡ true → is_too_long f is_long_constant n ≡ false
-    type_long e = and_no (stands_in f kind.Equate n && not (is_kind f kind.TypeSet n)) (is_long_constant (value_settled f.scope (item f n).constant))
-        (ap (λ (c : Constant). is_long_constant (value_settled f.scope c)) (type_is f.nodes n (slice_get f.nodes n) refl e) ∙ no_long_type f.scope (item f n).type)
+    type_long e = and_no (stands_in f kind.Equate n && not (is_kind f kind.TypeSet n)) (not (is_cvt (item f n).constant) && is_long_constant (value_settled f.scope (item f n).constant))
+        (and_no (not (is_cvt (item f n).constant)) (is_long_constant (value_settled f.scope (item f n).constant))
+        (ap (λ (c : Constant). is_long_constant (value_settled f.scope c)) (type_is f.nodes n (slice_get f.nodes n) refl e) ∙ no_long_type f.scope (item f n).type))
 
     set_long : is_kind f kind.TypeSet n ≡ true → is_too_long f is_long_constant n ≡ false
-    set_long e = ap (λ (b : Bool). b && is_long_constant (value_settled f.scope (item f n).constant)) (and_no (stands_in f kind.Equate n) (not (is_kind f kind.TypeSet n)) (ap not e))
+    set_long e = ap (λ (b : Bool). b && (not (is_cvt (item f n).constant) && is_long_constant (value_settled f.scope (item f n).constant))) (and_no (stands_in f kind.Equate n) (not (is_kind f kind.TypeSet n)) (ap not e))
 
     v8_elsewhere : (k : NodeKind) → kind_in f n ≡ k → is_asked k rule.NotConstant ≡ false → (by_neither k (not (wants_type f n)) || has_bad_constant f bad k n || is_too_long f is_long_constant n) ≡ false
     v8_elsewhere kind.Infix is e = absurd (true≢false e)

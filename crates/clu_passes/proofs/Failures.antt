@@ -38,7 +38,7 @@ use Rattle.clu_type_rules.specs.Known.{term_of}
 use Rattle.clu_type_rules.specs.ExceptionRules.{is_string, may_be_string, is_one_string, is_other_failure}
 use Rattle.clu_type_rules.specs.Objects.{names}
 use Rattle.clu_passes.specs.FactTables.{IsType}
-use Rattle.clu_passes.specs.SeenTypes.{AreOutside}
+use Rattle.clu_passes.specs.SeenTypes.{IsOutsideKnown}
 use Rattle.clu_passes.proofs.FactNodes as so
 use Rattle.clu_passes.proofs.FactTypes.{IsTerm, term_of_type}
 use Rattle.clu_passes.proofs.OneName.{OneName, exception_name}
@@ -65,9 +65,9 @@ module _ (k : Known) (scope : Scope) (library : List Specification) (refused : L
   abbrev terms : List Term
   terms = k.tables.types.now
 
-  module _ (shaped : HaveForms nodes) (tree : IsTree nodes) (arena : IsArena terms) (lost : ℕ → Bool) (are : AreOutside f k lost) where
-    abbrev Here : List ℕ → Type 0
-    Here cs = AllByRecursion (λ c. lost c ≡ false) cs
+  module _ (shaped : HaveForms nodes) (tree : IsTree nodes) (arena : IsArena terms) where
+    abbrev Told : ℕ → List ℕ → Type 0
+    Told n cs = AllByRecursion (IsOutsideKnown f k n) cs
 
     is_string_type : (id : Option TypeId) (t : CluType) → IsType terms id (Some t) → same_type t string_type ≡ may_be_string (term_of k id)
     is_string_type None t is = absurd is
@@ -75,15 +75,15 @@ module _ (k : Known) (scope : Scope) (library : List Specification) (refused : L
         let x : IsTerm terms id t = term_of_type terms arena id t is.0 is.1 in
         ap (λ (t : CluType). same_type t string_type) x.is ∙ string_same (types_of terms) x.its ∙ ap may_be_string (sym x.there)
 
-    one_same : (others : ℕ → Item) (n : ℕ) (cs : List ℕ) → AreParts nodes is_type n cs → Here cs → same_types (results_outside f n (types_at (before n (item_at nodes)) cs)) one_string ≡ is_one_string k (map (type_outside k.tables.file others n) cs)
+    one_same : (others : ℕ → Item) (n : ℕ) (cs : List ℕ) → AreParts nodes is_type n cs → Told n cs → same_types (results_outside f n (types_at (before n (item_at nodes)) cs)) one_string ≡ is_one_string k (map (type_outside k.tables.file others n) cs)
     one_same others n [] ps here = refl
     one_same others n (c ∷ []) ps here =
         and_true (same_type (for_callers (heading_type (place_at f n) (before n (item_at nodes) c).type)) string_type)
         ∙ ap (λ (i : Item). same_type (for_callers (heading_type (place_at f n) i.type)) string_type) (before_is nodes n c ps.0.0)
-        ∙ is_string_type (type_outside k.tables.file others n c) (for_callers (heading_type (place_at f n) (item f c).type)) (are.types others n c ps.0.1 here.0)
+        ∙ is_string_type (type_outside k.tables.file others n c) (for_callers (heading_type (place_at f n) (item f c).type)) (here.0 others)
     one_same others n (c ∷ d ∷ cs) ps here = and_none (same_type (for_callers (heading_type (place_at f n) (before n (item_at nodes) c).type)) string_type)
 
-    pub v26_is : (bad : ℕ → Bool) (others : ℕ → Item) (n : ℕ) → kind_at nodes n ≡ kind.Exc → Here (known.children k n) → v26 f bad n ≡ is_other_failure k others n (names k n)
+    pub v26_is : (bad : ℕ → Bool) (others : ℕ → Item) (n : ℕ) → kind_at nodes n ≡ kind.Exc → Told n (known.children k n) → v26 f bad n ≡ is_other_failure k others n (names k n)
     v26_is bad others n is here =
         let x : There nodes n kind.Exc = there nodes n kind.Exc refl is in
         let one : OneName nodes n = exception_name nodes shaped n is in
@@ -93,6 +93,6 @@ module _ (k : Known) (scope : Scope) (library : List Specification) (refused : L
         ap (λ (j : NodeKind). v26_in f bad j n) is
         ∙ ap (λ (i : Item). checking.is_other_failure f bad i.exception) (item_there nodes n x.node x.at)
         ∙ ap (λ (j : NodeKind). checking.is_other_failure f bad (exception_of (before n (item_at nodes)) nodes n x.node j)) x.is
-        ∙ ap₂ (λ (name : Identifier) (b : Bool). is_failure name && not b) name (one_same others n x.node.children ps (subst Here kids here))
+        ∙ ap₂ (λ (name : Identifier) (b : Bool). is_failure name && not b) name (one_same others n x.node.children ps (subst (Told n) kids here))
         ∙ ap (λ (cs : List ℕ). is_failure one.its && not (is_one_string k (map (type_outside k.tables.file others n) cs))) (sym kids)
         ∙ ap (is_other_failure k others n) (sym one.is)

@@ -120,7 +120,7 @@ module _ (k : Known) (scope : Scope) (library : List Specification) (refused : L
   file = file_with k.tables.file scope library refused
 
   module _ (heads : AgreeInHeadings file (violates k bits items)) where
-    finds_headings : FindsFirst (length file.nodes) (heading_fault k items bits) (fault_at file headings)
+    pub finds_headings : FindsFirst (length file.nodes) (heading_fault k items bits) (fault_at file headings)
     finds_headings n l before =
         first_found (violates k bits items n) (definition.violates file (is_bad file) n) (rules_of_headings (kind_in file n) (round file n).heading) (heads n l before)
         ∙ sym (least_of_headings file of (is_bad file) n (round file n).heading)
@@ -132,7 +132,7 @@ module _ (k : Known) (scope : Scope) (library : List Specification) (refused : L
     heading_by_tables = walked.heading_said file (heading_fault k items bits) (rest_fault k items bits) heads_agree
 
     module _ (others : AgreeInRest file (violates k bits items)) where
-      finds_rest : first_on file headings ≡ None → FindsFirst (length file.nodes) (rest_fault k items bits) (fault_at file rest)
+      pub finds_rest : first_on file headings ≡ None → FindsFirst (length file.nodes) (rest_fault k items bits) (fault_at file rest)
       finds_rest none n l before =
           first_found (violates k bits items n) (definition.violates file (is_bad file) n) (rules_of_rest (kind_in file n) (round file n).heading) (others none n l before)
           ∙ sym (least_of_rest file of (is_bad file) n (round file n).heading)

@@ -53,7 +53,7 @@ use Rattle.clu_passes.proofs.SetVariable.{IsFromOne, all_from_one}
 
 -- ---- what is wanted
 
-wants_below : (n : ℕ) (ds : List Demanded) → Each (IsBelowIf n) ds → WantedBelow n ds
+pub wants_below : (n : ℕ) (ds : List Demanded) → Each (IsBelowIf n) ds → WantedBelow n ds
 wants_below n [] each = tt
 wants_below n (d ∷ ds) each = (each.0, wants_below n ds each.1)
 
@@ -114,7 +114,7 @@ numbered_below old new None (Some id) is = absurd is
 numbered_below old new None None is = tt
 
 -- what holds of the form of each head
-abbrev IsGood : ℕ → HeadForm → Type 0
+abbrev pub IsGood : ℕ → HeadForm → Type 0
 IsGood many f = FormBelow many f × ByName.AreAscending routine_name (Parts.routines_in f)
 
 nothing_ascends : ByName.AreAscending routine_name []
@@ -149,10 +149,10 @@ module _ (k : Known) (asked : Asked) (old new : List Term) (asks_below : Each (I
       → IsGood many (form.Cluster (listed (before demand_rank) (same demand_rank) both_asked (demands_of asked.demands.items asked.starts.items n)) rs)
   cluster_good cvt exports routines n rs are = (((listed_below n, tt), routines_below cvt exports routines rs are), routines_rise k.syntax.now (IsHead k asked cvt exports old new) (λ m h at. at.name) routines rs are)
 
-modules_good : (k : Known) (asked : Asked) (old new : List Term) → Each (IsBelowIf (length new)) asked.demands.items → (ns : List ℕ) (hs : List Head) → AreOfModules k asked old new ns hs → (i : ℕ) (h : Head) → slice_get hs i ≡ Some h → IsGood (length new) h.form
+pub modules_good : (k : Known) (asked : Asked) (old new : List Term) → Each (IsBelowIf (length new)) asked.demands.items → (ns : List ℕ) (hs : List Head) → AreOfModules k asked old new ns hs → (i : ℕ) (h : Head) → slice_get hs i ≡ Some h → IsGood (length new) h.form
 modules_good k asked old new below ns hs are i h at =
-    each_head k asked old new (IsGood (length new)) (λ n r is. routine_good k asked old new below n r is)
-    (λ cvt exports routines n rs all. cluster_good k asked old new below cvt exports routines n rs all) ns hs are i h at
+    each_head k asked old new (IsGood (length new)) (λ m n r at is. routine_good k asked old new below n r is)
+    (λ mid front behind cvt name kinds owns exports routines n rs all. cluster_good k asked mid new below cvt exports routines n rs all) ns hs are i h at
 
 -- ---- what is no node
 

@@ -29,18 +29,20 @@ use Rattle.clu_checking.specs.Headings as headings
 use Rattle.clu_checking.specs.Headings.{outside_type, heading_of}
 use Rattle.clu_declares.proofs.Below.{item_there}
 use Rattle.clu_declares.proofs.Facts.{There}
+use Rattle.clu_declares.proofs.Parents.{of_all}
 use Rattle.clu_settle.specs.Settled.{AreSettled}
-use Rattle.clu_settle.proofs.Shapes.{AreBefore, children_before}
+use Rattle.clu_settle.proofs.Shapes.{children_before}
 use Rattle.clu_head.specs.declared.known.Known.{Known}
 use Rattle.clu_head.specs.Outside.{heading_outside}
-use Rattle.clu_head.specs.Refused.{grows_in}
 use Rattle.clu_head.specs.Routines.{arguments_in, results_in, exceptions_in, term_at}
 use Rattle.clu_head.specs.Routines as routines
 use Rattle.clu_head.specs.Terms.{is_there_of_type, is_refused_part, term_of, routine_term, IsNumbered}
 use Rattle.clu_head.specs.Terms as terms
+use Rattle.clu_passes.specs.Clear.{IsOutside}
 use Rattle.clu_passes.specs.Heads.{file_known, AreCounted}
-use Rattle.clu_passes.proofs.Counted.{refused_is}
 use Rattle.clu_passes.proofs.HeadingsTold.{heading_told}
+use Rattle.clu_passes.proofs.OutsideBrackets.{outside_routine}
+use Rattle.clu_passes.proofs.ValuesKnown.{all_by}
 
 -- ---- tests of two lists in either order
 
@@ -64,7 +66,7 @@ module _ {X Y : Type 0} (p : Y → Bool) (q : X → Y → Bool) where
   any_if y true xs = refl
   any_if y false xs = any_neither xs
 
-  any_turned : (xs : List X) (ys : List Y) → list_any (λ (x : X). list_any (λ (y : Y). p y && q x y) ys) xs ≡ list_any (λ (y : Y). p y && list_any (λ (x : X). q x y) xs) ys
+  pub any_turned : (xs : List X) (ys : List Y) → list_any (λ (x : X). list_any (λ (y : Y). p y && q x y) ys) xs ≡ list_any (λ (y : Y). p y && list_any (λ (x : X). q x y) xs) ys
   any_turned xs [] = any_neither xs
   any_turned xs (y ∷ ys) =
       any_either (λ (x : X). p y && q x y) (λ (x : X). list_any (λ (y : Y). p y && q x y) ys) xs
@@ -86,25 +88,24 @@ there_same : (its : Option Node) → headings.is_of_type (kind_of its) ≡ is_th
 there_same None = refl
 there_same (Some node) = of_type_same node.kind
 
-module _ (k : Known) (scope : Scope) (library : List Specification) (refused : List ℕ) (shaped : HaveForms k.syntax.now) (tree : IsTree k.syntax.now) (bits : List Bool) (are : AreCounted k (file_known k scope library refused) bits) where
+module _ (k : Known) (scope : Scope) (library : List Specification) (refused : List ℕ) (shaped : HaveForms k.syntax.now) (tree : IsTree k.syntax.now) (are : AreCounted k (file_known k scope library refused)) where
   abbrev f : File
   f = file_known k scope library refused
 
   abbrev nodes : List Node
   nodes = k.syntax.now
 
-  part_same : (c : ℕ) → c < length nodes → (headings.is_of_type (kind_in f c) && is_refused f c) ≡ is_refused_part nodes k.refused.now k.rounds.now c
+  part_same : (c : ℕ) → c < length nodes → IsOutside f c → (headings.is_of_type (kind_in f c) && is_refused f c) ≡ is_refused_part nodes k.refused.now k.rounds.now c
   unfolding is_refused_part
-  part_same c inside =
-      let begins = are.begins c inside in
-      let size : length bits ≡ length nodes = are.size in
-      ap₂ (λ (a b : Bool). a && b) (there_same (slice_get nodes c))
-      (refused_is f bits are.refused c begins.round (omega (arith, size, inside)) begins.there begins.ordered
-      ∙ ap (λ (counts : List ℕ). grows_in counts (slice_get k.rounds.now c) c) (sym are.counts))
+  part_same c inside outside = ap₂ (λ (a b : Bool). a && b) (there_same (slice_get nodes c)) (are.same c inside outside)
 
-  parts_same : (n : ℕ) → n < length nodes → (cs : List ℕ) → AreBefore n cs → AllByRecursion (λ (c : ℕ). (headings.is_of_type (kind_in f c) && is_refused f c) ≡ is_refused_part nodes k.refused.now k.rounds.now c) cs
-  parts_same n inside [] l = tt
-  parts_same n inside (c ∷ cs) l = let less : c < n = l.0 in (part_same c (omega (arith, less, inside)), parts_same n inside cs l.1)
+  parts_same : (n : ℕ) (x : There nodes n kind.Routine) → AllByRecursion (λ (c : ℕ). (headings.is_of_type (kind_in f c) && is_refused f c) ≡ is_refused_part nodes k.refused.now k.rounds.now c) x.node.children
+  parts_same n x =
+      all_by (λ (c : ℕ). (headings.is_of_type (kind_in f c) && is_refused f c) ≡ is_refused_part nodes k.refused.now k.rounds.now c) x.node.children
+      (λ c i.
+      let here : n < length nodes = slice_get_within nodes n x.node x.at in
+      let less : c < n = of_all (λ (c : ℕ). c < n) c x.node.children (children_before nodes tree shaped n x.node x.at) i in
+      part_same c (omega (arith, less, here)) (outside_routine f are.of_tree are.parents n x.node x.at c i x.is))
 
   module _ (n : ℕ) (x : There nodes n kind.Routine) where
     abbrev r : Routine
@@ -115,13 +116,12 @@ module _ (k : Known) (scope : Scope) (library : List Specification) (refused : L
         ap (λ (i : Item). i.routine.node) (item_there nodes n x.node x.at)
         ∙ ap (λ (k : NodeKind). (routine_of (before n (item_at nodes)) nodes n x.node k).node) x.is
 
-    refused_same : headings.is_refused_heading f r ≡ terms.is_refused_heading nodes k.refused.now k.rounds.now n
+    pub refused_same : headings.is_refused_heading f r ≡ terms.is_refused_heading nodes k.refused.now k.rounds.now n
     refused_same =
         ap (λ (m : ℕ). list_any (λ (d : ℕ). list_any (λ (c : ℕ). headings.is_of_type (kind_in f c) && stands_below f d c) (node_children f (slice_get nodes m))) refused) its_node
         ∙ ap (λ (its : Option Node). list_any (λ (d : ℕ). list_any (λ (c : ℕ). headings.is_of_type (kind_in f c) && stands_below f d c) (node_children f its)) refused) x.at
         ∙ any_turned (λ (c : ℕ). headings.is_of_type (kind_in f c)) (λ (d c : ℕ). stands_below f d c) refused x.node.children
-        ∙ any_each (λ (c : ℕ). headings.is_of_type (kind_in f c) && is_refused f c) (is_refused_part nodes k.refused.now k.rounds.now) x.node.children
-        (parts_same n (slice_get_within nodes n x.node x.at) x.node.children (children_before nodes tree shaped n x.node x.at))
+        ∙ any_each (λ (c : ℕ). headings.is_of_type (kind_in f c) && is_refused f c) (is_refused_part nodes k.refused.now k.rounds.now) x.node.children (parts_same n x)
         ∙ sym (ap (λ (its : Option Node). list_any (is_refused_part nodes k.refused.now k.rounds.now) (children_of its)) x.at)
 
     module _ (place : Place) (old new : List Term) (arena : IsArena new) (constants : List Const) (known : AreSettled nodes place.scope new constants k.values.now) (own : Option TypeId) (home : option_map (type_at (types_of new)) own ≡ place.home) where

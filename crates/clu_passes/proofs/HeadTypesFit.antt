@@ -62,5 +62,5 @@ module _ (k : Known) (asked : Asked) (old new : List Term) (arena : IsArena new)
 
 pub types_fit : (k : Known) (old new : List Term) → IsArena new → (heads : Heads) → AreOf k old new heads → (i : ℕ) (h : Head) → slice_get heads.modules.items i ≡ Some h → HaveTypes (types_of new) h.form
 types_fit k old new arena heads are i h at =
-    each_head k heads.asked old new (HaveTypes (types_of new)) (λ n r is. routine_typed k heads.asked old new arena None [] n r is)
-    (λ cvt exports routines n rs all. listed_typed k heads.asked old new arena cvt exports routines rs all) (modules k.syntax.now) heads.modules.items are.modules i h at
+    each_head k heads.asked old new (HaveTypes (types_of new)) (λ m n r at is. routine_typed k heads.asked old new arena None [] n r is)
+    (λ mid front behind cvt name kinds owns exports routines n rs all. listed_typed k heads.asked mid new arena cvt exports routines rs all) (modules k.syntax.now) heads.modules.items are.modules i h at

@@ -38,7 +38,7 @@ more_is k w some =
 
 -- ---- constants
 
-few_digits : (k n : ℕ) → digits_in k n ≤ k
+pub few_digits : (k n : ℕ) → digits_in k n ≤ k
 unfolding digits_in
 few_digits zero n = let none : digits_in zero n ≡ 0 = refl in omega (arith, none)
 few_digits (suc k) n = by (n / 10 == 0) (few_digits k (n / 10))
@@ -61,7 +61,7 @@ unfolded : (n : ℕ) → digits_onto 64 10 false n [] ≡ decimal n
 unfolding digits
 unfolded n = refl
 
-decimal_is : (n : ℕ) → length (decimal n) ≡ digits_in 64 n
+pub decimal_is : (n : ℕ) → length (decimal n) ≡ digits_in 64 n
 decimal_is n = ap length (sym (unfolded n)) ∙ count 64 n [] ∙ omega arith
 
 number_is : (n : ℕ) → digits_in 64 n ≡ size (decimal n)

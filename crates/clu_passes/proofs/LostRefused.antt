@@ -285,43 +285,50 @@ module _ (f : File) (of : IsFileOfTree f) where
   either_constant true x e h = refl
   either_constant false x e h = ap (λ (y : Bool). y || e) h
 
-  no_type : (n : ℕ) → has_bad_type f types_bad (kind_in f n) n ≡ true → is_no_type_at f n ≡ true
-  no_type n e = refused_by n 4 rule.NotType refl (either_type (is_neither f n && wants_type f n) (is_bad_rep f n) (is_no_type f (kind_in f n) n) (has_bad_type f types_bad (kind_in f n) n) (is_too_long f is_long_type n) e)
+  pub no_type : (n : ℕ) → has_bad_type f types_bad (kind_in f n) n ≡ true → violates f types_bad n rule.NotType ≡ true
+  no_type n e = either_type (is_neither f n && wants_type f n) (is_bad_rep f n) (is_no_type f (kind_in f n) n) (has_bad_type f types_bad (kind_in f n) n) (is_too_long f is_long_type n) e
 
-  no_constant : (n : ℕ) → has_bad_constant f types_bad (kind_in f n) n ≡ true → is_no_type_at f n ≡ true
-  no_constant n e = refused_by n 3 rule.NotConstant refl (either_constant (is_neither f n && not (wants_type f n)) (has_bad_constant f types_bad (kind_in f n) n) (is_too_long f is_long_constant n) e)
+  pub no_constant : (n : ℕ) → has_bad_constant f types_bad (kind_in f n) n ≡ true → violates f types_bad n rule.NotConstant ≡ true
+  no_constant n e = either_constant (is_neither f n && not (wants_type f n)) (has_bad_constant f types_bad (kind_in f n) n) (is_too_long f is_long_constant n) e
 
-  pub bad_there : (k : NodeKind) (n right : ℕ) (x : HasEquate n right) → kind_in f n ≡ k → is_bad_name f types_bad n x.name ≡ true → is_no_type_at f n ≡ true
+  abbrev pub IsBadThere : ℕ → Type 0
+  IsBadThere n = (has_bad_type f types_bad (kind_in f n) n ≡ true) ⊎ (has_bad_constant f types_bad (kind_in f n) n ≡ true)
+
+  pub bad_there : (k : NodeKind) (n right : ℕ) (x : HasEquate n right) → kind_in f n ≡ k → is_bad_name f types_bad n x.name ≡ true → IsBadThere n
   bad_there kind.Name n right x is bad = by (is_type_wanted f types_bad (wanted f n) n) refl
     where
       first : first_name_at f n ≡ x.name
       first = ap first_name (sym (ap (λ (k : NodeKind). names_unfolded f k n) is) ∙ x.listed)
 
-      by : (b : Bool) → is_type_wanted f types_bad (wanted f n) n ≡ b → is_no_type_at f n ≡ true
+      by : (b : Bool) → is_type_wanted f types_bad (wanted f n) n ≡ b → IsBadThere n
       by true wants =
-          no_type n
+          inl
           (ap (λ (k : NodeKind). has_bad_type f types_bad k n) is
           ∙ ap (λ (b : Bool). is_bad_name f types_bad n (first_name_at f n) && b) wants
           ∙ ap (λ (name : Identifier). is_bad_name f types_bad n name && true) first
           ∙ ap (λ (b : Bool). b && true) bad)
       by false wants =
-          no_constant n
+          inr
           (ap (λ (k : NodeKind). has_bad_constant f types_bad k n) is
           ∙ ap (λ (b : Bool). is_bad_name f types_bad n (first_name_at f n) && not b) wants
           ∙ ap (λ (name : Identifier). is_bad_name f types_bad n name && true) first
           ∙ ap (λ (b : Bool). b && true) bad)
   bad_there kind.NameT n right x is bad =
       let first : first_name_at f n ≡ x.name = ap first_name (sym (ap (λ (k : NodeKind). names_unfolded f k n) is) ∙ x.listed) in
-      no_type n (ap (λ (k : NodeKind). has_bad_type f types_bad k n) is ∙ ap (is_bad_name f types_bad n) first ∙ bad)
+      inl (ap (λ (k : NodeKind). has_bad_type f types_bad k n) is ∙ ap (is_bad_name f types_bad n) first ∙ bad)
   bad_there kind.Simple n right x is bad =
       let word = word_first (item f n).type x.name x.others (sym (ap (λ (k : NodeKind). names_unfolded f k n) is) ∙ x.listed) in
-      no_type n
+      inl
       (ap (λ (k : NodeKind). has_bad_type f types_bad k n) is
       ∙ ap (λ (b : Bool). b && is_bad_name f types_bad n (codes "rep")) word.0
       ∙ ap (is_bad_name f types_bad n) (sym word.1)
       ∙ bad)
   bad_there kind.File n right x is bad = no_more x.name x.others (sym (ap (λ (k : NodeKind). names_unfolded f k n) is) ∙ x.listed)
   bad_there _ n right x is bad = no_more x.name x.others (sym (ap (λ (k : NodeKind). names_unfolded f k n) is) ∙ x.listed)
+
+  pub bad_refused : (n : ℕ) → IsBadThere n → is_no_type_at f n ≡ true
+  bad_refused n (inl e) = refused_by n 4 rule.NotType refl (no_type n e)
+  bad_refused n (inr e) = refused_by n 3 rule.NotConstant refl (no_constant n e)
 
   pub bad_named : (n right : ℕ) (x : HasEquate n right) → is_circular f x.equate ≡ false → types_bad x.equate ≡ true → is_bad_name f types_bad n x.name ≡ true
   bad_named n right x circle bad = ap (is_bad_at f types_bad) x.named ∙ ap (λ (b : Bool). bad_unless f types_bad b x.equate) circle ∙ bad
@@ -387,7 +394,7 @@ module _ (f : File) (of : IsFileOfTree f) where
       by : (b : Bool) → is_circular f x.equate ≡ b → IsReason f n ⊎ NotLost right
       by true circle = inl (inl (refused_by n 2 rule.CircularEquate refl (circle_there (kind_in f n) n right x refl circle)))
       by false circle = elim (decided x.equate right x.side_of circle (sym (ap (leads_on f leads) x.named) ∙ none_left (leads_on f leads (equate_named f n x.name)) (list_any (leads_on f leads) (equates_at f n x.others)) none_first)) [
-        | inl bad ↦ inl (inl (bad_there (kind_in f n) n right x refl (bad_named n right x circle bad)))
+        | inl bad ↦ inl (inl (bad_refused n (bad_there (kind_in f n) n right x refl (bad_named n right x circle bad))))
         | inr found ↦ inr found
       ]
 

@@ -18,7 +18,7 @@ use Rattle.clu_operations.specs.Told.{Ask, Told}
 use Rattle.clu_type_rules.specs.Closed.{IsAnswered, IsClosed, IsMet}
 use Rattle.clu_type_rules.specs.Meeting as tables
 use Rattle.clu_type_rules.specs.Meeting.{plain, Meets}
-use Rattle.clu_passes.specs.Met.{IsComponent, IsPartOf, HasTypeAt, HasType, ArePut, IsWhole, AreWhole, ActualsWhole, given_counted, counted, asked_told, found_told, TellCounted}
+use Rattle.clu_passes.specs.Met.{IsComponent, IsPartOf, given_counted, counted, asked_told, found_told, TellCounted}
 use Rattle.clu_passes.proofs.PartNeeds.{needs_of_parts}
 
 -- ---- tests and lists
@@ -160,19 +160,22 @@ asks_by wanted None = None
 -- ---- the actual of a number
 
 module _ (given : List Demand) (specified : Identifier → Option Specification) where
-  first_actual : (t : CluType) (rest : Actuals) (name : List ℕ) (wanted : CluType) → actual_meets given specified (actual_type t rest) 1 name wanted ≡ meets given specified t name wanted
-  first_actual t rest name wanted = ap (λ (b : Bool). if b then meets given specified t name wanted else actual_meets given specified rest (1 - 1) name wanted) (eq-eqb 1 1 refl)
+  abbrev put : Actuals → ℕ → Identifier → CluType → Bool
+  put placed = λ k op w. actual_meets given specified placed k (is_included w (given_of given k op)) op w
 
-  later_actual : (t : CluType) (rest : Actuals) (i : ℕ) (name : List ℕ) (wanted : CluType) → actual_meets given specified (actual_type t rest) (suc (suc i)) name wanted ≡ actual_meets given specified rest (suc i) name wanted
-  later_actual t rest i name wanted =
-      ap (λ (b : Bool). if b then meets given specified t name wanted else actual_meets given specified rest (suc (suc i) - 1) name wanted) (not_first i)
-      ∙ ap (λ (k : ℕ). actual_meets given specified rest k name wanted) (less_one i)
+  first_actual : (t : CluType) (rest : Actuals) (stays : Bool) (name : List ℕ) (wanted : CluType) → actual_meets given specified (actual_type t rest) 1 stays name wanted ≡ meets given specified t name wanted
+  first_actual t rest stays name wanted = ap (λ (b : Bool). if b then meets given specified t name wanted else actual_meets given specified rest (1 - 1) stays name wanted) (eq-eqb 1 1 refl)
+
+  later_actual : (t : CluType) (rest : Actuals) (i : ℕ) (stays : Bool) (name : List ℕ) (wanted : CluType) → actual_meets given specified (actual_type t rest) (suc (suc i)) stays name wanted ≡ actual_meets given specified rest (suc i) stays name wanted
+  later_actual t rest i stays name wanted =
+      ap (λ (b : Bool). if b then meets given specified t name wanted else actual_meets given specified rest (suc (suc i) - 1) stays name wanted) (not_first i)
+      ∙ ap (λ (k : ℕ). actual_meets given specified rest k stays name wanted) (less_one i)
 
   -- none has the number 0
-  no_actual : (placed : Actuals) (k : ℕ) → k ≡ 0 → (name : List ℕ) (wanted : CluType) → actual_meets given specified placed k name wanted ≡ false
-  no_actual no_actuals k e name wanted = refl
-  no_actual (actual_type t rest) k e name wanted =
-      ap (λ (b : Bool). if b then meets given specified t name wanted else actual_meets given specified rest (k - 1) name wanted) (not_zero k e) ∙ no_actual rest (k - 1) (omega (arith, e)) name wanted
+  no_actual : (placed : Actuals) (k : ℕ) → k ≡ 0 → (stays : Bool) (name : List ℕ) (wanted : CluType) → actual_meets given specified placed k stays name wanted ≡ stays
+  no_actual no_actuals k e stays name wanted = refl
+  no_actual (actual_type t rest) k e stays name wanted =
+      ap (λ (b : Bool). if b then meets given specified t name wanted else actual_meets given specified rest (k - 1) stays name wanted) (not_zero k e) ∙ no_actual rest (k - 1) (omega (arith, e)) stays name wanted
     where
       not_zero : (k : ℕ) → k ≡ 0 → (k == 1) ≡ false
       not_zero k e = by (k == 1) refl
@@ -180,8 +183,8 @@ module _ (given : List Demand) (specified : Identifier → Option Specification)
           by : (b : Bool) → (k == 1) ≡ b → b ≡ false
           by true is = absurd (omega (arith, e, eqb-true k 1 is))
           by false is = refl
-  no_actual (actual_const c rest) k e name wanted = no_actual rest (k - 1) (omega (arith, e)) name wanted
-  no_actual (actual_param p rest) k e name wanted = no_actual rest (k - 1) (omega (arith, e)) name wanted
+  no_actual (actual_const c rest) k e stays name wanted = no_actual rest (k - 1) (omega (arith, e)) stays name wanted
+  no_actual (actual_param p rest) k e stays name wanted = no_actual rest (k - 1) (omega (arith, e)) stays name wanted
 
 module _ (given : List Demand) (specified : Identifier → Option Specification) where
   abbrev asks : Ask → Option (List Ask)
@@ -232,68 +235,69 @@ module _ (given : List Demand) (specified : Identifier → Option Specification)
         let a = answered (parameter k) name wanted h (Some (given_counted d)) (ap (option_map given_counted) e) in
         ap (λ (it : Found). may_fit it.type wanted) (same_Some (given_counted d) a.0 a.1) ∙ a.2.0
 
-    by_number : (placed : Actuals) (k : ℕ) (op : List ℕ) (w : CluType) → HasType placed k → ((i : ℕ) → HasTypeAt placed i → (op : List ℕ) (w : CluType) → There (type_of_actual placed i (parameter (suc i))) op w → actual_meets given specified placed (suc i) op w ≡ true)
-        → There (type_put placed k) op w → actual_meets given specified placed k op w ≡ true
-    by_number placed zero op w has each there = absurd has
-    by_number placed (suc i) op w has each there = each i has op w there
+    -- of each actual, where what its parameter would be is so
+    abbrev EachActual : Actuals → Type 0
+    EachActual placed = (i : ℕ) (other : CluType) (stays : Bool) (op : List ℕ) (w : CluType) → (There other op w → stays ≡ true) → There (type_of_actual placed i other) op w → actual_meets given specified placed (suc i) stays op w ≡ true
 
-    one_put : (placed : Actuals) (demands : List Demand) (d : Demand) → Contains demands d → (o : Option CluType) → d.wanted ≡ o → ((v : CluType) → d.wanted ≡ Some v → HasType placed d.parameter) → ((x : Asked) → Contains (flat_map (demanded placed) demands) x → There x.of x.operation x.wanted)
-        → ((i : ℕ) → HasTypeAt placed i → (op : List ℕ) (w : CluType) → There (type_of_actual placed i (parameter (suc i))) op w → actual_meets given specified placed (suc i) op w ≡ true) → is_put_met (actual_meets given specified placed) placed d o ≡ true
-    one_put placed demands d k None e put found each = refl
-    one_put placed demands d k (Some v) e put found each =
+    by_number : (placed : Actuals) (k : ℕ) (op : List ℕ) (w : CluType) → EachActual placed → There (type_put placed k) op w → put given specified placed k op w ≡ true
+    by_number placed zero op w each there = no_actual given specified placed zero refl (is_included w (given_of given zero op)) op w ∙ of_given zero op w there (given_of given zero op) refl
+    by_number placed (suc i) op w each there = each i (parameter (suc i)) (is_included w (given_of given (suc i) op)) op w (λ h. of_given (suc i) op w h (given_of given (suc i) op) refl) there
+
+    one_put : (placed : Actuals) (demands : List Demand) (d : Demand) → Contains demands d → (o : Option CluType) → d.wanted ≡ o → ((x : Asked) → Contains (flat_map (demanded placed) demands) x → There x.of x.operation x.wanted) → EachActual placed → is_put_met (put given specified placed) placed d o ≡ true
+    one_put placed demands d k None e found each = refl
+    one_put placed demands d k (Some v) e found each =
         let x : Asked = record { of = type_put placed d.parameter; operation = d.operation; wanted = substituted placed v; in_set = d.in_set } in
-        by_number placed d.parameter d.operation (substituted placed v) (put v e) each (found x (in_flat (demanded placed) demands d x k (subst (λ (o : Option CluType). Contains (asked_as placed d o) x) (sym e) (in_head x []))))
+        by_number placed d.parameter d.operation (substituted placed v) each (found x (in_flat (demanded placed) demands d x k (subst (λ (o : Option CluType). Contains (asked_as placed d o) x) (sym e) (in_head x []))))
 
-    of_heading : (c : List ℕ) (placed : Actuals) (name : List ℕ) (wanted : CluType) → There (cluster_of c placed) name wanted → (o : Option Heading) → exported_operation name (specified c) ≡ o → ArePut placed (exported_operation name (specified c))
-        → ((i : ℕ) → HasTypeAt placed i → (op : List ℕ) (w : CluType) → There (type_of_actual placed i (parameter (suc i))) op w → actual_meets given specified placed (suc i) op w ≡ true) → is_met_in (actual_meets given specified placed) placed wanted o ≡ true
-    of_heading c placed name wanted h None e put each = let a = answered (cluster_of c placed) name wanted h None (ap (option_map (routine_found placed)) e) in absurd (none-some a.0 a.1)
-    of_heading c placed name wanted h (Some its) e put each =
+    of_heading : (c : List ℕ) (placed : Actuals) (name : List ℕ) (wanted : CluType) → There (cluster_of c placed) name wanted → (o : Option Heading) → exported_operation name (specified c) ≡ o → EachActual placed → is_met_in (put given specified placed) placed wanted o ≡ true
+    of_heading c placed name wanted h None e each = let a = answered (cluster_of c placed) name wanted h None (ap (option_map (routine_found placed)) e) in absurd (none-some a.0 a.1)
+    of_heading c placed name wanted h (Some its) e each =
         let a = answered (cluster_of c placed) name wanted h (Some (routine_found placed its)) (ap (option_map (routine_found placed)) e) in
         let found : Answer wanted (routine_found placed its) = subst (Answer wanted) (sym (same_Some (routine_found placed its) a.0 a.1)) a.2 in
-        and_both (may_fit (option_map (substituted placed) its.type) wanted) (list_all (λ d. is_put_met (actual_meets given specified placed) placed d d.wanted) its.demands) found.0
-        (all_true (λ d. is_put_met (actual_meets given specified placed) placed d d.wanted) its.demands (λ d k. one_put placed its.demands d k d.wanted refl (λ v e2. subst (ArePut placed) e put d v k e2) (λ w there. found.1 w there) each))
+        and_both (may_fit (option_map (substituted placed) its.type) wanted) (list_all (λ d. is_put_met (put given specified placed) placed d d.wanted) its.demands) found.0
+        (all_true (λ d. is_put_met (put given specified placed) placed d d.wanted) its.demands (λ d k. one_put placed its.demands d k d.wanted refl (λ w there. found.1 w there) each))
 
     mutual
-      sound : (t : CluType) → IsWhole given specified t → (name : List ℕ) (wanted : CluType) → There t name wanted → meets given specified t name wanted ≡ true
-      sound null_type whole name wanted h = builtin_met null_type name wanted (λ of op w. true) refl h (λ o e n k there. refl)
-      sound bool_type whole name wanted h = builtin_met bool_type name wanted (λ of op w. true) refl h (λ o e n k there. refl)
-      sound int_type whole name wanted h = builtin_met int_type name wanted (λ of op w. true) refl h (λ o e n k there. refl)
-      sound char_type whole name wanted h = builtin_met char_type name wanted (λ of op w. true) refl h (λ o e n k there. refl)
-      sound string_type whole name wanted h = builtin_met string_type name wanted (λ of op w. true) refl h (λ o e n k there. refl)
-      sound any_type whole name wanted h = builtin_met any_type name wanted (λ of op w. true) refl h (λ o e n k there. refl)
-      sound stream_type whole name wanted h = builtin_met stream_type name wanted (λ of op w. true) refl h (λ o e n k there. refl)
-      sound (proc_of args results signals) whole name wanted h = builtin_met (proc_of args results signals) name wanted (λ of op w. true) refl h (λ o e n k there. refl)
-      sound (iter_of args results signals) whole name wanted h = builtin_met (iter_of args results signals) name wanted (λ of op w. true) refl h (λ o e n k there. refl)
-      sound (array_of t) whole name wanted h =
+      sound : (t : CluType) (name : List ℕ) (wanted : CluType) → There t name wanted → meets given specified t name wanted ≡ true
+      sound null_type name wanted h = builtin_met null_type name wanted (λ of op w. true) refl h (λ o e n k there. refl)
+      sound bool_type name wanted h = builtin_met bool_type name wanted (λ of op w. true) refl h (λ o e n k there. refl)
+      sound int_type name wanted h = builtin_met int_type name wanted (λ of op w. true) refl h (λ o e n k there. refl)
+      sound char_type name wanted h = builtin_met char_type name wanted (λ of op w. true) refl h (λ o e n k there. refl)
+      sound string_type name wanted h = builtin_met string_type name wanted (λ of op w. true) refl h (λ o e n k there. refl)
+      sound any_type name wanted h = builtin_met any_type name wanted (λ of op w. true) refl h (λ o e n k there. refl)
+      sound stream_type name wanted h = builtin_met stream_type name wanted (λ of op w. true) refl h (λ o e n k there. refl)
+      sound (proc_of args results signals) name wanted h = builtin_met (proc_of args results signals) name wanted (λ of op w. true) refl h (λ o e n k there. refl)
+      sound (iter_of args results signals) name wanted h = builtin_met (iter_of args results signals) name wanted (λ of op w. true) refl h (λ o e n k there. refl)
+      sound (array_of t) name wanted h =
           builtin_met (array_of t) name wanted (λ of op w. meets given specified t op w) refl h
-          (λ o e n k there. sound t whole n.op n.wanted (subst (λ (u : CluType). There u n.op n.wanted) (sym (needs_of_parts (array_of t) name o e n k)) there))
-      sound (sequence_of t) whole name wanted h =
+          (λ o e n k there. sound t n.op n.wanted (subst (λ (u : CluType). There u n.op n.wanted) (sym (needs_of_parts (array_of t) name o e n k)) there))
+      sound (sequence_of t) name wanted h =
           builtin_met (sequence_of t) name wanted (λ of op w. meets given specified t op w) refl h
-          (λ o e n k there. sound t whole n.op n.wanted (subst (λ (u : CluType). There u n.op n.wanted) (sym (needs_of_parts (sequence_of t) name o e n k)) there))
-      sound (record_of fs) whole name wanted h =
-          builtin_met (record_of fs) name wanted (part_meets given specified fs) refl h (λ o e n k there. sound_part fs whole n.of (needs_of_parts (record_of fs) name o e n k) n.op n.wanted there)
-      sound (struct_of fs) whole name wanted h =
-          builtin_met (struct_of fs) name wanted (part_meets given specified fs) refl h (λ o e n k there. sound_part fs whole n.of (needs_of_parts (struct_of fs) name o e n k) n.op n.wanted there)
-      sound (oneof_of fs) whole name wanted h =
-          builtin_met (oneof_of fs) name wanted (part_meets given specified fs) refl h (λ o e n k there. sound_part fs whole n.of (needs_of_parts (oneof_of fs) name o e n k) n.op n.wanted there)
-      sound (variant_of fs) whole name wanted h =
-          builtin_met (variant_of fs) name wanted (part_meets given specified fs) refl h (λ o e n k there. sound_part fs whole n.of (needs_of_parts (variant_of fs) name o e n k) n.op n.wanted there)
-      sound (cluster_of c placed) whole name wanted h = of_heading c placed name wanted h (exported_operation name (specified c)) refl (whole.0 name) (λ i has op w there. sound_actual placed whole.1 i has (parameter (suc i)) op w there)
-      sound (parameter k) whole name wanted h = of_given k name wanted h (given_of given k name) refl
+          (λ o e n k there. sound t n.op n.wanted (subst (λ (u : CluType). There u n.op n.wanted) (sym (needs_of_parts (sequence_of t) name o e n k)) there))
+      sound (record_of fs) name wanted h =
+          builtin_met (record_of fs) name wanted (part_meets given specified fs) refl h (λ o e n k there. sound_part fs n.of (needs_of_parts (record_of fs) name o e n k) n.op n.wanted there)
+      sound (struct_of fs) name wanted h =
+          builtin_met (struct_of fs) name wanted (part_meets given specified fs) refl h (λ o e n k there. sound_part fs n.of (needs_of_parts (struct_of fs) name o e n k) n.op n.wanted there)
+      sound (oneof_of fs) name wanted h =
+          builtin_met (oneof_of fs) name wanted (part_meets given specified fs) refl h (λ o e n k there. sound_part fs n.of (needs_of_parts (oneof_of fs) name o e n k) n.op n.wanted there)
+      sound (variant_of fs) name wanted h =
+          builtin_met (variant_of fs) name wanted (part_meets given specified fs) refl h (λ o e n k there. sound_part fs n.of (needs_of_parts (variant_of fs) name o e n k) n.op n.wanted there)
+      sound (cluster_of c placed) name wanted h = of_heading c placed name wanted h (exported_operation name (specified c)) refl (λ i other stays op w left there. sound_actual placed i other stays op w left there)
+      sound (parameter k) name wanted h = of_given k name wanted h (given_of given k name) refl
 
-      sound_part : (fs : Fields) → AreWhole given specified fs → (of : CluType) → IsComponent fs of → (name : List ℕ) (wanted : CluType) → There of name wanted → part_meets given specified fs of name wanted ≡ true
-      sound_part no_fields whole of is name wanted h = absurd is
-      sound_part (field_and selector t fs) whole of is name wanted h =
-          in_part t of name wanted fs is (λ e. sound t whole.0 name wanted (subst (λ (u : CluType). There u name wanted) (sym e) h)) (λ later. sound_part fs whole.1 of later name wanted h) (same_type t of) refl
+      sound_part : (fs : Fields) (of : CluType) → IsComponent fs of → (name : List ℕ) (wanted : CluType) → There of name wanted → part_meets given specified fs of name wanted ≡ true
+      sound_part no_fields of is name wanted h = absurd is
+      sound_part (field_and selector t fs) of is name wanted h =
+          in_part t of name wanted fs is (λ e. sound t name wanted (subst (λ (u : CluType). There u name wanted) (sym e) h)) (λ later. sound_part fs of later name wanted h) (same_type t of) refl
 
-      sound_actual : (placed : Actuals) → ActualsWhole given specified placed → (i : ℕ) → HasTypeAt placed i → (other : CluType) (name : List ℕ) (wanted : CluType) → There (type_of_actual placed i other) name wanted → actual_meets given specified placed (suc i) name wanted ≡ true
-      sound_actual no_actuals whole i has other name wanted h = absurd has
-      sound_actual (actual_type t rest) whole zero has other name wanted h = first_actual given specified t rest name wanted ∙ sound t whole.0 name wanted h
-      sound_actual (actual_type t rest) whole (suc i) has other name wanted h = later_actual given specified t rest i name wanted ∙ sound_actual rest whole.1 i has other name wanted h
-      sound_actual (actual_const c rest) whole zero has other name wanted h = absurd has
-      sound_actual (actual_const c rest) whole (suc i) has other name wanted h = ap (λ (k : ℕ). actual_meets given specified rest k name wanted) (less_one i) ∙ sound_actual rest whole i has other name wanted h
-      sound_actual (actual_param p rest) whole zero has other name wanted h = absurd has
-      sound_actual (actual_param p rest) whole (suc i) has other name wanted h = ap (λ (k : ℕ). actual_meets given specified rest k name wanted) (less_one i) ∙ sound_actual rest whole i has other name wanted h
+      sound_actual : (placed : Actuals) (i : ℕ) (other : CluType) (stays : Bool) (name : List ℕ) (wanted : CluType) → (There other name wanted → stays ≡ true) → There (type_of_actual placed i other) name wanted → actual_meets given specified placed (suc i) stays name wanted ≡ true
+      sound_actual no_actuals i other stays name wanted left h = left h
+      sound_actual (actual_type t rest) zero other stays name wanted left h = first_actual given specified t rest stays name wanted ∙ sound t name wanted h
+      sound_actual (actual_type t rest) (suc i) other stays name wanted left h = later_actual given specified t rest i stays name wanted ∙ sound_actual rest i other stays name wanted left h
+      sound_actual (actual_const c rest) zero other stays name wanted left h = no_actual given specified rest (1 - 1) (omega arith) stays name wanted ∙ left h
+      sound_actual (actual_const c rest) (suc i) other stays name wanted left h = ap (λ (k : ℕ). actual_meets given specified rest k stays name wanted) (less_one i) ∙ sound_actual rest i other stays name wanted left h
+      sound_actual (actual_param p rest) zero other stays name wanted left h = no_actual given specified rest (1 - 1) (omega arith) stays name wanted ∙ left h
+      sound_actual (actual_param p rest) (suc i) other stays name wanted left h = ap (λ (k : ℕ). actual_meets given specified rest k stays name wanted) (less_one i) ∙ sound_actual rest i other stays name wanted left h
 
   -- ---- what is met is closed
 
@@ -315,7 +319,7 @@ module _ (given : List Demand) (specified : Identifier → Option Specification)
   nothing_needed : (t : CluType) (name : List ℕ) (o : Operation) → operation t name ≡ Some o → ((of : CluType) → IsPartOf t of → ⊥) → (n : Needed) → Contains o.needs n → IsMet asks (ask n.of n.op n.wanted)
   nothing_needed t name o e none n k = absurd (none n.of (needs_of_parts t name o e n k))
 
-  put_closed : (placed : Actuals) (d : Demand) → ((k : ℕ) (op : List ℕ) (w : CluType) → actual_meets given specified placed k op w ≡ true → IsMet asks (ask (type_put placed k) op w)) → (o : Option CluType) → is_put_met (actual_meets given specified placed) placed d o ≡ true
+  put_closed : (placed : Actuals) (d : Demand) → ((k : ℕ) (op : List ℕ) (w : CluType) → put given specified placed k op w ≡ true → IsMet asks (ask (type_put placed k) op w)) → (o : Option CluType) → is_put_met (put given specified placed) placed d o ≡ true
       → (x : Asked) → Contains (asked_as placed d o) x → IsMet asks (asked_of x)
   put_closed placed d each None met x h = in_none x h
   put_closed placed d each (Some w) met x h = elim (head_or_tail _ [] x h) [
@@ -323,19 +327,19 @@ module _ (given : List Demand) (specified : Identifier → Option Specification)
     | inr there ↦ in_none x there
   ]
 
-  heading_closed : (c : List ℕ) (placed : Actuals) (name : List ℕ) (wanted : CluType) → ((k : ℕ) (op : List ℕ) (w : CluType) → actual_meets given specified placed k op w ≡ true → IsMet asks (ask (type_put placed k) op w)) → (o : Option Heading) → exported_operation name (specified c) ≡ o
-      → is_met_in (actual_meets given specified placed) placed wanted o ≡ true → IsMet asks (ask (cluster_of c placed) name wanted)
+  heading_closed : (c : List ℕ) (placed : Actuals) (name : List ℕ) (wanted : CluType) → ((k : ℕ) (op : List ℕ) (w : CluType) → put given specified placed k op w ≡ true → IsMet asks (ask (type_put placed k) op w)) → (o : Option Heading) → exported_operation name (specified c) ≡ o
+      → is_met_in (put given specified placed) placed wanted o ≡ true → IsMet asks (ask (cluster_of c placed) name wanted)
   heading_closed c placed name wanted each None e met = absurd (true≢false (sym met))
   heading_closed c placed name wanted each (Some its) e met =
       let fit : Bool = may_fit (option_map (substituted placed) its.type) wanted in
-      let rest : Bool = list_all (λ d. is_put_met (actual_meets given specified placed) placed d d.wanted) its.demands in
+      let rest : Bool = list_all (λ d. is_put_met (put given specified placed) placed d d.wanted) its.demands in
       is_met asks (ask (cluster_of c placed) name wanted) (map asked_of (flat_map (demanded placed) its.demands))
       (ap (λ (o : Option Heading). asks_by wanted (option_map (routine_found placed) o)) e ∙ ap (λ (b : Bool). if b then Some (map asked_of (flat_map (demanded placed) its.demands)) else None) (and_left fit rest met))
       (λ m h.
       (let r = from_mapped asked_of (flat_map (demanded placed) its.demands) m h in
       let q = from_flat (demanded placed) its.demands r.0 r.1 in
       subst (λ (x : Ask). IsMet asks x) r.2
-      (put_closed placed q.0 each q.0.wanted (each_true (λ d. is_put_met (actual_meets given specified placed) placed d d.wanted) its.demands (and_right fit rest met) q.0 q.1) r.0 q.2)))
+      (put_closed placed q.0 each q.0.wanted (each_true (λ d. is_put_met (put given specified placed) placed d d.wanted) its.demands (and_right fit rest met) q.0 q.1) r.0 q.2)))
 
   abbrev none_asked : Option (List Ask)
   none_asked = Some []
@@ -350,10 +354,11 @@ module _ (given : List Demand) (specified : Identifier → Option Specification)
   either_part t of name wanted fs here later true e met = subst (λ (u : CluType). IsMet asks (ask u name wanted)) (types_are t of e) (here met)
   either_part t of name wanted fs here later false e met = later met
 
-  number_closed : (placed : Actuals) → ((i : ℕ) (other : CluType) (op : List ℕ) (w : CluType) → actual_meets given specified placed (suc i) op w ≡ true → IsMet asks (ask (type_of_actual placed i other) op w))
-      → (k : ℕ) (op : List ℕ) (w : CluType) → actual_meets given specified placed k op w ≡ true → IsMet asks (ask (type_put placed k) op w)
-  number_closed placed each zero op w met = absurd (true≢false (sym met ∙ no_actual given specified placed zero refl op w))
-  number_closed placed each (suc i) op w met = each i (parameter (suc i)) op w met
+  number_closed : (placed : Actuals)
+      → ((i : ℕ) (other : CluType) (stays : Bool) (op : List ℕ) (w : CluType) → (stays ≡ true → IsMet asks (ask other op w)) → actual_meets given specified placed (suc i) stays op w ≡ true → IsMet asks (ask (type_of_actual placed i other) op w))
+      → (k : ℕ) (op : List ℕ) (w : CluType) → put given specified placed k op w ≡ true → IsMet asks (ask (type_put placed k) op w)
+  number_closed placed each zero op w met = given_closed zero op w (given_of given zero op) refl (sym (no_actual given specified placed zero refl (is_included w (given_of given zero op)) op w) ∙ met)
+  number_closed placed each (suc i) op w met = each i (parameter (suc i)) (is_included w (given_of given (suc i) op)) op w (λ e. given_closed (suc i) op w (given_of given (suc i) op) refl e) met
 
   mutual
     complete : (t : CluType) (name : List ℕ) (wanted : CluType) → meets given specified t name wanted ≡ true → IsMet asks (ask t name wanted)
@@ -378,21 +383,21 @@ module _ (given : List Demand) (specified : Identifier → Option Specification)
     complete (struct_of fs) name wanted met = builtin_closed (struct_of fs) name wanted (part_meets given specified fs) refl met (λ o e n k t. complete_part fs n.of n.op n.wanted t)
     complete (oneof_of fs) name wanted met = builtin_closed (oneof_of fs) name wanted (part_meets given specified fs) refl met (λ o e n k t. complete_part fs n.of n.op n.wanted t)
     complete (variant_of fs) name wanted met = builtin_closed (variant_of fs) name wanted (part_meets given specified fs) refl met (λ o e n k t. complete_part fs n.of n.op n.wanted t)
-    complete (cluster_of c placed) name wanted met = heading_closed c placed name wanted (number_closed placed (λ i other op w e. complete_actual placed i other op w e)) (exported_operation name (specified c)) refl met
+    complete (cluster_of c placed) name wanted met = heading_closed c placed name wanted (number_closed placed (λ i other stays op w left e. complete_actual placed i other stays op w left e)) (exported_operation name (specified c)) refl met
     complete (parameter k) name wanted met = given_closed k name wanted (given_of given k name) refl met
 
     complete_part : (fs : Fields) (of : CluType) (name : List ℕ) (wanted : CluType) → part_meets given specified fs of name wanted ≡ true → IsMet asks (ask of name wanted)
     complete_part no_fields of name wanted met = absurd (true≢false (sym met))
     complete_part (field_and selector t fs) of name wanted met = either_part t of name wanted fs (λ e. complete t name wanted e) (λ e. complete_part fs of name wanted e) (same_type t of) refl met
 
-    complete_actual : (placed : Actuals) (i : ℕ) (other : CluType) (name : List ℕ) (wanted : CluType) → actual_meets given specified placed (suc i) name wanted ≡ true → IsMet asks (ask (type_of_actual placed i other) name wanted)
-    complete_actual no_actuals i other name wanted met = absurd (true≢false (sym met))
-    complete_actual (actual_type t rest) zero other name wanted met = complete t name wanted (sym (first_actual given specified t rest name wanted) ∙ met)
-    complete_actual (actual_type t rest) (suc i) other name wanted met = complete_actual rest i other name wanted (sym (later_actual given specified t rest i name wanted) ∙ met)
-    complete_actual (actual_const c rest) zero other name wanted met = absurd (true≢false (sym met ∙ no_actual given specified rest (1 - 1) (omega arith) name wanted))
-    complete_actual (actual_const c rest) (suc i) other name wanted met = complete_actual rest i other name wanted (sym (ap (λ (k : ℕ). actual_meets given specified rest k name wanted) (less_one i)) ∙ met)
-    complete_actual (actual_param p rest) zero other name wanted met = absurd (true≢false (sym met ∙ no_actual given specified rest (1 - 1) (omega arith) name wanted))
-    complete_actual (actual_param p rest) (suc i) other name wanted met = complete_actual rest i other name wanted (sym (ap (λ (k : ℕ). actual_meets given specified rest k name wanted) (less_one i)) ∙ met)
+    complete_actual : (placed : Actuals) (i : ℕ) (other : CluType) (stays : Bool) (name : List ℕ) (wanted : CluType) → (stays ≡ true → IsMet asks (ask other name wanted)) → actual_meets given specified placed (suc i) stays name wanted ≡ true → IsMet asks (ask (type_of_actual placed i other) name wanted)
+    complete_actual no_actuals i other stays name wanted left met = left met
+    complete_actual (actual_type t rest) zero other stays name wanted left met = complete t name wanted (sym (first_actual given specified t rest stays name wanted) ∙ met)
+    complete_actual (actual_type t rest) (suc i) other stays name wanted left met = complete_actual rest i other stays name wanted left (sym (later_actual given specified t rest i stays name wanted) ∙ met)
+    complete_actual (actual_const c rest) zero other stays name wanted left met = left (sym (no_actual given specified rest (1 - 1) (omega arith) stays name wanted) ∙ met)
+    complete_actual (actual_const c rest) (suc i) other stays name wanted left met = complete_actual rest i other stays name wanted left (sym (ap (λ (k : ℕ). actual_meets given specified rest k stays name wanted) (less_one i)) ∙ met)
+    complete_actual (actual_param p rest) zero other stays name wanted left met = left (sym (no_actual given specified rest (1 - 1) (omega arith) stays name wanted) ∙ met)
+    complete_actual (actual_param p rest) (suc i) other stays name wanted left met = complete_actual rest i other stays name wanted left (sym (ap (λ (k : ℕ). actual_meets given specified rest k stays name wanted) (less_one i)) ∙ met)
 
   -- ---- by what is told
 
@@ -414,8 +419,8 @@ module _ (given : List Demand) (specified : Identifier → Option Specification)
     asks_same : (a : Ask) → tables.asks_of found a ≡ asks a
     asks_same a = told_same a.wanted (found a.of a.operation) ∙ ap (asks_by a.wanted) (tell a.of a.operation)
 
-    pub met_same : (a : Ask) → IsWhole given specified a.of → Meets found a ↔ IsTrue (meets given specified a.of a.operation a.wanted)
-    met_same a whole = (
-      λ m. sound m.0 (λ n h. let r = m.2 n h in (r.0, sym (asks_same n) ∙ r.1, r.2)) a.of whole a.operation a.wanted m.1,
+    pub met_same : (a : Ask) → Meets found a ↔ IsTrue (meets given specified a.of a.operation a.wanted)
+    met_same a = (
+      λ m. sound m.0 (λ n h. let r = m.2 n h in (r.0, sym (asks_same n) ∙ r.1, r.2)) a.of a.operation a.wanted m.1,
       λ e. let m = complete a.of a.operation a.wanted e in (m.0, m.1, λ n h. let r = m.2 n h in (r.0, asks_same n ∙ r.1, r.2)),
     )

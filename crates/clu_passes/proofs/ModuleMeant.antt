@@ -1,37 +1,33 @@
 -- The first name of a node, as the tables say what it means: which module it is, of what kinds its parameters are and whether it
 -- is a routine.
-use Rattle.std.proofs.Common.{◌≡◌, ◌∙◌, ℕ, ◌-◌, ◌^◌, ◌<◌, ◌≤◌, ◌&&◌, ◌||◌, Bool, true, false, cond, if◌then◌else◌, List, [], ◌∷◌, length, map, find, Option, Some, None, slice_get, is_some, codes, refl, ap, sym, subst, arith}
+use Rattle.std.proofs.Common.{◌≡◌, ◌∙◌, ℕ, ◌-◌, ◌^◌, ◌<◌, ◌≤◌, ◌&&◌, ◌||◌, not, Bool, true, false, cond, if◌then◌else◌, List, [], ◌∷◌, length, map, Option, Some, None, slice_get, is_some, codes, refl, ap, sym, subst, arith}
 use Rattle.std.specs.Prelude.{bytes_eq}
+use Rattle.std.specs.List.{list_any}
 use Rattle.std.proofs.lemmas.Bool.{true≢false, or_parts}
 use Rattle.std.proofs.lemmas.Slice.Eq.{bytes_eq-Decides}
 use Rattle.clu_tree.specs.declared.node.Node.{Node}
 use Rattle.clu_tree.specs.declared.node.NodeKind.{NodeKind}
 use Rattle.clu_tree.specs.declared.node.NodeKind.TheVariants as kind
 use Rattle.clu_parser.specs.Trees.{Text}
-use Rattle.clu_types.specs.declared.spec.ParamKind.{ParamKind}
 use Rattle.clu_types.specs.declared.term.Term.{Term}
 use Rattle.clu_types.specs.Arena.{IsArena}
-use Rattle.clu_syntax.specs.declared.round.Round.{Round}
 use Rattle.clu_syntax.specs.declared.words.SimpleType.{SimpleType}
 use Rattle.clu_syntax.specs.declared.words.SimpleType.TheVariants as simple
 use Rattle.clu_syntax.specs.Enough.{least_names}
 use Rattle.clu_syntax.specs.Rounds.{AreRounds}
 use Rattle.clu_syntax.specs.Kinds.{kind_at}
 use Rattle.clu_syntax.specs.Splits.{is_of, first_name}
-use Rattle.clu_syntax.specs.Syntax.{Identifier, Module, TypeExpression}
+use Rattle.clu_syntax.specs.Syntax.{Identifier, Module, a_routine, a_cluster}
 use Rattle.clu_syntax.specs.Items.{Item, modules_at}
 use Rattle.clu_syntax.specs.Nodes.{before, item_at, file_of, type_expression_of}
 use Rattle.clu_syntax.specs.Words.{symbol_in, simple_type}
 use Rattle.clu_syntax.proofs.Enough.{enough}
 use Rattle.clu_names.specs.declared.scopes.Declared.{Declared}
 use Rattle.clu_names.specs.Scopes.{is_stream, declarations}
-use Rattle.clu_names.specs.Denotes.{found, names_in, rep_names, is_open}
-use Rattle.clu_names.specs.Latest.{IsBest, IsBestAt}
-use Rattle.clu_names.proofs.Best.{found_is}
+use Rattle.clu_names.specs.Denotes.{found, names_in}
 use Rattle.clu_meaning.specs.Scoping as means
-use Rattle.clu_meaning.specs.Scoping.{meaning_of, declaration_at}
 use Rattle.clu_checking.specs.Specifications.{Specification, specification_in, specification_told}
-use Rattle.clu_checking.specs.Files.{File, scope_in, item, node_names, meaning, declaration, is_kept, denotes_module, is_of_module}
+use Rattle.clu_checking.specs.Files.{File, scope_in, item, module_name, node_names, meaning, is_kept, is_own_module, denotes_module, is_of_module}
 use Rattle.clu_checking.specs.Headings.{specification, specification_of, own_specifications, or_kept}
 use Rattle.clu_checking.specs.Wanted.{first_name_at, kinds_of}
 use Rattle.clu_checking.specs.ConstantRules as rules_of
@@ -64,6 +60,10 @@ denotes_same f means.is_module = refl
 denotes_same f means.is_type_set = refl
 denotes_same f _ = refl
 
+pub and_on : (a b c : Bool) → ((a && b) && c) ≡ (a && (b && c))
+and_on true b c = refl
+and_on false b c = refl
+
 and_if : (a x : Bool) → (a && x) ≡ (if a then x else false)
 and_if true x = refl
 and_if false x = refl
@@ -79,6 +79,27 @@ routine_said P (Some k) (Some s) same = same.1
 routine_said P (Some k) None same = absurd same
 routine_said P None (Some s) same = absurd same
 routine_said P None None same = refl
+
+-- ---- modules of the file by their specifications
+
+its_name : (f : File) (m : Module) → (specification_of f m).name ≡ module_name m
+its_name f (a_routine n es r) = refl
+its_name f (a_cluster n es c) = refl
+
+some_either : (b : Bool) (s : Specification) (o : Option Specification) → is_some (cond b (Some s) o) ≡ (b || is_some o)
+some_either true s o = refl
+some_either false s o = refl
+
+pub own_found : (f : File) (ms : List Module) (name : Identifier) → is_some (specification_in (map (specification_of f) ms) name) ≡ list_any (λ m. bytes_eq (module_name m) name) ms
+own_found f [] name = refl
+own_found f (m ∷ ms) name =
+    ap (λ (x : Identifier). is_some (cond (bytes_eq x name) (Some (specification_of f m)) (specification_in (map (specification_of f) ms) name))) (its_name f m)
+    ∙ some_either (bytes_eq (module_name m) name) (specification_of f m) (specification_in (map (specification_of f) ms) name)
+    ∙ ap (λ (b : Bool). bytes_eq (module_name m) name || b) (own_found f ms name)
+
+none_found : (o : Option Specification) → is_some o ≡ false → o ≡ None
+none_found None e = refl
+none_found (Some s) e = absurd (true≢false e)
 
 pub rep_word : (w : SimpleType) → rules_of.same_word simple.Rep w ≡ settled.is_rep w
 rep_word simple.Rep = refl
@@ -139,35 +160,25 @@ module _ (t : Text) (r : Read) (library : List Specification) (refused : List �
     pub none_own : found ds name n ≡ None → is_stream name ≡ false → specification_in (own_specifications f) name ≡ None
     none_own e s = ap (λ (ms : List Module). specification_in (map (specification_of f) ms) name) file_is ∙ none_in e s (root t nodes r.rounds.now parsed are).children parts_are
 
-    undeclared : is_some (declaration f n name) ≡ false → found ds name n ≡ None
-    undeclared e = by (found ds name n) refl (found_is ds name n)
-      where
-        by : (o : Option ℕ) → found ds name n ≡ o → IsBest (λ j d. is_open name n d ≡ true) ds o → o ≡ None
-        by None at best = refl
-        by (Some p) at (d, best) =
-            absurd (true≢false (sym (ap (λ (o : Option ℕ). is_some (declaration_at scope o)) at ∙ ap is_some best.there) ∙ e))
-
-    none_kept : (o : Option Specification) → is_some o ≡ false → o ≡ None
-    none_kept None e = refl
-    none_kept (Some s) e = absurd (true≢false e)
-
-    none_said : (is_some (declaration f n name) || is_kept f name) ≡ false → specification f name ≡ None
+    none_said : (not (is_stream name) && (is_own_module f name || is_kept f name)) ≡ false → specification f name ≡ None
     none_said e = by (is_stream name) refl
       where
-        parts : (is_some (declaration f n name) ≡ false) × (is_kept f name ≡ false)
-        parts = or_parts (is_some (declaration f n name)) (is_kept f name) e
-
         by : (s : Bool) → is_stream name ≡ s → specification f name ≡ None
         by true s = ap (λ (s : Bool). if s then None else or_kept f (specification_in (own_specifications f) name) name) s
         by false s =
+            let parts : (is_own_module f name ≡ false) × (is_kept f name ≡ false) =
+            or_parts (is_own_module f name) (is_kept f name) (sym (ap (λ (s : Bool). not s && (is_own_module f name || is_kept f name)) s) ∙ e) in
             ap (λ (s : Bool). if s then None else or_kept f (specification_in (own_specifications f) name) name) s
-            ∙ ap (λ (o : Option Specification). or_kept f o name) (none_own (undeclared parts.0) s)
-            ∙ none_kept (specification_in library name) parts.1
+            ∙ ap (λ (o : Option Specification). or_kept f o name) (none_found (specification_in (own_specifications f) name) (own_found f (file_of nodes) name ∙ parts.0))
+            ∙ none_found (specification_in library name) parts.1
 
     chosen : {A : Type 0} (g : Option Specification → A) → (if is_of_module f n name then g (specification f name) else g None) ≡ (if is_module_meant (meaning f n name) then g (specification f name) else g None)
-    chosen g = by (denotes_module f (meaning f n name)) (is_some (declaration f n name) || is_kept f name) refl ∙ ap (λ (b : Bool). if b then g (specification f name) else g None) (denotes_same f (meaning f n name))
+    chosen g =
+        ap (λ (b : Bool). if b then g (specification f name) else g None) (and_on (denotes_module f (meaning f n name)) (not (is_stream name)) (is_own_module f name || is_kept f name))
+        ∙ by (denotes_module f (meaning f n name)) (not (is_stream name) && (is_own_module f name || is_kept f name)) refl
+        ∙ ap (λ (b : Bool). if b then g (specification f name) else g None) (denotes_same f (meaning f n name))
       where
-        by : (b c : Bool) → (is_some (declaration f n name) || is_kept f name) ≡ c → (if b && c then g (specification f name) else g None) ≡ (if b then g (specification f name) else g None)
+        by : (b c : Bool) → (not (is_stream name) && (is_own_module f name || is_kept f name)) ≡ c → (if b && c then g (specification f name) else g None) ≡ (if b then g (specification f name) else g None)
         by true true e = refl
         by true false e = sym (ap g (none_said e))
         by false c e = refl

@@ -348,7 +348,7 @@ module _ (t : Text) (r : Read) (scope : Scope) (library : List Specification) (r
     abbrev pub specifications : List Specification
     specifications = own_specifications f ++ f.library
 
-    few_all : length all < 2 ^ 32 - 1
+    pub few_all : length all < 2 ^ 32 - 1
     few_all = let size : length r.bindings.now.modules.known.items ≡ length all = ap length there_are.known ∙ map_size (λ (m : Identifier × ModuleKnown). m.1) all in omega (arith, size, few)
 
     whole_library : take 4294967295 r.library.now ≡ r.library.now

@@ -145,7 +145,7 @@ module _ (t : Text) (r : Read) (library : List Specification) (refused : List �
 
   -- ---- what a name means
 
-  to_equate : (n : ℕ) (name : Identifier) (right : ℕ) (x : Option Identifier) (o : Option ℕ) → found ds name n ≡ o → table.meant_by modules r.bindings.now.declared.items o x ≡ meant.Equate right → (e : ℕ) × (equate_named f n name ≡ Some e) × IsSideOf f of e right
+  pub to_equate : (n : ℕ) (name : Identifier) (right : ℕ) (x : Option Identifier) (o : Option ℕ) → found ds name n ≡ o → table.meant_by modules r.bindings.now.declared.items o x ≡ meant.Equate right → (e : ℕ) × (equate_named f n name ≡ Some e) × IsSideOf f of e right
   to_equate n name right None None denotes e = no_side table.nothing right refl e
   to_equate n name right (Some x) None denotes e = no_side (meant.Module (modules x)) right refl e
   to_equate n name right x (Some p) denotes e = by (slice_get ds p) refl

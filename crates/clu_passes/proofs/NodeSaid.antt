@@ -28,7 +28,7 @@ use Rattle.clu_typing.specs.Invoking.{lists_of}
 use Rattle.clu_typing.specs.Nodes.{is_used_as}
 use Rattle.clu_passes.specs.ConstantTables.{file_with, wanted_told}
 use Rattle.clu_passes.specs.FactTables.{AreFound, AreInvocations}
-use Rattle.clu_passes.specs.NotedLists.{One, Noted, nothing_noted, types_given, applied_noted, node_noted, operations_of, AreNoted, AreOnes}
+use Rattle.clu_passes.specs.NotedLists.{One, Noted, nothing_noted, types_given, applied_noted, node_noted, operations_of, AreNoted, AreOnes, AreWhollyFound}
 use Rattle.clu_passes.specs.StandsFor.{IsKindOf, AreOperandsOf, AreOperands, named_of, StandsFor, NodeStandsFor}
 use Rattle.clu_passes.proofs.FactNodes.{object_wanted}
 use Rattle.clu_passes.proofs.NotedRead.{invocations_read, operations_read}
@@ -94,13 +94,20 @@ kind_is _ = refl
 -- ---- lists
 
 module _ (terms : List Term) (facts : Facts) where
-  ones_found : (ones : List One) (xs : List Invocation) → AreOnes terms facts ones xs → AreFound terms facts (map (λ one. one.operation) ones) (map (λ x. x.invoked) xs)
+  -- whatever they ask
+  pub found_alone : (os : List Operation) (xs : List (Option Found)) → AreWhollyFound terms facts os xs → AreFound terms facts os xs
+  found_alone [] [] are = tt
+  found_alone [] (x ∷ xs) are = absurd are
+  found_alone (o ∷ os) [] are = absurd are
+  found_alone (o ∷ os) (x ∷ xs) are = (are.0.0, found_alone os xs are.1)
+
+  ones_found : (ones : List One) (xs : List Invocation) → AreOnes terms facts ones xs → AreWhollyFound terms facts (map (λ one. one.operation) ones) (map (λ x. x.invoked) xs)
   ones_found [] [] are = tt
   ones_found [] (x ∷ xs) are = absurd are
   ones_found (one ∷ ones) [] are = absurd are
-  ones_found (one ∷ ones) (x ∷ xs) are = (are.0.0, ones_found ones xs are.1)
+  ones_found (one ∷ ones) (x ∷ xs) are = ((are.0.0, are.0.2), ones_found ones xs are.1)
 
-  found_append : (os more : List Operation) (xs rest : List (Option Found)) → AreFound terms facts os xs → AreFound terms facts more rest → AreFound terms facts (os ++ more) (xs ++ rest)
+  found_append : (os more : List Operation) (xs rest : List (Option Found)) → AreWhollyFound terms facts os xs → AreWhollyFound terms facts more rest → AreWhollyFound terms facts (os ++ more) (xs ++ rest)
   found_append [] more [] rest are behind = behind
   found_append [] more (x ∷ xs) rest are behind = absurd are
   found_append (o ∷ os) more [] rest are behind = absurd are
@@ -159,7 +166,7 @@ module _ (r : Read) (scope : Scope) (library : List Specification) (refused : Li
 
   -- what is noted there is so
   abbrev IsSo : Noted → NodeKind → Type 0
-  IsSo noted k = AreOnes terms facts noted.invoked (invocations_by f k n) × AreFound terms facts noted.named (operations_by f k n)
+  IsSo noted k = AreOnes terms facts noted.invoked (invocations_by f k n) × AreWhollyFound terms facts noted.named (operations_by f k n)
 
   abbrev e : Expression
   e = (item f n).expression
@@ -167,14 +174,14 @@ module _ (r : Read) (scope : Scope) (library : List Specification) (refused : Li
   expression_so : (b : Bool) → is_object_wanted (wanted f n) ≡ b → StandsFor f terms facts e its → Given e → IsSo (noted_if b (form e)) (form e)
   expression_so b is stands given = (
     subst (λ (xs : List Invocation). AreOnes terms facts (noted_if b (form e)).invoked xs) (sym (invocations_are f n b is e refl)) (ones b),
-    subst (λ (xs : List (Option Found)). AreFound terms facts (noted_if b (form e)).named xs) (sym (names_are f n b is e refl)) (names b),
+    subst (λ (xs : List (Option Found)). AreWhollyFound terms facts (noted_if b (form e)).named xs) (sym (names_are f n b is e refl)) (names b),
   )
     where
       ones : (x : Bool) → AreOnes terms facts (noted_if x (form e)).invoked (if x then by_expression f e else [])
       ones true = expression_ones f terms facts types (form e) ns e its (kind_is e) stands given
       ones false = tt
 
-      names : (x : Bool) → AreFound terms facts (noted_if x (form e)).named (if x then named_of f e else [])
+      names : (x : Bool) → AreWhollyFound terms facts (noted_if x (form e)).named (if x then named_of f e else [])
       names true = expression_named f terms facts types (form e) ns e its stands
       names false = tt
 
@@ -206,15 +213,15 @@ module _ (r : Read) (scope : Scope) (library : List Specification) (refused : Li
     node_so kind.Down at stands given = kind_so kind.Down refl at (stands refl) (given refl)
     node_so _ at stands given = (tt, tt)
 
-    pub node_said : NodeStandsFor f terms facts (kind_at nodes n) n its → AreOperands f terms (types_given types ns) (kind_at nodes n) n → AreOnes terms facts (node_noted types r its n).invoked (invocations f n) × AreFound terms facts (operations_of (node_noted types r its n)) (operations_at f n)
+    pub node_said : NodeStandsFor f terms facts (kind_at nodes n) n its → AreOperands f terms (types_given types ns) (kind_at nodes n) n → AreOnes terms facts (node_noted types r its n).invoked (invocations f n) × AreWhollyFound terms facts (operations_of (node_noted types r its n)) (operations_at f n)
     node_said stands given =
         let so : IsSo (node_noted types r its n) (kind_at nodes n) = node_so (kind_at nodes n) refl stands given in
         (so.0, found_append terms facts (map (λ (one : One). one.operation) (node_noted types r its n).invoked) (node_noted types r its n).named (map (λ (x : Invocation). x.invoked) (invocations f n)) (operations_by f (kind_at nodes n) n) (ones_found terms facts (node_noted types r its n).invoked (invocations f n) so.0) so.1)
 
     -- of the lists of all nodes, what is read at this one
-    pub node_read : (of : ℕ → Noted) (m : ℕ) → AreNoted of (lists_of facts.invocations) m → n < m → of n ≡ node_noted types r its n → NodeStandsFor f terms facts (kind_at nodes n) n its → AreOperands f terms (types_given types ns) (kind_at nodes n) n → AreInvocations terms facts (tables.invocations facts n) (invocations f n) × AreFound terms facts (tables.operations_at facts n) (operations_at f n)
+    pub node_read : (of : ℕ → Noted) (m : ℕ) → AreNoted of (lists_of facts.invocations) m → n < m → of n ≡ node_noted types r its n → NodeStandsFor f terms facts (kind_at nodes n) n its → AreOperands f terms (types_given types ns) (kind_at nodes n) n → AreInvocations terms facts (tables.invocations facts n) (invocations f n) × AreWhollyFound terms facts (tables.operations_at facts n) (operations_at f n)
     node_read of m noted less here stands given =
         let so = node_said stands given in (
           invocations_read terms facts of m noted n less (invocations f n) (subst (λ (x : Noted). AreOnes terms facts x.invoked (invocations f n)) (sym here) so.0),
-          subst (λ (os : List Operation). AreFound terms facts os (operations_at f n)) (sym (operations_read facts of m noted n less ∙ ap operations_of here)) so.1,
+          subst (λ (os : List Operation). AreWhollyFound terms facts os (operations_at f n)) (sym (operations_read facts of m noted n less ∙ ap operations_of here)) so.1,
         )

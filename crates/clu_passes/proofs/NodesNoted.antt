@@ -31,7 +31,7 @@ use Rattle.clu_bindings.specs.declared.file.Headed.{Headed}
 use Rattle.clu_bindings.specs.Readers.{children_in, value_in, wanted_in}
 use Rattle.clu_bindings.specs.Tables.{optional, between, items_at, joined_to, table_to}
 use Rattle.clu_operations.specs.declared.found.Found.{Found as Kept}
-use Rattle.clu_operations.specs.Finding.{Extends, Follows, IsBelowIf}
+use Rattle.clu_operations.specs.Finding.{AreWithin, Extends, Follows, IsBelowIf}
 use Rattle.clu_operations.proofs.Bundling.{option_more}
 use Rattle.clu_operations.proofs.Lasting.{follows_on}
 use Rattle.clu_operations.proofs.Naming.{length_extends}
@@ -49,16 +49,16 @@ use Rattle.clu_typing.specs.Stands.{stands_at, stands_by}
 use Rattle.clu_typing.specs.Typing.{IsNodeTypeIf}
 use Rattle.clu_typing.proofs.Below.{arena_before, instance_there}
 use Rattle.clu_typing.proofs.Growing.{grows_refl}
-use Rattle.clu_typing.proofs.Passing.{known_grows, known_sound, noted_grows, operands}
+use Rattle.clu_typing.proofs.Passing.{known_grows, known_sound, noted_grows, operands, row_follows}
 use Rattle.clu_passes.specs.Ascending.{SpecificationsAscend}
 use Rattle.clu_passes.specs.ConstantTables.{file_with, wanted_told}
-use Rattle.clu_passes.specs.FactTables.{AreFacts, AreFound, AreInvocations, IsType, typed}
+use Rattle.clu_passes.specs.FactTables.{AreFacts, AreInvocations, IsType, typed}
 use Rattle.clu_passes.specs.FoundTold.{TellHeads}
 use Rattle.clu_passes.specs.NamesKnown.{HasTypes}
-use Rattle.clu_passes.specs.NotedLists.{Noted, AreNoted, operations_at, spans_at, node_noted, nothing_noted, types_given}
+use Rattle.clu_passes.specs.NotedLists.{Noted, AreNoted, AreWhollyFound, operations_at, spans_at, node_noted, nothing_noted, types_given}
 use Rattle.clu_passes.specs.StandsFor.{AreOperands, NodeStandsFor}
 use Rattle.clu_passes.proofs.AtNodes.{kids_are}
-use Rattle.clu_passes.proofs.NodeSaid.{node_read}
+use Rattle.clu_passes.proofs.NodeSaid.{found_alone, node_read}
 use Rattle.clu_passes.proofs.NodeStands.{node_given, node_stands, node_told, operands_at}
 use Rattle.clu_passes.proofs.NodeTyped.{type_grown}
 use Rattle.clu_passes.proofs.NotedCore.{noted_more, noted_still}
@@ -141,21 +141,21 @@ module _ (t : Text) (h : Headed) (scope : Scope) (library : List Specification) 
     values_there : (terms : List Term) → Grows first terms → (k : ℕ) → IsBelowIf (length terms) (type_id (value_in h.file k))
     values_there terms more k = option_more (length first) (length terms) (length_grows first terms more) (type_id (value_in h.file k)) (have.values k)
 
-    looked : FindsMore h what.applied_terms before.finding what.applied_finding × IsAppliedTold h what.applied_terms what.applied_finding n (stands_at h.file before.types.items n items) its
+    pub looked : FindsMore h what.applied_terms before.finding what.applied_finding × IsAppliedTold h what.applied_terms what.applied_finding n (stands_at h.file before.types.items n items) its
     looked =
         what.applied_found
         (operands h old before (values_there old grows) (λ k. option_more (length first) (length old) (length_grows first old grows) _ (have.own k)) sound) sound.finding
 
-    finds : FindsMore h what.typed_terms what.applied_finding what.typed_finding
+    pub finds : FindsMore h what.typed_terms what.applied_finding what.typed_finding
     finds = what.typed_found (values_there what.applied_terms to_applied n) looked.0.finding
 
-    modules : FindsMore h new what.typed_finding noted.finding
+    pub modules : FindsMore h new what.typed_finding noted.finding
     modules = what.module_found (instance_there h.file what.typed_terms (length what.typed_terms) (values_there what.typed_terms to_typed) n) finds.finding
 
-    applied_follows : Follows what.applied_finding noted.finding
+    pub applied_follows : Follows what.applied_finding noted.finding
     applied_follows = follows_on what.applied_finding what.typed_finding noted.finding finds.follows modules.follows
 
-    follows : Follows before.finding noted.finding
+    pub follows : Follows before.finding noted.finding
     follows = follows_on before.finding what.applied_finding noted.finding looked.0.follows applied_follows
 
     abbrev applied_facts : Facts
@@ -240,7 +240,7 @@ module _ (t : Text) (h : Headed) (scope : Scope) (library : List Specification) 
   FollowAll of zero terms facts known = Unit {0}
   FollowAll of (suc n) terms facts known = (of n ≡ node_noted known.3.1.types.items h.file known.3.0 n) × FollowAll of n known.0 known.1 known.2
 
-  lists_noted : (of : ℕ → Noted) (n : ℕ) (terms : List Term) (facts : Facts) (known : AreKnown h items first n terms facts) → FollowAll of n terms facts known → AreNoted of (lists_of facts.invocations) n
+  pub lists_noted : (of : ℕ → Noted) (n : ℕ) (terms : List Term) (facts : Facts) (known : AreKnown h items first n terms facts) → FollowAll of n terms facts known → AreNoted of (lists_of facts.invocations) n
   unfolding joined_to table_to
   lists_noted of zero terms facts known all = subst (λ (l : Lists). AreNoted of l 0) (sym known.lists) (record { all = refl; arguments = refl; operations = refl; starts = refl; operation_starts = refl })
   lists_noted of (suc n) terms facts known all =
@@ -252,11 +252,11 @@ module _ (t : Text) (h : Headed) (scope : Scope) (library : List Specification) 
       subst (λ (i : Invocations). AreNoted of (lists_of i) (suc n)) (sym known.3.3.invocations) asked
 
   -- what is noted of each node
-  abbrev noted_at : (n : ℕ) (terms : List Term) (facts : Facts) → AreKnown h items first n terms facts → ℕ → Noted
+  abbrev pub noted_at : (n : ℕ) (terms : List Term) (facts : Facts) → AreKnown h items first n terms facts → ℕ → Noted
   noted_at zero terms facts known m = nothing_noted
   noted_at (suc n) terms facts known m = if m == n then node_noted known.3.1.types.items h.file known.3.0 n else noted_at n known.0 known.1 known.2 m
 
-  follow_at : (of : ℕ → Noted) (n : ℕ) (terms : List Term) (facts : Facts) (known : AreKnown h items first n terms facts) → ((m : ℕ) → m < n → of m ≡ noted_at n terms facts known m) → FollowAll of n terms facts known
+  pub follow_at : (of : ℕ → Noted) (n : ℕ) (terms : List Term) (facts : Facts) (known : AreKnown h items first n terms facts) → ((m : ℕ) → m < n → of m ≡ noted_at n terms facts known m) → FollowAll of n terms facts known
   follow_at of zero terms facts known agree = tt
   follow_at of (suc n) terms facts known agree = (
     agree n (omega arith) ∙ ap (λ (b : Bool). if b then node_noted known.3.1.types.items h.file known.3.0 n else noted_at n known.0 known.1 known.2 n) (eq-eqb n n refl),
@@ -278,13 +278,13 @@ module _ (t : Text) (h : Headed) (scope : Scope) (library : List Specification) 
   longer : (one other : List Kept) → Extends one other → (k : ℕ) → k < length one → k < length other
   longer one other more k lt = omega (arith, lt, length_extends one other more)
 
-  node_later_noted : (of : ℕ → Noted) (old new : List Term) (before now : Facts) (m : ℕ) → Grows old new → Extends before.finding.founds.items now.finding.founds.items → IsNodeNoted of old before m → IsNodeNoted of new now m
-  node_later_noted of old new before now m grows more was = record {
+  pub node_later_noted : (of : ℕ → Noted) (old new : List Term) (before now : Facts) (m : ℕ) → Grows old new → AreWithin (length old) before.finding → Follows before.finding now.finding → IsNodeNoted of old before m → IsNodeNoted of new now m
+  node_later_noted of old new before now m grows within follows was = record {
     its = was.its;
     ids = was.ids;
     noted = was.noted;
-    there = there_later (length before.finding.founds.items) (length now.finding.founds.items) (longer before.finding.founds.items now.finding.founds.items more) was.its was.there;
-    stands = λ here. node_later f old new grows before now more (kind_in f m) m was.its was.there (was.stands here);
+    there = there_later (length before.finding.founds.items) (length now.finding.founds.items) (longer before.finding.founds.items now.finding.founds.items follows.founds) was.its was.there;
+    stands = λ here. node_later f old new grows before now within follows (kind_in f m) m was.its was.there (was.stands here);
     given = λ here. operands_later f old new grows (types_given was.ids (children_in h.file m)) (kind_in f m) m (was.given here);
   }
 
@@ -304,11 +304,16 @@ module _ (t : Text) (h : Headed) (scope : Scope) (library : List Specification) 
       started : Grows first known.0
       started = known_grows h items first n known.0 known.1 known.2
 
-      after_all : Extends known.1.finding.founds.items facts.finding.founds.items
-      after_all = subst (λ (xs : List Kept). Extends known.1.finding.founds.items xs) (sym (ap vec_items known.3.3.founds)) (follows n known.0 terms known.1 known.3.1 known.3.0 known.3.2 started arena sound).founds
+      named_more : Follows known.3.1.finding facts.finding
+      named_more =
+          row_follows h items n known.0 terms known.1 known.3.1 facts known.3.0 known.3.2 known.3.3 arena
+          (λ k. option_more (length first) (length known.0) (length_grows first known.0 started) (type_id (value_in h.file k)) (have.values k)) (λ k. option_more (length first) (length known.0) (length_grows first known.0 started) _ (have.own k)) sound
 
-      after_applied : Extends known.3.2.applied_finding.founds.items facts.finding.founds.items
-      after_applied = subst (λ (xs : List Kept). Extends known.3.2.applied_finding.founds.items xs) (sym (ap vec_items known.3.3.founds)) (applied_follows n known.0 terms known.1 known.3.1 known.3.0 known.3.2 started arena sound).founds
+      after_all : Follows known.1.finding facts.finding
+      after_all = follows_on known.1.finding known.3.1.finding facts.finding (follows n known.0 terms known.1 known.3.1 known.3.0 known.3.2 started arena sound) named_more
+
+      after_applied : Follows known.3.2.applied_finding facts.finding
+      after_applied = follows_on known.3.2.applied_finding known.3.1.finding facts.finding (applied_follows n known.0 terms known.1 known.3.1 known.3.0 known.3.2 started arena sound) named_more
 
       applied_grown : Grows known.3.2.applied_terms terms
       applied_grown = grows_on known.3.2.applied_terms known.3.2.typed_terms terms known.3.2.typed_grows known.3.2.grows
@@ -334,47 +339,47 @@ module _ (t : Text) (h : Headed) (scope : Scope) (library : List Specification) 
         its = known.3.0;
         ids = known.3.1.types.items;
         noted = all.0;
-        there = there_later (length known.3.2.applied_finding.founds.items) (length facts.finding.founds.items) (longer known.3.2.applied_finding.founds.items facts.finding.founds.items after_applied) known.3.0 there_then;
+        there = there_later (length known.3.2.applied_finding.founds.items) (length facts.finding.founds.items) (longer known.3.2.applied_finding.founds.items facts.finding.founds.items after_applied.founds) known.3.0 there_then;
         stands = λ here.
-            node_later f known.3.2.applied_terms terms applied_grown (applied_facts n known.0 terms known.1 known.3.1 known.3.0 known.3.2 started arena sound) facts after_applied (kind_in f n) n known.3.0 there_then
+            node_later f known.3.2.applied_terms terms applied_grown (applied_facts n known.0 terms known.1 known.3.1 known.3.0 known.3.2 started arena sound) facts (looked n known.0 terms known.1 known.3.1 known.3.0 known.3.2 started arena sound).0.finding.within after_applied (kind_in f n) n known.3.0 there_then
             (stands_then n known.0 terms known.1 known.3.1 known.3.0 known.3.2 started arena sound typed_before here);
         given = λ here.
             subst (λ (cs : List ℕ). AreOperands f terms (types_given known.3.1.types.items cs) (kind_in f n) n) (sym (kids_are f n)) (operands_given f n terms known.3.1.types.items t parsed (children_then here));
       }
 
       by : ((k : ℕ) → k < n → IsNodeNoted of known.0 known.1 k) → (m < n) ⊎ (n ≤ m) → IsNodeNoted of terms facts m
-      by was (inl less) = node_later_noted of known.0 terms known.1 facts m grown after_all (was m less)
+      by was (inl less) = node_later_noted of known.0 terms known.1 facts m grown sound.finding.within after_all (was m less)
       by was (inr ge) = let at : n ≡ m = omega (arith, ge, lt) in subst (IsNodeNoted of terms facts) at this
 
   -- ---- all fields
 
   module _ (wants : (n : ℕ) → lost n ≡ false → wanted_told (wanted_in h.file n) ≡ wanted f n) (terms : List Term) (facts : Facts) (arena : IsArena terms) (known : AreKnown h items first (length nodes) terms facts) where
-    abbrev of_all : ℕ → Noted
+    abbrev pub of_all : ℕ → Noted
     of_all = noted_at (length nodes) terms facts known
 
-    follows_all : FollowAll of_all (length nodes) terms facts known
+    pub follows_all : FollowAll of_all (length nodes) terms facts known
     follows_all = follow_at of_all (length nodes) terms facts known (λ m lt. refl)
 
-    pub read_at : (n : ℕ) → n < length nodes → lost n ≡ false → AreInvocations terms facts (tables.invocations facts n) (invoking.invocations f n) × AreFound terms facts (tables.operations_at facts n) (invoking.operations_at f n)
+    pub read_at : (n : ℕ) → n < length nodes → lost n ≡ false → AreInvocations terms facts (tables.invocations facts n) (invoking.invocations f n) × AreWhollyFound terms facts (tables.operations_at facts n) (invoking.operations_at f n)
     read_at n lt here =
         let one : IsNodeNoted of_all terms facts n = all_noted of_all (length nodes) terms facts arena known follows_all n lt in
         node_read h.file scope library refused terms facts one.ids n one.its (wants n here) of_all (length nodes) (lists_noted of_all (length nodes) terms facts known follows_all) lt one.noted (one.stands here) (one.given here)
 
     -- what is no node invokes nothing
-    none_read : (n : ℕ) → length nodes ≤ n → (tables.invocations facts n ≡ []) × (tables.operations_at facts n ≡ [])
+    pub none_read : (n : ℕ) → length nodes ≤ n → (tables.invocations facts n ≡ []) × (tables.operations_at facts n ≡ [])
     none_read n past =
         let all : AreNoted of_all (lists_of facts.invocations) (length nodes) = lists_noted of_all (length nodes) terms facts known follows_all in (
           past_none facts.invocations.all.items facts.invocations.starts.items n (omega (arith, past, ap (λ (l : List ℕ). length l) all.starts, table_length (λ (k : ℕ). length (joined_to (spans_at of_all) k)) (length nodes))),
           past_none facts.invocations.operations.items facts.invocations.operation_starts.items n (omega (arith, past, ap (λ (l : List ℕ). length l) all.operation_starts, table_length (λ (k : ℕ). length (joined_to (operations_at of_all) k)) (length nodes))),
         )
 
-    both : (n : ℕ) → lost n ≡ false → (n < length nodes) ⊎ (length nodes ≤ n) → AreInvocations terms facts (tables.invocations facts n) (invoking.invocations f n) × AreFound terms facts (tables.operations_at facts n) (invoking.operations_at f n)
+    pub both : (n : ℕ) → lost n ≡ false → (n < length nodes) ⊎ (length nodes ≤ n) → AreInvocations terms facts (tables.invocations facts n) (invoking.invocations f n) × AreWhollyFound terms facts (tables.operations_at facts n) (invoking.operations_at f n)
     both n here (inl lt) = read_at n lt here
     both n here (inr past) =
         let none = none_read n past in
         let no_node : kind.File ≡ kind_in f n = sym (ap kind_of (slice_get_past nodes n past)) in (
           subst (λ (xs : List Invocation). AreInvocations terms facts xs (invoking.invocations f n)) (sym none.0) (subst (λ (k : NodeKind). AreInvocations terms facts [] (invoking.invocations_by f k n)) no_node tt),
-          subst (λ (xs : List Operation). AreFound terms facts xs (invoking.operations_at f n)) (sym none.1) (subst (λ (k : NodeKind). AreFound terms facts [] (map (λ (i : invoking.Invocation). i.invoked) (invoking.invocations_by f k n) ++ invoking.operations_by f k n)) no_node tt),
+          subst (λ (xs : List Operation). AreWhollyFound terms facts xs (invoking.operations_at f n)) (sym none.1) (subst (λ (k : NodeKind). AreWhollyFound terms facts [] (map (λ (i : invoking.Invocation). i.invoked) (invoking.invocations_by f k n) ++ invoking.operations_by f k n)) no_node tt),
         )
 
     pub facts_told : AreFacts f terms facts lost
@@ -382,5 +387,5 @@ module _ (t : Text) (h : Headed) (scope : Scope) (library : List Specification) 
       below = below;
       types = types_told terms facts arena known;
       invoked = λ n here. (both n here (cases_lt n (length nodes))).0;
-      operations = λ n here. (both n here (cases_lt n (length nodes))).1;
+      operations = λ n here. found_alone terms facts (tables.operations_at facts n) (invoking.operations_at f n) (both n here (cases_lt n (length nodes))).1;
     }

@@ -70,7 +70,7 @@ module _ (terms : List Term) (facts : Facts) where
   each_is [] [] are = tt
   each_is [] (x ∷ xs) are = absurd are
   each_is (i ∷ is) [] are = absurd are
-  each_is (i ∷ is) (x ∷ xs) are = (are.0, each_is is xs are.1)
+  each_is (i ∷ is) (x ∷ xs) are = ((are.0.0, are.0.1), each_is is xs are.1)
 
   pub invocations_read : (noted : ℕ → Noted) (m : ℕ) → AreNoted noted (lists_of facts.invocations) m → (n : ℕ) → n < m → (xs : List invoking.Invocation) → AreOnes terms facts (noted n).invoked xs → AreInvocations terms facts (tables.invocations facts n) xs
   invocations_read noted m are n less xs ones =

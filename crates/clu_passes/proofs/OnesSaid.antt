@@ -23,9 +23,9 @@ use Rattle.clu_typing.specs.declared.applied.Applied.{Applied}
 use Rattle.clu_typing.specs.declared.applied.Applied.TheVariants as applied
 use Rattle.clu_typing.specs.declared.facts.Facts.{Facts}
 use Rattle.clu_typing.specs.Operators.{infix_operation, is_negated, prefix_operation}
-use Rattle.clu_passes.specs.FactTables.{IsType, AreTypes, AreFound}
+use Rattle.clu_passes.specs.FactTables.{IsType, AreTypes}
 use Rattle.clu_passes.specs.Sugar.{operation_of, negates}
-use Rattle.clu_passes.specs.NotedLists.{Noted, nothing_noted, types_given, call_noted, children_noted, kind_noted, applied_noted, AreOnes}
+use Rattle.clu_passes.specs.NotedLists.{Noted, nothing_noted, types_given, call_noted, children_noted, kind_noted, applied_noted, AreOnes, AreWhollyFound}
 use Rattle.clu_passes.specs.StandsFor.{is_call, IsKindOf, operands_of_statement, named_of, IsNot, IsSugar, IsSugarIf, IsIndex, IsNamed, IsOwnNamed, StandsFor, StatementStandsFor, AreOperandsOf}
 use Rattle.clu_passes.proofs.Sugared.{infix_said, negated_said, prefix_said}
 
@@ -67,7 +67,7 @@ module _ (f : File) (terms : List Term) (facts : Facts) (types : List (Option Ty
   -- ---- sugar
 
   sugar_ones : (m : ℕ) (name : Identifier) (t : Option CluType) (rest : List (Option CluType)) (its : Applied) → is_call k ≡ false → IsSugar f terms facts false m name t its → Given (t ∷ rest) → Ones its (by_sugar f m name t rest)
-  sugar_ones m name (Some t) rest (applied.Invoked first None) is said given = ((said.0.1, given), tt)
+  sugar_ones m name (Some t) rest (applied.Invoked first None) is said given = ((said.0.1, given, said.0.2), tt)
   sugar_ones m name (Some t) rest (applied.Invoked first (Some second)) is said given = absurd (let no : Some second ≡ None = said.1 in cc)
   sugar_ones m name (Some t) rest applied.Nothing is said given = absurd said
   sugar_ones m name (Some t) rest (applied.Named its) is said given = absurd said
@@ -80,11 +80,11 @@ module _ (f : File) (terms : List Term) (facts : Facts) (types : List (Option Ty
   second_ones m first x None None said one = one
   second_ones m first x None (Some second) said one = absurd said
   second_ones m first x (Some t) None said one = absurd said
-  second_ones m first x (Some t) (Some second) said one = (one.0, ((said.1, (said.0, tt)), tt))
+  second_ones m first x (Some t) (Some second) said one = (one.0, ((said.1, (said.0, tt), said.2), tt))
 
   negated_ones : (m : ℕ) (name : Identifier) (t : Option CluType) (rest : List (Option CluType)) (its : Applied) → is_call k ≡ false → IsSugar f terms facts true m name t its → Given (t ∷ rest) → Ones its (by_sugar f m name t rest ++ negations f m (by_sugar f m name t rest))
   negated_ones m name (Some t) rest (applied.Invoked first second) is said given =
-      second_ones m first (record { invoked = operation_found f m t name; arguments = Some t ∷ rest }) (option_and_then result_of (found_type (operation_found f m t name))) second said.1 ((said.0.1, given), tt)
+      second_ones m first (record { invoked = operation_found f m t name; arguments = Some t ∷ rest }) (option_and_then result_of (found_type (operation_found f m t name))) second said.1 ((said.0.1, given, said.0.2), tt)
   negated_ones m name (Some t) rest applied.Nothing is said given = absurd said
   negated_ones m name (Some t) rest (applied.Named its) is said given = absurd said
   negated_ones m name None rest applied.Nothing is said given = nothing_ones is
@@ -111,7 +111,7 @@ module _ (f : File) (terms : List Term) (facts : Facts) (types : List (Option Ty
   -- ---- calls
 
   call_of : (x : Option TypeId) (t : Option CluType) (cs : List ℕ) (ts : List (Option CluType)) → IsType terms x t → AreTypes terms (types_given types cs) ts → AreOnes terms facts (call_noted types x cs).invoked (by_call f t ts)
-  call_of (Some of) (Some t) cs ts is given = ((is, given), tt)
+  call_of (Some of) (Some t) cs ts is given = ((is, given, refl), tt)
   call_of (Some of) None cs ts is given = absurd is
   call_of None (Some t) cs ts is given = absurd is
   call_of None None cs ts is given = tt
@@ -147,20 +147,20 @@ module _ (f : File) (terms : List Term) (facts : Facts) (types : List (Option Ty
   -- ---- what is named
 
   abbrev Names : Applied → List (Option Found) → Type 0
-  Names its xs = AreFound terms facts (applied_noted types its k ns).named xs
+  Names its xs = AreWhollyFound terms facts (applied_noted types its k ns).named xs
 
-  call_named : (x : Option TypeId) (cs : List ℕ) → AreFound terms facts (call_noted types x cs).named []
+  call_named : (x : Option TypeId) (cs : List ℕ) → AreWhollyFound terms facts (call_noted types x cs).named []
   call_named (Some x) cs = tt
   call_named None cs = tt
 
-  called_named : (cs : List ℕ) → AreFound terms facts (children_noted types cs).named []
+  called_named : (cs : List ℕ) → AreWhollyFound terms facts (children_noted types cs).named []
   called_named [] = tt
   called_named (c ∷ cs) = call_named (optional (slice_get types c)) cs
 
   nothing_named : Names applied.Nothing []
   nothing_named = by k
     where
-      by : (j : NodeKind) → AreFound terms facts (kind_noted types j ns).named []
+      by : (j : NodeKind) → AreWhollyFound terms facts (kind_noted types j ns).named []
       by kind.Call = called_named ns
       by _ = tt
 
@@ -185,7 +185,7 @@ module _ (f : File) (terms : List Term) (facts : Facts) (types : List (Option Ty
   index_named false m t its said = sugar_named false m (codes "fetch") t its said
 
   operation_named : (m : ℕ) (t : CluType) (name : Identifier) (its : Applied) → IsNamed f terms facts m (Some t) name its → Names its (operation_found f m t name ∷ [])
-  operation_named m t name (applied.Named (Some its)) said = (said.1, tt)
+  operation_named m t name (applied.Named (Some its)) said = ((said.1, said.2), tt)
   operation_named m t name (applied.Named None) said = absurd said
   operation_named m t name applied.Nothing said = absurd said
   operation_named m t name (applied.Invoked first second) said = absurd said
@@ -195,7 +195,7 @@ module _ (f : File) (terms : List Term) (facts : Facts) (types : List (Option Ty
     where
       by : (t : Option CluType) (its : Applied) → IsNamed f terms facts m t name its → Names its (option_and_then (λ x. operation_found f m x name) t ∷ [])
       by (Some t) its said = operation_named m t name its said
-      by None (applied.Named None) said = (tt, tt)
+      by None (applied.Named None) said = ((tt, refl), tt)
       by None (applied.Named (Some its)) said = absurd said
       by None applied.Nothing said = absurd said
       by None (applied.Invoked first second) said = absurd said

@@ -48,7 +48,7 @@ builtin_same op = found_with (ap Some (by op.iter)) (needs_same op.needs)
     by true = refl
     by false = refl
 
-builtin_if : (o : Option Operation) → option_map found_of (option_map builtin_told o) ≡ option_map builtin_found o
+pub builtin_if : (o : Option Operation) → option_map found_of (option_map builtin_told o) ≡ option_map builtin_found o
 builtin_if (Some op) = ap Some (builtin_same op)
 builtin_if None = refl
 

@@ -17,6 +17,7 @@ use Rattle.clu_checking.specs.Wanted.{wanted, wants_type, first_name_at}
 use Rattle.clu_checking.specs.Rules.{violates, all_rules, least}
 use Rattle.clu_checking.specs.Refusals.{Walk, headings, rest, is_of_names, of_definition, of_part, rules_by, right_side, is_bad_by, is_bad_of, is_bad, rules_of_types, is_no_type_at, rules_asked, fault_at, walk_over}
 use Rattle.clu_passes.specs.Losing.{is_definition, walk_by, walk_of}
+use Rattle.clu_passes.specs.Refusing.{is_of_types}
 use Rattle.clu_passes.proofs.LostRefused.{or_right, some_least}
 
 any_more : (p q : ℕ → Bool) → ((n : ℕ) → p n ≡ true → q n ≡ true) → (ns : List ℕ) → list_any p ns ≡ true → list_any q ns ≡ true
@@ -36,18 +37,6 @@ names_more p q more (x ∷ xs) e = by (p x) refl e (names_more p q more xs)
     by false is e later = or_right (q x) (list_any q xs) (later e)
 
 -- ---- the rules by which types are refused
-
-abbrev is_of_types : Rule → Bool
-is_of_types rule.LiteralRange = true
-is_of_types rule.UnknownName = true
-is_of_types rule.CircularEquate = true
-is_of_types rule.NotConstant = true
-is_of_types rule.NotType = true
-is_of_types rule.Real = true
-is_of_types rule.Selectors = true
-is_of_types rule.ParameterKind = true
-is_of_types rule.CvtPlace = true
-is_of_types _ = false
 
 none_of_names : (r : Rule) → is_of_types r ≡ true → not (is_of_names r) ≡ true
 none_of_names rule.DefinedTwice is = absurd (true≢false (sym is))
@@ -124,7 +113,7 @@ module _ (f : File) (b c : ℕ → Bool) (more : (e : ℕ) → b e ≡ true → 
   or_third false false false false true e goes h = refl
   or_third false false false false false e goes h = h
 
-  violated_more : (r : Rule) → is_of_types r ≡ true → violates f b n r ≡ true → violates f c n r ≡ true
+  pub violated_more : (r : Rule) → is_of_types r ≡ true → violates f b n r ≡ true → violates f c n r ≡ true
   violated_more rule.NotConstant is h = or_more (is_neither f n && not (wants_type f n)) (has_bad_constant f b (kind_in f n) n) (has_bad_constant f c (kind_in f n) n) (is_too_long f is_long_constant n) (constant_more (kind_in f n)) h
   violated_more rule.NotType is h = or_third (is_neither f n && wants_type f n) (is_bad_rep f n) (is_no_type f (kind_in f n) n) (has_bad_type f b (kind_in f n) n) (has_bad_type f c (kind_in f n) n) (is_too_long f is_long_type n) (type_more (kind_in f n)) h
   violated_more rule.LiteralRange is h = h

@@ -50,7 +50,7 @@ some_if : (b : Bool) (n : ℕ) → is_some (if b then Some n else None) ≡ b
 some_if true n = refl
 some_if false n = refl
 
-found_so : (ds : List Declared) (n : ℕ) → rep_found ds n ≡ if_in_module ds (found ds (codes "rep") n)
+pub found_so : (ds : List Declared) (n : ℕ) → rep_found ds n ≡ if_in_module ds (found ds (codes "rep") n)
 unfolding rep_found
 found_so ds n = refl
 

@@ -96,7 +96,7 @@ module _ (nodes : List Node) (ds : List Declared) (sets : List (Option ℕ)) (nu
   unfolding restricted_at
   at_node n = refl
 
-  at_parameter : (place : ℕ) (d : Declared) → type_parameter nodes numbers place d ≡ (if is_there kind.Parm (slice_get nodes d.node) then number_of (type_of nodes (children_of (slice_get nodes d.node))) (slice_get numbers place) else None)
+  pub at_parameter : (place : ℕ) (d : Declared) → type_parameter nodes numbers place d ≡ (if is_there kind.Parm (slice_get nodes d.node) then number_of (type_of nodes (children_of (slice_get nodes d.node))) (slice_get numbers place) else None)
   unfolding type_parameter
   at_parameter place d = refl
 
@@ -250,7 +250,7 @@ module _ (t : Text) (k : Known) (library : List Specification) (refused : List �
             ap (parameter_in nodes numbers p) best.there
             ∙ declares p j d name best.there best.passes number numbered_so (kind_at nodes d.node) refl (subst (IsParameter nodes j) meant_so s)
 
-    parameter_is : (name : Identifier) (j : ℕ) → meaning_of (scope_in nodes rounds) n name ≡ means.is_type_parameter j → parameter_of nodes numbers ds (found ds name n) ≡ Some j
+    pub parameter_is : (name : Identifier) (j : ℕ) → meaning_of (scope_in nodes rounds) n name ≡ means.is_type_parameter j → parameter_of nodes numbers ds (found ds name n) ≡ Some j
     parameter_is name j e =
         bound name j (found ds name n) (found_is ds name n) (subst (settled.Means nodes (meant.bound_to_one table (found ds name n))) e (name_meant t nodes rounds parsed are few n name))
 
@@ -317,17 +317,24 @@ module _ (t : Text) (k : Known) (library : List Specification) (refused : List �
         let same : least_names node.kind ≡ least_names kind.Restrict = ap least_names is in
         omega (arith, some, same)
 
-    restricted_there : (j : ℕ) → meaning_of (scope_in nodes rounds) n (first_name (names f n)) ≡ means.is_type_parameter j → IsRestricted f n (restricted_in (slice_get (restricted_to nodes ds sets numbers (length nodes)) n))
-    restricted_there j e =
+    -- if what the table has of its first name is the parameter that this means
+    pub restricted_with : parameter_of nodes numbers ds (found ds (first_name node.names) n) ≡ parameter_meant (meaning_of (scope_in nodes rounds) n (first_name node.names)) → IsRestricted f n (restricted_in (slice_get (restricted_to nodes ds sets numbers (length nodes)) n))
+    restricted_with same =
         let name : first_name (names f n) ≡ first_name node.names = ap (λ (o : Option Node). first_name (node_names f o)) at in
         subst (IsRestricted f n) (sym its_restricted) (record {
           parameter =
               ap (parameter_of nodes numbers ds) (ap first_in names_are ∙ first_denoted ds n node.names has_name)
-              ∙ parameter_is (first_name node.names) j (sym (ap (meaning_of (scope_in nodes rounds) n) name) ∙ e)
-              ∙ sym (ap parameter_meant e);
+              ∙ same
+              ∙ sym (ap (λ (x : Identifier). parameter_meant (meaning_of (scope_in nodes rounds) n x)) name);
           set = its_set;
           node = λ c e. its_node (children_of (slice_get nodes n)) c e;
         })
+
+    restricted_there : (j : ℕ) → meaning_of (scope_in nodes rounds) n (first_name (names f n)) ≡ means.is_type_parameter j → IsRestricted f n (restricted_in (slice_get (restricted_to nodes ds sets numbers (length nodes)) n))
+    restricted_there j e =
+        let name : first_name (names f n) ≡ first_name node.names = ap (λ (o : Option Node). first_name (node_names f o)) at in
+        let means_so : meaning_of (scope_in nodes rounds) n (first_name node.names) ≡ means.is_type_parameter j = sym (ap (meaning_of (scope_in nodes rounds) n) name) ∙ e in
+        restricted_with (parameter_is (first_name node.names) j means_so ∙ sym (ap parameter_meant means_so))
 
   pub restricted_known : (n j : ℕ) → kind_at nodes n ≡ kind.Restrict → meaning_of (scope_in nodes rounds) n (first_name (names f n)) ≡ means.is_type_parameter j → IsRestricted f n (restricted_in (slice_get (restricted_to nodes ds sets numbers (length nodes)) n))
   restricted_known n j is e = let th : There nodes n kind.Restrict = there nodes n kind.Restrict refl is in restricted_there n th.node th.at th.is j e

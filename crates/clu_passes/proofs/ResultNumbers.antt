@@ -246,4 +246,4 @@ module _ (k : Known) (scope : Scope) (library : List Specification) (refused : L
         ap₂ (λ (a b : Bool). a || b)
         (ap₂ (λ (a b : Bool). a || b) (one_result n brackets.round here) (no_object_at n brackets (kind_at nodes n) refl known_so (is_named (kind_at nodes n)) refl))
         (numbers_are (binding_at k others (kind_at nodes n) n) (bindings_in f (kind_at nodes n) n)
-        (bound_is k scope library refused shaped tree are lost facts Any (λ m. Unit {0}) others (λ n t is here. tt) (λ n m x mean known. tt) targets n here (kind_at nodes n) refl (λ assigns. all_of (meanings k n))))
+        (bound_is k scope library refused shaped tree are lost facts Any (λ n m. Unit {0}) others (λ n t is here. tt) (λ n m x mean known. tt) targets n here (kind_at nodes n) refl (λ assigns. all_of (meanings k n))))

@@ -39,7 +39,7 @@ use Rattle.clu_type_rules.specs.Routines.{child_of_kind, parts_in, is_in_procedu
 use Rattle.clu_type_rules.specs.Known as known
 use Rattle.clu_type_rules.specs.Known.{type_at, parts_round}
 use Rattle.clu_type_rules.specs.StatementRules.{children_at, results_in, results_round, are_included, fit_values, gives_other}
-use Rattle.clu_passes.specs.FactTables.{typed, AreFacts, AreResults}
+use Rattle.clu_passes.specs.FactTables.{typed, AreFacts, IsResultKnown}
 use Rattle.clu_passes.specs.Routines.{StandInRoutines, AreParts as AreRoutineParts}
 use Rattle.clu_passes.proofs.FactNodes as so
 use Rattle.clu_passes.proofs.FactTypes.{may_known}
@@ -66,6 +66,10 @@ module _ (k : Known) (scope : Scope) (library : List Specification) (refused : L
   abbrev Here : (ℕ → Bool) → List ℕ → Type 0
   Here lost cs = AllByRecursion (λ c. lost c ≡ false) cs
 
+  -- types in the heading round a node
+  abbrev Told : ℕ → List ℕ → Type 0
+  Told n ts = AllByRecursion (IsResultKnown f k n) ts
+
   same_children : (o : Option ℕ) → children_at k o ≡ children_in nodes o
   same_children None = refl
   same_children (Some n) = refl
@@ -83,16 +87,16 @@ module _ (k : Known) (scope : Scope) (library : List Specification) (refused : L
   none_fit others its n [] = refl
   none_fit others its n (v ∷ vs) = ap (λ (m : ℕ). m == 0 && true) (lengths its (v ∷ vs))
 
-  module _ (shaped : HaveForms nodes) (tree : IsTree nodes) (lost : ℕ → Bool) (facts : AreFacts f terms k.facts.now lost) (given : AreResults f k lost) (stand : StandInRoutines f) (routines : AreRoutineParts f table) where
-    value_may : (others : ℕ → Item) (n r : ℕ) → (round_at f.rounds n).routine ≡ Some r → (v t : ℕ) → v < n → is_expression (kind_at nodes v) ≡ true → lost v ≡ false → t < r → is_type (kind_at nodes t) ≡ true → lost t ≡ false →
+  module _ (shaped : HaveForms nodes) (tree : IsTree nodes) (lost : ℕ → Bool) (facts : AreFacts f terms k.facts.now lost) (stand : StandInRoutines f) (routines : AreRoutineParts f table) where
+    value_may : (others : ℕ → Item) (n r : ℕ) → (round_at f.rounds n).routine ≡ Some r → (v t : ℕ) → v < n → is_expression (kind_at nodes v) ≡ true → lost v ≡ false → t < r → is_type (kind_at nodes t) ≡ true → IsResultKnown f k n t →
         may_fit (type_of f (items n v).expression) (headings.type_inside f r (items r t).type) ≡ may_be terms (type_at k v) (type_inside k.tables.file others n t)
     value_may others n r e v t v_before v_is v_here t_before t_is t_here =
         ap (λ (i : Item). may_fit (type_of f i.expression) (headings.type_inside f r (items r t).type)) (before_is nodes n v v_before)
         ∙ ap (λ (its : Option CluType). may_fit its (headings.type_inside f r (items r t).type)) (sym (so.an_expression k scope library refused v v_is))
         ∙ ap (λ (i : Item). may_fit (typed f v) (headings.type_inside f r i.type)) (before_is nodes r t t_before)
-        ∙ may_known terms (type_at k v) (typed f v) (facts.types v v_here) (type_inside k.tables.file others n t) (headings.type_inside f r (item f t).type) (given.types others n r t e t_is t_here)
+        ∙ may_known terms (type_at k v) (typed f v) (facts.types v v_here) (type_inside k.tables.file others n t) (headings.type_inside f r (item f t).type) (t_here others r e)
 
-    included_same : (others : ℕ → Item) (n r : ℕ) → (round_at f.rounds n).routine ≡ Some r → (vs : List ℕ) → AreParts nodes is_expression n vs → Here lost vs → (ts : List ℕ) → AreParts nodes is_type r ts → Here lost ts →
+    included_same : (others : ℕ → Item) (n r : ℕ) → (round_at f.rounds n).routine ≡ Some r → (vs : List ℕ) → AreParts nodes is_expression n vs → Here lost vs → (ts : List ℕ) → AreParts nodes is_type r ts → Told n ts →
         all_may_fit (types_of f (expressions_at (items n) vs)) (headings.results_inside f r (types_at (items r) ts)) ≡ are_included k others n vs ts
     included_same others n r e [] v_parts v_here [] t_parts t_here = refl
     included_same others n r e [] v_parts v_here (t ∷ ts) t_parts t_here = refl
@@ -102,7 +106,7 @@ module _ (k : Known) (scope : Scope) (library : List Specification) (refused : L
         (value_may others n r e v t v_parts.0.0 v_parts.0.1 v_here.0 t_parts.0.0 t_parts.0.1 t_here.0)
         (included_same others n r e vs v_parts.1 v_here.1 ts t_parts.1 t_here.1)
 
-    fits : (others : ℕ → Item) (n r : ℕ) → (round_at f.rounds n).routine ≡ Some r → (vs : List ℕ) → AreParts nodes is_expression n vs → Here lost vs → (ts : List ℕ) → AreParts nodes is_type r ts → Here lost ts →
+    fits : (others : ℕ → Item) (n r : ℕ) → (round_at f.rounds n).routine ≡ Some r → (vs : List ℕ) → AreParts nodes is_expression n vs → Here lost vs → (ts : List ℕ) → AreParts nodes is_type r ts → Told n ts →
         fit (types_of f (expressions_at (items n) vs)) (headings.results_inside f r (types_at (items r) ts)) ≡ fit_values k others n vs ts
     fits others n r e vs v_parts v_here ts t_parts t_here =
         ap₂ (λ (a b : Bool). a && b)
@@ -110,7 +114,7 @@ module _ (k : Known) (scope : Scope) (library : List Specification) (refused : L
         (included_same others n r e vs v_parts v_here ts t_parts t_here)
 
     -- by the routine round the node
-    by_routine : (others : ℕ → Item) (n : ℕ) (vs : List ℕ) → AreParts nodes is_expression n vs → Here lost vs → (o : Option ℕ) → (round_at f.rounds n).routine ≡ o → Here lost (children_at k (results_in k (parts_in table o))) →
+    by_routine : (others : ℕ → Item) (n : ℕ) (vs : List ℕ) → AreParts nodes is_expression n vs → Here lost vs → (o : Option ℕ) → (round_at f.rounds n).routine ≡ o → Told n (children_at k (results_in k (parts_in table o))) →
         fit (types_of f (expressions_at (items n) vs)) (statements.results_round f (routine_at f o)) ≡ fit_values k others n vs (children_at k (results_in k (parts_in table o)))
     by_routine others n vs v_parts v_here None e here = none_fit others (items n) n vs
     by_routine others n vs v_parts v_here (Some r) e here =
@@ -129,7 +133,7 @@ module _ (k : Known) (scope : Scope) (library : List Specification) (refused : L
         ∙ ap (λ (its : NodeKind). headings.results_inside f (routine_of (items r) nodes r x.node its).node (routine_of (items r) nodes r x.node its).results) x.is in
         ap (fit (types_of f (expressions_at (items n) vs))) heading
         ∙ fits others n r e vs v_parts v_here (parts nodes kind.Results (rest_of nodes x.node.children))
-        (parts_of_first nodes tree shaped kind.Results is_type refl r (rest_of nodes x.node.children) before_r) (subst (Here lost) list here)
+        (parts_of_first nodes tree shaped kind.Results is_type refl r (rest_of nodes x.node.children) before_r) (subst (Told n) list here)
         ∙ ap (fit_values k others n vs) (sym list)
 
     -- of the values of a node
@@ -147,12 +151,12 @@ module _ (k : Known) (scope : Scope) (library : List Specification) (refused : L
           is = cs;
         }
 
-    yielded : (others : ℕ → Item) (n : ℕ) (node : Node) → Values n node → Here lost (results_round k n) → fit (types_of f (expressions_at (items n) node.children)) (statements.results_round f (routine_at f (round_at f.rounds n).routine)) ≡ fit_values k others n (known.children k n) (results_round k n)
+    yielded : (others : ℕ → Item) (n : ℕ) (node : Node) → Values n node → Told n (results_round k n) → fit (types_of f (expressions_at (items n) node.children)) (statements.results_round f (routine_at f (round_at f.rounds n).routine)) ≡ fit_values k others n (known.children k n) (results_round k n)
     yielded others n node v here =
         by_routine others n node.children v.parts_are v.here (round_at f.rounds n).routine refl here
         ∙ ap (λ (cs : List ℕ). fit_values k others n cs (results_round k n)) (sym v.is)
 
-    returned_by : (others : ℕ → Item) (n : ℕ) (node : Node) → Values n node → Here lost (results_round k n) → (b : Bool) → fit (types_of f (expressions_at (items n) node.children)) (statements.returned f b n) ≡ fit_values k others n (known.children k n) (if b then results_round k n else [])
+    returned_by : (others : ℕ → Item) (n : ℕ) (node : Node) → Values n node → Told n (results_round k n) → (b : Bool) → fit (types_of f (expressions_at (items n) node.children)) (statements.returned f b n) ≡ fit_values k others n (known.children k n) (if b then results_round k n else [])
     returned_by others n node v here true = yielded others n node v here
     returned_by others n node v here false =
         none_fit others (items n) n node.children ∙ ap (λ (cs : List ℕ). fit_values k others n cs []) (sym v.is)
@@ -162,7 +166,7 @@ module _ (k : Known) (scope : Scope) (library : List Specification) (refused : L
         ap (λ (i : Item). statements.gives_other f n i.statement) (item_there nodes n x.node x.at)
         ∙ ap (λ (its : NodeKind). statements.gives_other f n (statement_of (items n) nodes n x.node its)) x.is
 
-    by_kind : (others : ℕ → Item) (n : ℕ) → lost n ≡ false → Here lost (results_round k n) → (its : NodeKind) → kind_at nodes n ≡ its → v30_in f its n ≡ gives_other k others its n
+    by_kind : (others : ℕ → Item) (n : ℕ) → lost n ≡ false → Told n (results_round k n) → (its : NodeKind) → kind_at nodes n ≡ its → v30_in f its n ≡ gives_other k others its n
     by_kind others n here results kind.Return is =
         let x = there nodes n kind.Return refl is in
         let v = values kind.Return refl n x here in
@@ -174,5 +178,5 @@ module _ (k : Known) (scope : Scope) (library : List Specification) (refused : L
         statement_at kind.Yield n x ∙ ap not (yielded others n x.node (values kind.Yield refl n x here) results)
     by_kind others n here results _ is = refl
 
-    pub v30_is : (others : ℕ → Item) (n : ℕ) → lost n ≡ false → Here lost (results_round k n) → v30 f n ≡ gives_other k others (known.kind_in k n) n
+    pub v30_is : (others : ℕ → Item) (n : ℕ) → lost n ≡ false → Told n (results_round k n) → v30 f n ≡ gives_other k others (known.kind_in k n) n
     v30_is others n here results = by_kind others n here results (kind_at nodes n) refl

@@ -23,7 +23,7 @@ use denote.Enum.Bare.{same_true}
 
 -- ---- one child
 
-no_more_fit : (ks : List NodeKind) → fit [] ks ≡ true → ks ≡ []
+pub no_more_fit : (ks : List NodeKind) → fit [] ks ≡ true → ks ≡ []
 unfolding fit after may_end
 no_more_fit [] e = refl
 no_more_fit (k ∷ ks) e = absurd (true≢false (sym e))

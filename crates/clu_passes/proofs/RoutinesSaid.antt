@@ -52,7 +52,7 @@ mapped : {X Y Z : Type 0} (g : Y → Z) (h : X → Y) (xs : List X) → map (λ 
 mapped g h [] = refl
 mapped g h (x ∷ xs) = ap (λ ys. g (h x) ∷ ys) (mapped g h xs)
 
-module _ (k : Known) (scope : Scope) (library : List Specification) (refused : List ℕ) (shaped : HaveForms k.syntax.now) (tree : IsTree k.syntax.now) (bits : List Bool) (counted : AreCounted k (file_known k scope library refused) bits)
+module _ (k : Known) (scope : Scope) (library : List Specification) (refused : List ℕ) (shaped : HaveForms k.syntax.now) (tree : IsTree k.syntax.now) (counted : AreCounted k (file_known k scope library refused))
     (asked : Asked) (old new : List Term) (arena : IsArena new) (constants : List Const) (settled : AreSettled k.syntax.now scope new constants k.values.now) (its : AreHeadsKnown k (file_known k scope library refused) asked new) where
   abbrev pub f : File
   f = file_known k scope library refused
@@ -82,7 +82,7 @@ module _ (k : Known) (scope : Scope) (library : List Specification) (refused : L
         let refused_there : is_refused_heading f rt ≡ true = sym (ap (λ (m : ℕ). is_refused_heading f (item f m).routine) is.node) ∙ typed e in
         sym (ap (λ (b : Bool). if b then None else Some (outside_type f (place_with home) rt)) refused_there)
     type_said typed (Some id) e =
-        head_there k scope library refused shaped tree bits counted n x.node x.at x.is (place_with home) old new arena constants settled own owns id
+        head_there k scope library refused shaped tree counted n x.node x.at x.is (place_with home) old new arena constants settled own owns id
         (subst (IsNumbered old new (term_at k own n (slice_get nodes n))) e is.of_type)
 
     demands_said : map (demand_told types) r.demands ≡ listed_demands (demands_in f rt.restrictions)

@@ -33,11 +33,11 @@ use Rattle.clu_head.specs.There.{is_there}
 
 -- ---- what an equate says of type sets by the kind of its right side
 
-other_side : (items : ℕ → Item) (nodes : List Node) (n : ℕ) (name : Option Identifier) (k : NodeKind) (c : ℕ) → is_of kind.TypeSet k ≡ false → equated items nodes n name k c ≡ an_equate n name (items c).constant
+pub other_side : (items : ℕ → Item) (nodes : List Node) (n : ℕ) (name : Option Identifier) (k : NodeKind) (c : ℕ) → is_of kind.TypeSet k ≡ false → equated items nodes n name k c ≡ an_equate n name (items c).constant
 other_side items nodes n name kind.TypeSet c other = absurd (true≢false other)
 other_side items nodes n name _ c other = refl
 
-right_kind : (k : NodeKind) → is_right_side k ≡ true → is_of kind.TypeSet k ≡ false → (is_expression k || is_type k) ≡ true
+pub right_kind : (k : NodeKind) → is_right_side k ≡ true → is_of kind.TypeSet k ≡ false → (is_expression k || is_type k) ≡ true
 right_kind k right other = by (is_expression k || is_type k) (is_of kind.TypeSet k) right other
   where
     by : (a b : Bool) → (a || b) ≡ true → b ≡ false → a ≡ true
@@ -51,10 +51,10 @@ module _ (f : File) (unfolded : ℕ → Identifier → Option TypeSet) where
   elements_alone items n m name s t (Some token) [] = refl
   elements_alone items n m name s t (Some token) (c ∷ cs) = refl
 
-  abbrev NoSet : (ℕ → Item) → ℕ → Option Identifier → ℕ → Node → NodeKind → Type 0
+  abbrev pub NoSet : (ℕ → Item) → ℕ → Option Identifier → ℕ → Node → NodeKind → Type 0
   NoSet items n name c node k = set_of f unfolded (an_equate n name (constant_of (is_type k) (expression_of items f.nodes c node k) (type_expression_of items f.nodes c node k))) ≡ None
 
-  no_set : (items : ℕ → Item) (n : ℕ) (name : Option Identifier) (c : ℕ) (node : Node) (k : NodeKind) → (is_expression k || is_type k) ≡ true → is_of kind.Name k ≡ false → NoSet items n name c node k
+  pub no_set : (items : ℕ → Item) (n : ℕ) (name : Option Identifier) (c : ℕ) (node : Node) (k : NodeKind) → (is_expression k || is_type k) ≡ true → is_of kind.Name k ≡ false → NoSet items n name c node k
   no_set items n name c node kind.Name right other = absurd (true≢false other)
   no_set items n name c node kind.Infix right other = refl
   no_set items n name c node kind.Prefix right other = refl

@@ -37,7 +37,7 @@ use Rattle.clu_type_rules.specs.ExceptionRules.{raised_objects, heading_takes_ra
 use Rattle.clu_typing.specs.declared.raising.Raise.{Raise}
 use Rattle.clu_passes.specs.Bound.{IsExceptionKnown}
 use Rattle.clu_passes.specs.ConstantTables.{AreTables}
-use Rattle.clu_passes.specs.FactTables.{AreTypes, AreFacts, AreResults}
+use Rattle.clu_passes.specs.FactTables.{AreTypes, AreFacts}
 use Rattle.clu_passes.specs.Firsts.{AreItems}
 use Rattle.clu_passes.specs.TableRaises.{IsAmong, IsRaise, AreRaises}
 use Rattle.clu_passes.specs.Routines.{StandInRoutines, AreParts as AreRoutineParts}
@@ -75,7 +75,7 @@ module _ (k : Known) (scope : Scope) (library : List Specification) (refused : L
   abbrev items : ℕ → ℕ → Item
   items n = before n (item_at nodes)
 
-  module _ (shaped : HaveForms nodes) (tree : IsTree nodes) (are : AreTables f k.tables) (firsts : AreItems f k.tables) (stand : StandInRoutines f) (routines : AreRoutineParts f k.routines.now.parts.items) (lost : ℕ → Bool) (facts : AreFacts f terms k.facts.now lost) (given : AreResults f k lost) where
+  module _ (shaped : HaveForms nodes) (tree : IsTree nodes) (are : AreTables f k.tables) (firsts : AreItems f k.tables) (stand : StandInRoutines f) (routines : AreRoutineParts f k.routines.now.parts.items) (lost : ℕ → Bool) (facts : AreFacts f terms k.facts.now lost) where
     statement_at : (bad : ℕ → Bool) (j : NodeKind) (n : ℕ) (x : There nodes n j) → checking.has_other_types f bad n (item f n).statement ≡ checking.has_other_types f bad n (statement_of (items n) nodes n x.node j)
     statement_at bad j n x =
         ap (λ (i : Item). checking.has_other_types f bad n i.statement) (item_there nodes n x.node x.at)
@@ -85,7 +85,7 @@ module _ (k : Known) (scope : Scope) (library : List Specification) (refused : L
     known_name : (j : NodeKind) (n : ℕ) → There nodes n j → (name : Identifier) → IsAmong name (names k n) → is_known words name ≡ true
     known_name j n x name i = known_among words (names k n) (names_known k scope library refused shaped tree firsts stand routines j n x) name i
 
-    signal_is : (bad : ℕ → Bool) (others : ℕ → Item) (n : ℕ) → kind_at nodes n ≡ kind.Signal → lost n ≡ false → AllByRecursion (IsExceptionKnown k lost n) (names k n) → v26_in f bad kind.Signal n ≡ of_tables.signals_other k others n (names k n)
+    signal_is : (bad : ℕ → Bool) (others : ℕ → Item) (n : ℕ) → kind_at nodes n ≡ kind.Signal → lost n ≡ false → AllByRecursion (IsExceptionKnown f k n) (names k n) → v26_in f bad kind.Signal n ≡ of_tables.signals_other k others n (names k n)
     signal_is bad others n is here all =
         let x : There nodes n kind.Signal = there nodes n kind.Signal refl is in
         let one : OneName nodes n = signal_name nodes shaped n is in
@@ -97,13 +97,13 @@ module _ (k : Known) (scope : Scope) (library : List Specification) (refused : L
         (subst (AllByRecursion (λ c. lost c ≡ false)) (so.children_same k scope library refused (slice_get nodes n) ∙ kids) (facts.below n here)) in
         statement_at bad kind.Signal n x
         ∙ ap (λ (its : Identifier). not (checking.fits_heading f n its (invoking.types_of f (expressions_at (items n) x.node.children)))) name
-        ∙ ap not (fits_same k scope library refused shaped tree firsts stand routines lost given are.arena others n one.its (known_name kind.Signal n x one.its here_is) (each_among (IsExceptionKnown k lost n) (names k n) all one.its here_is)
+        ∙ ap not (fits_same k scope library refused shaped tree firsts stand routines are.arena others n one.its (known_name kind.Signal n x one.its here_is) (each_among (IsExceptionKnown f k n) (names k n) all one.its here_is)
         (map (type_at k) x.node.children) (invoking.types_of f (expressions_at (items n) x.node.children)) values)
         ∙ ap (λ (cs : List ℕ). not (of_tables.fits_heading k others n one.its (map (type_at k) cs))) (sym kids)
         ∙ ap (of_tables.signals_other k others n) (sym one.is)
 
     module _ (raises : AreRaises f k lost) where
-      resignal_is : (bad : ℕ → Bool) (others : ℕ → Item) (n : ℕ) → kind_at nodes n ≡ kind.Resignal → lost n ≡ false → AllByRecursion (IsExceptionKnown k lost n) (names k n) → v26_in f bad kind.Resignal n ≡ not (takes_all k (heading_takes_raise k others n) n (names k n))
+      resignal_is : (bad : ℕ → Bool) (others : ℕ → Item) (n : ℕ) → kind_at nodes n ≡ kind.Resignal → lost n ≡ false → AllByRecursion (IsExceptionKnown f k n) (names k n) → v26_in f bad kind.Resignal n ≡ not (takes_all k (heading_takes_raise k others n) n (names k n))
       resignal_is bad others n is here all =
           let x : There nodes n kind.Resignal = there nodes n kind.Resignal refl is in
           let s : FirstStatement k scope library refused shaped tree n = in_resignal k scope library refused shaped tree n is in
@@ -119,10 +119,10 @@ module _ (k : Known) (scope : Scope) (library : List Specification) (refused : L
           raise_same : (name : Identifier) → IsAmong name (names k n) → (r : Raise) (y : definition.Raise) → IsRaise k r y → y.0 ≡ name → is_known words name ≡ true → checking.raise_fits f bad n y ≡ heading_takes_raise k others n name r
           raise_same name among r y raise named known_is =
               ap (λ (its : Identifier). checking.fits_heading f n its (known (as_list y.1))) named
-              ∙ fits_same k scope library refused shaped tree firsts stand routines lost given are.arena others n name known_is (each_among (IsExceptionKnown k lost n) (names k n) all name among) (raised_objects k r) (known (as_list y.1)) raise.1
+              ∙ fits_same k scope library refused shaped tree firsts stand routines are.arena others n name known_is (each_among (IsExceptionKnown f k n) (names k n) all name among) (raised_objects k r) (known (as_list y.1)) raise.1
 
-    pub of_signals : (bits : List Bool) (bad : ℕ → Bool) (others : ℕ → Item) (n : ℕ) → kind_at nodes n ≡ kind.Signal → lost n ≡ false → AllByRecursion (IsExceptionKnown k lost n) (names k n) → v26 f bad n ≡ of_tables.v26 k others bits n
+    pub of_signals : (bits : List Bool) (bad : ℕ → Bool) (others : ℕ → Item) (n : ℕ) → kind_at nodes n ≡ kind.Signal → lost n ≡ false → AllByRecursion (IsExceptionKnown f k n) (names k n) → v26 f bad n ≡ of_tables.v26 k others bits n
     of_signals bits bad others n is here all = ap (λ (j : NodeKind). v26_in f bad j n) is ∙ signal_is bad others n is here all ∙ ap (λ (j : NodeKind). of_tables.v26_at k others bits j n) (sym is)
 
-    pub of_resignals : AreRaises f k lost → (bits : List Bool) (bad : ℕ → Bool) (others : ℕ → Item) (n : ℕ) → kind_at nodes n ≡ kind.Resignal → lost n ≡ false → AllByRecursion (IsExceptionKnown k lost n) (names k n) → v26 f bad n ≡ of_tables.v26 k others bits n
+    pub of_resignals : AreRaises f k lost → (bits : List Bool) (bad : ℕ → Bool) (others : ℕ → Item) (n : ℕ) → kind_at nodes n ≡ kind.Resignal → lost n ≡ false → AllByRecursion (IsExceptionKnown f k n) (names k n) → v26 f bad n ≡ of_tables.v26 k others bits n
     of_resignals raises bits bad others n is here all = ap (λ (j : NodeKind). v26_in f bad j n) is ∙ resignal_is raises bad others n is here all ∙ ap (λ (j : NodeKind). of_tables.v26_at k others bits j n) (sym is)

@@ -50,7 +50,7 @@ use Rattle.clu_type_rules.specs.Objects.{types_inside}
 use Rattle.clu_type_rules.specs.ExceptionRules as of_tables
 use Rattle.clu_type_rules.specs.ExceptionRules.{signals_in, first_named, exception_named}
 use Rattle.clu_passes.specs.Bound.{IsExceptionKnown}
-use Rattle.clu_passes.specs.FactTables.{IsType, AreTypes, AreResults}
+use Rattle.clu_passes.specs.FactTables.{IsType, AreTypes, IsResultKnown}
 use Rattle.clu_passes.specs.Firsts.{AreItems}
 use Rattle.clu_passes.specs.Routines.{StandInRoutines, AreParts as AreRoutineParts}
 use Rattle.clu_passes.proofs.Constructed.{whole_run}
@@ -131,9 +131,10 @@ module _ (k : Known) (scope : Scope) (library : List Specification) (refused : L
   abbrev has_name : Identifier → ℕ → Bool
   has_name name c = is_of kind.Exc (kind_at nodes c) && list_any (bytes_eq name) (all_names nodes c)
 
-  module _ (shaped : HaveForms nodes) (tree : IsTree nodes) (are : AreItems f k.tables) (stand : StandInRoutines f) (routines : AreRoutineParts f table) (lost : ℕ → Bool) (given : AreResults f k lost) where
-    abbrev Here : List ℕ → Type 0
-    Here cs = AllByRecursion (λ c. lost c ≡ false) cs
+  module _ (shaped : HaveForms nodes) (tree : IsTree nodes) (are : AreItems f k.tables) (stand : StandInRoutines f) (routines : AreRoutineParts f table) where
+    -- types in the heading round a node
+    abbrev Told : ℕ → List ℕ → Type 0
+    Told n ts = AllByRecursion (IsResultKnown f k n) ts
 
     -- the first exception of the name in the heading's Signals
     found_in : (name : Identifier) → is_known words name ≡ true → (o : Option ℕ) → first_named k list.Exceptions o (of_tables.number_of k name) ≡ find (has_name name) (children_in nodes o)
@@ -155,14 +156,14 @@ module _ (k : Known) (scope : Scope) (library : List Specification) (refused : L
       abbrev place : Place
       place = place_at f r
 
-      types_told : (c : ℕ) (ts : List ℕ) → AreParts nodes is_type c ts → Here ts → AreWanted k (types_inside k others n ts) (types_by seen (heading_types place (types_at (items c) ts)))
+      types_told : (c : ℕ) (ts : List ℕ) → AreParts nodes is_type c ts → Told n ts → AreWanted k (types_inside k others n ts) (types_by seen (heading_types place (types_at (items c) ts)))
       types_told c [] ps here = tt
       types_told c (t ∷ ts) ps here = (
-        subst (λ (i : Item). IsType terms (type_inside k.tables.file others n t) (Some (headings.type_inside f r i.type))) (sym (before_is nodes c t ps.0.0)) (given.types others n r t round ps.0.1 here.0),
+        subst (λ (i : Item). IsType terms (type_inside k.tables.file others n t) (Some (headings.type_inside f r i.type))) (sym (before_is nodes c t ps.0.0)) (here.0 others r round),
         types_told c ts ps.1 here.1,
       )
 
-      exception_told : (c : ℕ) → IsPart nodes (is_of kind.Exc) r c → Here (tables.children k c) → AreWanted k (types_inside k others n (tables.children k c)) (types_by seen (heading_types place (items r c).exception.types))
+      exception_told : (c : ℕ) → IsPart nodes (is_of kind.Exc) r c → Told n (tables.children k c) → AreWanted k (types_inside k others n (tables.children k c)) (types_by seen (heading_types place (items r c).exception.types))
       exception_told c p here =
           let x : There nodes c kind.Exc = there nodes c kind.Exc refl (same_kind kind.Exc (kind_at nodes c) p.1) in
           let kids : tables.children k c ≡ x.node.children = ap children_of x.at in
@@ -172,7 +173,7 @@ module _ (k : Known) (scope : Scope) (library : List Specification) (refused : L
           ∙ ap (λ (j : NodeKind). (exception_of (items c) nodes c x.node j).types) x.is in
           subst (λ (cs : List ℕ). AreWanted k (types_inside k others n cs) (types_by seen (heading_types place (items r c).exception.types))) (sym kids)
           (subst (λ (ts : TypeExpressions). AreWanted k (types_inside k others n x.node.children) (types_by seen (heading_types place ts))) (sym its)
-          (types_told c x.node.children (all_parts nodes tree shaped is_type c x.node x.at (ap slots x.is)) (subst Here kids here)))
+          (types_told c x.node.children (all_parts nodes tree shaped is_type c x.node x.at (ap slots x.is)) (subst (Told n) kids here)))
 
       module _ (name : Identifier) (no_failure : is_failure name ≡ false) where
         abbrev written : List ℕ → Option CluTypes
@@ -186,13 +187,13 @@ module _ (k : Known) (scope : Scope) (library : List Specification) (refused : L
             ∙ nat_list_eq_equiv.symm name n.its
             ∙ ap (λ (other : Identifier). bytes_eq other name) (sym n.written)
 
-        listed_is : (es : List ℕ) → AreParts nodes (is_of kind.Exc) r es → ((c : ℕ) → find (has_name name) es ≡ Some c → Here (tables.children k c)) → IsListed others n (find (has_name name) es) (written es)
+        listed_is : (es : List ℕ) → AreParts nodes (is_of kind.Exc) r es → ((c : ℕ) → find (has_name name) es ≡ Some c → Told n (tables.children k c)) → IsListed others n (find (has_name name) es) (written es)
         listed_is [] ps here = tt
         listed_is (c ∷ es) ps here =
             subst (IsListed others n (find (has_name name) (c ∷ es))) (sym (listed_first name place seen no_failure (items r c).exception.node (items r c).exception.name (items r c).exception.types (exceptions_at (items r) es)))
             (by (has_name name c) (bytes_eq (items r c).exception.name name) (has_its c ps.0) here (λ h. listed_is es ps.1 h))
           where
-            by : (a b : Bool) → a ≡ b → ((d : ℕ) → cond a (Some c) (find (has_name name) es) ≡ Some d → Here (tables.children k d)) → (((d : ℕ) → find (has_name name) es ≡ Some d → Here (tables.children k d)) → IsListed others n (find (has_name name) es) (written es)) →
+            by : (a b : Bool) → a ≡ b → ((d : ℕ) → cond a (Some c) (find (has_name name) es) ≡ Some d → Told n (tables.children k d)) → (((d : ℕ) → find (has_name name) es ≡ Some d → Told n (tables.children k d)) → IsListed others n (find (has_name name) es) (written es)) →
                 IsListed others n (cond a (Some c) (find (has_name name) es)) (if b then Some (types_by seen (heading_types place (items r c).exception.types)) else written es)
             by true true e here rest = exception_told c ps.0 (here c refl)
             by true false e here rest = absurd (true≢false e)
@@ -202,7 +203,7 @@ module _ (k : Known) (scope : Scope) (library : List Specification) (refused : L
     -- ---- the heading of the routine round a node
 
     by_routine : (others : ℕ → Item) (n : ℕ) (name : Identifier) → is_known words name ≡ true → is_failure name ≡ false → (o : Option ℕ) → (round_at f.rounds n).routine ≡ o →
-        ((c : ℕ) → first_named k list.Exceptions (signals_in (parts_in table o)) (of_tables.number_of k name) ≡ Some c → Here (tables.children k c)) →
+        ((c : ℕ) → first_named k list.Exceptions (signals_in (parts_in table o)) (of_tables.number_of k name) ≡ Some c → Told n (tables.children k c)) →
         IsListed others n (first_named k list.Exceptions (signals_in (parts_in table o)) (of_tables.number_of k name)) (listed_objects (signals_of f (routine_at f o)) name)
     by_routine others n name is no_failure None e here = tt
     by_routine others n name is no_failure (Some r) e here =
@@ -238,7 +239,7 @@ module _ (k : Known) (scope : Scope) (library : List Specification) (refused : L
       listed_fits others n gs ts are (Some c) (Some ws) is = fit_same k gs ts are (types_inside k others n (tables.children k c)) ws is
 
       -- objects of these types fit the exception of this name
-      pub fits_same : (others : ℕ → Item) (n : ℕ) (name : Identifier) → is_known words name ≡ true → IsExceptionKnown k lost n name → (gs : List (Option TypeId)) (ts : List (Option CluType)) → AreTypes terms gs ts → checking.fits_heading f n name ts ≡ of_tables.fits_heading k others n name gs
+      pub fits_same : (others : ℕ → Item) (n : ℕ) (name : Identifier) → is_known words name ≡ true → IsExceptionKnown f k n name → (gs : List (Option TypeId)) (ts : List (Option CluType)) → AreTypes terms gs ts → checking.fits_heading f n name ts ≡ of_tables.fits_heading k others n name gs
       fits_same others n name is here gs ts are = by (is_failure name) refl
         where
           by : (b : Bool) → is_failure name ≡ b →

@@ -1,5 +1,5 @@
 -- What is found of a node stays so while there are more types and more is found.
-use Rattle.std.proofs.Common.{◌≡◌, ◌<◌, ℕ, Bool, true, false, List, [], ◌∷◌, ◌++◌, codes, length, IfSome, Option, Some, None, sym, ap, subst}
+use Rattle.std.proofs.Common.{◌≡◌, ◌∙◌, ◌<◌, ℕ, Bool, true, false, List, [], ◌∷◌, ◌++◌, codes, length, map, IfSome, Option, Some, None, sym, ap, subst}
 use Rattle.clu_types.specs.CluType.{CluType}
 use Rattle.clu_types.specs.Arena.{Grows}
 use Rattle.clu_types.specs.declared.term.Term.{Term}
@@ -15,8 +15,9 @@ use Rattle.clu_checking.specs.Operations.{Found, operation_found}
 use Rattle.clu_checking.specs.Typing.{name_type, takes_actuals, type_of}
 use Rattle.clu_operations.specs.declared.found.Found.{Found as Kept}
 use Rattle.clu_operations.specs.declared.found.FoundId.{FoundId}
-use Rattle.clu_operations.specs.Finding.{Extends, found_at, found_or_none}
+use Rattle.clu_operations.specs.Finding.{AreWithin, Follows, found_at, found_or_none}
 use Rattle.clu_operations.specs.Told.{Told}
+use Rattle.clu_operations.proofs.Lasting.{told_stays}
 use Rattle.clu_operations.proofs.Once.{item_extends}
 use Rattle.clu_bindings.specs.declared.file.Headed.{Headed}
 use Rattle.clu_operations.specs.declared.finding.Finding.{Finding}
@@ -31,7 +32,8 @@ use Rattle.clu_typing.specs.Facts.{operation_of, type_found}
 use Rattle.clu_typing.specs.Found.{IsAppliedTold, IsBehindTold, IsToldOf, IsUseToldIf}
 use Rattle.clu_typing.specs.Operators.{infix_operation, is_negated, prefix_operation}
 use Rattle.clu_typing.specs.Stands.{Stands, for_nothing, for_invoked, for_named}
-use Rattle.clu_passes.specs.FactTables.{AreTypes, IsFound, IsType}
+use Rattle.clu_passes.specs.FactTables.{AreTypes, IsAsking, IsFound, IsType}
+use Rattle.clu_passes.specs.Met.{asked_told}
 use Rattle.clu_passes.specs.StandsFor.{AreOperands, AreOperandsOf, IsIndex, IsNamed, IsNot, IsOperation, IsOwnNamed, IsSecond, IsSugar, IsSugarIf, NodeStandsFor, StandsFor, StatementStandsFor}
 use Rattle.clu_passes.proofs.NodeTyped.{type_grown}
 
@@ -58,7 +60,7 @@ module _ (h : Headed) (terms : List Term) (finding : Finding) (n : ℕ) where
   sought_there (Some id) lt = lt
   sought_there None lt = tt
 
-  told_there : (of : TypeId) (it : Option Told) (its : Operation) → IsToldOf terms finding of it its → IsThere founds its
+  pub told_there : (of : TypeId) (it : Option Told) (its : Operation) → IsToldOf terms finding of it its → IsThere founds its
   told_there of it its u = subst (IsThere founds) (sym u.is) (sought_there u.found u.there)
 
   use_there : (of : Option TypeId) (name : List ℕ) (its : Option Use) → IsUseToldIf h terms finding n of name its → IsUseThere founds its
@@ -88,7 +90,7 @@ module _ (h : Headed) (terms : List Term) (finding : Finding) (n : ℕ) where
 
 -- ---- later
 
-module _ (f : File) (old new : List Term) (grows : Grows old new) (facts now : Facts) (more : Extends facts.finding.founds.items now.finding.founds.items) where
+module _ (f : File) (old new : List Term) (grows : Grows old new) (facts now : Facts) (within : AreWithin (length old) facts.finding) (follows : Follows facts.finding now.finding) where
   abbrev count : ℕ
   count = length facts.finding.founds.items
 
@@ -97,13 +99,18 @@ module _ (f : File) (old new : List Term) (grows : Grows old new) (facts now : F
   found_later operation.Missing (Some x) there is = absurd is
   found_later (operation.Found id) None there is = absurd is
   found_later (operation.Found id) (Some x) there is =
-      subst (λ (o : Option TypeId). IsType new o x.type) (sym (ap (λ (o : Option Kept). (found_or_none o).of) (item_extends facts.finding.founds.items now.finding.founds.items more id.0 there)))
+      subst (λ (o : Option TypeId). IsType new o x.type) (sym (ap (λ (o : Option Kept). (found_or_none o).of) (item_extends facts.finding.founds.items now.finding.founds.items follows.founds id.0 there)))
       (type_grown old new grows (found_at facts.finding.founds.items id).of x.type is)
   found_later (operation.Object of) None there is = absurd is
   found_later (operation.Object of) (Some x) there is = type_grown old new grows (Some of) x.type is
 
+  pub asking_later : (o : Operation) (x : Option Found) → IsThere count o → IsAsking old facts o x → IsAsking new now o x
+  asking_later operation.Missing x there is = is
+  asking_later (operation.Found id) x there is = ap (λ (it : Told). map asked_told it.asks) (told_stays old new grows facts.finding now.finding follows within id there) ∙ is
+  asking_later (operation.Object of) x there is = is
+
   use_later : (m : ℕ) (t : CluType) (name : Identifier) (its : Use) → IsThere count its.operation → IsOperation f old facts m t name its → IsOperation f new now m t name its
-  use_later m t name its there is = (type_grown old new grows (Some its.of) (Some t) is.0, found_later its.operation (operation_found f m t name) there is.1)
+  use_later m t name its there is = (type_grown old new grows (Some its.of) (Some t) is.0, found_later its.operation (operation_found f m t name) there is.1, asking_later its.operation (operation_found f m t name) there is.2)
 
   not_later : (m : ℕ) (t : Option CluType) (second : Option Use) → IsUseThere count second → IsNot f old facts m t second → IsNot f new now m t second
   not_later m (Some t) (Some its) there is = use_later m t (codes "not") its there is

@@ -36,7 +36,7 @@ use Rattle.clu_type_rules.specs.Known.{term_of, type_at, tags_in, tags_of, first
 use Rattle.clu_type_rules.specs.StatementRules.{tagged_by, tags_by}
 use Rattle.clu_type_rules.specs.Tags as of_tags
 use Rattle.clu_type_rules.specs.Tags.{tags_round}
-use Rattle.clu_passes.specs.Bound.{IsFirstKnown}
+use Rattle.clu_passes.specs.Bound.{IsFirstKnown, has_arms}
 use Rattle.clu_passes.specs.ConstantTables.{AreTables}
 use Rattle.clu_passes.specs.FactTables.{typed, IsType, AreFacts}
 use Rattle.clu_passes.proofs.FactNodes as so
@@ -153,11 +153,11 @@ module _ (k : Known) (scope : Scope) (library : List Specification) (refused : L
         (subst (λ (t : Option CluType). TagsTold (tags_by_type (type_at k c)) (option_and_then statements.tags_of t)) (sym definition) told)
 
     -- on which a node selects, if it is a Tagcase
-    pub tags_told : (p : ℕ) → FirstHere p → TagsTold (tags_by k p) (option_and_then statements.tags_of (statements.tagged_by f (item f p).statement))
+    pub tags_told : (p : ℕ) → (is_of kind.Tagcase (kind_at nodes p) ≡ true → FirstHere p) → TagsTold (tags_by k p) (option_and_then statements.tags_of (statements.tagged_by f (item f p).statement))
     tags_told p here = by (is_of kind.Tagcase (kind_at nodes p)) refl
       where
         by : (b : Bool) → is_of kind.Tagcase (kind_at nodes p) ≡ b → TagsTold (tags_by k p) (option_and_then statements.tags_of (statements.tagged_by f (item f p).statement))
-        by true e = tagcase_told p (same_kind kind.Tagcase (kind_at nodes p) e) here
+        by true e = tagcase_told p (same_kind kind.Tagcase (kind_at nodes p) e) (here e)
         by false e =
             let code : tagged_by k p ≡ None = ap (λ (b : Bool). if◌then◌else◌ {A = Option TypeId} b (first_type k (known.children k p)) None) (sym (there_is kind.Tagcase refl (slice_get nodes p)) ∙ e) in
             subst (λ (of : Option TypeId). TagsTold (tags_by_type of) (option_and_then statements.tags_of (statements.tagged_by f (item f p).statement))) (sym code)
@@ -171,4 +171,4 @@ module _ (k : Known) (scope : Scope) (library : List Specification) (refused : L
         by None e =
             subst (λ (o : Option ℕ). TagsTold (of_tags.tags_by_parent k o) (option_and_then statements.tags_of (statements.tagged_at f o))) (sym e) none_told
         by (Some p) e =
-            subst (λ (o : Option ℕ). TagsTold (of_tags.tags_by_parent k o) (option_and_then statements.tags_of (statements.tagged_at f o))) (sym e) (tags_told p (λ c cs is. here p c cs e is))
+            subst (λ (o : Option ℕ). TagsTold (of_tags.tags_by_parent k o) (option_and_then statements.tags_of (statements.tagged_at f o))) (sym e) (tags_told p (λ hit c cs is. here p c cs e (ap has_arms (same_kind kind.Tagcase (kind_at nodes p) hit)) is))

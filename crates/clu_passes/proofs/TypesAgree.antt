@@ -43,11 +43,14 @@ use Rattle.clu_settle.specs.Meant.{meanings_of}
 use Rattle.clu_settle.specs.Names.{is_constant}
 use Rattle.clu_settle.proofs.Parts.{constant_is}
 use Rattle.clu_settle.proofs.Shapes.{first_part}
+use Rattle.clu_declares.proofs.Each.{are_meanings}
 use Rattle.clu_declares.proofs.Facts.{There, there}
 use Rattle.clu_declares.proofs.Parents.{IsIn}
 use Rattle.clu_bindings.specs.declared.file.File.{File as Read}
 use Rattle.clu_bindings.specs.declared.meaning.Meaning.TheVariants as meant_as
-use Rattle.clu_bindings.specs.Readers.{children_in, meaning_in, value_in}
+use Rattle.clu_bindings.specs.declared.wanted.Wanted.{Wanted as WantedThere}
+use Rattle.clu_bindings.specs.declared.wanted.Wanted.TheVariants as wanted_as
+use Rattle.clu_bindings.specs.Readers.{children_in, meaning_in, value_in, wanted_in}
 use Rattle.clu_name_rules.specs.declared.tables.Tables.{Tables}
 use Rattle.clu_name_rules.specs.Components.{fields_in}
 use Rattle.clu_name_rules.specs.ConstantRules as of_tables
@@ -55,8 +58,8 @@ use Rattle.clu_name_rules.specs.Constructors as constructors
 use Rattle.clu_name_rules.specs.NameRules.{leads_to_mark}
 use Rattle.clu_type_rules.specs.Asked.{is_asked, rules_at}
 use Rattle.clu_type_rules.specs.Rules.{violates_of_types}
-use Rattle.clu_passes.specs.Clear.{IsClear, IsReadAlike}
-use Rattle.clu_passes.specs.ConstantTables.{file_with, AreBad, AreBracketsKnown, AreTables, IsEquateKnown, IsKnown, IsOperatorKnown, IsTypeNameKnown}
+use Rattle.clu_passes.specs.Clear.{IsClear}
+use Rattle.clu_passes.specs.ConstantTables.{file_with, AreBad, AreBracketsKnown, AreTables, IsEquateKnown, IsKnown, IsOperatorKnown, IsTypeNameKnown, IsWantedKnown}
 use Rattle.clu_passes.specs.Constructed.{HasEachOnce, IsTyped}
 use Rattle.clu_passes.specs.Counting.{names_of_fields}
 use Rattle.clu_passes.specs.Made.{AreMade}
@@ -67,7 +70,7 @@ use Rattle.clu_passes.specs.Trees.{IsFileOfTree}
 use Rattle.clu_passes.proofs.Actuals.{v19_is}
 use Rattle.clu_passes.proofs.ValuesKnown as at
 use Rattle.clu_passes.proofs.ValuesKnown.{all_by, is_over_constants}
-use Rattle.clu_passes.proofs.Constants.{bad_constant, bad_rep, bad_rep_by, bad_type, too_long_constant, too_long_type, v8_by, v8_of_bad, v9_by, v9_of_bad}
+use Rattle.clu_passes.proofs.Constants.{IsTypeWantedSame, bad_constant, bad_rep, bad_rep_by, bad_type, too_long_constant, too_long_type, type_wanted, v8_by, v8_of_bad, v9_by, v9_of_bad}
 use Rattle.clu_passes.proofs.Constructed.{v17_is}
 use Rattle.clu_passes.proofs.FaultsFound.{agree_at}
 use Rattle.clu_passes.proofs.FoundStrings.{found_strings}
@@ -77,11 +80,14 @@ use Rattle.clu_passes.proofs.Literals.{v4_is}
 use Rattle.clu_passes.proofs.LostRefused.{HasEquate, bad_named, circle_there, literal_told, refused_by, word_first}
 use Rattle.clu_passes.proofs.Marked.{v7_is}
 use Rattle.clu_passes.proofs.NamedEquates.{rep_led, type_led}
+use Rattle.clu_passes.proofs.OnceThere.{once}
+use Rattle.clu_passes.proofs.SettledStrings.{lost_short}
 use Rattle.clu_passes.proofs.Strings.{strings_told}
 use Rattle.clu_passes.proofs.Tables.{bound_is}
 use Rattle.clu_passes.proofs.TablesMade.{tables_are}
 use Rattle.clu_passes.proofs.Units.{declare_modules}
 use Rattle.clu_passes.proofs.Unknown.{v5_is}
+use Rattle.clu_passes.proofs.WantedSaid.{first_asked, first_said}
 use Rattle.clu_passes.proofs.WhyLost.{NamesOdd, why_lost}
 use Rattle.clu_passes.proofs.Words.{v10_is, v31_is}
 
@@ -157,11 +163,14 @@ cvt_alone n simple.String e = absurd (true≢false (sym e))
 cvt_alone n simple.Any e = absurd (true≢false (sym e))
 cvt_alone n simple.Rep e = absurd (true≢false (sym e))
 
+cvt_there : (n : ℕ) (w : SimpleType) → is_cvt w ≡ true → is_word simple.Cvt (a_simple_type n w) ≡ true
+cvt_there n simple.Cvt e = refl
+cvt_there n _ e = absurd (true≢false (sym e))
+
 module _ (t : Text) (its : Tables) (library : List Specification) (refused : List ℕ) (all : AreMade t its library refused)
     (lost : (n : ℕ) → n < length its.file.syntax.now → value_of its.file.values.now n ≡ value.Lost → IsLost its.file.syntax.now (meanings_of its.file.syntax.now its.file.rounds.now (declarations its.file.syntax.now its.file.rounds.now)) n)
     (meant : AreMeanings (file_with its.file (scope_in its.file.syntax.now its.file.rounds.now) library refused) its.file.names.now its.file.bindings.now.meanings.items)
     (repeated : AreRepeated (file_with its.file (scope_in its.file.syntax.now its.file.rounds.now) library refused) its.items.now.repeated.items)
-    (alike : IsReadAlike (file_with its.file (scope_in its.file.syntax.now its.file.rounds.now) library refused) its)
     (items : ℕ → Item) (bits : List Bool) (bad : ℕ → Bool) (are_bad : AreBad (file_with its.file (scope_in its.file.syntax.now its.file.rounds.now) library refused) bits bad) where
   abbrev r : Read
   r = its.file
@@ -218,25 +227,39 @@ module _ (t : Text) (its : Tables) (library : List Specification) (refused : Lis
 
   -- ---- texts that are too long
 
-  long_constant : (n : ℕ) → rules_of.is_too_long f rules_of.is_long_constant n ≡ (of_tables.is_right_side r n && of_tables.is_long_constant its.long_constants.now (value_in r n))
-  long_constant n = elim (at.known_or_lost t its library refused all lost n) [
-    | inl known ↦ too_long_constant its scope library refused shaped its_tree are n (λ const. known)
-    | inr gone ↦ by gone (rules_of.is_right_side f n) refl ∙ sym (ap (λ (v : Value). of_tables.is_right_side r n && of_tables.is_long_constant its.long_constants.now v) gone ∙ and_none (of_tables.is_right_side r n))
-  ]
+  no_side : (n : ℕ) → is_constant nodes n ≡ false → rules_of.is_right_side f n ≡ false
+  no_side n apart = by (rules_of.is_right_side f n) refl
     where
-      by : value_in r n ≡ value.Lost → (b : Bool) → rules_of.is_right_side f n ≡ b → (b && rules_of.is_long_constant (value_settled scope (item f n).constant)) ≡ false
-      by gone true side = (alike.short n side gone).0
-      by gone false side = refl
+      by : (b : Bool) → rules_of.is_right_side f n ≡ b → b ≡ false
+      by true side = absurd (true≢false (sym (are.sides n side) ∙ apart))
+      by false side = refl
 
-  long_type : (n : ℕ) → rules_of.is_too_long f rules_of.is_long_type n ≡ (of_tables.is_right_side r n && of_tables.is_long_type its.long_types.now (value_in r n))
-  long_type n = elim (at.known_or_lost t its library refused all lost n) [
-    | inl known ↦ too_long_type its scope library refused shaped its_tree are n (λ const. known)
-    | inr gone ↦ by gone (rules_of.is_right_side f n) refl ∙ sym (ap (λ (v : Value). of_tables.is_right_side r n && of_tables.is_long_type its.long_types.now v) gone ∙ and_none (of_tables.is_right_side r n))
+  long_constant : (n : ℕ) → n < length nodes → rules_of.is_too_long f rules_of.is_long_constant n ≡ (of_tables.is_right_side r n && of_tables.is_long_constant its.long_constants.now (value_in r n))
+  long_constant n inside = elim (at.known_or_lost t its library refused all lost n) [
+    | inl known ↦ too_long_constant its scope library refused shaped its_tree are n (λ const. known)
+    | inr gone ↦ by (is_constant nodes n) refl gone ∙ sym (ap (λ (v : Value). of_tables.is_right_side r n && of_tables.is_long_constant its.long_constants.now v) gone ∙ and_none (of_tables.is_right_side r n))
   ]
     where
-      by : value_in r n ≡ value.Lost → (b : Bool) → rules_of.is_right_side f n ≡ b → (b && rules_of.is_long_type (value_settled scope (item f n).constant)) ≡ false
-      by gone true side = (alike.short n side gone).1
-      by gone false side = refl
+      by : (b : Bool) → is_constant nodes n ≡ b → value_in r n ≡ value.Lost → rules_of.is_too_long f rules_of.is_long_constant n ≡ false
+      by true const gone =
+          ap (λ (b : Bool). rules_of.is_right_side f n && (not (rules_of.is_cvt (item f n).constant) && b))
+          (lost_short f of_file (are_meanings t nodes r.rounds.now all.file.parsed all.file.rounds all.file.few) n inside const (at.gone_at t its library refused all lost n inside gone))
+          ∙ ap (λ (b : Bool). rules_of.is_right_side f n && b) (and_none (not (rules_of.is_cvt (item f n).constant)))
+          ∙ and_none (rules_of.is_right_side f n)
+      by false apart gone = ap (λ (b : Bool). b && (not (rules_of.is_cvt (item f n).constant) && rules_of.is_long_constant (value_settled scope (item f n).constant))) (no_side n apart)
+
+  abbrev IsTypeLongSame : ℕ → Type 0
+  IsTypeLongSame n = rules_of.is_too_long f rules_of.is_long_type n ≡ (of_tables.is_right_side r n && of_tables.is_long_type its.long_types.now (value_in r n))
+
+  long_type : (n : ℕ) → (is_constant nodes n ≡ true → IsKnown r n) → IsTypeLongSame n
+  long_type n known = too_long_type its scope library refused shaped its_tree are n known
+
+  -- of `cvt` no length is asked
+  long_cvt : (n : ℕ) → rules_of.is_cvt (item f n).constant ≡ true → value_in r n ≡ value.Lost → IsTypeLongSame n
+  long_cvt n cvt gone =
+      ap (λ (b : Bool). rules_of.is_right_side f n && (not b && rules_of.is_long_type (value_settled scope (item f n).constant))) cvt
+      ∙ and_none (rules_of.is_right_side f n)
+      ∙ sym (ap (λ (v : Value). of_tables.is_right_side r n && of_tables.is_long_type its.long_types.now v) gone ∙ and_none (of_tables.is_right_side r n))
 
   module _ (n : ℕ) (inside : n < length nodes) (clear : IsClear f n)
       (read : AllByRecursion (λ (name : Identifier). is_bad_name f types_bad n name ≡ true → is_bad_name f bad n name ≡ true) (names_unfolded f (kind_in f n) n)) where
@@ -264,11 +287,106 @@ module _ (t : Text) (its : Tables) (library : List Specification) (refused : Lis
     circle_by kind.File is seven = no_circle_there kind.File is refl refl seven
     circle_by _ is seven = no_circle_there _ is refl refl seven
 
-    module _ (seven : v7 f n ≡ false) where
+    -- ---- the name of an equate in which a type is refused: V8 or V9 is violated by both
+
+    module _ (seven : v7 f n ≡ false) (x : NamesOdd f of_file n) where
+      straight : is_bad_of f (rules_of_types f) x.its.equate ≡ true
+      straight = elim x.why [
+        | inl circle ↦ absurd (true≢false (sym (circle_there f of_file (kind_in f n) n x.right x.its refl circle) ∙ seven))
+        | inr odd ↦ odd.1
+      ]
+
+      no_circle : is_circular f x.its.equate ≡ false
+      no_circle = elim x.why [
+        | inl circle ↦ absurd (true≢false (sym (circle_there f of_file (kind_in f n) n x.right x.its refl circle) ∙ seven))
+        | inr odd ↦ odd.0
+      ]
+
+      bad_there : is_bad_name f bad n x.its.name ≡ true
+      bad_there =
+          (subst (AllByRecursion (λ (name : Identifier). is_bad_name f types_bad n name ≡ true → is_bad_name f bad n name ≡ true)) x.its.listed read).0
+          (bad_named f of_file n x.right x.its no_circle straight)
+
+      first_is : (k : NodeKind) → kind_in f n ≡ k → ((m : ℕ) → names_unfolded f k m ≡ names f m) → first_name_at f n ≡ x.its.name
+      first_is k is unfolded = ap first_name (sym (ap (λ (k : NodeKind). names_unfolded f k n) is ∙ unfolded n) ∙ x.its.listed)
+
+      named_bad : kind_in f n ≡ kind.Name → is_bad_name f bad n (first_name_at f n) ≡ true
+      named_bad is = ap (is_bad_name f bad n) (first_is kind.Name is (λ m. refl)) ∙ bad_there
+
+      -- a Name where no type is wanted alone
+      name_hit : kind_in f n ≡ kind.Name → rules_of.is_type_wanted f bad (wanted f n) n ≡ false → rules_of.has_bad_constant f bad (kind_in f n) n ≡ true
+      name_hit is wants_it =
+          ap (λ (k : NodeKind). rules_of.has_bad_constant f bad k n) is ∙ ap (λ (b : Bool). is_bad_name f bad n (first_name_at f n) && not b) wants_it ∙ ap (λ (b : Bool). b && true) (named_bad is)
+
+    type_hit : rules_of.has_bad_type f bad (kind_in f n) n ≡ true → rules_of.v9 f bad n ≡ true
+    type_hit e =
+        or_fourth (rules_of.is_neither f n && wants.wants_type f n) (rules_of.is_bad_rep f n) (rules_of.is_no_type f (kind_in f n) n) (rules_of.has_bad_type f bad (kind_in f n) n)
+        (rules_of.is_too_long f rules_of.is_long_type n) e
+
+    constant_hit : rules_of.has_bad_constant f bad (kind_in f n) n ≡ true → rules_of.v8 f bad n ≡ true
+    constant_hit e =
+        or_second (rules_of.is_neither f n && not (wants.wants_type f n)) (rules_of.has_bad_constant f bad (kind_in f n) n) (rules_of.is_too_long f rules_of.is_long_constant n) e
+
+    module _ (same : IsTypeWantedSame its scope library refused shaped its_tree are bits bad are_bad n) where
+      both_types : rules_of.has_bad_type f bad (kind_in f n) n ≡ true → found n rule.NotType ≡ violated n rule.NotType
+      both_types e =
+          v9_of_bad its scope library refused shaped its_tree are bits bad are_bad items n (sym (bad_type its scope library refused shaped its_tree are bits bad are_bad n same (kind_at nodes n) refl) ∙ e)
+          ∙ sym (type_hit e)
+
+      both_constants : rules_of.has_bad_constant f bad (kind_in f n) n ≡ true → found n rule.NotConstant ≡ violated n rule.NotConstant
+      both_constants e =
+          v8_of_bad its scope library refused shaped its_tree are bits bad are_bad n (sym (bad_constant its scope library refused shaped its_tree are bits bad are_bad n same (kind_at nodes n) refl) ∙ e)
+          ∙ sym (constant_hit e)
+
+      odd_constant : rules_of.has_bad_constant f bad (kind_in f n) n ≡ true → Agree kind.Name
+      odd_constant hit = (same_range n, λ a. (same_unknown n, λ b. (same_circle n, λ c. (both_constants hit, λ d. absurd (true≢false (sym (constant_hit hit) ∙ d))))))
+
+    -- before brackets no type is wanted, so it is V8
+
+    first_agree : v7 f n ≡ false → at.IsOddFirst t its library refused all lost n inside clear → Agree (kind_in f n)
+    first_agree seven x = as_kind kind.Name named (odd_constant wanted_same (name_hit seven x.odd named (none_asked (wanted f n) asked)))
+      where
+        none_asked : (w : wants.Wanted) → rules_of.is_constant_wanted w ≡ false → rules_of.is_type_wanted f bad w n ≡ false
+        none_asked wants.a_constant e = absurd (true≢false e)
+        none_asked wants.an_object e = refl
+        none_asked wants.some_objects e = refl
+        none_asked wants.a_loop_call e = refl
+        none_asked wants.a_type e = refl
+        none_asked wants.a_name_with_actuals e = refl
+        none_asked wants.nothing e = refl
+
+        none_there : (w : WantedThere) → of_tables.is_constant_wanted w ≡ false → of_tables.is_type_wanted r w n ≡ false
+        none_there wanted_as.Constant e = absurd (true≢false e)
+        none_there wanted_as.Object e = refl
+        none_there wanted_as.Objects e = refl
+        none_there wanted_as.LoopCall e = refl
+        none_there wanted_as.Type e = refl
+        none_there wanted_as.NameWithActuals e = refl
+        none_there wanted_as.Nothing e = refl
+
+        asked : rules_of.is_constant_wanted (wanted f n) ≡ false
+        asked = first_asked r scope library refused n x.index x.others x.up x.is x.begins
+
+        wanted_same : IsTypeWantedSame its scope library refused shaped its_tree are bits bad are_bad n
+        wanted_same = none_asked (wanted f n) asked ∙ sym (none_there (wanted_in r n) (first_said r scope library refused n x.index x.others x.up x.is x.begins all.file.bindings inside))
+
+        names_some : (k : NodeKind) → kind_in f n ≡ k → is_expression k ≡ true → kind_in f n ≡ kind.Name
+        names_some kind.Name is expression = is
+        names_some kind.NameT is expression = absurd (true≢false (sym expression))
+        names_some kind.Simple is expression = absurd (true≢false (sym expression))
+        names_some kind.File is expression = absurd (true≢false (sym expression))
+        names_some _ is expression = no_more x.odd.its.name x.odd.its.others (sym (ap (λ (k : NodeKind). names_unfolded f k n) is) ∙ x.odd.its.listed)
+
+        named : kind_in f n ≡ kind.Name
+        named = names_some (kind_in f n) refl x.expression
+
+    -- ---- where brackets are known
+
+    module _ (beside : IsWantedKnown r n) where
       brackets : AreBracketsKnown r n
       brackets = record {
         own = at.own_known t its library refused all lost n inside clear;
-        round = at.round_known t its library refused all lost n inside clear (λ p cs up is begins. alike.first n p cs up is begins seven);
+        round = beside;
         above = at.above_known t its library refused all lost n inside clear;
       }
 
@@ -290,7 +408,7 @@ module _ (t : Text) (its : Tables) (library : List Specification) (refused : Lis
                     (at.found_there t its library refused all lost c there_is (or_type (is_expression (kind_at nodes c)) (is_type (kind_at nodes c)) typed)
                     (ap (is_of_heading f) up ∙ no_part f n decl results exception)
                     (λ m low high. below m (omega (arith, low, first)) (omega (arith, high, less)))),
-                alike.once c typed (λ m low high. below m (omega (arith, low, first)) (omega (arith, high, less))) (below c least less),
+                once t its library refused all lost c typed (λ m low high. below m (omega (arith, low, first)) (omega (arith, high, less))) (below c least less),
               )
 
       abbrev IsFit : NodeKind → List ℕ → Type 0
@@ -340,11 +458,11 @@ module _ (t : Text) (its : Tables) (library : List Specification) (refused : Lis
       -- ---- where what V8 and V9 read is known
 
       same_constant : IsOperatorKnown r (kind_at nodes n) n → found n rule.NotConstant ≡ violated n rule.NotConstant
-      same_constant operator = sym (v8_by its scope library refused shaped its_tree are bits bad are_bad n operator brackets (long_constant n))
+      same_constant operator = sym (v8_by its scope library refused shaped its_tree are bits bad are_bad n operator brackets (long_constant n inside))
 
-      module _ (operator : IsOperatorKnown r (kind_at nodes n) n) (type_name : IsTypeNameKnown r (kind_at nodes n) n) (rep_side : rules_of.is_bad_rep f n ≡ of_tables.is_bad_rep r items n) where
+      module _ (operator : IsOperatorKnown r (kind_at nodes n) n) (type_name : IsTypeNameKnown r (kind_at nodes n) n) (rep_side : rules_of.is_bad_rep f n ≡ of_tables.is_bad_rep r items n) (long : IsTypeLongSame n) where
         same_type : found n rule.NotType ≡ violated n rule.NotType
-        same_type = sym (v9_by its scope library refused shaped its_tree are bits bad are_bad items n operator type_name brackets rep_side (long_type n))
+        same_type = sym (v9_by its scope library refused shaped its_tree are bits bad are_bad items n operator type_name brackets rep_side long)
 
         same_at : (x : Rule) → is_asked (kind_in f n) x ≡ true → found n x ≡ violated n x
         same_at rule.LiteralRange asked = same_range n
@@ -361,69 +479,27 @@ module _ (t : Text) (its : Tables) (library : List Specification) (refused : Lis
         known_agree : Agree (kind_in f n)
         known_agree = agree_at (found n) (violated n) (kind_in f n) same_at
 
-      -- ---- the name of an equate in which a type is refused: V8 or V9 is violated by both
+      -- ---- the name of an equate in which a type is refused
 
-      module _ (x : NamesOdd f of_file n) where
-        straight : is_bad_of f (rules_of_types f) x.its.equate ≡ true
-        straight = elim x.why [
-          | inl circle ↦ absurd (true≢false (sym (circle_there f of_file (kind_in f n) n x.right x.its refl circle) ∙ seven))
-          | inr odd ↦ odd.1
-        ]
-
-        no_circle : is_circular f x.its.equate ≡ false
-        no_circle = elim x.why [
-          | inl circle ↦ absurd (true≢false (sym (circle_there f of_file (kind_in f n) n x.right x.its refl circle) ∙ seven))
-          | inr odd ↦ odd.0
-        ]
-
-        bad_there : is_bad_name f bad n x.its.name ≡ true
-        bad_there =
-            (subst (AllByRecursion (λ (name : Identifier). is_bad_name f types_bad n name ≡ true → is_bad_name f bad n name ≡ true)) x.its.listed read).0
-            (bad_named f of_file n x.right x.its no_circle straight)
-
-        type_hit : rules_of.has_bad_type f bad (kind_in f n) n ≡ true → rules_of.v9 f bad n ≡ true
-        type_hit e =
-            or_fourth (rules_of.is_neither f n && wants.wants_type f n) (rules_of.is_bad_rep f n) (rules_of.is_no_type f (kind_in f n) n) (rules_of.has_bad_type f bad (kind_in f n) n)
-            (rules_of.is_too_long f rules_of.is_long_type n) e
-
-        constant_hit : rules_of.has_bad_constant f bad (kind_in f n) n ≡ true → rules_of.v8 f bad n ≡ true
-        constant_hit e =
-            or_second (rules_of.is_neither f n && not (wants.wants_type f n)) (rules_of.has_bad_constant f bad (kind_in f n) n) (rules_of.is_too_long f rules_of.is_long_constant n) e
-
-        both_types : rules_of.has_bad_type f bad (kind_in f n) n ≡ true → found n rule.NotType ≡ violated n rule.NotType
-        both_types e =
-            v9_of_bad its scope library refused shaped its_tree are bits bad are_bad items n (sym (bad_type its scope library refused shaped its_tree are bits bad are_bad n brackets (kind_at nodes n) refl) ∙ e)
-            ∙ sym (type_hit e)
-
-        both_constants : rules_of.has_bad_constant f bad (kind_in f n) n ≡ true → found n rule.NotConstant ≡ violated n rule.NotConstant
-        both_constants e =
-            v8_of_bad its scope library refused shaped its_tree are bits bad are_bad n (sym (bad_constant its scope library refused shaped its_tree are bits bad are_bad n brackets (kind_at nodes n) refl) ∙ e)
-            ∙ sym (constant_hit e)
-
-        first_is : (k : NodeKind) → kind_in f n ≡ k → ((m : ℕ) → names_unfolded f k m ≡ names f m) → first_name_at f n ≡ x.its.name
-        first_is k is unfolded = ap first_name (sym (ap (λ (k : NodeKind). names_unfolded f k n) is ∙ unfolded n) ∙ x.its.listed)
+      module _ (seven : v7 f n ≡ false) (x : NamesOdd f of_file n) where
+        wanted_same : IsTypeWantedSame its scope library refused shaped its_tree are bits bad are_bad n
+        wanted_same = type_wanted its scope library refused shaped its_tree are bits bad are_bad n brackets
 
         odd_name : kind_in f n ≡ kind.Name → Agree kind.Name
         odd_name is = by (rules_of.is_type_wanted f bad (wanted f n) n) refl
           where
-            named_bad : is_bad_name f bad n (first_name_at f n) ≡ true
-            named_bad = ap (is_bad_name f bad n) (first_is kind.Name is (λ m. refl)) ∙ bad_there
-
             by : (b : Bool) → rules_of.is_type_wanted f bad (wanted f n) n ≡ b → Agree kind.Name
             by true wants_it =
                 let hit : rules_of.has_bad_type f bad (kind_in f n) n ≡ true =
-                ap (λ (k : NodeKind). rules_of.has_bad_type f bad k n) is ∙ ap (λ (b : Bool). is_bad_name f bad n (first_name_at f n) && b) wants_it ∙ ap (λ (b : Bool). b && true) named_bad in
-                (same_range n, λ a. (same_unknown n, λ b. (same_circle n, λ c. (same_constant (subst (λ (k : NodeKind). IsOperatorKnown r k n) (sym is) tt), λ d. (both_types hit, λ e. absurd (true≢false (sym (type_hit hit) ∙ e)))))))
-            by false wants_it =
-                let hit : rules_of.has_bad_constant f bad (kind_in f n) n ≡ true =
-                ap (λ (k : NodeKind). rules_of.has_bad_constant f bad k n) is ∙ ap (λ (b : Bool). is_bad_name f bad n (first_name_at f n) && not b) wants_it ∙ ap (λ (b : Bool). b && true) named_bad in
-                (same_range n, λ a. (same_unknown n, λ b. (same_circle n, λ c. (both_constants hit, λ d. absurd (true≢false (sym (constant_hit hit) ∙ d))))))
+                ap (λ (k : NodeKind). rules_of.has_bad_type f bad k n) is ∙ ap (λ (b : Bool). is_bad_name f bad n (first_name_at f n) && b) wants_it ∙ ap (λ (b : Bool). b && true) (named_bad seven x is) in
+                (same_range n, λ a. (same_unknown n, λ b. (same_circle n, λ c. (same_constant (subst (λ (k : NodeKind). IsOperatorKnown r k n) (sym is) tt), λ d. (both_types wanted_same hit, λ e. absurd (true≢false (sym (type_hit hit) ∙ e)))))))
+            by false wants_it = odd_constant wanted_same (name_hit seven x is wants_it)
 
         odd_type : kind_in f n ≡ kind.NameT → Agree kind.NameT
         odd_type is =
             let hit : rules_of.has_bad_type f bad (kind_in f n) n ≡ true =
-            ap (λ (k : NodeKind). rules_of.has_bad_type f bad k n) is ∙ ap (is_bad_name f bad n) (first_is kind.NameT is (λ m. refl)) ∙ bad_there in
-            (same_range n, λ a. (same_unknown n, λ b. (same_circle n, λ c. (both_types hit, λ d. absurd (true≢false (sym (type_hit hit) ∙ d))))))
+            ap (λ (k : NodeKind). rules_of.has_bad_type f bad k n) is ∙ ap (is_bad_name f bad n) (first_is seven x kind.NameT is (λ m. refl)) ∙ bad_there seven x in
+            (same_range n, λ a. (same_unknown n, λ b. (same_circle n, λ c. (both_types wanted_same hit, λ d. absurd (true≢false (sym (type_hit hit) ∙ d))))))
 
         odd_rep : kind_in f n ≡ kind.Simple → Agree kind.Simple
         odd_rep is =
@@ -431,8 +507,8 @@ module _ (t : Text) (its : Tables) (library : List Specification) (refused : Lis
             let hit : rules_of.has_bad_type f bad (kind_in f n) n ≡ true =
             ap (λ (k : NodeKind). rules_of.has_bad_type f bad k n) is
             ∙ ap (λ (b : Bool). b && is_bad_name f bad n (codes "rep")) word.0
-            ∙ ap (is_bad_name f bad n) (sym word.1) ∙ bad_there in
-            (same_circle n, λ a. (both_types hit, λ b. absurd (true≢false (sym (type_hit hit) ∙ b))))
+            ∙ ap (is_bad_name f bad n) (sym word.1) ∙ bad_there seven x in
+            (same_circle n, λ a. (both_types wanted_same hit, λ b. absurd (true≢false (sym (type_hit hit) ∙ b))))
 
         odd_by : (k : NodeKind) → kind_in f n ≡ k → Agree k
         odd_by kind.Name is = odd_name is
@@ -453,9 +529,15 @@ module _ (t : Text) (its : Tables) (library : List Specification) (refused : Lis
           known_agree (subst (λ (k : NodeKind). IsOperatorKnown r k n) (sym its_kind) tt)
           (subst (λ (k : NodeKind). IsTypeNameKnown r k n) (sym its_kind) (λ word. absurd (true≢false (sym word ∙ no_rep))))
           (bad_rep_by its scope library refused shaped its_tree are items n (λ const. side ∙ sym side_too))
+          (long_cvt n its_cvt gone)
         where
           its_kind : kind_in f n ≡ kind.Simple
           its_kind = ap kind_of here ∙ is
+
+          its_cvt : rules_of.is_cvt (item f n).constant ≡ true
+          its_cvt =
+              ap rules_of.is_cvt (constant_is nodes n true (ap is_type its_kind))
+              ∙ ap (is_word simple.Cvt) (word_there f shaped n node here is) ∙ cvt_there n (simple_type (symbol_in node.value)) e
 
           no_rep : is_word simple.Rep (item f n).type ≡ false
           no_rep = ap (is_word simple.Rep) (word_there f shaped n node here is) ∙ cvt_alone n (simple_type (symbol_in node.value)) e
@@ -490,15 +572,15 @@ module _ (t : Text) (its : Tables) (library : List Specification) (refused : Lis
       type_name_or_odd kind.File is = inr tt
       type_name_or_odd _ is = inr tt
 
-      constant_agree : is_constant nodes n ≡ true → Agree (kind_in f n)
-      constant_agree const = elim (at.known_or_lost t its library refused all lost n) [
+      constant_agree : v7 f n ≡ false → is_constant nodes n ≡ true → Agree (kind_in f n)
+      constant_agree seven const = elim (at.known_or_lost t its library refused all lost n) [
         | inl known ↦ elim (type_name_or_odd (kind_at nodes n) refl) [
-          | inl odd ↦ odd_agree odd
-          | inr type_name ↦ known_agree (an_operator r (kind_at nodes n) n known) type_name (bad_rep its scope library refused shaped its_tree are items n (λ const. known))
+          | inl odd ↦ odd_agree seven odd
+          | inr type_name ↦ known_agree (an_operator r (kind_at nodes n) n known) type_name (bad_rep its scope library refused shaped its_tree are items n (λ const. known)) (long_type n (λ const. known))
         ]
         | inr gone ↦ elim (why_lost f of_file n inside (at.parts_found t its library refused all lost n inside clear const) (at.gone_at t its library refused all lost n inside gone)) [
           | inl word ↦ by (slice_get nodes n) refl word gone
-          | inr odd ↦ odd_agree odd
+          | inr odd ↦ odd_agree seven odd
         ]
       ]
         where
@@ -510,12 +592,13 @@ module _ (t : Text) (its : Tables) (library : List Specification) (refused : Lis
       other_agree apart =
           known_agree (no_operator r (kind_at nodes n) n apart) (no_type_name r (kind_at nodes n) n apart)
           (bad_rep its scope library refused shaped its_tree are items n (λ const. absurd (true≢false (sym const ∙ apart))))
+          (long_type n (λ const. absurd (true≢false (sym const ∙ apart))))
 
-      straight_agree : Agree (kind_in f n)
-      straight_agree = by (is_constant nodes n) refl
+      straight_agree : v7 f n ≡ false → Agree (kind_in f n)
+      straight_agree seven = by (is_constant nodes n) refl
         where
           by : (b : Bool) → is_constant nodes n ≡ b → Agree (kind_in f n)
-          by true const = constant_agree const
+          by true const = constant_agree seven const
           by false apart = other_agree apart
 
     pub types_agree : AgreeOn (violates_of_types its bits items n) (of_types (definition.violates f bad n)) (rules_at (kind_in f n))
@@ -523,4 +606,7 @@ module _ (t : Text) (its : Tables) (library : List Specification) (refused : Lis
       where
         by : (b : Bool) → v7 f n ≡ b → Agree (kind_in f n)
         by true seven = circle_by (kind_in f n) refl seven
-        by false seven = straight_agree seven
+        by false seven = elim (at.round_known t its library refused all lost n inside clear) [
+          | inl first ↦ first_agree seven first
+          | inr beside ↦ straight_agree beside seven
+        ]

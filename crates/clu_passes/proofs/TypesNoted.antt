@@ -33,19 +33,19 @@ use Rattle.clu_typing.specs.declared.applied.Applied.{Applied}
 use Rattle.clu_typing.specs.declared.facts.Facts.{Facts}
 use Rattle.clu_typing.specs.declared.facts.Operation.{Operation}
 use Rattle.clu_typing.specs.Facts.{operation_type}
-use Rattle.clu_typing.specs.Found.{IsAppliedTold, IsModuleType}
+use Rattle.clu_typing.specs.Found.{IsAppliedTold, IsModuleTold, IsModuleType}
 use Rattle.clu_typing.specs.Nodes.{has_actuals, names_module}
 use Rattle.clu_typing.specs.Stands.{stands_by}
 use Rattle.clu_typing.specs.Typing.{constant_type, IsIndexTypeBy, IsInstanceType, IsNameType, IsTypeBy, IsValueType}
 use Rattle.clu_passes.specs.Ascending.{Ascends, ActualsAscend, SpecificationsAscend}
 use Rattle.clu_passes.specs.ConstantTables.{Means, file_with}
-use Rattle.clu_passes.specs.FactTables.{IsFound, IsType}
+use Rattle.clu_passes.specs.FactTables.{IsAsking, IsFound, IsType}
 use Rattle.clu_passes.specs.FoundTold.{TellHeads, found_of, module_found}
 use Rattle.clu_passes.specs.NamesKnown.{HasTypes, IsNameKnown, IsValueKnown, variable_of}
 use Rattle.clu_passes.specs.NodeTypes.{HasNames, number_of}
 use Rattle.clu_passes.specs.NotedLists.{types_given}
 use Rattle.clu_passes.specs.StandsFor.{AreOperandsOf, StandsFor}
-use Rattle.clu_passes.proofs.AppliedFound.{first_is, found_is, stands_so}
+use Rattle.clu_passes.proofs.AppliedFound.{asking_is, first_is, found_is, stands_so}
 use Rattle.clu_passes.proofs.AppliedTyped.{found_typed}
 use Rattle.clu_passes.proofs.NodeTyped.{expression_typed, type_grown}
 use Rattle.clu_passes.proofs.OperationsFound.{itself_found, nothing_itself}
@@ -77,7 +77,7 @@ module_ascends name (actual_const c rest) all = all
 module_ascends name (actual_param k rest) all = all
 
 -- what the definition has of a module by itself
-abbrev itself : File → Identifier → Actuals → Option Found
+abbrev pub itself : File → Identifier → Actuals → Option Found
 itself f name given = option_map (module_found given) (option_map (λ s. s.form) (specification f name))
 
 itself_typed : (f : File) (name : Identifier) (given : Actuals) → found_type (itself f name given) ≡ found_type (typing.module_found f name given)
@@ -111,6 +111,14 @@ module _ (h : Headed) (scope : Scope) (library : List Specification) (refused : 
       by : (b : Bool) → bytes_eq name (codes "stream") ≡ b → type_at (types_of new) of ≡ (if b then stream_type else cluster_of name no_actuals) → option_map found_of (told_seen h new after.words None of None) ≡ itself f name no_actuals
       by true stream e = nothing_itself h scope library refused new later tells after.words of lt stream_type refl e ∙ no_stream f name no_actuals stream
       by false other e = itself_found h scope library refused new later tells after.words of lt name no_actuals e
+
+  -- what a module asks of its actual parameters
+  pub instance_asks : (name : Identifier) (given : Actuals) → ActualsAscend given → (value : Option TypeId) → IsType new value (Some (module_type name given)) → (its : Operation) → IsModuleTold h new after value its → IsAsking new now its (itself f name given)
+  instance_asks name given all None is its told = absurd is
+  instance_asks name given all (Some id) is its told =
+      let ascends : Ascends (type_at (types_of new) id) = subst Ascends is.1 (module_ascends name given all) in
+      subst (λ (o : Operation). IsAsking new now o (itself f name given)) (sym told.is)
+      (asking_is h scope library refused new later tells up now last told.found (itself f name given) (ap (option_map found_of) (told.tells (components_up (type_at (types_of new) id) ascends)) ∙ seen_itself id is.0 name given (sym is.1)))
 
   instance_typed : (name : Identifier) (given : Actuals) → ActualsAscend given → (value of : Option TypeId) → IsType old value (Some (module_type name given)) → IsModuleType h new after value of → IsType new of (found_type (typing.module_found f name given))
   instance_typed name given all None of is its = absurd is

@@ -29,7 +29,7 @@ use Rattle.clu_settle.specs.Meant.{meanings_of}
 use Rattle.clu_name_rules.specs.declared.tables.Tables.{Tables}
 use Rattle.clu_type_rules.specs.Asked.{rules_at}
 use Rattle.clu_type_rules.specs.Rules.{violates_of_types}
-use Rattle.clu_passes.specs.Clear.{IsOutside, IsReadAlike}
+use Rattle.clu_passes.specs.Clear.{IsOutside}
 use Rattle.clu_passes.specs.ConstantTables.{file_with}
 use Rattle.clu_passes.specs.Made.{AreMade}
 use Rattle.clu_passes.specs.Notes.{AreRepeated}
@@ -77,7 +77,6 @@ module _ (t : Text) (its : Tables) (library : List Specification) (refused : Lis
     (lost : (n : ℕ) → n < length its.file.syntax.now → value_of its.file.values.now n ≡ value.Lost → IsLost its.file.syntax.now (meanings_of its.file.syntax.now its.file.rounds.now (declarations its.file.syntax.now its.file.rounds.now)) n)
     (meant : AreMeanings (file_with its.file (scope_in its.file.syntax.now its.file.rounds.now) library refused) its.file.names.now its.file.bindings.now.meanings.items)
     (repeated : AreRepeated (file_with its.file (scope_in its.file.syntax.now its.file.rounds.now) library refused) its.items.now.repeated.items)
-    (alike : IsReadAlike (file_with its.file (scope_in its.file.syntax.now its.file.rounds.now) library refused) its)
     (items : ℕ → Item) (order : List ℕ) (circular : List Bool) (its_order : IsOrder (file_with its.file (scope_in its.file.syntax.now its.file.rounds.now) library refused) its.file.names.now order circular) where
   abbrev f : File
   f = file_with its.file (scope_in its.file.syntax.now its.file.rounds.now) library refused
@@ -108,7 +107,7 @@ module _ (t : Text) (its : Tables) (library : List Specification) (refused : Lis
       let bound : e < length f.nodes = equate_inside f of_file e equate in
       agree_same (found n) (violated (bit bits) n) (violated types_bad n)
       (λ r. ap (λ (x : Bool). is_of_types r && x) (violates_same f of_file (bit bits) types_bad n (in_equate f of_file e equate n low inside) (read n low inside) r)) (rules_at (kind_in f n))
-      (types_agree t its library refused all lost meant repeated alike items bits (bit bits) (λ e is. refl) n (omega (arith, inside, bound)) (record { low = (round f e).first; from = from_equate f of_file (at.parents t its library refused all lost) e equate n low inside; clear = before }) (more_read n (names_unfolded f (kind_in f n) n) (read n low inside)))
+      (types_agree t its library refused all lost meant repeated items bits (bit bits) (λ e is. refl) n (omega (arith, inside, bound)) (record { low = (round f e).first; from = from_equate f of_file (at.parents t its library refused all lost) e equate n low inside; clear = before }) (more_read n (names_unfolded f (kind_in f n) n) (read n low inside)))
 
   pub bits_right : (e : ℕ) → is_kind f kind.Equate e ≡ true → is_circular f e ≡ false → bit bits e ≡ types_bad e
   bits_right =
@@ -136,5 +135,5 @@ module _ (t : Text) (its : Tables) (library : List Specification) (refused : Lis
   agree_within n node there outside m low high before =
       let inside : n < length f.nodes = slice_get_within f.nodes n node there in
       agree_same (found m) (violated (bit bits) m) (violated types_bad m) (types_same f (bit bits) types_bad m (named m)) (rules_at (kind_in f m))
-      (types_agree t its library refused all lost meant repeated alike items bits (bit bits) (λ e is. refl) m (omega (arith, high, inside))
+      (types_agree t its library refused all lost meant repeated items bits (bit bits) (λ e is. refl) m (omega (arith, high, inside))
       (record { low = (round f n).first; from = from_upto f of_file n node there outside m low (omega (arith, high)); clear = λ i from less. no_fault i (before i from less) }) (more_read m (names_unfolded f (kind_in f m) m) (all_named m (names_unfolded f (kind_in f m) m))))

@@ -128,7 +128,7 @@ module _ (k : Known) (scope : Scope) (library : List Specification) (refused : L
     by_kind : AreWantedKnown k.tables.file lost → (n : ℕ) → lost n ≡ false → (kind_is : NodeKind) → kind_at nodes n ≡ kind_is → v32_at f kind_is n ≡ is_up_or_down_misplaced k kind_is n
     by_kind wanted n here kind.Up is =
         let x = there nodes n kind.Up refl is in
-        misplaced wanted n here kind.Up x (representation k.headed n) (operand n (child 0 x.node) (slice_get_within nodes n x.node x.at) (first_of n kind.Up x refl here) (representation k.headed n) (typing.representation f n) (own.represented n here))
+        misplaced wanted n here kind.Up x (representation k.headed n) (operand n (child 0 x.node) (slice_get_within nodes n x.node x.at) (first_of n kind.Up x refl here) (representation k.headed n) (typing.representation f n) (own.represented n (slice_get_within nodes n x.node x.at) here))
     by_kind wanted n here kind.Down is =
         let x = there nodes n kind.Down refl is in
         misplaced wanted n here kind.Down x (own_type k.tables.file n) (operand n (child 0 x.node) (slice_get_within nodes n x.node x.at) (first_of n kind.Down x refl here) (own_type k.tables.file n) (headings.own_type f n) (own.own n))

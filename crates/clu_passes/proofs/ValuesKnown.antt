@@ -355,23 +355,57 @@ module _ (t : Text) (its : Tables) (library : List Specification) (refused : Lis
         let b : IsBelow f of_tree n (child 0 x.node) = child_below f of_tree n x.node x.at (child 0 x.node) (subst (IsIn (child 0 x.node)) (sym x.begun) (inl refl)) in
         as_first n x (expression_known (child 0 x.node) x.expression (below (child 0 x.node) b.least b.less))
 
-    -- those in which the node stands, if it doesn't stand before them
-    pub round_known : ((p : ℕ) (cs : List ℕ) → parent f n ≡ Some p → kind_at nodes p ≡ kind.Index → children f p ≡ n ∷ cs → IsEquateKnown r (meaning_in r n)) → IsWantedKnown r n
-    round_known its_own = by (parent f n) refl
+    -- it stands before brackets, and names an equate that leads to a circle or in which a type is refused
+    pub record IsOddFirst : Type 0 where
+      pub index : ℕ
+      pub others : List ℕ
+      pub up : parent f n ≡ Some index
+      pub is : kind_at nodes index ≡ kind.Index
+      pub begins : children f index ≡ n ∷ others
+      pub expression : is_expression (kind_at nodes n) ≡ true
+      pub odd : NamesOdd f of_tree n
+
+    -- those in which the node stands, if it isn't so
+    pub round_known : IsOddFirst ⊎ IsWantedKnown r n
+    round_known = by (parent f n) refl
       where
-        by : (o : Option ℕ) → parent f n ≡ o → IsIndexKnownAt r o
-        by None up = tt
-        by (Some p) up = λ is.
-            let x : HasFirst p = first_of p is in
-            let b : IsBelow f of_tree p (child 0 x.node) = child_below f of_tree p x.node x.at (child 0 x.node) (subst (IsIn (child 0 x.node)) (sym x.begun) (inl refl)) in
-            as_first p x (elim (child_of n p x up) [
-              | inl same ↦ subst (λ (c : ℕ). IsEquateKnown r (meaning_in r c)) (sym same) (its_own p (drop 1 x.node.children) up is (ap (node_children f) x.at ∙ x.begun ∙ ap (λ (c : ℕ). c ∷ drop 1 x.node.children) same))
+        by : (o : Option ℕ) → parent f n ≡ o → IsOddFirst ⊎ IsIndexKnownAt r o
+        by None up = inr tt
+        by (Some p) up = of_kind (is_of kind.Index (kind_at nodes p)) refl
+          where
+            of_kind : (b : Bool) → is_of kind.Index (kind_at nodes p) ≡ b → IsOddFirst ⊎ IsIndexKnown r p
+            of_kind false other = inr (λ is. absurd (true≢false (sym (ap (is_of kind.Index) is) ∙ other)))
+            of_kind true hit = elim (child_of n p x up) [
+              | inl same ↦
+                  let expression : is_expression (kind_at nodes n) ≡ true = subst (λ (c : ℕ). is_expression (kind_at nodes c) ≡ true) same x.expression in
+                  elim (equate_or_odd n (λ right e. expression_led t r library refused all.file.parsed all.file.rounds all.file.few all.file.names all.file.bindings of_tree n right expression e)) [
+                    | inl odd ↦
+                        inl (record {
+                          index = p;
+                          others = drop 1 x.node.children;
+                          up = up;
+                          is = is;
+                          begins = ap (node_children f) x.at ∙ x.begun ∙ ap (λ (c : ℕ). c ∷ drop 1 x.node.children) same;
+                          expression = expression;
+                          odd = odd;
+                        })
+                    | inr known ↦ inr (λ again. as_first p x (subst (λ (c : ℕ). IsEquateKnown r (meaning_in r c)) (sym same) known))
+                  ]
               | inr i ↦
                   let after : child 0 x.node < n = (behind_first f of_tree p x.node x.at n i).itself in
                   let least : (round f p).first ≤ child 0 x.node = b.least in
                   let low : clear.low ≤ (round f p).first = clear.from.brackets p up is in
-                  expression_known (child 0 x.node) x.expression (clear.clear (child 0 x.node) (omega (arith, least, low)) after)
-            ])
+                  inr (λ again. as_first p x (expression_known (child 0 x.node) x.expression (clear.clear (child 0 x.node) (omega (arith, least, low)) after)))
+            ]
+              where
+                is : kind_at nodes p ≡ kind.Index
+                is = same_kind kind.Index (kind_at nodes p) hit
+
+                x : HasFirst p
+                x = first_of p is
+
+                b : IsBelow f of_tree p (child 0 x.node)
+                b = child_below f of_tree p x.node x.at (child 0 x.node) (subst (IsIn (child 0 x.node)) (sym x.begun) (inl refl))
 
     -- those in which its parent stands, which has a child and so is no Name
     pub above_known : (p : ℕ) → parent f n ≡ Some p → IsWantedKnown r p

@@ -18,7 +18,7 @@ use Rattle.clu_checking.specs.Files.{File, is_kind, is_kind_at, kind_in, node_ch
 use Rattle.clu_checking.specs.Equates.{is_bad_name, names_unfolded}
 use Rattle.clu_checking.specs.Rules as definition
 use Rattle.clu_checking.specs.Rules.{all_rules, least}
-use Rattle.clu_checking.specs.Refusals.{Walk, fault_at, first_on, headings, is_bad, is_bad_of, rest, rules_by, rules_of_types}
+use Rattle.clu_checking.specs.Refusals.{Walk, fault_at, first_on, headings, is_bad, rest, rules_by}
 use Rattle.clu_head.specs.There.{is_there}
 use Rattle.clu_bindings.specs.Files as bound
 use Rattle.clu_declares.proofs.Below.{same_kind}
@@ -31,7 +31,7 @@ use Rattle.clu_passes.specs.ConstantTables.{file_with}
 use Rattle.clu_passes.specs.Losing.{is_definition, is_plain, walk_by, walk_of}
 use Rattle.clu_passes.specs.Notes.{HaveParents, has}
 use Rattle.clu_passes.specs.Refusing.{AgreeInEquates, AgreeInHeadings, AgreeInRest, AgreeOn, IsOrder, bits_in, has_fault}
-use Rattle.clu_passes.specs.Right.{AreRight, AreStraight, IsFirst, IsQuiet}
+use Rattle.clu_passes.specs.Right.{AreRight, AreStraight, AreTypesBad, IsFirst, IsQuiet}
 use Rattle.clu_passes.specs.Trees.{IsFileOfTree, is_of_constant}
 use Rattle.clu_passes.specs.Turns.{arm_declared, bit}
 use Rattle.clu_passes.proofs.BadEquates.{names_are}
@@ -44,7 +44,7 @@ use Rattle.clu_passes.proofs.OfParents.{is_in}
 use Rattle.clu_passes.proofs.OwnPlaces.{there_is}
 use Rattle.clu_passes.proofs.ReadBits.{faults_alone}
 use Rattle.clu_passes.proofs.RefusedBelow.{IsAlike, alike_to, walk_same}
-use Rattle.clu_passes.proofs.RefusedFaults.{bad_more, name_more}
+use Rattle.clu_passes.proofs.RefusedFaults.{bad_more}
 use Rattle.clu_passes.proofs.RightBits as right_bits
 use Rattle.clu_passes.proofs.StepsEnough.{in_equate}
 use Rattle.clu_passes.proofs.Subtrees.{is_subtree}
@@ -238,17 +238,10 @@ module _ (k : Known) (scope : Scope) (library : List Specification) (refused : L
   abbrev found : ℕ → Rule → Bool
   found n = violates k bits items n
 
-  abbrev types_bad : ℕ → Bool
-  types_bad = is_bad_of f (rules_of_types f)
-
   -- ---- names
 
-  types_more : (n : ℕ) (name : Identifier) → is_bad_name f types_bad n name ≡ true → is_bad_name f (is_bad f) n name ≡ true
-  types_more n name hit = name_more f types_bad (is_bad f) (bad_more f (length f.scope.declarations)) n name hit
-
-  all_types_more : (n : ℕ) (its : List Identifier) → AllByRecursion (λ (name : Identifier). is_bad_name f types_bad n name ≡ true → is_bad_name f (is_bad f) n name ≡ true) its
-  all_types_more n [] = tt
-  all_types_more n (name ∷ its) = (types_more n name, all_types_more n its)
+  types_bad_are : AreTypesBad f (is_bad f)
+  types_bad_are e equate circle hit = bad_more f (length f.scope.declarations) e hit
 
   all_itself : (b : ℕ → Bool) (n : ℕ) (its : List Identifier) → AllByRecursion (λ (name : Identifier). is_bad_name f b n name ≡ is_bad_name f b n name) its
   all_itself b n [] = tt
@@ -260,7 +253,7 @@ module _ (k : Known) (scope : Scope) (library : List Specification) (refused : L
       (λ bad n. sym (least_at f of bad n)) (λ b c n same r. same r)
   once e equate read n low inside before =
       let bound_in_file : e < length f.nodes = equate_inside f of e equate in
-      right.constants (is_bad f) n (omega (arith, inside, bound_in_file)) (in_equate f of e equate n low inside) (read n low inside) (all_types_more n (names_unfolded f (kind_in f n) n))
+      right.constants (is_bad f) n (omega (arith, inside, bound_in_file)) (in_equate f of e equate n low inside) (read n low inside) types_bad_are
       (record {
         low = (round f e).first;
         from = from_equate f of parents e equate n low inside;
@@ -284,9 +277,8 @@ module _ (k : Known) (scope : Scope) (library : List Specification) (refused : L
   all_named n [] = tt
   all_named n (name ∷ its) = (named n name, all_named n its)
 
-  all_bits_more : (n : ℕ) (its : List Identifier) → AllByRecursion (λ (name : Identifier). is_bad_name f types_bad n name ≡ true → is_bad_name f (bit bits) n name ≡ true) its
-  all_bits_more n [] = tt
-  all_bits_more n (name ∷ its) = (λ hit. named n name ∙ types_more n name hit, all_bits_more n its)
+  bits_types_bad : AreTypesBad f (bit bits)
+  bits_types_bad e equate circle hit = straight e equate circle ∙ types_bad_are e equate circle hit
 
   -- ---- declarations of arms
 
@@ -301,7 +293,7 @@ module _ (k : Known) (scope : Scope) (library : List Specification) (refused : L
       ap (λ (b : Bool). if◌then◌else◌ {A = Option ℕ} b (Some d) None) (both_hold (is_there kind.Decl (slice_get f.nodes d)) (bound.stands_in f.nodes f.rounds kind.When d) there_decl there_when) in
       arms_by_tables k scope library refused of items order circular its_order bits refl agree_in_equates d arm (λ n low less before.
       right.constants (bit bits) n (omega (arith, less, inside)) (in_declarations f.nodes f.rounds of.shaped of.ordered of.tree of.surrounded d x.node x.at x.is n low less) (all_itself (bit bits) n (names_unfolded f (kind_in f n) n))
-      (all_bits_more n (names_unfolded f (kind_in f n) n))
+      bits_types_bad
       (record { low = (round f d).first; from = from_below f of d x.node x.at (outside_brackets f of parents kind.Decl no_declaration_in d decl) n low less; quiet = before }))
     where
       stands_same : (o : Option ℕ) → is_kind_at f kind.When o ≡ bound.is_there_at f.nodes kind.When o
@@ -325,8 +317,8 @@ module _ (k : Known) (scope : Scope) (library : List Specification) (refused : L
             quiet = quiet_at f of parents n first.before node at (sym (ap (λ (o : Option Node). is_plain (kind_of o)) at) ∙ plain)
 
             of_kind : (b : Bool) → is_of_constant (kind_in f n) ≡ b → Agree (rules_at (kind_in f n))
-            of_kind true const = right.constants (is_bad f) n inside const (all_named n (names_unfolded f (kind_in f n) n)) (all_types_more n (names_unfolded f (kind_in f n) n)) quiet
-            of_kind false apart = right.others (is_bad f) n inside plain apart straight arms quiet first
+            of_kind true const = right.constants (is_bad f) n inside const (all_named n (names_unfolded f (kind_in f n) n)) types_bad_are quiet
+            of_kind false apart = right.others n inside plain apart straight arms quiet first
 
     walk_is : is_plain (kind_in f n) ≡ true → walk_of f n ≡ walk_by false (round f n).heading
     walk_is plain = ap (λ (b : Bool). walk_by b (round f n).heading) (not_definition (kind_in f n) plain)

@@ -1,6 +1,6 @@
 -- What is wanted at each node is what the table says.
 use Rattle.std.proofs.Common.{◌≡◌, ◌∙◌, ◌⊎◌, ℕ, ◌<◌, ◌≤◌, ◌&&◌, ◌==◌, Bool, true, false, if◌then◌else◌, List, [], ◌∷◌, length, get_or, Option, Some, None, slice_get, refl, ap, sym, subst, inl, inr, arith}
-use Rattle.std.proofs.lemmas.Bool.{cases_Bool, cases_lt}
+use Rattle.std.proofs.lemmas.Bool.{cases_Bool, cases_lt, eq-eqb}
 use Rattle.std.proofs.lemmas.List.{get_or_past}
 use Rattle.std.proofs.lemmas.Option.{get_or_from_slice_get}
 use Rattle.clu_tree.specs.declared.node.Node.{Node}
@@ -17,6 +17,7 @@ use Rattle.clu_checking.specs.Files.{File, is_kind, is_kind_at, node_children, c
 use Rattle.clu_checking.specs.Typing as typing
 use Rattle.clu_checking.specs.Wanted as wants
 use Rattle.clu_checking.specs.Wanted.{Wanted, as_role, first_name_at, begins_instance, is_first_of}
+use Rattle.clu_checking.specs.ConstantRules as rules_of
 use Rattle.clu_declares.proofs.Below.{same_kind}
 use Rattle.clu_head.specs.There.{is_there}
 use Rattle.clu_head.specs.Refused.{is_set}
@@ -28,6 +29,7 @@ use Rattle.clu_bindings.specs.Wanting as said
 use Rattle.clu_bindings.specs.Bindings.{AreBindings}
 use Rattle.clu_bindings.specs.Readers as read
 use Rattle.clu_bindings.specs.Readers.{meaning_in, wanted_in}
+use Rattle.clu_name_rules.specs.ConstantRules as of_tables
 use Rattle.clu_passes.specs.ConstantTables.{wanted_told, file_with, IsEquateKnown, IsFirstKnown, IsIndexKnownAt, IsWantedKnown}
 use Rattle.clu_passes.proofs.Joined.{table_size, table_at}
 
@@ -99,3 +101,38 @@ module _ (r : Read) (scope : Scope) (library : List Specification) (refused : Li
             ∙ ap wanted_told (get_or_past (table_to at (length r.syntax.now)) n wanted.Nothing (omega (arith, size, past)))
             ∙ sym (ap (λ (r : Round). wants.wanted_by f (is_kind_at f kind.Index r.parent) n) none ∙ ap (λ (r : Round). as_role r.role) none))
       ]
+
+  -- ---- the first in brackets stands for no constant as a whole, whatever is known of it
+
+  bracket_first : (b : Bool) → of_tables.is_constant_wanted (if b then wanted.NameWithActuals else wanted.Object) ≡ false
+  bracket_first true = refl
+  bracket_first false = refl
+
+  instance_first : (b : Bool) → rules_of.is_constant_wanted (wants.wanted_in_brackets f b true) ≡ false
+  instance_first true = refl
+  instance_first false = refl
+
+  module _ (n p : ℕ) (cs : List ℕ) (up : (round f n).parent ≡ Some p) (is : kind_at r.syntax.now p ≡ kind.Index) (begins : children f p ≡ n ∷ cs) where
+    abbrev takes : List Bool
+    takes = r.bindings.now.takes_actuals.items
+
+    abbrev wanted_first : ℕ → WantedThere
+    wanted_first m = said.wanted_at r.bindings.now.takes_actuals.items r.syntax.now r.rounds.now m
+
+    pub first_said : AreBindings r.syntax.now r.rounds.now r.names.now r.values.now r.bindings.now → n < length r.syntax.now → of_tables.is_constant_wanted (wanted_in r n) ≡ false
+    first_said tables less =
+        ap (λ (xs : List WantedThere). of_tables.is_constant_wanted (get_or xs n wanted.Nothing)) tables.wanted
+        ∙ ap of_tables.is_constant_wanted (get_or_from_slice_get (table_to wanted_first (length r.syntax.now)) n (wanted_first n) wanted.Nothing (table_at wanted_first (length r.syntax.now) n less))
+        ∙ ap (λ (o : Option ℕ). of_tables.is_constant_wanted (said.wanted_below takes r.syntax.now o (round_at r.rounds.now n).role n)) up
+        ∙ ap (λ (b : Bool). of_tables.is_constant_wanted (if b then said.wanted_in_brackets takes (children_of (slice_get r.syntax.now p)) n else said.wanted_by_role (round_at r.rounds.now n).role)) (index_same p ∙ ap (is_of kind.Index) is)
+        ∙ ap (λ (xs : List ℕ). of_tables.is_constant_wanted (said.wanted_in_brackets takes xs n)) (children_same f (slice_get r.syntax.now p) ∙ begins)
+        ∙ ap (λ (b : Bool). of_tables.is_constant_wanted (if is_set (slice_get takes n) then (if b then wanted.NameWithActuals else wanted.Constant) else wanted.Object)) (eq-eqb n n refl)
+        ∙ bracket_first (is_set (slice_get takes n))
+
+    pub first_asked : rules_of.is_constant_wanted (wants.wanted f n) ≡ false
+    first_asked =
+        ap (λ (b : Bool). rules_of.is_constant_wanted (wants.wanted_by f b n)) (ap (is_kind_at f kind.Index) up ∙ ap (is_of kind.Index) is)
+        ∙ ap (λ (o : Option ℕ). rules_of.is_constant_wanted (wants.wanted_in_brackets f (begins_instance f (children_at f o)) (is_first_of f (children_at f o) n))) up
+        ∙ ap (λ (xs : List ℕ). rules_of.is_constant_wanted (wants.wanted_in_brackets f (begins_instance f xs) (is_first_of f xs n))) begins
+        ∙ ap (λ (b : Bool). rules_of.is_constant_wanted (wants.wanted_in_brackets f (begins_instance f (n ∷ cs)) b)) (eq-eqb n n refl)
+        ∙ instance_first (begins_instance f (n ∷ cs))

@@ -15,7 +15,7 @@ use Rattle.clu_settle.specs.Names.{meaning_in}
 use Rattle.clu_settle.specs.Lost as lost
 use Rattle.clu_settle.specs.Lost.{IsLost, is_source}
 use Rattle.clu_passes.specs.Trees.{IsFileOfTree}
-use Rattle.clu_passes.proofs.LostRefused.{AreNotLost, HasEquate, IsSideOf, NotLost, any_decided, bad_named, bad_there, both, circle_there, has_equate, meanings, one_step, refused_by}
+use Rattle.clu_passes.proofs.LostRefused.{AreNotLost, HasEquate, IsSideOf, NotLost, any_decided, bad_named, bad_refused, bad_there, both, circle_there, has_equate, meanings, one_step, refused_by}
 
 module _ (f : File) (of : IsFileOfTree f) where
   -- the equate leads to a circle, or a type is refused in it
@@ -33,7 +33,7 @@ module _ (f : File) (of : IsFileOfTree f) where
     where
       by : IsOdd x.its.equate → is_no_type_at f n ≡ true
       by (inl circle) = refused_by f of n 2 rule.CircularEquate refl (circle_there f of (kind_in f n) n x.right x.its refl circle)
-      by (inr bad) = bad_there f of (kind_in f n) n x.right x.its refl (bad_named f of n x.right x.its bad.0 bad.1)
+      by (inr bad) = bad_refused f of n (bad_there f of (kind_in f n) n x.right x.its refl (bad_named f of n x.right x.its bad.0 bad.1))
 
   odd_or_found : (e right : ℕ) → IsSideOf f of e right → IsOdd e ⊎ NotLost f of right
   odd_or_found e right side = by (is_circular f e) refl

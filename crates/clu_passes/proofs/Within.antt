@@ -265,18 +265,18 @@ module _ (t : Text) (nodes : List Node) (rounds : List Round) (parsed : IsParsed
 
   -- ---- what lies in a module stands in it
 
-  inner_unit : (k : NodeKind) (n : ℕ) (r : Round) → is_inner k ≡ true → unit_in k n r ≡ r.unit
+  pub inner_unit : (k : NodeKind) (n : ℕ) (r : Round) → is_inner k ≡ true → unit_in k n r ≡ r.unit
   inner_unit kind.Module n r i = absurd (true≢false (sym i))
   inner_unit _ n r i = refl
 
-  abbrev StandsIn : ℕ → ℕ → Type 0
+  abbrev pub StandsIn : ℕ → ℕ → Type 0
   StandsIn u c = ((round c).unit ≡ Some u) × (is_inner (kind_at nodes c) ≡ true)
 
   all_stand : (u n : ℕ) (node : Node) → slice_get nodes n ≡ Some node → is_of kind.File node.kind ≡ false → unit_in node.kind n (round n) ≡ Some u → (cs : List ℕ) → AllByRecursion (IsAround rounds n node) cs → AllByRecursion (StandsIn u) cs
   all_stand u n node at other e [] rs = tt
   all_stand u n node at other e (c ∷ cs) rs = ((rs.0.unit ∙ e, inner_below t nodes rounds parsed are c n node rs.0.parent at other), all_stand u n node at other e cs rs.1)
 
-  children_stand : (u n : ℕ) (node : Node) → slice_get nodes n ≡ Some node → is_of kind.File node.kind ≡ false → unit_in node.kind n (round n) ≡ Some u → AllByRecursion (StandsIn u) node.children
+  pub children_stand : (u n : ℕ) (node : Node) → slice_get nodes n ≡ Some node → is_of kind.File node.kind ≡ false → unit_in node.kind n (round n) ≡ Some u → AllByRecursion (StandsIn u) node.children
   children_stand u n node at other e = all_stand u n node at other e node.children (around_at t nodes rounds parsed are n node at)
 
   of_forest : (u from to : ℕ) (roots : List ℕ) → IsForest nodes from roots to → AllByRecursion (StandsIn u) roots → (m : ℕ) → from ≤ m → m < to → (round m).unit ≡ Some u
@@ -416,3 +416,13 @@ module _ (t : Text) (nodes : List Node) (rounds : List Round) (parsed : IsParsed
 
     pub open_of_one : (n : ℕ) (name : Identifier) (e : Declared) (own : ℕ) → slice_get (declarations nodes rounds) own ≡ Some e → e.node ≡ n → OpenOfOne (declarations nodes rounds) n name e
     open_of_one n name e own at is j d there opened la lb = by_units name n d e (of_each nodes rounds HoldsUnit each_holds j d there) (of_each nodes rounds OwnsUnit each_owns own e at) is opened d.unit e.unit refl refl la lb
+
+    -- what has a node of a module in its scope is a module or declared in that one
+    pub open_there : (u n : ℕ) (name : Identifier) → StandsIn u n → (j : ℕ) (d : Declared) → slice_get (declarations nodes rounds) j ≡ Some d → is_open name n d ≡ true → (v : ℕ) → d.unit ≡ Some v → (d.unit ≡ Some u) × StandsIn u d.node
+    open_there u n name stands j d at opened v e =
+        let open_is = and_parts (bytes_eq d.name name) (nat_le d.from n && nat_le n d.to) (sym (ap (λ (o : Option ℕ). bytes_eq d.name name && stands_in o d.from d.to n) e) ∙ opened) in
+        let both = and_parts (nat_le d.from n) (nat_le n d.to) open_is.1 in
+        elim (of_each nodes rounds HoldsUnit each_holds j d at v e n (leb-true d.from n both.0) (leb-true n d.to both.1)) [
+          | inl same ↦ absurd (true≢false (sym stands.1 ∙ ap (λ (m : ℕ). is_inner (kind_at nodes m)) same.0 ∙ ap is_inner same.1))
+          | inr unit ↦ (let its : d.unit ≡ Some u = e ∙ sym unit ∙ stands.0 in (its, of_each nodes rounds OwnsUnit each_owns j d at u its))
+        ]

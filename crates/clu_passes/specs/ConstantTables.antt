@@ -28,6 +28,7 @@ use Rattle.clu_checking.specs.ConstantRules.{is_module_routine, is_right_side, i
 use Rattle.clu_settle.specs.declared.value.Value.TheVariants as value
 use Rattle.clu_settle.specs.Values.{constant_at}
 use Rattle.clu_settle.specs.Settled.{AreSettled}
+use Rattle.clu_settle.specs.Standing.{is_cvt_type}
 use Rattle.clu_settle.specs.Names.{is_constant}
 use Rattle.clu_head.specs.ParameterKinds as head
 use Rattle.clu_head.specs.Refused.{is_set}
@@ -151,6 +152,8 @@ pub record AreTables (f : File) (t : Tables) : Type 0 where
   pub arena : IsArena t.types.now
   -- what is known of a value is so
   pub values : AreSettled f.nodes f.scope t.types.now t.file.constants.now t.file.values.now
+  -- nothing is known of `cvt`
+  pub cvt : (n : ℕ) → is_type (kind_at f.nodes n) ≡ true → is_cvt_type (item_at f.nodes n).type ≡ true → value_in t.file n ≡ value.Lost
   -- a type whose value is lost is none that a parameter may have
   pub legal : AreLegalKnown f t.file.values.now
   -- the first name of a Name, of a type by its name and of a Restrict, and the word `rep`
@@ -166,7 +169,8 @@ pub record AreTables (f : File) (t : Tables) : Type 0 where
   pub parameters : (n k : ℕ) → IsTypeOf f.nodes (declared_parameter t.file n k) (headings.declared_parameter f n k)
   -- what stands on the right side of an equate is a constant or a type set
   pub sides : (n : ℕ) → is_right_side f n ≡ true → is_constant f.nodes n ≡ true
-  pub long_types : (id : TypeId) → id.0 < length t.types.now → is_set (slice_get t.long_types.now id.0) ≡ is_long_text (type_text (type_at (types_of t.types.now) id))
+  -- of types that are values of nodes
+  pub long_types : (n : ℕ) (id : TypeId) → value_in t.file n ≡ value.Type id → is_set (slice_get t.long_types.now id.0) ≡ is_long_text (type_text (type_at (types_of t.types.now) id))
   pub long_constants : (k : ℕ) → k < length t.file.constants.now → is_set (slice_get t.long_constants.now k) ≡ is_long_text (constant_text (constant_at t.file.constants.now k))
 
 -- the bits of bad equates

@@ -1,36 +1,30 @@
 -- The tables from which heads are made, and the file of which they are.
-use Rattle.std.specs.Prelude.{◌≡◌, ◌<◌, ◌≤◌, ℕ, Bool, List, length, slice_get, Option, Some, None}
+use Rattle.std.specs.Prelude.{◌≡◌, ◌<◌, ℕ, List, length, slice_get, Option, Some, None}
 use Rattle.std.specs.Option.{option_map}
 use Rattle.clu_tree.specs.declared.node.NodeKind.TheVariants as kind
 use Rattle.clu_syntax.specs.Kinds.{kind_at}
 use Rattle.clu_syntax.specs.Splits.{first_name}
 use Rattle.clu_syntax.specs.Syntax.{TypeSet, Restriction, has_operations, is_in, is_in_set}
-use Rattle.clu_syntax.specs.declared.round.Round.{Round}
 use Rattle.clu_meaning.specs.Scoping.{Meaning, is_type_parameter, Scope}
 use Rattle.clu_checking.specs.Specifications.{Demand, Specification}
-use Rattle.clu_checking.specs.Files.{File, item, meaning, names}
+use Rattle.clu_checking.specs.Files.{File, is_refused, item, meaning, names}
 use Rattle.clu_checking.specs.Equates.{set_named}
 use Rattle.clu_head.specs.declared.known.Known.{Known}
 use Rattle.clu_head.specs.declared.restricted.Restricted.{Restricted}
 use Rattle.clu_head.specs.Asking.{restricted_in}
-use Rattle.clu_head.specs.Refused.{counts_to}
-use Rattle.clu_passes.specs.Counted.{AreRefused}
+use Rattle.clu_head.specs.Refused.{grows_in}
+use Rattle.clu_passes.specs.Clear.{IsOutside}
+use Rattle.clu_passes.specs.Notes.{HaveParents}
+use Rattle.clu_passes.specs.Trees.{IsFileOfTree}
 
 abbrev pub file_known : Known → Scope → List Specification → List ℕ → File
 file_known k scope library refused = record { nodes = k.syntax.now; rounds = k.rounds.now; scope = scope; library = library; refused = refused }
 
--- the node is there, and begins with one that is no later
-pub record Begins (rounds : List Round) (n : ℕ) : Type 0 where
-  pub round : Round
-  pub there : slice_get rounds n ≡ Some round
-  pub ordered : round.first ≤ n
-
--- the file's refused nodes are counted, and each node begins with one that is no later
-pub record AreCounted (k : Known) (f : File) (bits : List Bool) : Type 0 where
-  pub refused : AreRefused f bits
-  pub size : length bits ≡ length f.nodes
-  pub counts : k.refused.now ≡ counts_to bits (length bits)
-  pub begins : (n : ℕ) → n < length f.nodes → Begins f.rounds n
+-- a node of the file of a tree that stands in no brackets is refused, by the counts, just if a type is refused there or below it
+pub record AreCounted (k : Known) (f : File) : Type 0 where
+  pub of_tree : IsFileOfTree f
+  pub parents : HaveParents f
+  pub same : (n : ℕ) → n < length f.nodes → IsOutside f n → is_refused f n ≡ grows_in k.refused.now (slice_get k.rounds.now n) n
 
 -- ---- where clauses
 

@@ -1,6 +1,5 @@
 -- What is to be known of a file so that the heads of its modules tell its specifications.
 use Rattle.std.specs.Prelude.{◌≡◌, ℕ, true, List, map, None}
-use Rattle.std.specs.List.{AllByRecursion}
 use Rattle.clu_tree.specs.declared.node.NodeKind.TheVariants as kind
 use Rattle.clu_types.specs.Arena.{types_of}
 use Rattle.clu_types.specs.declared.term.Term.{Term}
@@ -10,8 +9,6 @@ use Rattle.clu_checking.specs.Equates.{demands_in}
 use Rattle.clu_checking.specs.Headings.{is_refused_heading}
 use Rattle.clu_head.specs.declared.asked.Asked.{Asked}
 use Rattle.clu_head.specs.declared.head.RoutineHead.{RoutineHead}
-use Rattle.clu_head.specs.declared.head.HeadForm.{HeadForm}
-use Rattle.clu_head.specs.declared.head.HeadForm.TheVariants as form
 use Rattle.clu_head.specs.declared.known.Known.{Known}
 use Rattle.clu_head.specs.Asked.{demands_of}
 use Rattle.clu_passes.specs.Legal.{AreLegalKnown}
@@ -26,7 +23,3 @@ pub record AreHeadsKnown (k : Known) (f : File) (asked : Asked) (types : List Te
 -- a head has no type only where its heading is refused
 abbrev pub IsTyped : File → RoutineHead → Type 0
 IsTyped f r = r.of_type ≡ None → is_refused_heading f (item f r.node).routine ≡ true
-
-abbrev pub AreTyped : File → HeadForm → Type 0
-AreTyped f (form.Routine r) = IsTyped f r
-AreTyped f (form.Cluster ds rs) = AllByRecursion (IsTyped f) rs

@@ -43,3 +43,13 @@ pub mod Turns
 pub mod WholeTold
 pub mod RoutineTypes
 pub mod Libraries
+pub mod DemandsTold
+pub mod CountsRefused
+pub mod Lost
+pub mod ConstantsKnown
+pub mod RulesKnown
+pub mod OthersKnown
+pub mod Reps
+pub mod KnownFiles
+pub mod OwnModules
+pub mod RepsOfTree

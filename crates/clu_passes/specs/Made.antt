@@ -1,8 +1,8 @@
 -- A file as the calls before the rules make it: what is known of it is so.
-use Rattle.std.specs.Prelude.{◌≡◌, ◌↔◌, ◌<◌, ◌-◌, ◌^◌, ℕ, true, List, length, map, nat_lt, slice_get, Some}
+use Rattle.std.specs.Prelude.{◌≡◌, ◌↔◌, ◌<◌, ◌-◌, ◌^◌, ℕ, true, All, List, length, map, nat_lt, slice_get, Some}
 use Rattle.clu_parser.specs.Trees.{Text}
 use Rattle.clu_types.specs.declared.term.Term.{Term}
-use Rattle.clu_types.specs.Arena.{IsArena}
+use Rattle.clu_types.specs.Arena.{Grows, IsArena}
 use Rattle.clu_syntax.specs.Rounds.{AreRounds}
 use Rattle.clu_names.specs.Scopes.{declarations}
 use Rattle.clu_checking.specs.Specifications.{Specification, specification_told}
@@ -14,6 +14,7 @@ use Rattle.clu_settle.specs.Lost.{IsLost}
 use Rattle.clu_settle.specs.Lost.{AreRead}
 use Rattle.clu_settle.specs.Meant.{meanings_of}
 use Rattle.clu_settle.specs.Settled.{AreSettled}
+use Rattle.clu_settle.specs.Values.{TypeWithin}
 use Rattle.clu_declares.specs.Declares.{AreFew, IsParsed}
 use Rattle.clu_bindings.specs.declared.file.File.{File as Read}
 use Rattle.clu_bindings.specs.Bindings.{AreBindings}
@@ -45,7 +46,11 @@ pub record IsMade (t : Text) (r : Read) (library : List Specification) (refused 
 pub record AreMade (t : Text) (its : Tables) (library : List Specification) (refused : List ℕ) : Type 0 where
   pub file : IsMade t its.file library refused its.types.now
   pub circular : length its.file.rounds.now ≡ length its.file.syntax.now → (k : ℕ) → k < length its.file.names.now.declared.items → (slice_get its.circular.now k ≡ Some true) ↔ (is_circular its.file.syntax.now its.file.rounds.now its.file.names.now.declared.items k ≡ true)
-  pub long_types : its.long_types.now ≡ map (nat_lt 65536) (lengths_of its.types.now)
+  -- texts are measured of the types that were in the arena by then, as all values were
+  pub measured : List Term
+  pub grows : Grows measured its.types.now
+  pub within : All (TypeWithin (length measured)) its.file.values.now
+  pub long_types : its.long_types.now ≡ map (nat_lt 65536) (lengths_of measured)
   pub long_constants : its.long_constants.now ≡ map (λ c. nat_lt 65536 (constant_length c)) its.file.constants.now
 
 -- and of what is read beside it: what is lost is so however many steps are taken, declarations have their places, and names are noted

@@ -1,5 +1,7 @@
 -- What is read of an expression beside its operands, where the type that is noted of it comes of what its names and types stand for.
-use Rattle.std.specs.Prelude.{◌≡◌, ℕ, true, false, List, [], ◌∷◌, slice_get, Option, Some, None}
+use Rattle.std.specs.Prelude.{◌≡◌, ℕ, Bool, true, false, List, [], ◌∷◌, slice_get, Option, Some, None}
+use Rattle.std.specs.List.{AllByRecursion}
+use Rattle.clu_tree.specs.declared.node.NodeKind.TheVariants as kind
 use Rattle.clu_base.specs.declared.constants.Const.{Const}
 use Rattle.clu_types.specs.CluType.{CluType, no_actuals}
 use Rattle.clu_types.specs.declared.term.Term.{Term}
@@ -16,13 +18,13 @@ use Rattle.clu_bindings.specs.declared.meaning.Meaning.TheVariants as meant
 use Rattle.clu_bindings.specs.declared.meaning.ModuleId.{ModuleId}
 use Rattle.clu_bindings.specs.Inside as bound
 use Rattle.clu_bindings.specs.Named as named
-use Rattle.clu_bindings.specs.Readers.{meaning_in, value_in}
+use Rattle.clu_bindings.specs.Readers.{children_in, kind_in, meaning_in, value_in}
 use Rattle.clu_checking.specs.Files.{File, item, meaning, denotes_module}
 use Rattle.clu_checking.specs.Headings.{known_inside, own_type, parameter_type}
 use Rattle.clu_checking.specs.Settled.{value_settled}
 use Rattle.clu_checking.specs.Typing.{representation, takes_actuals}
 use Rattle.clu_typing.specs.Nodes.{first_settled, has_actuals, names_module}
-use Rattle.clu_passes.specs.ConstantTables.{IsKnown, Means}
+use Rattle.clu_passes.specs.ConstantTables.{IsIndexKnown, IsKnown, Means}
 use Rattle.clu_passes.specs.FactTables.{IsType}
 
 -- the node of the type of a variable
@@ -36,6 +38,11 @@ variable_of _ = None
 abbrev pub IsTypeKnown : Read → List ℕ → Type 0
 IsTypeKnown r [] = Unit {0}
 IsTypeKnown r (c ∷ cs) = IsKnown r c
+
+-- Of a name with actual parameters at which nothing is lost it is known what stands in its brackets, and of a type by its name the type.
+pub record AreActualsKnown (r : Read) (lost : ℕ → Bool) : Type 0 where
+  pub index : (n : ℕ) → lost n ≡ false → kind_in r n ≡ kind.Index → AllByRecursion (IsKnown r) (children_in r n) × IsIndexKnown r n
+  pub type : (n : ℕ) → lost n ≡ false → kind_in r n ≡ kind.NameT → AllByRecursion (IsKnown r) (children_in r n) × IsKnown r n
 
 module _ (f : File) (h : Headed) (items : ℕ → Item) (terms : List Term) where
   -- a value is known, and is so

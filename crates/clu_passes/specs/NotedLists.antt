@@ -6,8 +6,13 @@ use Rattle.clu_tree.specs.declared.node.NodeKind.TheVariants as kind
 use Rattle.clu_types.specs.declared.term.TypeId.{TypeId}
 use Rattle.clu_types.specs.declared.term.Term.{Term}
 use Rattle.clu_bindings.specs.declared.file.File.{File}
+use Rattle.clu_operations.specs.declared.found.Asked.{Asked}
+use Rattle.clu_operations.specs.declared.found.FoundId.{FoundId}
+use Rattle.clu_operations.specs.declared.finding.Finding.{Finding}
+use Rattle.clu_operations.specs.Finding.{asked_by}
 use Rattle.clu_bindings.specs.Tables.{optional, between, table_to, joined_to}
 use Rattle.clu_bindings.specs.Readers.{kind_in, children_in}
+use Rattle.clu_checking.specs.Operations.{Found}
 use Rattle.clu_checking.specs.Invocations as invoking
 use Rattle.clu_typing.specs.declared.applied.Applied.{Applied}
 use Rattle.clu_typing.specs.declared.applied.Applied.TheVariants as applied
@@ -17,7 +22,7 @@ use Rattle.clu_typing.specs.declared.facts.Operation.TheVariants as operation
 use Rattle.clu_typing.specs.declared.facts.Invocation.{Invocation}
 use Rattle.clu_typing.specs.Nodes.{is_used}
 use Rattle.clu_typing.specs.Invoking.{Lists}
-use Rattle.clu_passes.specs.FactTables.{AreTypes, IsFound}
+use Rattle.clu_passes.specs.FactTables.{AreTypes, IsFound, IsAsking}
 
 -- an operation that is invoked with arguments of these types
 pub record One : Type 0 where
@@ -103,6 +108,25 @@ module _ (noted : ℕ → Noted) where
     pub starts : l.starts ≡ begins_to spans_at m
     pub operation_starts : l.operation_starts ≡ begins_to operations_at m
 
+-- ---- what asks something of types
+
+abbrev pub asker_if : List Asked → FoundId → List FoundId
+asker_if [] id = []
+asker_if (one ∷ more) id = id ∷ []
+
+module _ (finding : Finding) where
+  abbrev pub asker_of : Operation → List FoundId
+  asker_of (operation.Found id) = asker_if (asked_by finding id) id
+  asker_of _ = []
+
+  abbrev pub askers_of : List Operation → List FoundId
+  askers_of its = flat_map asker_of its
+
+-- of each of the nodes before m these
+pub record HaveAskers (askers : ℕ → List FoundId) (l : Lists) (m : ℕ) : Type 0 where
+  pub askers_are : l.askers ≡ joined_to askers m
+  pub starts : l.asker_starts ≡ begins_to askers m
+
 -- ---- read from them
 
 abbrev pub one_read : List (Option TypeId) → Invocation → One
@@ -110,6 +134,12 @@ one_read arguments i = one_of i.operation (between arguments i.from i.to)
 
 module _ (terms : List Term) (facts : Facts) where
   abbrev pub AreOnes : List One → List invoking.Invocation → Type 0
-  AreOnes (one ∷ ones) (x ∷ xs) = (IsFound terms facts one.operation x.invoked × AreTypes terms one.arguments x.arguments) × AreOnes ones xs
+  AreOnes (one ∷ ones) (x ∷ xs) = (IsFound terms facts one.operation x.invoked × AreTypes terms one.arguments x.arguments × IsAsking terms facts one.operation x.invoked) × AreOnes ones xs
   AreOnes [] [] = Unit {0}
   AreOnes _ _ = ⊥
+
+  -- operations that were found, with what they ask
+  abbrev pub AreWhollyFound : List Operation → List (Option Found) → Type 0
+  AreWhollyFound (its ∷ more) (x ∷ xs) = (IsFound terms facts its x × IsAsking terms facts its x) × AreWhollyFound more xs
+  AreWhollyFound [] [] = Unit {0}
+  AreWhollyFound _ _ = ⊥

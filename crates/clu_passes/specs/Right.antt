@@ -8,7 +8,7 @@ use Rattle.clu_syntax.specs.Syntax.{Identifier}
 use Rattle.clu_checking.specs.Files.{File, is_kind, kind_in}
 use Rattle.clu_checking.specs.Equates.{is_bad_name, is_circular, names_unfolded}
 use Rattle.clu_checking.specs.Rules.{least, violates}
-use Rattle.clu_checking.specs.Refusals.{fault_at, first_on, headings, is_bad_of, rest, rules_of_types}
+use Rattle.clu_checking.specs.Refusals.{fault_at, first_on, headings, is_bad, is_bad_of, rest, rules_of_types}
 use Rattle.clu_type_rules.specs.Asked.{is_asked, rules_at}
 use Rattle.clu_type_rules.specs.Rules as tables
 use Rattle.clu_type_rules.specs.declared.known.Known.{Known}
@@ -34,9 +34,9 @@ pub record IsFirst (f : File) (n : ℕ) : Type 0 where
 abbrev pub AreStraight : File → List Bool → (ℕ → Bool) → Type 0
 AreStraight f bits bad = (e : ℕ) → is_kind f kind.Equate e ≡ true → is_circular f e ≡ false → bit bits e ≡ bad e
 
--- the equates that the node names are bad if a type is refused in them
-abbrev pub AreNamesBad : File → (ℕ → Bool) → ℕ → Type 0
-AreNamesBad f bad n = AllByRecursion (λ (name : Identifier). is_bad_name f (is_bad_of f (rules_of_types f)) n name ≡ true → is_bad_name f bad n name ≡ true) (names_unfolded f (kind_in f n) n)
+-- equates that lead to no circle are bad if a type is refused in them
+abbrev pub AreTypesBad : File → (ℕ → Bool) → Type 0
+AreTypesBad f bad = (e : ℕ) → is_kind f kind.Equate e ≡ true → is_circular f e ≡ false → is_bad_of f (rules_of_types f) e ≡ true → bad e ≡ true
 
 module _ (f : File) (k : Known) (items : ℕ → Item) (bits : List Bool) where
   abbrev pub AgreeThere : (ℕ → Bool) → ℕ → Type 0
@@ -44,8 +44,8 @@ module _ (f : File) (k : Known) (items : ℕ → Item) (bits : List Bool) where
 
   pub record AreRight : Type 0 where
     -- at what stands in equates and types: of the equates that a node names alone it matters whether they are bad
-    pub constants : (bad : ℕ → Bool) (n : ℕ) → n < length f.nodes → is_of_constant (kind_in f n) ≡ true → AllByRecursion (λ (name : Identifier). is_bad_name f (bit bits) n name ≡ is_bad_name f bad n name) (names_unfolded f (kind_in f n) n) → AreNamesBad f bad n → IsQuiet f bad n → AgreeThere bad n
-    -- at statements, and what else stands in routines and clusters
-    pub others : (bad : ℕ → Bool) (n : ℕ) → n < length f.nodes → IsPlain (kind_in f n) → is_of_constant (kind_in f n) ≡ false → AreStraight f bits bad → AreBadDecls f bits bad → IsQuiet f bad n → IsFirst f n → AgreeThere bad n
+    pub constants : (bad : ℕ → Bool) (n : ℕ) → n < length f.nodes → is_of_constant (kind_in f n) ≡ true → AllByRecursion (λ (name : Identifier). is_bad_name f (bit bits) n name ≡ is_bad_name f bad n name) (names_unfolded f (kind_in f n) n) → AreTypesBad f bad → IsQuiet f bad n → AgreeThere bad n
+    -- at statements, and what else stands in routines and clusters: whether a Decl of an arm is bad says there what is refused in it
+    pub others : (n : ℕ) → n < length f.nodes → IsPlain (kind_in f n) → is_of_constant (kind_in f n) ≡ false → AreStraight f bits (is_bad f) → AreBadDecls f bits (is_bad f) → IsQuiet f (is_bad f) n → IsFirst f n → AgreeThere (is_bad f) n
     -- at the file, modules, routines and clusters, in any case
     pub definitions : (bad : ℕ → Bool) (n : ℕ) → n < length f.nodes → is_plain (kind_in f n) ≡ false → AreStraight f bits bad → (r : Rule) → is_asked (kind_in f n) r ≡ true → tables.violates k bits items n r ≡ violates f bad n r

@@ -1,5 +1,5 @@
 -- What is found of types where the clauses of a node count, by types in place of numbers, for what is asked and met.
-use Rattle.std.specs.Prelude.{◌≡◌, ℕ, ◌&&◌, not, Bool, true, false, List, [], ◌∷◌, map, Contains, option_map, option_and_then, Option, Some, None}
+use Rattle.std.specs.Prelude.{◌≡◌, ℕ, ◌&&◌, not, Bool, true, false, List, map, option_map, option_and_then, Option, Some, None}
 use Rattle.std.specs.Option.{option_or}
 use Rattle.clu_types.specs.CluType.{CluType, array_of, sequence_of, record_of, struct_of, oneof_of, variant_of, proc_of, iter_of, cluster_of, parameter, CluTypes, no_types, type_and, Fields, no_fields, field_and, Signals, no_signals, signal_and, Actuals, no_actuals, actual_type, actual_const, actual_param}
 use Rattle.clu_types.specs.Arena.{types_of}
@@ -7,21 +7,15 @@ use Rattle.clu_types.specs.declared.term.Term.{Term}
 use Rattle.clu_builtin.specs.Table.{operation}
 use Rattle.clu_syntax.specs.Syntax.{Identifier}
 use Rattle.clu_meaning.specs.Settling.{comes_after}
-use Rattle.clu_checking.specs.Specifications.{Specification, specification_told}
 use Rattle.clu_checking.specs.Files.{File}
-use Rattle.clu_checking.specs.Headings.{specification}
 use Rattle.clu_checking.specs.Invocations.{asks_at}
-use Rattle.clu_checking.specs.Operations.{Asked, given_at, given_of}
 use Rattle.clu_bindings.specs.declared.file.Headed.{Headed}
-use Rattle.clu_bindings.specs.declared.meaning.ModuleId.{ModuleId}
 use Rattle.clu_bindings.specs.Modules.{named}
-use Rattle.clu_head.specs.declared.head.RoutineHead.{RoutineHead}
 use Rattle.clu_operations.specs.declared.finding.Finding.{Finding}
 use Rattle.clu_operations.specs.Builtins.{builtin_told}
 use Rattle.clu_operations.specs.Clauses.{set_round}
 use Rattle.clu_operations.specs.Given.{told_given, told_round}
-use Rattle.clu_operations.specs.Modules.{Module, own, kept, known_of, routines_in, routine_name}
-use Rattle.clu_operations.specs.ByName.{first_named}
+use Rattle.clu_operations.specs.Modules.{Module, known_of}
 use Rattle.clu_operations.specs.Told.{Told}
 use Rattle.clu_operations.specs.Wished.{told_in}
 use Rattle.clu_typing.specs.declared.facts.Invocations.{Invocations}
@@ -29,8 +23,7 @@ use Rattle.clu_typing.specs.Facts.{askers_at}
 use Rattle.clu_type_rules.specs.declared.unmet.Clauses.{Clauses}
 use Rattle.clu_type_rules.specs.Askers.{asks_by_all}
 use Rattle.clu_type_rules.specs.Needs.{Setting, set_at, world}
-use Rattle.clu_passes.specs.Met.{IsWhole, asked_told, found_told, given_counted}
-use Rattle.clu_passes.specs.Told.{head_told}
+use Rattle.clu_passes.specs.Met.{asked_told}
 
 -- ---- whether components ascend in a type and in those of which it is made
 
@@ -91,11 +84,6 @@ module _ (headed : Headed) (types : List CluType) where
   found_under u (parameter number) name = given_inside u number name u.set
   found_under u t name = option_map builtin_told (operation t name)
 
-  -- what a module shows to users
-  abbrev pub module_shown : Module → Specification
-  module_shown (own head) = head_told types head
-  module_shown (kept spec) = specification_told spec
-
 -- from this state on
 abbrev pub setting_of : Headed → List Term → Finding → Setting
 setting_of headed terms finding = record { start = world terms finding; found = found_under headed (types_of terms); fine = ascends }
@@ -106,25 +94,6 @@ setting_of headed terms finding = record { start = world terms finding; found = 
 abbrev pub AreInSets : Headed → Type 0
 AreInSets headed = (n : ℕ) → set_at headed n ≡ None → (number : ℕ) → set_round headed.file n number ≡ None
 
--- what is given at a node is what the definitions say
-abbrev pub TellGiven : File → Headed → List CluType → Type 0
-TellGiven f headed types = (n number : ℕ) (name : List ℕ) → option_map found_told (told_round headed types n number name) ≡ option_map given_counted (given_of (given_at f n) number name)
-
--- no two of these have one name
-abbrev pub AreApart : List RoutineHead → Type 0
-AreApart [] = Unit {0}
-AreApart (r ∷ rs) = (first_named routine_name r.name rs ≡ None) × AreApart rs
-
-abbrev pub AreOnceNamed : Module → Type 0
-AreOnceNamed (own head) = AreApart (routines_in head.form)
-AreOnceNamed (kept spec) = Unit {0}
-
--- modules show what the definitions say, and of the routines of a cluster no two have one name
-pub record TellModulesShown (f : File) (headed : Headed) (types : List CluType) : Type 0 where
-  pub shown : (c : Identifier) → specification f c ≡ option_map (module_shown headed types) (module_of_name headed types c)
-  pub once : (id : ModuleId) (its : Module) → known_of headed id ≡ Some its → AreOnceNamed its
-
--- what is asked at nodes is what the definitions say, of types that are whole
-pub record AreAskedAt (f : File) (types : List Term) (finding : Finding) (invocations : Invocations) (lost : ℕ → Bool) : Type 0 where
-  pub told : (n : ℕ) → lost n ≡ false → map asked_told (asks_by_all (world types finding) (askers_at invocations n)) ≡ asks_at f n
-  pub whole : (n : ℕ) → lost n ≡ false → (a : Asked) → Contains (asks_at f n) a → IsWhole (given_at f n) (specification f) a.of
+-- what is asked at nodes is what the definitions say
+abbrev pub AreAskedAt : File → List Term → Finding → Invocations → (ℕ → Bool) → Type 0
+AreAskedAt f terms finding invocations lost = (n : ℕ) → lost n ≡ false → map asked_told (asks_by_all (world terms finding) (askers_at invocations n)) ≡ asks_at f n

@@ -22,7 +22,7 @@ use Rattle.clu_typing.specs.declared.applied.Applied.TheVariants as applied
 use Rattle.clu_typing.specs.declared.facts.Facts.{Facts}
 use Rattle.clu_typing.specs.Operators.{infix_operation, is_negated, prefix_operation}
 use Rattle.clu_passes.specs.Sugar.{operation_of}
-use Rattle.clu_passes.specs.FactTables.{IsType, AreTypes, IsFound}
+use Rattle.clu_passes.specs.FactTables.{IsType, AreTypes, IsFound, IsAsking}
 
 abbrev pub is_call : NodeKind → Bool
 is_call kind.Call = true
@@ -85,9 +85,9 @@ module _ (f : File) where
   HasOperation _ = ⊥
 
   module _ (terms : List Term) (facts : Facts) where
-    -- what was found of this type is what the definition finds at the node m
+    -- what was found of this type, and what it asks, is what the definition finds at the node m
     abbrev pub IsOperation : ℕ → CluType → Identifier → Use → Type 0
-    IsOperation m t name its = IsType terms (Some its.of) (Some t) × IsFound terms facts its.operation (operation_found f m t name)
+    IsOperation m t name its = IsType terms (Some its.of) (Some t) × IsFound terms facts its.operation (operation_found f m t name) × IsAsking terms facts its.operation (operation_found f m t name)
 
     -- `not` of what a comparison gives
     abbrev pub IsNot : ℕ → Option CluType → Option Use → Type 0

@@ -28,7 +28,7 @@ ghost use Rattle.clu_bindings.specs.Readers.{meaning_in, set_at, wanted_in};
 ghost use Rattle.clu_bindings.specs.Readers as read;
 ghost use Rattle.clu_type_rules.specs.declared.known.Known.{Known};
 ghost use Rattle.clu_type_rules.specs.ExpressionRules.{is_equate};
-ghost use Rattle.clu_passes.specs.Bound.{AreOfModules, AreTargets, HaveNoStream, TellModules};
+ghost use Rattle.clu_passes.specs.Bound.{AreTargets, TellModules, TellTypeModules};
 ghost use Rattle.clu_passes.specs.ConstantTables.{IsEquateKnown, IsMeant, IsTypeOf, IsWantedKnown, Means, file_with, is_equated, wanted_told};
 ghost use Rattle.clu_passes.specs.Made.{IsMade};
 ghost use Rattle.clu_passes.specs.Tables.{AreNames};
@@ -88,8 +88,8 @@ pub fn targets_mean()
     ensures { (t : Text) (k : Known) (library : List Specification) (refused : List ℕ) → IsParsed t k.tables.file.syntax.now → AreRounds k.tables.file.syntax.now k.tables.file.rounds.now → AreFew k.tables.file.syntax.now k.tables.file.rounds.now → AreNames (file_with k.tables.file (scope_in k.tables.file.syntax.now k.tables.file.rounds.now) library refused) k.tables.file.names.now → AreBindings k.tables.file.syntax.now k.tables.file.rounds.now k.tables.file.names.now k.tables.file.values.now k.tables.file.bindings.now → AreTargets (file_with k.tables.file (scope_in k.tables.file.syntax.now k.tables.file.rounds.now) library refused) k }
 {}
 
-/// The name of a Name is that of a module just if the table has one for it, where no routine of a cluster has a Parm and no module of
-/// the library is named as the type `stream`.
+/// The name of a Name, or of a type by its name, is that of a module just if the table has one for it.
 pub fn modules_told()
-    ensures { (t : Text) (r : File) (library : List Specification) (refused : List ℕ) (types : List Term) → IsMade t r library refused types → AreOfModules r.syntax.now r.rounds.now → HaveNoStream library → TellModules (file_with r (scope_in r.syntax.now r.rounds.now) library refused) r }
+    ensures names { (t : Text) (r : File) (library : List Specification) (refused : List ℕ) (types : List Term) → IsMade t r library refused types → TellModules (file_with r (scope_in r.syntax.now r.rounds.now) library refused) r }
+    ensures types { (t : Text) (r : File) (library : List Specification) (refused : List ℕ) (types : List Term) → IsMade t r library refused types → TellTypeModules (file_with r (scope_in r.syntax.now r.rounds.now) library refused) r }
 {}

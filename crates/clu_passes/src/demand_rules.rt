@@ -1,7 +1,7 @@
 //! That V6 of demands, V18 and V20, which are read of bits for each node, are those of the definitions, where what nodes ask and
 //! what is found of types is.
 
-ghost use Rattle.std.specs.Prelude.{◌≡◌, ◌↔◌, ◌<◌, ℕ, Bool, Contains, IfSome, IsTrue, List, Option, None, Some, false, length, map, replicate};
+ghost use Rattle.std.specs.Prelude.{◌≡◌, ◌↔◌, ◌<◌, ℕ, Bool, Contains, IfSome, IsTrue, List, Option, Some, false, length, map, replicate};
 ghost use Rattle.clu_types.specs.CluType.{CluType};
 ghost use Rattle.clu_types.specs.declared.term.Term.{Term};
 ghost use Rattle.clu_types.specs.Arena.{IsArena, types_of};
@@ -42,8 +42,9 @@ ghost use Rattle.clu_type_rules.specs.declared.unmet.Unmet.{Unmet};
 ghost use Rattle.clu_passes.specs.Ascending.{SpecificationsAscend};
 ghost use Rattle.clu_passes.specs.ConstantTables.{file_with, AreTables, AreBad};
 ghost use Rattle.clu_passes.specs.Demands.{clause_of, TellAsked, AreOfKinds};
-ghost use Rattle.clu_passes.specs.Met.{IsWhole, asked_told, TellCounted};
-ghost use Rattle.clu_passes.specs.Settings.{found_under, setting_of, AreInSets, TellGiven, TellModulesShown, AreAskedAt};
+ghost use Rattle.clu_passes.specs.FoundTold.{TellFile};
+ghost use Rattle.clu_passes.specs.Met.{asked_told, TellCounted};
+ghost use Rattle.clu_passes.specs.Settings.{found_under, setting_of, AreInSets, AreAskedAt};
 
 /// V6 of demands: a demand that a node makes disagrees with one before it just if the bit of the node is set that `disagreeing`
 /// of `clu_type_rules` gives, and no set that the node names is bad or circular.
@@ -70,13 +71,13 @@ pub fn kinds_round()
 /// What is asked of a type is met just if it is one of some of which each is answered by an operation that asks no others, where
 /// what is found of types tells the operations that count.
 pub fn met_by_told()
-    ensures { (given : List Demand) (specified : Identifier → Option Specification) (found : CluType → List ℕ → Option Told) → TellCounted given specified found → (a : Ask) → IsWhole given specified a.of → Meets found a ↔ IsTrue (meets given specified a.of a.operation a.wanted) }
+    ensures { (given : List Demand) (specified : Identifier → Option Specification) (found : CluType → List ℕ → Option Told) → TellCounted given specified found → (a : Ask) → Meets found a ↔ IsTrue (meets given specified a.of a.operation a.wanted) }
 {}
 
 /// V18 and V20 by what is known at a node of all that is asked there.
 pub fn unmet_by_told()
-    ensures v18 { (f : File) (n : ℕ) (found : CluType → List ℕ → Option Told) → TellCounted (given_at f n) (specification f) found → (asks : List Ask) → map asked_told asks ≡ asks_at f n → ((a : Ask) → Contains asks a → IsWhole (given_at f n) (specification f) a.of) → (u : Unmet) → AreUnmet found asks u → v18 f n ≡ u.by_has }
-    ensures v20 { (f : File) (n : ℕ) (found : CluType → List ℕ → Option Told) → TellCounted (given_at f n) (specification f) found → (asks : List Ask) → map asked_told asks ≡ asks_at f n → ((a : Ask) → Contains asks a → IsWhole (given_at f n) (specification f) a.of) → (u : Unmet) → AreUnmet found asks u → v20 f n ≡ u.by_in }
+    ensures v18 { (f : File) (n : ℕ) (found : CluType → List ℕ → Option Told) → TellCounted (given_at f n) (specification f) found → (asks : List Ask) → map asked_told asks ≡ asks_at f n → (u : Unmet) → AreUnmet found asks u → v18 f n ≡ u.by_has }
+    ensures v20 { (f : File) (n : ℕ) (found : CluType → List ℕ → Option Told) → TellCounted (given_at f n) (specification f) found → (asks : List Ask) → map asked_told asks ≡ asks_at f n → (u : Unmet) → AreUnmet found asks u → v20 f n ≡ u.by_in }
 {}
 
 /// Where a node stands in no type set, none gives anything there.
@@ -89,13 +90,13 @@ pub fn settings_look()
     ensures { (headed : Headed) (terms : List Term) (finding : Finding) → AreInSets headed → IsFinding headed terms finding → Looks headed (setting_of headed terms finding) }
 {}
 
-/// What is found so tells the operations that count, where heads, the library and where clauses are told.
+/// What is found so tells the operations that count, where heads tell what the definitions say of modules.
 pub fn counted_under_clauses()
-    ensures { (f : File) (headed : Headed) (types : List CluType) → AreInSets headed → TellGiven f headed types → TellModulesShown f headed types → (n : ℕ) → TellCounted (given_at f n) (specification f) (found_under headed types (clauses_at headed n)) }
+    ensures { (headed : Headed) (scope : Scope) (library : List Specification) (refused : List ℕ) (types : List CluType) → AreInSets headed → TellFile headed scope library refused types → (n : ℕ) → TellCounted (given_at (file_with headed.file scope library refused) n) (specification (file_with headed.file scope library refused)) (found_under headed types (clauses_at headed n)) }
 {}
 
 /// V18 and V20 are the bits of the table of what is not met, at a node at which nothing is lost.
 pub fn unmet_by_tables()
-    ensures v18 { (f : File) (headed : Headed) (terms : List Term) (finding : Finding) (invocations : Invocations) (lost : ℕ → Bool) → AreInSets headed → TellGiven f headed (types_of terms) → TellModulesShown f headed (types_of terms) → AreAskedAt f terms finding invocations lost → SpecificationsAscend f.library → (made : List Unmet) → AreFoundAt headed (setting_of headed terms finding) (world terms finding) invocations made → (n : ℕ) → lost n ≡ false → n < length made → v18 f n ≡ (unmet_at made n).by_has }
-    ensures v20 { (f : File) (headed : Headed) (terms : List Term) (finding : Finding) (invocations : Invocations) (lost : ℕ → Bool) → AreInSets headed → TellGiven f headed (types_of terms) → TellModulesShown f headed (types_of terms) → AreAskedAt f terms finding invocations lost → SpecificationsAscend f.library → (made : List Unmet) → AreFoundAt headed (setting_of headed terms finding) (world terms finding) invocations made → (n : ℕ) → lost n ≡ false → n < length made → v20 f n ≡ (unmet_at made n).by_in }
+    ensures v18 { (headed : Headed) (scope : Scope) (library : List Specification) (refused : List ℕ) (terms : List Term) (finding : Finding) (invocations : Invocations) (lost : ℕ → Bool) → AreInSets headed → TellFile headed scope library refused (types_of terms) → AreAskedAt (file_with headed.file scope library refused) terms finding invocations lost → SpecificationsAscend library → (made : List Unmet) → AreFoundAt headed (setting_of headed terms finding) (world terms finding) invocations made → (n : ℕ) → lost n ≡ false → n < length made → v18 (file_with headed.file scope library refused) n ≡ (unmet_at made n).by_has }
+    ensures v20 { (headed : Headed) (scope : Scope) (library : List Specification) (refused : List ℕ) (terms : List Term) (finding : Finding) (invocations : Invocations) (lost : ℕ → Bool) → AreInSets headed → TellFile headed scope library refused (types_of terms) → AreAskedAt (file_with headed.file scope library refused) terms finding invocations lost → SpecificationsAscend library → (made : List Unmet) → AreFoundAt headed (setting_of headed terms finding) (world terms finding) invocations made → (n : ℕ) → lost n ≡ false → n < length made → v20 (file_with headed.file scope library refused) n ≡ (unmet_at made n).by_in }
 {}

@@ -20,7 +20,7 @@ ghost use Rattle.clu_type_rules.specs.Objects.{names};
 ghost use Rattle.clu_type_rules.specs.ExceptionRules.{is_not_listed, is_other_failure, lacks_arm};
 ghost use Rattle.clu_passes.specs.ConstantTables.{file_with};
 ghost use Rattle.clu_passes.specs.Firsts.{AreItems};
-ghost use Rattle.clu_passes.specs.SeenTypes.{AreOutside};
+ghost use Rattle.clu_passes.specs.SeenTypes.{IsOutsideKnown};
 ghost use Rattle.clu_passes.specs.Routines.{AreParts, StandInRoutines};
 
 /// V25, by the first items of lists.
@@ -35,5 +35,5 @@ pub fn v27_by_tables()
 
 /// V26 of an exception of a heading, of whose types none is lost.
 pub fn v26_of_exceptions()
-    ensures { (k : Known) (scope : Scope) (library : List Specification) (refused : List ℕ) → HaveForms k.tables.file.syntax.now → IsTree k.tables.file.syntax.now → IsArena k.tables.types.now → (lost : ℕ → Bool) → AreOutside (file_with k.tables.file scope library refused) k lost → (bad : ℕ → Bool) (items : ℕ → Item) (n : ℕ) → kind_in k n ≡ kind.Exc → AllByRecursion (λ c. lost c ≡ false) (children k n) → v26 (file_with k.tables.file scope library refused) bad n ≡ is_other_failure k items n (names k n) }
+    ensures { (k : Known) (scope : Scope) (library : List Specification) (refused : List ℕ) → HaveForms k.tables.file.syntax.now → IsTree k.tables.file.syntax.now → IsArena k.tables.types.now → (bad : ℕ → Bool) (items : ℕ → Item) (n : ℕ) → kind_in k n ≡ kind.Exc → AllByRecursion (IsOutsideKnown (file_with k.tables.file scope library refused) k n) (children k n) → v26 (file_with k.tables.file scope library refused) bad n ≡ is_other_failure k items n (names k n) }
 {}

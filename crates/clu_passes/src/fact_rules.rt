@@ -25,7 +25,7 @@ ghost use Rattle.clu_type_rules.specs.ExpressionRules.{is_up_or_down_misplaced};
 ghost use Rattle.clu_type_rules.specs.InvocationRules.{lacks_operation, some_has_fault, misuses_iterator};
 ghost use Rattle.clu_type_rules.specs.StatementRules.{gives_other, has_no_condition, is_on_no_tags, results_round};
 ghost use Rattle.clu_passes.specs.ConstantTables.{file_with, AreTables, AreWantedKnown};
-ghost use Rattle.clu_passes.specs.FactTables.{AreFacts, AreOwnTypes, AreResults};
+ghost use Rattle.clu_passes.specs.FactTables.{AreFacts, AreOwnTypes, IsResultKnown};
 ghost use Rattle.clu_passes.specs.Routines.{AreParts, StandInRoutines};
 ghost use Rattle.clu_passes.specs.Notes.{AreRepeated, DeclareModules, HaveParents};
 
@@ -56,9 +56,9 @@ pub fn v24_by_tables()
     ensures { (f : File) → HaveParents f → DeclareModules f → (bits : List Bool) → AreRepeated f bits → (n : ℕ) → v24 f n ≡ (is_there kind.When (slice_get f.nodes n) && is_set (slice_get bits n)) }
 {}
 
-/// V30, where the table has the parts of each routine and nothing is lost of the types that it gives.
+/// V30, where the table has the parts of each routine and the types that it gives are known.
 pub fn v30_by_facts()
-    ensures { (k : Known) (scope : Scope) (library : List Specification) (refused : List ℕ) → HaveForms k.tables.file.syntax.now → IsTree k.tables.file.syntax.now → (lost : ℕ → Bool) → AreFacts (file_with k.tables.file scope library refused) k.tables.types.now k.facts.now lost → AreResults (file_with k.tables.file scope library refused) k lost → StandInRoutines (file_with k.tables.file scope library refused) → AreParts (file_with k.tables.file scope library refused) k.routines.now.parts.items → (items : ℕ → Item) (n : ℕ) → lost n ≡ false → AllByRecursion (λ t. lost t ≡ false) (results_round k n) → v30 (file_with k.tables.file scope library refused) n ≡ gives_other k items (kind_in k n) n }
+    ensures { (k : Known) (scope : Scope) (library : List Specification) (refused : List ℕ) → HaveForms k.tables.file.syntax.now → IsTree k.tables.file.syntax.now → (lost : ℕ → Bool) → AreFacts (file_with k.tables.file scope library refused) k.tables.types.now k.facts.now lost → StandInRoutines (file_with k.tables.file scope library refused) → AreParts (file_with k.tables.file scope library refused) k.routines.now.parts.items → (items : ℕ → Item) (n : ℕ) → lost n ≡ false → AllByRecursion (IsResultKnown (file_with k.tables.file scope library refused) k n) (results_round k n) → v30 (file_with k.tables.file scope library refused) n ≡ gives_other k items (kind_in k n) n }
 {}
 
 /// V32.

@@ -20,12 +20,15 @@ ghost use Rattle.clu_bindings.specs.Inside as bound;
 ghost use Rattle.clu_bindings.specs.Named as named;
 ghost use Rattle.clu_bindings.specs.Readers.{children_in, meaning_in};
 ghost use Rattle.clu_name_rules.specs.declared.tables.Tables.{Tables};
+ghost use Rattle.clu_operations.specs.declared.finding.Finding.{Finding};
+ghost use Rattle.clu_operations.specs.Finding.{Follows};
 ghost use Rattle.clu_typing.specs.declared.facts.Facts.{Facts};
 ghost use Rattle.clu_typing.specs.Facts.{type_of};
 ghost use Rattle.clu_typing.specs.Nodes.{names_module};
 ghost use Rattle.clu_typing.specs.Pass.{AreKnown, HaveRows, IsSound};
 ghost use Rattle.clu_typing.specs.Raises.{raised_told};
 ghost use Rattle.clu_typing.specs.Sets.{HaveSame};
+ghost use Rattle.clu_type_rules.specs.Askers.{with_finding};
 ghost use Rattle.clu_passes.specs.ConstantTables.{AreTables, IsEquateKnown, IsFirstKnown, IsIndexKnown, IsKnown, file_with};
 ghost use Rattle.clu_passes.specs.FactTables.{AreFacts, IsType, typed};
 ghost use Rattle.clu_passes.specs.NamesKnown.{HasTypes, IsNameKnown, IsTypeKnown, variable_of};
@@ -59,4 +62,9 @@ pub fn types_held()
     ensures operations { (t : Text) (h : Headed) (its : Tables) (scope : Scope) (library : List Specification) (refused : List ℕ) → IsParsed t h.file.syntax.now → AreTables (file_with h.file scope library refused) (record its { file = h.file }) → (items : ℕ → Item) (n : ℕ) → kind_at h.file.syntax.now n ≡ kind.OperOf → IsTypeKnown h.file (children_in h.file n) → HasTypes (file_with h.file scope library refused) h items its.types.now n (item (file_with h.file scope library refused) n).expression }
     ensures forces { (t : Text) (h : Headed) (its : Tables) (scope : Scope) (library : List Specification) (refused : List ℕ) → IsParsed t h.file.syntax.now → AreTables (file_with h.file scope library refused) (record its { file = h.file }) → (items : ℕ → Item) (n : ℕ) → kind_at h.file.syntax.now n ≡ kind.Force → IsTypeKnown h.file (children_in h.file n) → HasTypes (file_with h.file scope library refused) h items its.types.now n (item (file_with h.file scope library refused) n).expression }
     ensures brackets { (t : Text) (h : Headed) (its : Tables) (scope : Scope) (library : List Specification) (refused : List ℕ) → IsParsed t h.file.syntax.now → AreTables (file_with h.file scope library refused) (record its { file = h.file }) → (items : ℕ → Item) (n : ℕ) → kind_at h.file.syntax.now n ≡ kind.Index → (names_module h.file n ≡ true → IsKnown h.file n) → IsFirstKnown h.file (children_in h.file n) → HasTypes (file_with h.file scope library refused) h items its.types.now n (item (file_with h.file scope library refused) n).expression }
+{}
+
+/// The same with more types and more that was found, as it is when the rules are asked.
+pub fn facts_kept()
+    ensures { (t : Text) (h : Headed) (scope : Scope) (library : List Specification) (refused : List ℕ) (items : ℕ → Item) (first : List Term) (lost : ℕ → Bool) → IsKnownFile t h (file_with h.file scope library refused) items first lost → (terms : List Term) (facts : Facts) → IsArena terms → AreKnown h items first (length h.file.syntax.now) terms facts → (new : List Term) → Grows terms new → (finding : Finding) → Follows facts.finding finding → AreFacts (file_with h.file scope library refused) new (with_finding facts finding) lost }
 {}

@@ -40,7 +40,6 @@ ghost use Rattle.clu_bindings.specs.declared.file.Headed.{Headed};
 ghost use Rattle.clu_operations.specs.Wished.{AreHeads};
 ghost use Rattle.clu_passes.specs.Heads.{AreCounted, file_known};
 ghost use Rattle.clu_passes.specs.Libraries.{HoldAscending};
-ghost use Rattle.clu_passes.specs.HeadsKnown.{AreHeadsKnown, AreTyped};
 ghost use Rattle.clu_passes.specs.RoutineTypes.{HaveTypes};
 ghost use Rattle.clu_passes.specs.Told.{demand_told, head_told};
 
@@ -57,7 +56,7 @@ pub fn asked_of_each()
 
 /// What is asked by Opers, with the types that are wanted, is what the definition asks by them, where what is lost is refused.
 pub fn opers_asked()
-    ensures { (k : Known) (scope : Scope) (library : List Specification) (refused : List ℕ) → HaveForms k.syntax.now → IsTree k.syntax.now → (bits : List Bool) → AreCounted k (file_known k scope library refused) bits → (old new : List Term) (constants : List Const) → AreSettled k.syntax.now scope new constants k.values.now → ((c : ℕ) (node : Node) → slice_get k.syntax.now c ≡ Some node → node.kind ≡ kind.Oper → type_id (value_of k.values.now (child 0 node)) ≡ None → is_refused (file_known k scope library refused) (child 0 node) ≡ true) → (parameter n : ℕ) (cs : List ℕ) → AllByRecursion (λ c. (c < n) × (is_of kind.Oper (kind_at k.syntax.now c) ≡ true)) cs → (ds : List Demanded) → AreAsked k old new (asked_by_opers parameter None cs) ds → map (demand_told (types_of new)) ds ≡ operations_asked (file_known k scope library refused) scope parameter (operations_at (before n (item_at k.syntax.now)) cs) }
+    ensures { (k : Known) (scope : Scope) (library : List Specification) (refused : List ℕ) → HaveForms k.syntax.now → IsTree k.syntax.now → AreCounted k (file_known k scope library refused) → (old new : List Term) (constants : List Const) → AreSettled k.syntax.now scope new constants k.values.now → ((c : ℕ) (node : Node) → slice_get k.syntax.now c ≡ Some node → node.kind ≡ kind.Oper → type_id (value_of k.values.now (child 0 node)) ≡ None → is_refused (file_known k scope library refused) (child 0 node) ≡ true) → (parameter n : ℕ) (cs : List ℕ) → AllByRecursion (λ c. (c < n) × (is_of kind.Oper (kind_at k.syntax.now c) ≡ true)) cs → (ds : List Demanded) → AreAsked k old new (asked_by_opers parameter None cs) ds → map (demand_told (types_of new)) ds ≡ operations_asked (file_known k scope library refused) scope parameter (operations_at (before n (item_at k.syntax.now)) cs) }
 {}
 
 /// The numbers that stand in the heads of a file are those of its arena, routines ascend by name, and what is no node asks

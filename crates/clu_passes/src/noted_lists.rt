@@ -17,8 +17,8 @@ ghost use Rattle.clu_typing.specs.declared.facts.Operation.{Operation};
 ghost use Rattle.clu_typing.specs.Facts as tables;
 ghost use Rattle.clu_typing.specs.Invoking.{Lists, lists_of, begun, with_asker, noted};
 ghost use Rattle.clu_passes.specs.ConstantTables.{file_with, wanted_told};
-ghost use Rattle.clu_passes.specs.FactTables.{AreFound, AreInvocations};
-ghost use Rattle.clu_passes.specs.NotedLists.{Noted, types_given, node_noted, operations_of, AreNoted, AreOnes};
+ghost use Rattle.clu_passes.specs.FactTables.{AreInvocations};
+ghost use Rattle.clu_passes.specs.NotedLists.{Noted, types_given, node_noted, operations_of, AreNoted, AreOnes, AreWhollyFound};
 ghost use Rattle.clu_passes.specs.StandsFor.{AreOperands, NodeStandsFor};
 
 /// What is noted of a node comes behind what was noted of those before it, also with what asks something.
@@ -40,5 +40,5 @@ pub fn node_read()
         → (of : ℕ → Noted) (m : ℕ) → AreNoted of (lists_of facts.invocations) m → n < m → of n ≡ node_noted types r its n
         → NodeStandsFor (file_with r scope library refused) terms facts (kind_at r.syntax.now n) n its
         → AreOperands (file_with r scope library refused) terms (types_given types (children_in r n)) (kind_at r.syntax.now n) n
-        → AreInvocations terms facts (tables.invocations facts n) (invoking.invocations (file_with r scope library refused) n) × AreFound terms facts (tables.operations_at facts n) (invoking.operations_at (file_with r scope library refused) n) }
+        → AreInvocations terms facts (tables.invocations facts n) (invoking.invocations (file_with r scope library refused) n) × AreWhollyFound terms facts (tables.operations_at facts n) (invoking.operations_at (file_with r scope library refused) n) }
 {}

@@ -19,7 +19,7 @@ ghost use Rattle.clu_type_rules.specs.Objects.{names};
 ghost use Rattle.clu_type_rules.specs.ExceptionRules as of_tables;
 ghost use Rattle.clu_passes.specs.Bound.{AreBadDecls, AreInside, IsArmKnown, IsExceptionKnown, IsFirstKnown};
 ghost use Rattle.clu_passes.specs.ConstantTables.{file_with, AreTables};
-ghost use Rattle.clu_passes.specs.FactTables.{AreFacts, AreResults};
+ghost use Rattle.clu_passes.specs.FactTables.{AreFacts};
 ghost use Rattle.clu_passes.specs.Firsts.{AreItems};
 ghost use Rattle.clu_passes.specs.Notes.{HaveParents};
 ghost use Rattle.clu_passes.specs.TableRaises.{AreRaises};
@@ -32,12 +32,12 @@ pub fn v23_by_facts()
 
 /// V26 of a signal, where nothing is lost of the exception that it names.
 pub fn v26_of_signals()
-    ensures { (k : Known) (scope : Scope) (library : List Specification) (refused : List ℕ) → HaveForms k.tables.file.syntax.now → IsTree k.tables.file.syntax.now → AreTables (file_with k.tables.file scope library refused) k.tables → AreItems (file_with k.tables.file scope library refused) k.tables → StandInRoutines (file_with k.tables.file scope library refused) → AreParts (file_with k.tables.file scope library refused) k.routines.now.parts.items → (lost : ℕ → Bool) → AreFacts (file_with k.tables.file scope library refused) k.tables.types.now k.facts.now lost → AreResults (file_with k.tables.file scope library refused) k lost → (bits : List Bool) (bad : ℕ → Bool) (items : ℕ → Item) (n : ℕ) → kind_in k n ≡ kind.Signal → lost n ≡ false → AllByRecursion (IsExceptionKnown k lost n) (names k n) → v26 (file_with k.tables.file scope library refused) bad n ≡ of_tables.v26 k items bits n }
+    ensures { (k : Known) (scope : Scope) (library : List Specification) (refused : List ℕ) → HaveForms k.tables.file.syntax.now → IsTree k.tables.file.syntax.now → AreTables (file_with k.tables.file scope library refused) k.tables → AreItems (file_with k.tables.file scope library refused) k.tables → StandInRoutines (file_with k.tables.file scope library refused) → AreParts (file_with k.tables.file scope library refused) k.routines.now.parts.items → (lost : ℕ → Bool) → AreFacts (file_with k.tables.file scope library refused) k.tables.types.now k.facts.now lost → (bits : List Bool) (bad : ℕ → Bool) (items : ℕ → Item) (n : ℕ) → kind_in k n ≡ kind.Signal → lost n ≡ false → AllByRecursion (IsExceptionKnown (file_with k.tables.file scope library refused) k n) (names k n) → v26 (file_with k.tables.file scope library refused) bad n ≡ of_tables.v26 k items bits n }
 {}
 
 /// V26 of raises that are resignalled, where nothing is lost of the exceptions that are named.
 pub fn v26_of_resignals()
-    ensures { (k : Known) (scope : Scope) (library : List Specification) (refused : List ℕ) → HaveForms k.tables.file.syntax.now → IsTree k.tables.file.syntax.now → AreTables (file_with k.tables.file scope library refused) k.tables → AreItems (file_with k.tables.file scope library refused) k.tables → StandInRoutines (file_with k.tables.file scope library refused) → AreParts (file_with k.tables.file scope library refused) k.routines.now.parts.items → (lost : ℕ → Bool) → AreFacts (file_with k.tables.file scope library refused) k.tables.types.now k.facts.now lost → AreResults (file_with k.tables.file scope library refused) k lost → AreRaises (file_with k.tables.file scope library refused) k lost → (bits : List Bool) (bad : ℕ → Bool) (items : ℕ → Item) (n : ℕ) → kind_in k n ≡ kind.Resignal → lost n ≡ false → AllByRecursion (IsExceptionKnown k lost n) (names k n) → v26 (file_with k.tables.file scope library refused) bad n ≡ of_tables.v26 k items bits n }
+    ensures { (k : Known) (scope : Scope) (library : List Specification) (refused : List ℕ) → HaveForms k.tables.file.syntax.now → IsTree k.tables.file.syntax.now → AreTables (file_with k.tables.file scope library refused) k.tables → AreItems (file_with k.tables.file scope library refused) k.tables → StandInRoutines (file_with k.tables.file scope library refused) → AreParts (file_with k.tables.file scope library refused) k.routines.now.parts.items → (lost : ℕ → Bool) → AreFacts (file_with k.tables.file scope library refused) k.tables.types.now k.facts.now lost → AreRaises (file_with k.tables.file scope library refused) k lost → (bits : List Bool) (bad : ℕ → Bool) (items : ℕ → Item) (n : ℕ) → kind_in k n ≡ kind.Resignal → lost n ≡ false → AllByRecursion (IsExceptionKnown (file_with k.tables.file scope library refused) k n) (names k n) → v26 (file_with k.tables.file scope library refused) bad n ≡ of_tables.v26 k items bits n }
 {}
 
 /// V26 of an exit in the tree of a text, where nothing is lost of the types of the arm to which it goes.

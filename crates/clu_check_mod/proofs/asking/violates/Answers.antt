@@ -5,6 +5,7 @@ use Rattle.clu_syntax.specs.Items.{Item}
 use Rattle.clu_type_rules.specs.declared.known.Known.{Known}
 use Rattle.clu_type_rules.specs.Rules.{violates, violates_of_types}
 use Rattle.clu_check_mod.specs.Asking.{is_violated, is_violated_of_types}
+use Rattle.clu_check_mod.proofs.Ascending.{assigned_ascend, tagged_ascend}
 use Rattle.clu_check_mod.proofs.asking.violates.Goals as goal
 
 module _ (k : Known) (bad : List Bool) (items : ℕ → Item) (n : ℕ) (r : Rule) where
@@ -30,14 +31,16 @@ module _ (k : Known) (bad : List Bool) (items : ℕ → Item) (n : ℕ) (r : Rul
   of_types (inr (inr (inr (inr (inr (inr (inr (inr is)))))))) = same rule.CvtPlace is refl
 
 pub returns-in-LiteralRange-clause-exact : goal.returns-in-LiteralRange-clause-exact
-returns-in-LiteralRange-clause-exact c items ascending =
-    c.violates_of_types.ensures.exact items ascending.0 ∙ of_types c.args.k.now c.args.bad.now items c.args.n c.args.rule c.in-LiteralRange.is
+returns-in-LiteralRange-clause-exact c items values tags =
+    c.violates_of_types.ensures.exact items values ∙ of_types c.args.k.now c.args.bad.now items c.args.n c.args.rule c.in-LiteralRange.is
 
 pub returns-in-ArgumentType-clause-exact : goal.returns-in-ArgumentType-clause-exact
-returns-in-ArgumentType-clause-exact c items ascending = c.v13.ensures items ascending.0 ∙ sym (told c.args.k.now c.args.bad.now items c.args.n c.args.rule rule.ArgumentType c.in-ArgumentType.is)
+returns-in-ArgumentType-clause-exact c items values tags = c.v13.ensures items values ∙ sym (told c.args.k.now c.args.bad.now items c.args.n c.args.rule rule.ArgumentType c.in-ArgumentType.is)
 
 pub returns-in-AssignType-clause-exact : goal.returns-in-AssignType-clause-exact
-returns-in-AssignType-clause-exact c items ascending = c.v15.ensures items (ascending.1 c.args.n) ∙ sym (told c.args.k.now c.args.bad.now items c.args.n c.args.rule rule.AssignType c.in-AssignType.is)
+returns-in-AssignType-clause-exact c items values tags =
+    c.v15.ensures items (assigned_ascend c.args.k.now c.args.n c.args.rule c.in-AssignType.is tags) ∙ sym (told c.args.k.now c.args.bad.now items c.args.n c.args.rule rule.AssignType c.in-AssignType.is)
 
 pub returns-in-TagMissingOrTwice-clause-exact : goal.returns-in-TagMissingOrTwice-clause-exact
-returns-in-TagMissingOrTwice-clause-exact c items ascending = c.v22.ensures items (ascending.1 c.args.n) ∙ sym (told c.args.k.now c.args.bad.now items c.args.n c.args.rule rule.TagMissingOrTwice c.in-TagMissingOrTwice.is)
+returns-in-TagMissingOrTwice-clause-exact c items values tags =
+    c.v22.ensures items (tagged_ascend c.args.k.now c.args.n c.args.rule c.in-TagMissingOrTwice.is tags) ∙ sym (told c.args.k.now c.args.bad.now items c.args.n c.args.rule rule.TagMissingOrTwice c.in-TagMissingOrTwice.is)

@@ -2,7 +2,7 @@ use Rattle.std.proofs.Common.{◌≡◌, ◌∙◌, ℕ, Bool, false, List, Opti
 use Rattle.clu_base.specs.declared.rules.Refused.{Refused}
 use Rattle.clu_tree.specs.declared.node.Node.{Node}
 use Rattle.clu_types.specs.declared.term.Term.{Term}
-use Rattle.clu_types.specs.Arena.{Grows}
+use Rattle.clu_types.specs.Arena.{Grows, IsArena}
 use Rattle.clu_syntax.specs.Items.{Item}
 use Rattle.clu_bindings.specs.declared.file.File.{File}
 use Rattle.clu_name_rules.specs.declared.tables.Tables.{Tables}
@@ -12,10 +12,9 @@ use Rattle.clu_type_rules.specs.Askers.{AreFoundAt, FindsOn, with_finding}
 use Rattle.clu_type_rules.specs.Disagreeing.{with_clauses}
 use Rattle.clu_type_rules.specs.Needs.{world}
 use Rattle.clu_check_mod.specs.Answered.{AreAsked, AreTables, IsFirstOf}
-use Rattle.clu_check_mod.specs.Asking.{KnownAscend}
-use Rattle.clu_check_mod.specs.Bad.{bad_of_all}
+use Rattle.clu_check_mod.specs.Bad.{EquatesAscend, bad_of_all}
 use Rattle.clu_check_mod.specs.Refusals.{IsOfTree, IsTold}
-use Rattle.clu_check_mod.specs.Walks.{AreClosed, first_in}
+use Rattle.clu_check_mod.specs.Walks.{AreClosed, WalksAscend, first_in}
 use Rattle.clu_check_mod.proofs.Answered.{told_answer}
 use Rattle.clu_check_mod.proofs.checking.ask.Goals as goal
 
@@ -51,10 +50,13 @@ returns-clause-first c =
           c.known_of-known.ensures.disagrees ∙ c.as_slice.ensures.value ∙ c.in_ok-disagrees.ensures
           ∙ ap (λ (nodes : ℕ). with_clauses headed.heads.now.asked nodes (replicate nodes false)) (c.len-nodes.ensures.len ∙ ap (λ (all : List Node). length all) c.tree.ensures.same);
     } in
-    told_answer {P = KnownAscend c.known_of-known.result} (IsFirstOf headed c.args.types.now facts c.args.lists.now c.args.long.now c.args.extent)
+    told_answer {P = λ (items : ℕ → Item). EquatesAscend c.known_of-known.result × WalksAscend c.known_of-known.result (bad_of_all c.known_of-known.result items c.args.lists.now.circles.order.items) items c.args.extent} (IsFirstOf headed c.args.types.now facts c.args.lists.now c.args.long.now c.args.extent)
     (λ (items : ℕ → Item). first_in c.known_of-known.result (bad_of_all c.known_of-known.result items c.args.lists.now.circles.order.items) items c.args.extent)
-    c.ask_rules.result
-    (λ items ascending. subst (λ (bad : List Bool). IsTold c.ask_rules.result (first_in c.known_of-known.result bad items c.args.extent)) (c.as_slice-4.ensures.value ∙ c.in_ok-bad.ensures items ascending ∙ ap (bad_of_all c.known_of-known.result items) c.as_slice-3.ensures.value) (c.ask_rules.ensures.exact items ascending))
+    c.ask_rules.result c.ask_rules.ensures.decided
+    (λ items ascend.
+    let same = c.as_slice-4.ensures.value ∙ c.in_ok-bad.ensures items ascend.0 ∙ ap (bad_of_all c.known_of-known.result items) c.as_slice-3.ensures.value in
+    subst (λ (bad : List Bool). IsTold c.ask_rules.result (first_in c.known_of-known.result bad items c.args.extent)) same
+    (c.ask_rules.ensures.exact items ascend.0.0 (subst (λ (bad : List Bool). WalksAscend c.known_of-known.result bad items c.args.extent) (sym same) ascend.1)))
     (λ o is. record {
       known = c.known_of-known.result;
       headed_is = c.known_of-known.ensures.headed;
@@ -67,7 +69,8 @@ returns-clause-first c =
         words = made.words;
         items = made.items;
       });
+      arena = subst (λ (terms : List Term). IsArena terms) (sym types_are) c.sound.ensures;
       routines = c.known_of-known.ensures.routines;
       asks = asks;
-      is = is;
+      is = λ items equates walks. is items (equates, walks);
     })

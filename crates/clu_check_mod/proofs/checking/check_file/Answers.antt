@@ -1,9 +1,10 @@
-use Rattle.std.proofs.Common.{◌≡◌, ◌∙◌, Bool, List, IfErr, IfOk, ap, length, subst, sym}
+use Rattle.std.proofs.Common.{◌≡◌, ◌∙◌, Bool, List, Option, None, IfErr, IfOk, ap, length, subst, sym}
+use Rattle.clu_base.specs.declared.rules.Refused.{Refused}
 use Rattle.clu_bindings.specs.declared.file.File.{File}
 use Rattle.clu_head.specs.declared.heads.Heads.{Heads}
 use Rattle.clu_head.specs.Modules.{AreHeadsOf}
 use Rattle.clu_head.specs.Refused.{counts_to}
-use Rattle.clu_check_mod.specs.Answered.{IsFirstBy, IsFirstIn}
+use Rattle.clu_check_mod.specs.Answered.{IsFirstBy, IsFirstIn, IsUnspecifiedBy, IsUnspecifiedIn}
 use Rattle.clu_check_mod.specs.Bad.{refused_of}
 use Rattle.clu_check_mod.specs.Refusals.{IsOfTree}
 use Rattle.clu_check_mod.specs.Walks.{IsFound}
@@ -19,8 +20,7 @@ returns-clause-refused c = subst (λ (f : File). IfErr c.check_headed.result (Is
 pub returns-clause-first : goal.returns-clause-first
 returns-clause-first c =
     let made = c.tables.ensures in
-    answer_more (IsFirstBy c.headed_by-headed.result c.heads_of.new.types c.args.lists.now c.in_ok-long.long c.args.extent) (IsFirstIn c.args.file c.args.types.now c.args.lists.now c.args.extent)
-    (λ o is. record {
+    let first : (o : Option Refused) → IsFirstBy c.headed_by-headed.result c.heads_of.new.types c.args.lists.now c.in_ok-long.long c.args.extent o → IsFirstIn c.args.file c.args.types.now c.args.lists.now c.args.extent o = λ o is. record {
       headed = c.headed_by-headed.result;
       long = c.in_ok-long.long;
       before = c.tables.result;
@@ -45,4 +45,7 @@ returns-clause-first c =
           (subst (λ (bits : List Bool). AreHeadsOf c.args.file.syntax.now c.args.file.rounds.now c.args.file.names.now.declared.items c.args.file.values.now bits c.args.types.now c.heads_of.new.types c.in_ok-heads.heads) c.as_slice.ensures.value c.in_ok-heads.ensures.heads);
       grows = c.in_ok-heads.ensures.kept;
       is = is;
-    }) c.check_headed.result c.check_headed.ensures.first
+    } in
+    answer_more (IsFirstBy c.headed_by-headed.result c.heads_of.new.types c.args.lists.now c.in_ok-long.long c.args.extent) (IsFirstIn c.args.file c.args.types.now c.args.lists.now c.args.extent)
+    (IsUnspecifiedBy c.headed_by-headed.result c.heads_of.new.types c.args.lists.now c.in_ok-long.long c.args.extent) (IsUnspecifiedIn c.args.file c.args.types.now c.args.lists.now c.args.extent) first
+    (λ none. record { is = first None none.is; lost = none.lost }) c.check_headed.result c.check_headed.ensures.first
