@@ -5,6 +5,7 @@ pub mod Headlines
 pub mod Inside
 pub mod Modules
 pub mod Named
+pub mod Numbered
 pub mod Owned
 pub mod Parameters
 pub mod Readers

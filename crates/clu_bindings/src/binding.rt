@@ -9,6 +9,7 @@ ghost use Rattle.clu_syntax.specs.Syntax.{Identifier};
 ghost use Rattle.clu_bindings.specs.declared.bindings.ModuleKnown.{ModuleKnown};
 ghost use Rattle.clu_bindings.specs.Headlines.{headline_told, headline_of};
 ghost use Rattle.clu_bindings.specs.Modules.{named, AreModules, modules_in};
+ghost use Rattle.clu_bindings.specs.Numbered.{AreNumbered};
 ghost use Rattle.clu_bindings.specs.Owned.{IsOwned, AreOwned};
 ghost use Rattle.clu_bindings.specs.Parameters.{AreParameters};
 ghost use Rattle.clu_bindings.specs.Declaring.{declared_of};
@@ -140,6 +141,7 @@ fn tables_of(
     requires declared { declared.items ≡ declared_of syntax.now rounds.now (named modules) parameters.counts.items parameters.numbers.items names.now.declared.items }
     ensures tables { IfOk result (λ all. AreBindings syntax.now rounds.now names.now values.now all.value) }
     ensures modules { IfOk result (λ all. (known : List (Identifier × ModuleKnown)) → AreModules modules known → AreModules all.value.modules known) }
+    ensures numbered { IfOk result (λ all. AreNumbered syntax.now modules → AreNumbered syntax.now all.value.modules) }
     ensures own { IfOk result (λ all. AreOwned types.new values.now syntax.now (length syntax.now) all.value.own.items) }
     ensures kept { Grows types.old types.new }
 {
@@ -185,6 +187,7 @@ pub fn bindings_of(
     requires starts { names.now.starts.items ≡ starts_to syntax.now names.now.declared.items (length syntax.now) }
     ensures tables { IfOk result (λ all. AreBindings syntax.now rounds.now names.now values.now all.value) }
     ensures modules { IfOk result (λ all. AreModules all.value.modules (modules_in types.old values.now syntax.now library.now)) }
+    ensures numbered { IfOk result (λ all. AreNumbered syntax.now all.value.modules) }
     ensures own { IfOk result (λ all. AreOwned types.new values.now syntax.now (length syntax.now) all.value.own.items) }
     ensures kept { Grows types.old types.new }
 {

@@ -1,6 +1,6 @@
 //! The modules that a file may name, by name: its own before those of the library.
 
-ghost use Rattle.std.specs.Prelude.{◌≡◌, ◌++◌, ◌∷◌, [], List, IfOk, OnOk, map, set, take, Some};
+ghost use Rattle.std.specs.Prelude.{◌≡◌, ◌++◌, ◌∷◌, [], List, IfOk, OnOk, length, map, take, Some};
 ghost use Rattle.std.specs.Str.{bytes_eq};
 ghost use Rattle.std.specs.HashMap.{get};
 ghost use Rattle.clu_syntax.specs.Syntax.{Identifier};
@@ -8,14 +8,17 @@ ghost use Rattle.clu_names.specs.Scopes.{is_stream};
 ghost use Rattle.clu_bindings.specs.declared.bindings.ModuleKnown.{ModuleKnown};
 ghost use Rattle.clu_bindings.specs.Headlines.{headline_told, headline_at};
 ghost use Rattle.clu_bindings.specs.Modules.{AreModules, is_new, with_name, with_module, is_routine_form, kept_known, kept_in, own_known, own_headed, own_in, modules_in};
+ghost use Rattle.clu_bindings.specs.Numbered.{AreNumbered, modules_to, more_if, number_if, unit_at};
+ghost use Rattle.clu_bindings.specs.Tables.{table_to};
 
 use crate::bindings::{ModuleKnown, Modules};
 use crate::headline::{Headline, headline_at};
 use crate::meaning::ModuleId;
 use clu_base::{Bytes, Memory, Sequence};
-use clu_head::kinds;
+use clu_head::{is_at, kinds};
 use clu_settle::Value;
 use clu_syntax::Syntax;
+use clu_tree::{NodeKind, Tree};
 use clu_types::{Form, ParamKind, Spec, Specs, TypeArena};
 use std::alloc::Global;
 use std::collections::HashMap;
@@ -105,15 +108,6 @@ fn push_own(
     push(alloc, modules, headline.name, known)
 }
 
-/// Notes the module of the Module node n.
-fn set_unit(units: &mut [Option<ModuleId>], n: u32, its: ModuleId)
-    ensures { units.new ≡ set units.old n (Some its) }
-{
-    if (n as usize) < units.len() {
-        units[n as usize] = Some(its);
-    }
-}
-
 /// Appends the module of the node n, if it is a Module.
 fn push_module(
     alloc: Global,
@@ -127,8 +121,7 @@ fn push_module(
 {
     match headline_at(syntax, n) {
         Some(headline) => {
-            let its = push_own(alloc, syntax, types, values, modules, headline)?;
-            set_unit(&mut modules.units, n, its);
+            push_own(alloc, syntax, types, values, modules, headline)?;
             Ok(())
         }
         None => Ok(()),
@@ -193,7 +186,7 @@ fn push_library(alloc: Global, modules: &mut Modules, library: &Specs) -> Result
     Ok(())
 }
 
-fn no_modules(alloc: Global, units: Vec<Option<ModuleId>>) -> Modules
+fn no_modules(alloc: Global) -> Modules
     ensures { AreModules result [] }
 {
     let by_name = HashMap::new(alloc);
@@ -202,8 +195,51 @@ fn no_modules(alloc: Global, units: Vec<Option<ModuleId>>) -> Modules
         by_name,
         known,
         of_file: 0,
-        units,
+        units: Vec::new(alloc),
     }
+}
+
+/// One more, as far as 32 bits count.
+fn more_if(is: bool, many: u32) -> u32
+    ensures { result ≡ more_if is many }
+{
+    if is { many.saturating_add(1) } else { many }
+}
+
+fn number_if(is: bool, many: u32) -> Option<ModuleId>
+    ensures { result ≡ number_if is many }
+{
+    if is { Some(ModuleId(many)) } else { None }
+}
+
+/// For each Module of a tree which it is, and how many there are.
+#[tactic(auto, unfolding(crate::specs::Tables::table_to, crate::specs::Numbered::modules_to))]
+fn units_of(alloc: Global, tree: &Tree) -> Result<(Vec<Option<ModuleId>>, u32), Memory>
+    ensures units { IfOk result (λ both. both.0.items ≡ table_to (unit_at tree.now) (length tree.now)) }
+    ensures many { IfOk result (λ both. both.1 ≡ modules_to tree.now (length tree.now)) }
+{
+    let mut units = Vec::new(alloc);
+    let mut many = 0;
+    for n in 0..tree.len() {
+        let is = is_at(tree, n, NodeKind::Module);
+        units.push(number_if(is, many))?;
+        many = more_if(is, many);
+    }
+    Ok((units, many))
+}
+
+/// The same modules, of which it is known which are those of this tree.
+fn numbered(alloc: Global, tree: &Tree, modules: Modules) -> Result<Modules, Memory>
+    ensures modules { IfOk result (λ all. (known : List (Identifier × ModuleKnown)) → AreModules modules known → AreModules all known) }
+    ensures numbered { IfOk result (λ all. AreNumbered tree.now all) }
+{
+    let (units, of_file) = units_of(alloc, tree)?;
+    Ok(Modules {
+        by_name: modules.by_name,
+        known: modules.known,
+        of_file,
+        units,
+    })
 }
 
 /// The modules of a file, and those of its library. The only error is that memory runs out.
@@ -214,13 +250,12 @@ pub fn modules_of(
     values: &[Value],
     library: &Specs,
 ) -> Result<Modules, Memory>
-    ensures { IfOk result (λ modules. AreModules modules (modules_in types.now values.now syntax.now library.now)) }
+    ensures known { IfOk result (λ modules. AreModules modules (modules_in types.now values.now syntax.now library.now)) }
+    ensures numbered { IfOk result (λ modules. AreNumbered syntax.now modules) }
 {
-    let units = vec![in alloc; None; syntax.tree().len() as usize]?;
-    let mut modules = no_modules(alloc, units);
+    let mut modules = no_modules(alloc);
     let nodes = syntax.tree().modules();
     push_modules(alloc, syntax, types, values, &mut modules, nodes)?;
-    modules.of_file = modules.count();
     push_library(alloc, &mut modules, library)?;
-    Ok(modules)
+    numbered(alloc, syntax.tree(), modules)
 }

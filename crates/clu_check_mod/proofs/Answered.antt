@@ -1,5 +1,5 @@
 -- From what one function answers of a file to what the one answers that calls it.
-use Rattle.std.proofs.Common.{◌≡◌, ◌∙◌, ℕ, List, length, Option, Some, None, Result, Ok, Err, IfErr, ap, subst, sym}
+use Rattle.std.proofs.Common.{◌≡◌, ◌∙◌, ℕ, List, length, Option, Some, None, Result, Ok, Err, IfErr, ap, subst, sym, vec_items}
 use Rattle.clu_base.specs.declared.rules.Refused.{Refused}
 use Rattle.clu_tree.specs.declared.node.Node.{Node}
 use Rattle.clu_syntax.specs.declared.round.Round.{Round}
@@ -16,11 +16,14 @@ use Rattle.clu_bindings.specs.declared.file.File.{File}
 use Rattle.clu_bindings.specs.declared.file.Headed.{Headed}
 use Rattle.clu_bindings.specs.Bindings.{AreBindings}
 use Rattle.clu_bindings.specs.Modules.{AreModules, modules_in}
+use Rattle.clu_bindings.specs.Numbered.{AreNumbered}
 use Rattle.clu_bindings.specs.Owned.{AreOwned}
 use Rattle.clu_typing.specs.declared.facts.Facts.{Facts}
 use Rattle.clu_typing.specs.Pass.{AreKnown, HaveTypes, IsSound}
-use Rattle.clu_check_mod.specs.Answered.{AreLists, AreNamed, AreValues, IsAnswer, IsAnswerBy, IfLost, IsFirst, IsFirstBy, IsFirstIn, IsFirstOf, IsFirstWith, IsNoLoss, IsNoRefusal, IsUnspecified, IsUnspecifiedIn, IsUnspecifiedWith}
+use Rattle.clu_check_mod.specs.Answered.{AreFoundBy, AreFoundIn, AreLists, AreNamed, AreValues, IsAnswerBy, IsAnswerWith, IfLost, IsFirst, IsFirstBy, IsFirstIn, IsFirstOf, IsFirstWith, IsFoundBy, IsFoundIn, IsFoundOf, IsFoundWith, IsNoLoss, IsNoRefusal, IsUnspecified, IsUnspecifiedIn, IsUnspecifiedWith}
+use Rattle.clu_check_mod.specs.Notes.{operations_of}
 use Rattle.clu_check_mod.specs.Refusals.{IsOfTree, IsTold}
+use Rattle.clu_check_mod.specs.declared.checking.Found.{Found}
 use Rattle.clu_check_mod.specs.declared.checking.Lists.{Lists}
 use Rattle.clu_check_mod.specs.declared.checking.Long.{Long}
 use Rattle.clu_check_mod.specs.declared.errors.CheckError.{CheckError}
@@ -33,16 +36,16 @@ module _ (First Second : Option Refused → Type 0) (Lost Later : Type 0) (more 
   error_more error.Memory is = tt
   error_more error.NotYet is = later is
 
-  pub answer_more : {A : Type 0} (r : Result A CheckError) → IsAnswer First Lost r → IsAnswer Second Later r
-  answer_more (Ok found) is = more None is
-  answer_more (Err e) is = error_more e is
+  pub answer_more : {A : Type 0} (r : Result A CheckError) (Told Said : A → Type 0) → ((found : A) → Told found → Said found) → IsAnswerWith r Told First Lost → IsAnswerWith r Said Second Later
+  answer_more (Ok found) Told Said says is = says found is
+  answer_more (Err e) Told Said says is = error_more e is
 
 -- what the walks tell by each way to read the nodes
-pub told_answer : {A X : Type 0} {P : X → Type 0} (First : Option Refused → Type 0) (first : X → Option Refused) (r : Result A CheckError) → IfErr r IsNoLoss → ((x : X) → P x → IsTold r (first x)) → ((o : Option Refused) → ((x : X) → P x → first x ≡ o) → First o) → IsAnswer First ⊥ r
-told_answer First first (Ok found) decided told gives = gives None told
-told_answer First first (Err (error.Refused r)) decided told gives = gives (Some r) told
-told_answer First first (Err error.Memory) decided told gives = tt
-told_answer First first (Err error.NotYet) decided told gives = decided
+pub told_answer : {A X : Type 0} {P : X → Type 0} (Holds : Type 0) (First : Option Refused → Type 0) (first : X → Option Refused) (r : Result A CheckError) → IfErr r IsNoLoss → ((x : X) → P x → IsTold r (first x)) → ((o : Option Refused) → ((x : X) → P x → first x ≡ o) → First o) → (((x : X) → P x → first x ≡ None) → Holds) → IsAnswerWith r (λ (a : A). Holds) First ⊥
+told_answer Holds First first (Ok found) decided told gives finds = finds told
+told_answer Holds First first (Err (error.Refused r)) decided told gives finds = gives (Some r) told
+told_answer Holds First first (Err error.Memory) decided told gives finds = tt
+told_answer Holds First first (Err error.NotYet) decided told gives finds = decided
 
 -- behind the walks nothing is refused
 pub no_more : (First : Option Refused → Type 0) (P Lost : Type 0) (e : CheckError) → (P → Lost) → IsNoRefusal e → IfLost e P → IsAnswerBy First Lost e
@@ -62,23 +65,36 @@ module _ (headed : Headed) (before terms : List Term) (lists : Lists) (long : Lo
   pub first_by : (o : Option Refused) → IsFirstOf headed terms lent lists long asked o → IsFirstBy headed before lists long asked o
   first_by o is = record {
     terms = terms;
-    facts = facts;
-    noted = noted;
-    sound = sound;
+    facts = lent;
+    noted = λ items. subst (AreKnown headed items before (length headed.file.syntax.now) terms) (sym same) (noted items);
+    sound = λ have arena. subst (IsSound headed terms) (sym same) (sound have arena);
     grows = grows;
-    is = subst (λ (f : Facts). IsFirstOf headed terms f lists long asked o) same is;
+    is = is;
+  }
+
+  pub found_by : (last : List Term) (now : Facts) (found : Found) → IsFoundOf headed terms lent lists long asked last now → found.type_of.items ≡ now.types.items → found.op_of.items ≡ operations_of last now headed.file.syntax.now → IsFoundBy headed before lists long asked last found
+  unfolding first_by
+  found_by last now found was type_of op_of = record {
+    is = first_by None was.is;
+    are = record {
+      types_are = was.types_are;
+      type_of = type_of ∙ ap (λ (f : Facts). f.types.items) (sym was.facts_are);
+      op_of = op_of ∙ ap (λ (f : Facts). operations_of last f headed.file.syntax.now) (sym was.facts_are);
+    };
   }
 
 -- ---- what names and values are answered by, from what is said of the file that is made of them
 
 module _ (nodes : List Node) (rounds : List Round) (names : Names) (settled : Values) (library : List Spec) (asked : Extent) {A : Type 0} (r : Result A CheckError) where
-  pub first_with : (file : File) (types : List Term) (lists : Lists) → IsAnswer (IsFirstIn file types lists asked) (IsUnspecifiedIn file types lists asked) r →
+  pub first_with : (file : File) (types : List Term) (lists : Lists) (last : List Term) (found_in : A → Found) → IsAnswerWith r (λ (a : A). IsFoundIn file types lists asked last (found_in a)) (IsFirstIn file types lists asked) (IsUnspecifiedIn file types lists asked) →
       file.syntax.now ≡ nodes → file.rounds.now ≡ rounds → file.names.now ≡ names → file.values.now ≡ settled.values.items → file.constants.now ≡ settled.constants → file.library.now ≡ library →
-      AreBindings nodes rounds names settled.values.items file.bindings.now → AreModules file.bindings.now.modules (modules_in settled.types settled.values.items nodes library) → AreOwned types settled.values.items nodes (length nodes) file.bindings.now.own.items → Grows settled.types types → AreLists nodes rounds names lists →
-      IsAnswer (IsFirstWith nodes rounds names settled library asked) (IsUnspecifiedWith nodes rounds names settled library asked) r
-  first_with file types lists answer nodes_are rounds_are names_are values constants library_is bindings modules own grows lists_are =
+      AreBindings nodes rounds names settled.values.items file.bindings.now → AreModules file.bindings.now.modules (modules_in settled.types settled.values.items nodes library) → AreNumbered nodes file.bindings.now.modules → AreOwned types settled.values.items nodes (length nodes) file.bindings.now.own.items → Grows settled.types types → AreLists nodes rounds names lists →
+      IsAnswerWith r (λ (a : A). IsFoundWith nodes rounds names settled library asked last (found_in a)) (IsFirstWith nodes rounds names settled library asked) (IsUnspecifiedWith nodes rounds names settled library asked)
+  first_with file types lists last found_in answer nodes_are rounds_are names_are values constants library_is bindings modules numbered own grows lists_are =
       answer_more (IsFirstIn file types lists asked) (IsFirstWith nodes rounds names settled library asked) (IsUnspecifiedIn file types lists asked) (IsUnspecifiedWith nodes rounds names settled library asked) with_first
-      (λ none. record { is = with_first None none.is; lost = none.lost }) r answer
+      (λ none. record { is = with_first None none.is; lost = none.lost }) r
+      (λ (a : A). IsFoundIn file types lists asked last (found_in a)) (λ (a : A). IsFoundWith nodes rounds names settled library asked last (found_in a))
+      (λ a was. record { is = with_first None was.is; are = subst (λ (ns : List Node). AreFoundBy ns was.is.is.is.known last (found_in a)) nodes_are was.are }) answer
     where
       with_first : (o : Option Refused) → IsFirstIn file types lists asked o → IsFirstWith nodes rounds names settled library asked o
       with_first o is = record {
@@ -93,6 +109,7 @@ module _ (nodes : List Node) (rounds : List Round) (names : Names) (settled : Va
         library_is = library_is;
         bindings = bindings;
         modules = modules;
+        numbered = numbered;
         own = own;
         grows = grows;
         lists_are = lists_are;
@@ -127,3 +144,7 @@ module _ (nodes first second : List Node) (all before between rounds : List Roun
   pub unspecified_of_tree : IsUnspecifiedWith nodes rounds names settled library asked → IsUnspecified nodes library asked
   unfolding first_of_tree
   unspecified_of_tree none = record { is = first_of_tree None none.is; lost = none.lost }
+
+  pub found_of_tree : (later : Values) (found : Found) → IsFoundWith nodes rounds names settled library asked later.types found → later.values ≡ settled.values → later.constants ≡ settled.constants → AreFoundIn nodes library asked later found
+  unfolding first_of_tree
+  found_of_tree later found was values constants = record { is = first_of_tree None was.is; are = was.are; values = ap vec_items values; constants = constants }

@@ -29,6 +29,7 @@ use Rattle.clu_bindings.specs.declared.file.File.{File}
 use Rattle.clu_bindings.specs.declared.file.Headed.{Headed}
 use Rattle.clu_bindings.specs.Bindings.{AreBindings}
 use Rattle.clu_bindings.specs.Modules.{AreModules, modules_in}
+use Rattle.clu_bindings.specs.Numbered.{AreNumbered}
 use Rattle.clu_bindings.specs.Owned.{AreOwned}
 use Rattle.clu_operations.specs.Wished.{IsFinding}
 use Rattle.clu_typing.specs.declared.facts.Facts.{Facts}
@@ -46,13 +47,17 @@ use Rattle.clu_type_rules.specs.Disagreeing.{with_clauses}
 use Rattle.clu_type_rules.specs.Needs.{Looks, Setting, world}
 use Rattle.clu_type_rules.specs.Routines.{parts_to}
 use Rattle.clu_check_mod.specs.Modules.{AreSpecified}
+use Rattle.clu_core.specs.declared.checked.Checked.{Checked}
 use Rattle.clu_check_mod.specs.Bad.{EquatesAscend, bad_of_all, refused_of}
+use Rattle.clu_check_mod.specs.Notes.{constants_of, denoted_of, operations_of}
 use Rattle.clu_check_mod.specs.Walks.{WalksAscend, first_in}
+use Rattle.clu_check_mod.specs.declared.checking.Found.{Found}
 use Rattle.clu_check_mod.specs.declared.checking.Lists.{Lists}
 use Rattle.clu_check_mod.specs.declared.checking.Long.{Long}
 use Rattle.clu_check_mod.specs.declared.errors.CheckError.{CheckError}
 use Rattle.clu_check_mod.specs.declared.errors.CheckError.TheVariants as error
 use Rattle.clu_check_mod.specs.declared.walk.Extent.{Extent}
+use Rattle.clu_check_mod.specs.declared.walk.Extent.TheVariants as extent
 
 -- ---- an answer, by what is the first fault of a file, if it has one
 
@@ -65,6 +70,11 @@ IsAnswerBy IsFirst Unspecified error.NotYet = Unspecified
 abbrev pub IsAnswer : (Option Refused → Type 0) → Type 0 → {A : Type 0} → Result A CheckError → Type 0
 IsAnswer IsFirst Unspecified (Ok found) = IsFirst None
 IsAnswer IsFirst Unspecified (Err e) = IsAnswerBy IsFirst Unspecified e
+
+-- the same, where more is told of what is found
+abbrev pub IsAnswerWith : {A : Type 0} → Result A CheckError → (A → Type 0) → (Option Refused → Type 0) → Type 0 → Type 0
+IsAnswerWith (Ok found) Told IsFirst Unspecified = Told found
+IsAnswerWith (Err e) Told IsFirst Unspecified = IsAnswerBy IsFirst Unspecified e
 
 abbrev pub IsNoRefusal : CheckError → Type 0
 IsNoRefusal (error.Refused r) = ⊥
@@ -181,6 +191,7 @@ pub record IsFirstWith (nodes : List Node) (rounds : List Round) (names : Names)
   pub library_is : file.library.now ≡ library
   pub bindings : AreBindings nodes rounds names settled.values.items file.bindings.now
   pub modules : AreModules file.bindings.now.modules (modules_in settled.types settled.values.items nodes library)
+  pub numbered : AreNumbered nodes file.bindings.now.modules
   pub own : AreOwned types settled.values.items nodes (length nodes) file.bindings.now.own.items
   pub grows : Grows settled.types types
   pub lists_are : AreLists nodes rounds names lists
@@ -195,6 +206,49 @@ pub record IsFirst (nodes : List Node) (library : List Spec) (asked : Extent) (f
   pub names_are : AreNamed nodes rounds names
   pub values : AreValues nodes rounds names settled
   pub is : IsFirstWith nodes rounds names settled library asked first
+
+-- ---- no fault comes first, and this is found
+
+-- with these types and facts at last
+pub record IsFoundOf (headed : Headed) (terms : List Term) (facts : Facts) (lists : Lists) (long : Long) (asked : Extent) (last : List Term) (now : Facts) : Type 0 where
+  pub is : IsFirstOf headed terms facts lists long asked None
+  pub types_are : is.known.tables.types.now ≡ last
+  pub facts_are : is.known.facts.now ≡ now
+
+-- the types of nodes and what they invoke, by what is known of them
+pub record AreFoundBy (nodes : List Node) (known : Known) (last : List Term) (found : Found) : Type 0 where
+  pub types_are : known.tables.types.now ≡ last
+  pub type_of : found.type_of.items ≡ known.facts.now.types.items
+  pub op_of : found.op_of.items ≡ operations_of last known.facts.now nodes
+
+pub record IsFoundBy (headed : Headed) (before : List Term) (lists : Lists) (long : Long) (asked : Extent) (last : List Term) (found : Found) : Type 0 where
+  pub is : IsFirstBy headed before lists long asked None
+  pub are : AreFoundBy headed.file.syntax.now is.is.known last found
+
+pub record IsFoundIn (file : File) (types : List Term) (lists : Lists) (asked : Extent) (last : List Term) (found : Found) : Type 0 where
+  pub is : IsFirstIn file types lists asked None
+  pub are : AreFoundBy file.syntax.now is.is.is.known last found
+
+pub record IsFoundWith (nodes : List Node) (rounds : List Round) (names : Names) (settled : Values) (library : List Spec) (asked : Extent) (last : List Term) (found : Found) : Type 0 where
+  pub is : IsFirstWith nodes rounds names settled library asked None
+  pub are : AreFoundBy nodes is.is.is.is.known last found
+
+-- with what constants and types come to at last
+pub record AreFoundIn (nodes : List Node) (library : List Spec) (asked : Extent) (settled : Values) (found : Found) : Type 0 where
+  pub is : IsFirst nodes library asked None
+  pub are : AreFoundBy nodes is.is.is.is.is.known settled.types found
+  pub values : settled.values.items ≡ is.settled.values.items
+  pub constants : settled.constants ≡ is.settled.constants
+
+-- what an accepted file is handed on with is what its tables say
+pub record IsNoted (nodes : List Node) (library : List Spec) (checked : Checked) : Type 0 where
+  pub is : IsFirst nodes library extent.Whole None
+  pub types_are : is.is.is.is.is.known.tables.types.now ≡ checked.types
+  pub type_of : checked.type_of.items ≡ is.is.is.is.is.known.facts.now.types.items
+  pub op_of : checked.op_of.items ≡ operations_of checked.types is.is.is.is.is.known.facts.now nodes
+  pub denoted : checked.denoted.items ≡ denoted_of is.settled.values.items nodes
+  pub constant_of : checked.constant_of.items ≡ constants_of nodes is.settled.values.items
+  pub constants : checked.constants ≡ is.settled.constants
 
 -- ---- no fault comes first, and of a module there is no specification, though its headings are known
 

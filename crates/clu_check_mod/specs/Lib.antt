@@ -2,5 +2,6 @@ pub mod Answered
 pub mod Asking
 pub mod Bad
 pub mod Modules
+pub mod Notes
 pub mod Refusals
 pub mod Walks

@@ -5,7 +5,7 @@ ghost use Rattle.clu_tree.specs.Nodes.{modules};
 ghost use Rattle.clu_names.specs.Denotes.{bound_to, starts_to};
 ghost use Rattle.clu_types.specs.Arena.{Grows};
 ghost use Rattle.clu_name_rules.specs.Lengths.{constant_length, lengths_of};
-ghost use Rattle.clu_check_mod.specs.Answered.{AreLists, AreValues, IsAnswer, IsFirst, IsFirstBy, IsFirstIn, IsFirstOf, IsFirstWith, IsUnspecified, IsUnspecifiedBy, IsUnspecifiedIn, IsUnspecifiedWith};
+ghost use Rattle.clu_check_mod.specs.Answered.{AreFoundIn, AreLists, AreValues, IsAnswer, IsAnswerWith, IsFirst, IsFirstBy, IsFirstIn, IsFirstOf, IsFirstWith, IsFoundBy, IsFoundIn, IsFoundOf, IsFoundWith, IsNoted, IsUnspecified, IsUnspecifiedBy, IsUnspecifiedIn, IsUnspecifiedWith};
 ghost use Rattle.clu_check_mod.specs.Modules.{AreOf, BeginWithOwn, IsClosedAt};
 ghost use Rattle.clu_check_mod.specs.Refusals.{IsOfTree};
 ghost use Rattle.clu_check_mod.specs.Walks.{AreClosed, IsFound};
@@ -104,11 +104,11 @@ fn tables<'a>(file: File<'a>, types: &'a TypeArena, lists: &'a Lists, long: &'a 
 
 /// What is found of the nodes and modules of a file behind its headings.
 #[derive(Drop)]
-struct Found {
-    type_of: Vec<Option<TypeId>>,
-    op_of: Vec<Option<OpRef>>,
+pub struct Found {
+    pub type_of: Vec<Option<TypeId>>,
+    pub op_of: Vec<Option<OpRef>>,
     /// The specifications of the file's modules, in the order of the text.
-    own: Vec<Spec>,
+    pub own: Vec<Spec>,
 }
 
 /// The file with its headings.
@@ -161,7 +161,7 @@ fn ask(
 ) -> Result<(), CheckError>
     ensures closed { extent ≡ Extent.Whole → OnOk result (AreClosed headed.entry.file.syntax.now) }
     ensures refused { IfErr result (IsOfTree headed.entry.file.syntax.now) }
-    ensures first { IsAnswer (IsFirstOf headed.entry types.old facts.old lists.now long.now extent) ⊥ result }
+    ensures first { IsAnswerWith result (λ it. IsFoundOf headed.entry types.old facts.old lists.now long.now extent types.new facts.new) (IsFirstOf headed.entry types.old facts.old lists.now long.now extent) ⊥ }
     ensures kept { Grows types.old types.new }
 {
     let alloc = headed.file.alloc;
@@ -183,7 +183,9 @@ fn ask(
 }
 
 fn found_of(facts: Box<Facts>, op_of: Vec<Option<OpRef>>, own: Vec<Spec>) -> Found
-    ensures { result.own.items ≡ own.items }
+    ensures types { result.type_of ≡ facts.value.types }
+    ensures operations { result.op_of ≡ op_of }
+    ensures own { result.own.items ≡ own.items }
 {
     let Facts { types: type_of, .. } = Box::into_inner(facts);
     Found {
@@ -203,12 +205,12 @@ fn check_headed(
 ) -> Result<Box<Found>, CheckError>
     ensures found { IfOk result (λ found. IsFound headed.entry.file.syntax.now extent found.value.own.items) }
     ensures refused { IfErr result (IsOfTree headed.entry.file.syntax.now) }
-    ensures first { IsAnswer (IsFirstBy headed.entry types.old lists.now long.now extent) (IsUnspecifiedBy headed.entry types.old lists.now long.now extent) result }
+    ensures first { IsAnswerWith result (λ found. IsFoundBy headed.entry types.old lists.now long.now extent types.new found.value) (IsFirstBy headed.entry types.old lists.now long.now extent) (IsUnspecifiedBy headed.entry types.old lists.now long.now extent) }
 {
     let alloc = headed.file.alloc;
     let mut facts = facts_of(headed, types)?;
     ask(headed, types, &mut facts, lists, long, extent)?;
-    let op_of = operations(alloc, types, &facts)?;
+    let op_of = operations(alloc, headed.file.syntax.tree(), types, &facts)?;
     let heads = headed.heads.modules.as_slice();
     let own = own_specs(alloc, headed.file.syntax.tree(), types, heads)?;
     Ok(Box::new(alloc, found_of(facts, op_of, own))?)
@@ -225,7 +227,7 @@ fn check_file(
     requires starts { file.names.now.starts.items ≡ starts_to file.syntax.now file.names.now.declared.items (length file.syntax.now) }
     ensures found { IfOk result (λ found. IsFound file.entry.syntax.now extent found.value.own.items) }
     ensures refused { IfErr result (IsOfTree file.entry.syntax.now) }
-    ensures first { IsAnswer (IsFirstIn file.entry types.old lists.now extent) (IsUnspecifiedIn file.entry types.old lists.now extent) result }
+    ensures first { IsAnswerWith result (λ found. IsFoundIn file.entry types.old lists.now extent types.new found.value) (IsFirstIn file.entry types.old lists.now extent) (IsUnspecifiedIn file.entry types.old lists.now extent) }
 {
     let alloc = file.alloc;
     let long = long_of(alloc, types, file.constants)?;
@@ -259,7 +261,9 @@ fn check_settled(
     requires starts { names.now.starts.items ≡ starts_to syntax.now names.now.declared.items (length syntax.now) }
     ensures found { IfOk result (λ found. IsFound syntax.now extent found.value.own.items) }
     ensures refused { IfErr result (IsOfTree syntax.now) }
-    ensures first { IsAnswer (IsFirstWith syntax.now rounds.now names.now settled.old library.now extent) (IsUnspecifiedWith syntax.now rounds.now names.now settled.old library.now extent) result }
+    ensures values { settled.new.values ≡ settled.old.values }
+    ensures constants { settled.new.constants ≡ settled.old.constants }
+    ensures first { IsAnswerWith result (λ found. IsFoundWith syntax.now rounds.now names.now settled.old library.now extent settled.new.types found.value) (IsFirstWith syntax.now rounds.now names.now settled.old library.now extent) (IsUnspecifiedWith syntax.now rounds.now names.now settled.old library.now extent) }
 {
     let lists = lists_of(alloc, syntax, rounds, names)?;
     let types = &mut settled.types;
@@ -302,6 +306,7 @@ fn check_syntax(
     ensures found { IfOk result (λ both. IsFound syntax.now extent both.1.value.own.items) }
     ensures refused { IfErr result (IsOfTree syntax.now) }
     ensures first { IsAnswer (IsFirst syntax.now library.now extent) (IsUnspecified syntax.now library.now extent) result }
+    ensures noted { IfOk result (λ both. AreFoundIn syntax.now library.now extent both.0.value both.1.value) }
 {
     let rounds = rounds(alloc, syntax.tree())?;
     let names = names_of(alloc, syntax.tree(), rounds.as_slice())?;
@@ -327,6 +332,12 @@ fn checked(
     denoted: Vec<Option<TypeId>>,
 ) -> Checked
     ensures syntax { result.syntax ≡ syntax }
+    ensures types { result.types ≡ settled.value.types }
+    ensures type_of { result.type_of ≡ found.value.type_of }
+    ensures op_of { result.op_of ≡ found.value.op_of }
+    ensures denoted { result.denoted ≡ denoted }
+    ensures constant_of { result.constant_of ≡ constant_of }
+    ensures constants { result.constants ≡ settled.value.constants }
     ensures specs { result.specs.items ≡ found.value.own.items }
 {
     let Values {
@@ -360,11 +371,12 @@ pub fn check(alloc: Global, syntax: Syntax, library: &Specs) -> Result<Box<Check
     ensures closed { OnOk result (All (IsClosedAt syntax) (modules syntax)) }
     ensures refused { IfErr result (IsOfTree syntax) }
     ensures first { IsAnswer (IsFirst syntax library.now Extent.Whole) (IsUnspecified syntax library.now Extent.Whole) result }
+    ensures noted { IfOk result (λ checked. IsNoted syntax library.now checked.value) }
 {
     let (settled, mut found) = check_syntax(alloc, &syntax, library, Extent::Whole)?;
     add_others(alloc, &mut found.own, library)?;
     let constant_of = named_constants(alloc, syntax.tree(), settled.values.as_slice())?;
-    let denoted = denoted(alloc, settled.values.as_slice())?;
+    let denoted = denoted(alloc, syntax.tree(), settled.values.as_slice())?;
     let checked = checked(syntax, settled, found, constant_of, denoted);
     Ok(Box::new(alloc, checked)?)
 }

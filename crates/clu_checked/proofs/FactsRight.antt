@@ -54,7 +54,7 @@ use Rattle.clu_passes.specs.Clear.{IsOutside}
 use Rattle.clu_passes.specs.ConstantTables.{AreWantedKnown}
 use Rattle.clu_passes.specs.FactTables.{AreFacts, AreOwnTypes, IsResultKnown, IsType}
 use Rattle.clu_passes.specs.FoundTold.{TellHeads}
-use Rattle.clu_passes.specs.KnownFiles.{AreCvtsKnown, AreRepsSettled, AreRoutinesAtHome, IsFileRead}
+use Rattle.clu_passes.specs.KnownFiles.{AreCvtsKnown, AreRoutinesAtHome, IsFileRead}
 use Rattle.clu_passes.specs.Libraries.{HoldAscending}
 use Rattle.clu_passes.specs.Lost.{lost}
 use Rattle.clu_passes.specs.Made.{IsWhole}
@@ -192,9 +192,9 @@ module _ (t : Text) (nodes : List Node) (parsed : IsParsed t nodes) (library : L
       (subst (λ (r : Read). HoldAscending r.library.now) (sym is.is.is.file_is) (subst HoldAscending (sym is.is.library_is) held))
       (subst (λ (r : Read). AreHeadsOf r.syntax.now r.rounds.now r.names.now.declared.items r.values.now is.is.is.refused is.is.types before h.heads.now) (sym is.is.is.file_is) is.is.is.heads)
 
-  -- ---- what the grammar says of `rep`, what a known equate comes to, and what heads tell
+  -- ---- what the grammar says of `rep`, and what heads tell
 
-  module _ (reps : AreReps (checked h.file)) (settles : AreRepsSettled (checked h.file) h.file)
+  module _ (reps : AreReps (checked h.file))
       (heads : AreHeads h (length before)) (told : (new : List Term) → Grows before new → TellHeads h (checked h.file) (types_of new)) (ascending : SpecificationsAscend specs) (items : ℕ → Item) where
     of_tree : IsFileOfTree (checked h.file)
     of_tree = known_at.of_tree t with_heads specs gone (first_whole gone).made (first_whole gone).lost
@@ -209,7 +209,7 @@ module _ (t : Text) (nodes : List Node) (parsed : IsParsed t nodes) (library : L
     variables = variable_types t (record k { tables = with_heads }) specs gone (first_whole gone) (reps_there t (checked h.file) (first_whole gone).made.file.parsed of_tree parents refl reps)
 
     cvts : AreCvtsKnown (checked h.file) h its.types.now
-    cvts = cvts_known t h its specs gone (first_whole gone) owned reps settles
+    cvts = cvts_known t h its specs gone (first_whole gone) owned reps
 
     read : IsFileRead t h its specs gone
     read = record { whole = first_whole; refused_are = refl; counts = counted; owned = owned; variables = variables; routines = routines; reps = reps; cvts = cvts }

@@ -1,5 +1,5 @@
--- What the rules read of the tables of which a check answers is known, by what is left to show.
-use Rattle.std.proofs.Common.{◌≡◌, ◌∙◌, ◌+◌, ◌-◌, ◌^◌, ◌<◌, ℕ, List, length, map, Option, sym, ap, ap₂, subst}
+-- What the rules read of the tables of which a check answers is known.
+use Rattle.std.proofs.Common.{◌≡◌, ◌∙◌, ◌+◌, ◌-◌, ◌^◌, ◌<◌, ℕ, List, length, map, Option, refl, sym, ap, ap₂, subst}
 use Rattle.clu_base.specs.declared.rules.Refused.{Refused}
 use Rattle.clu_tree.specs.declared.node.Node.{Node}
 use Rattle.clu_tree.specs.Nodes.{modules}
@@ -19,26 +19,27 @@ use Rattle.clu_operations.specs.Wished.{AreHeads}
 use Rattle.clu_type_rules.specs.declared.known.Known.{Known}
 use Rattle.clu_type_rules.specs.declared.routines.Routines.{Routines}
 use Rattle.clu_type_rules.specs.Routines.{parts_to}
-use Rattle.clu_passes.specs.Bound.{AreOfModules}
 use Rattle.clu_passes.specs.ConstantTables.{file_with}
 use Rattle.clu_passes.specs.FactTables.{AreOwnTypes}
 use Rattle.clu_passes.specs.FoundTold.{TellHeads}
 use Rattle.clu_passes.specs.Lost.{lost}
 use Rattle.clu_passes.specs.OthersKnown.{AreOthersKnown}
+use Rattle.clu_passes.specs.Reps.{AreReps}
 use Rattle.clu_passes.specs.Routines.{AreParts}
 use Rattle.clu_passes.specs.RulesKnown.{AreDemandsKnown, AreRulesKnown, AreUnmetBits}
+use Rattle.clu_passes.proofs.RepsOfTree.{reps_of_tree}
 use Rattle.clu_check_mod.specs.Answered.{IsFirst}
 use Rattle.clu_check_mod.specs.declared.walk.Extent.{Extent}
-use Rattle.clu_checked.specs.Checked.{IsLeft, IsLibrary, file, headed, headed_file, known, tabled}
+use Rattle.clu_checked.specs.Checked.{IsLibrary, IsOfGrammar, file, headed, headed_file, known, tabled}
 use Rattle.clu_checked.proofs.DemandsRight as demands
 use Rattle.clu_checked.proofs.FactsRight as facts
 use Rattle.clu_checked.proofs.HeadsRight.{found_right}
-use Rattle.clu_checked.proofs.Told.{nodes_said}
+use Rattle.clu_checked.proofs.Told.{nodes_said, of_tree}
 use Rattle.clu_checked.proofs.UnmetRight.{modules_right, unmet_known}
 use Rattle.clu_checked.proofs.Whole.{headed_arena}
 
 module _ (t : Text) (nodes : List Node) (parsed : IsParsed t nodes) (library : List Spec) (asked : Extent) (first : Option Refused) (is : IsFirst nodes library asked first)
-    (few : AreFew nodes is.rounds) (few_modules : length (modules nodes) + length library < 2 ^ 32 - 1) (parms : AreOfModules nodes is.rounds) (kept : IsLibrary library) (left : IsLeft nodes library asked first is (map specification_told library)) where
+    (few : AreFew nodes is.rounds) (few_modules : length (modules nodes) + length library < 2 ^ 32 - 1) (grammar : IsOfGrammar nodes is.rounds) (kept : IsLibrary library) where
   abbrev k : Known
   k = known nodes library asked first is
 
@@ -61,11 +62,17 @@ module _ (t : Text) (nodes : List Node) (parsed : IsParsed t nodes) (library : L
       ap₂ (λ (ns : List Node) (rs : List Round). checked_file ns rs specs)
       (sym (ap (λ (r : Read). r.syntax.now) is.is.is.file_is ∙ is.is.nodes_are)) (sym (ap (λ (r : Read). r.rounds.now) is.is.is.file_is ∙ is.is.rounds_are))
 
-  heads : AreHeads h (length is.is.is.terms)
+  -- by what `rep` is declared
+  pub home_reps : AreReps with_heads
+  home_reps =
+      subst AreReps same
+      (reps_of_tree t (file nodes library asked first is specs) parsed (of_tree t nodes parsed library asked first is specs) refl grammar.reps)
+
+  pub heads : AreHeads h (length is.is.is.terms)
   heads = facts.heads_there t nodes parsed library asked first is few few_modules kept.operations
 
-  told : (later : List Term) → Grows is.is.is.terms later → TellHeads h (headed_file nodes library asked first is specs) (types_of later)
-  told later more = subst (λ (g : File). TellHeads h g (types_of later)) same (found_right t nodes parsed library asked first is few few_modules parms left.owned later more)
+  pub told : (later : List Term) → Grows is.is.is.terms later → TellHeads h (headed_file nodes library asked first is specs) (types_of later)
+  told later more = subst (λ (g : File). TellHeads h g (types_of later)) same (found_right t nodes parsed library asked first is few few_modules grammar.parameters later more)
 
   -- ---- of the tables with which the rules are asked
 
@@ -74,8 +81,8 @@ module _ (t : Text) (nodes : List Node) (parsed : IsParsed t nodes) (library : L
   demands_known = record {
     terms = is.is.is.terms;
     arena = headed_arena t nodes parsed library asked first is few few_modules;
-    told = demands.told_tables t nodes parsed library asked first is few few_modules parms;
-    bits = demands.bits t nodes parsed library asked first is few few_modules parms;
+    told = demands.told_tables t nodes parsed library asked first is few few_modules grammar.parameters;
+    bits = demands.bits t nodes parsed library asked first is few few_modules grammar.parameters;
   }
 
   abbrev gone_in : Read → List ℕ
@@ -88,12 +95,12 @@ module _ (t : Text) (nodes : List Node) (parsed : IsParsed t nodes) (library : L
   unmet =
       subst (λ (r : Read). UnmetBy (gone_in r)) (sym is.is.is.is.is.tables.file_is)
       (unmet_known t nodes parsed library asked first is few few_modules (item_at nodes) (gone_in h.file)
-      (facts.known_file t nodes parsed library asked first is few few_modules left.reps left.settled heads told kept.components (item_at nodes)))
+      (facts.known_file t nodes parsed library asked first is few few_modules home_reps heads told kept.components (item_at nodes)))
 
   rules_known : AreRulesKnown f k (lost f)
   rules_known = record {
-    facts = facts.facts_right t nodes parsed library asked first is few few_modules left.reps left.settled heads told kept.components (item_at nodes);
-    wanted = facts.wanted_right t nodes parsed library asked first is few few_modules left.reps left.settled heads told kept.components (item_at nodes);
+    facts = facts.facts_right t nodes parsed library asked first is few few_modules home_reps heads told kept.components (item_at nodes);
+    wanted = facts.wanted_right t nodes parsed library asked first is few few_modules home_reps heads told kept.components (item_at nodes);
     modules = modules_right t nodes parsed library asked first is few few_modules (gone_in k.tables.file);
     unmet = unmet;
     demands = demands_known;
@@ -107,16 +114,15 @@ module _ (t : Text) (nodes : List Node) (parsed : IsParsed t nodes) (library : L
       ∙ ap (λ (ns : List Node). parts_to items ns (length ns)) (sym (nodes_said t nodes parsed library asked first is specs))
 
   pub own : AreOwnTypes f k (lost f)
-  own = facts.own_right t nodes parsed library asked first is few few_modules left.reps left.settled heads told kept.components (item_at nodes)
+  own = facts.own_right t nodes parsed library asked first is few few_modules home_reps heads told kept.components (item_at nodes)
 
   pub others_known : AreOthersKnown f k (lost f)
   others_known = record {
     rules = rules_known;
-    inside = facts.inside_right t nodes parsed library asked first is few few_modules left.reps left.settled heads told kept.components (item_at nodes);
-    raises = facts.raises_right t nodes parsed library asked first is few few_modules left.reps left.settled heads told kept.components (item_at nodes);
+    inside = facts.inside_right t nodes parsed library asked first is few few_modules home_reps heads told kept.components (item_at nodes);
+    raises = facts.raises_right t nodes parsed library asked first is few few_modules home_reps heads told kept.components (item_at nodes);
     parts = parts;
-    kept = facts.kept_right t nodes parsed library asked first is few few_modules left.reps left.settled heads told kept.components (item_at nodes);
-    variables = facts.variables_right t nodes parsed library asked first is few few_modules left.reps left.settled heads told kept.components (item_at nodes);
-    given = facts.results_right t nodes parsed library asked first is few few_modules left.reps left.settled heads told kept.components (item_at nodes);
-    once = left.once;
+    kept = facts.kept_right t nodes parsed library asked first is few few_modules home_reps heads told kept.components (item_at nodes);
+    variables = facts.variables_right t nodes parsed library asked first is few few_modules home_reps heads told kept.components (item_at nodes);
+    given = facts.results_right t nodes parsed library asked first is few few_modules home_reps heads told kept.components (item_at nodes);
   }

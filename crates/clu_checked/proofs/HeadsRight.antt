@@ -24,6 +24,7 @@ use Rattle.clu_syntax.specs.Splits.{first_name, is_of, run}
 use Rattle.clu_syntax.specs.Syntax.{Identifier, Module}
 use Rattle.clu_syntax.proofs.Enough.{enough}
 use Rattle.clu_parts.proofs.Fitting.{AreParts}
+use Rattle.clu_names.specs.Scopes.{declarations}
 use Rattle.clu_checking.specs.Specifications.{Specification}
 use Rattle.clu_checking.specs.Files.{File, scope_in}
 use Rattle.clu_checking.specs.Headings.{own_specifications, specification_of}
@@ -51,6 +52,7 @@ use Rattle.clu_passes.proofs.DeclaredParameters.{facts}
 use Rattle.clu_passes.proofs.FileModules.{modules_are, names_there, root}
 use Rattle.clu_passes.proofs.HeadsFound as found
 use Rattle.clu_passes.proofs.HeadsMade as made
+use Rattle.clu_passes.proofs.OwnNumbered.{own_numbered}
 use Rattle.clu_check_mod.specs.Answered.{IsFirst}
 use Rattle.clu_check_mod.specs.Modules.{AreSpecified, IsSpecified, definition_of, name_of}
 use Rattle.clu_check_mod.specs.declared.walk.Extent.{Extent}
@@ -225,7 +227,15 @@ module _ (t : Text) (nodes : List Node) (parsed : IsParsed t nodes) (library : L
 
   -- ---- what is found by them
 
-  module _ (owned : AreOwnModules is.is.is.headed.file.bindings.now.modules (modules is.is.is.headed.file.syntax.now)) (later : List Term) (more : Grows is.is.is.terms later) where
+  -- which modules are those of the file
+  own_right : AreOwnModules is.is.is.headed.file.bindings.now.modules (modules is.is.is.headed.file.syntax.now)
+  own_right =
+      let small : length nodes + length (declarations nodes is.rounds) < 2 ^ 32 = few in
+      subst (λ (g : Read). AreOwnModules g.bindings.now.modules (modules g.syntax.now)) (sym is.is.is.file_is)
+      (subst (λ (ns : List Node). AreOwnModules is.is.file.bindings.now.modules (modules ns)) (sym is.is.nodes_are)
+      (own_numbered nodes (omega (arith, small)) is.is.file.bindings.now.modules is.is.numbered))
+
+  module _ (later : List Term) (more : Grows is.is.is.terms later) where
     abbrev h : Headed
     h = is.is.is.headed
 
@@ -244,7 +254,7 @@ module _ (t : Text) (nodes : List Node) (parsed : IsParsed t nodes) (library : L
         is.is.is.refused (to_headed (λ g. CountRefused (with_file g) is.is.is.refused) counted) is.is.is.terms is.is.is.grows (headed_arena t nodes parsed library asked first is few few_modules)
         (to_headed (λ g. TellDemands (with_file g) its_types h.heads.now.asked) (told_file t nodes parsed library asked first is few few_modules parms).told)
         (to_headed (λ g. AreHeadsOf g.syntax.now g.rounds.now g.names.now.declared.items g.values.now is.is.is.refused is.is.types is.is.is.terms h.heads.now) is.is.is.heads)
-        owned later more
+        own_right later more
 
     pub found_right : TellHeads h checked (types_of later)
     found_right = subst (λ (g : File). TellHeads h g (types_of later)) (ap with_file is.is.is.file_is ∙ sym same) found_there

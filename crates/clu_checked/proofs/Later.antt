@@ -33,6 +33,9 @@ module _ (old new : List Term) (grows : Grows old new) where
     each = λ n constant.
         let inside = value_within (length old) (length constants) values n are.within in
         subst (λ (o : Option Settled). Agrees o (value_of_constant scope (settled scope) (item_at nodes n).constant)) (sym (told_kept old new constants constants grows ([], sym (append-nil constants)) (value_of values n) inside.0 inside.1)) (are.each n constant);
+    rights = λ n r name so.
+        let inside = value_within (length old) (length constants) values r are.within in
+        subst (λ (o : Option Settled). Agrees o (settled scope (item_at nodes r).constant)) (sym (told_kept old new constants constants grows ([], sym (append-nil constants)) (value_of values r) inside.0 inside.1)) (are.rights n r name so);
   }
 
   -- ---- modules

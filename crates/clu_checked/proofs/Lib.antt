@@ -14,4 +14,8 @@ pub mod TypesTold
 pub mod Whole
 pub mod UnmetRight
 pub mod FactsRight
+pub mod AcceptedNodes
+pub mod NotedOperations
+pub mod Noted
+pub mod Sources
 pub mod RepsRight

@@ -1,4 +1,4 @@
--- The rules over the tables of which a check answers are right at each node, by what is left to show of these.
+-- The rules over the tables of which a check answers are right at each node.
 use Rattle.std.proofs.Common.{◌≡◌, ◌+◌, ◌-◌, ◌^◌, ◌<◌, ◌||◌, not, ℕ, Bool, true, false, List, length, map, Option, refl, sym}
 use Rattle.std.proofs.lemmas.Bool.{true≢false}
 use Rattle.clu_base.specs.declared.rules.Refused.{Refused}
@@ -17,7 +17,6 @@ use Rattle.clu_declares.specs.Declares.{AreFew, IsParsed}
 use Rattle.clu_type_rules.specs.declared.known.Known.{Known}
 use Rattle.clu_type_rules.specs.Asked.{rules_at}
 use Rattle.clu_type_rules.specs.Tags.{TagsAscend}
-use Rattle.clu_passes.specs.Bound.{AreOfModules}
 use Rattle.clu_passes.specs.ConstantsKnown.{AreConstantsKnown}
 use Rattle.clu_passes.specs.Lost.{lost}
 use Rattle.clu_passes.specs.Losing.{is_plain}
@@ -33,7 +32,7 @@ use Rattle.clu_passes.proofs.OthersAscend.{others_ascend}
 use Rattle.clu_passes.proofs.OthersRight.{others_right}
 use Rattle.clu_check_mod.specs.Answered.{IsFirst}
 use Rattle.clu_check_mod.specs.declared.walk.Extent.{Extent}
-use Rattle.clu_checked.specs.Checked.{IsLeft, IsLibrary, bits, circular, known, order, tabled}
+use Rattle.clu_checked.specs.Checked.{IsLibrary, IsOfGrammar, bits, circular, known, order, tabled}
 use Rattle.clu_checked.proofs.Filled.{others_known, own}
 use Rattle.clu_checked.proofs.Placed.{placed}
 use Rattle.clu_checked.proofs.Told.{its_order}
@@ -66,8 +65,7 @@ denied true false e is = refl
 denied false b e is = absurd (true≢false (sym is))
 
 module _ (t : Text) (nodes : List Node) (parsed : IsParsed t nodes) (library : List Spec) (asked : Extent) (first : Option Refused) (is : IsFirst nodes library asked first)
-    (few : AreFew nodes is.rounds) (few_modules : length (modules nodes) + length library < 2 ^ 32 - 1) (parms : AreOfModules nodes is.rounds) (kept : IsLibrary library)
-    (left : IsLeft nodes library asked first is (map specification_told library)) (items : ℕ → Item) where
+    (few : AreFew nodes is.rounds) (few_modules : length (modules nodes) + length library < 2 ^ 32 - 1) (grammar : IsOfGrammar nodes is.rounds) (kept : IsLibrary library) (items : ℕ → Item) where
   abbrev k : Known
   k = known nodes library asked first is
 
@@ -87,13 +85,13 @@ module _ (t : Text) (nodes : List Node) (parsed : IsParsed t nodes) (library : L
   its_whole = whole t nodes parsed library asked first is few few_modules gone
 
   others : AreOthersKnown f k (lost f)
-  others = others_known t nodes parsed library asked first is few few_modules parms kept left
+  others = others_known t nodes parsed library asked first is few few_modules grammar kept
 
   its_placed : ArePlaced f k
-  its_placed = placed t nodes parsed library asked first is few few_modules parms kept left
+  its_placed = placed t nodes parsed library asked first is few few_modules grammar kept
 
   constants_known : AreConstantsKnown t k specs gone
-  constants_known = record { whole = its_whole; rules = others.rules; own = own t nodes parsed library asked first is few few_modules parms kept left }
+  constants_known = record { whole = its_whole; rules = others.rules; own = own t nodes parsed library asked first is few few_modules grammar kept }
 
   -- tags ascend where no fault is before
   pub tags_up : (n : ℕ) → n < length k.tables.file.syntax.now → IsFirstOf f n → asks_tags (rules_at (kind_at k.tables.file.syntax.now n)) ≡ true → TagsAscend k n

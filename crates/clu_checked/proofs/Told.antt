@@ -67,7 +67,7 @@ module _ (t : Text) (nodes : List Node) (parsed : IsParsed t nodes) (library : L
   abbrev its : File
   its = file nodes library asked first is specs
 
-  of_tree : IsFileOfTree its
+  pub of_tree : IsFileOfTree its
   of_tree = record { shaped = parsed.forms; ordered = parsed.order; tree = parsed.tree; surrounded = is.surrounded }
 
   pub is_order : IsOrder its is.names (order nodes library asked first is) (circular nodes library asked first is)
@@ -177,37 +177,37 @@ module _ (t : Text) (nodes : List Node) (parsed : IsParsed t nodes) (library : L
       tags_known up whole none n inside before tagged =
           up n inside (reached t k (scope_in ks rs) specs gone tabled_tree items its_bits headings_agree rest_agrees parsed_there n inside none before tagged) tagged
 
--- ---- the answer, by what is left to show
+-- ---- the answer, where the rules over the tables are right
 
 module _ (t : Text) (nodes : List Node) (parsed : IsParsed t nodes) (library : List Spec) (first : Option Refused) (specs : List Specification) (items : ℕ → Item) where
   -- what rules look for by its name ascends, and they are right at each node
-  pub record IsKnownLeft (asked : Extent) (is : IsFirst nodes library asked first) : Type 0 where
+  pub record AreRightTables (asked : Extent) (is : IsFirst nodes library asked first) : Type 0 where
     pub values : ValuesAscend (known nodes library asked first is).tables
     pub tags : (n : ℕ) → n < length (known nodes library asked first is).tables.file.syntax.now → IsFirstOf (tabled nodes library asked first is specs) n → asks_tags (rules_at (kind_at (known nodes library asked first is).tables.file.syntax.now n)) ≡ true → TagsAscend (known nodes library asked first is) n
     pub right : AreRight (tabled nodes library asked first is specs) (known nodes library asked first is) items (bits nodes library asked first is items)
 
-  walked : (asked : Extent) (is : IsFirst nodes library asked first) → IsKnownLeft asked is → first_in (known nodes library asked first is) (bits nodes library asked first is items) items asked ≡ first
-  walked asked is left =
-      is.is.is.is.is.is items (equates_up t nodes parsed library asked first is specs left.values)
-      (walks_up t nodes parsed library asked first is specs items (tags_known t nodes parsed library asked first is specs items left.right left.tags))
+  walked : (asked : Extent) (is : IsFirst nodes library asked first) → AreRightTables asked is → first_in (known nodes library asked first is) (bits nodes library asked first is items) items asked ≡ first
+  walked asked is right =
+      is.is.is.is.is.is items (equates_up t nodes parsed library asked first is specs right.values)
+      (walks_up t nodes parsed library asked first is specs items (tags_known t nodes parsed library asked first is specs items right.right right.tags))
 
-  pub heading_answered : (is : IsFirst nodes library extent.Headings first) → IsKnownLeft extent.Headings is → first ≡ heading_refusal (file nodes library extent.Headings first is specs)
-  heading_answered is left =
+  pub heading_answered : (is : IsFirst nodes library extent.Headings first) → AreRightTables extent.Headings is → first ≡ heading_refusal (file nodes library extent.Headings first is specs)
+  heading_answered is right =
       let k : Known = known nodes library extent.Headings first is in
       let bad : List Bool = bits nodes library extent.Headings first is items in
-      sym (walked extent.Headings is left)
+      sym (walked extent.Headings is right)
       ∙ headings_found k items bad
       ∙ found.heading_by_tables k (scope_in k.tables.file.syntax.now k.tables.file.rounds.now) specs (refused_nodes (plain_file k.tables.file.syntax.now k.tables.file.rounds.now specs)) (tabled_tree t nodes parsed library extent.Headings first is specs) items bad
-      (headings_agree t nodes parsed library extent.Headings first is specs items left.right)
+      (headings_agree t nodes parsed library extent.Headings first is specs items right.right)
       ∙ sym (ap heading_refusal (same t nodes parsed library extent.Headings first is specs))
 
-  pub answered : (is : IsFirst nodes library extent.Whole first) → IsKnownLeft extent.Whole is → first ≡ refusal (file nodes library extent.Whole first is specs)
-  answered is left =
+  pub answered : (is : IsFirst nodes library extent.Whole first) → AreRightTables extent.Whole is → first ≡ refusal (file nodes library extent.Whole first is specs)
+  answered is right =
       let k : Known = known nodes library extent.Whole first is in
       let bad : List Bool = bits nodes library extent.Whole first is items in
-      sym (walked extent.Whole is left)
+      sym (walked extent.Whole is right)
       ∙ whole_found k items bad
       ∙ found.refused_by_tables k (scope_in k.tables.file.syntax.now k.tables.file.rounds.now) specs (refused_nodes (plain_file k.tables.file.syntax.now k.tables.file.rounds.now specs)) (tabled_tree t nodes parsed library extent.Whole first is specs) items bad
-      (headings_agree t nodes parsed library extent.Whole first is specs items left.right)
-      (rest_agrees t nodes parsed library extent.Whole first is specs items left.right)
+      (headings_agree t nodes parsed library extent.Whole first is specs items right.right)
+      (rest_agrees t nodes parsed library extent.Whole first is specs items right.right)
       ∙ sym (ap refusal (same t nodes parsed library extent.Whole first is specs))

@@ -1,8 +1,9 @@
 -- The file of which a check answers, with the tables that it makes of it, and what is not shown of these yet.
-use Rattle.std.specs.Prelude.{◌≡◌, ◌<◌, ℕ, Bool, true, false, List, length, map, Option, None}
+use Rattle.std.specs.Prelude.{◌≡◌, ◌<◌, ℕ, Bool, true, List, length, map, Option, None}
 use Rattle.clu_base.specs.declared.rules.Refused.{Refused}
 use Rattle.clu_tree.specs.declared.node.Node.{Node}
 use Rattle.clu_tree.specs.Nodes.{modules}
+use Rattle.clu_syntax.specs.declared.round.Round.{Round}
 use Rattle.clu_syntax.specs.Items.{Item}
 use Rattle.clu_syntax.specs.Kinds.{kind_at}
 use Rattle.clu_types.specs.declared.spec.Spec.{Spec}
@@ -13,15 +14,11 @@ use Rattle.clu_bindings.specs.declared.file.Headed.{Headed}
 use Rattle.clu_name_rules.specs.declared.tables.Tables.{Tables}
 use Rattle.clu_type_rules.specs.declared.known.Known.{Known}
 use Rattle.clu_type_rules.specs.Asked.{rules_at}
-use Rattle.clu_type_rules.specs.StatementRules.{tags_by}
 use Rattle.clu_type_rules.specs.Tags.{TagsAscend}
 use Rattle.clu_passes.specs.Ascending.{SpecificationsAscend}
-use Rattle.clu_passes.specs.Bound.{HasTagsOnce}
+use Rattle.clu_passes.specs.Bound.{AreOfModules}
 use Rattle.clu_passes.specs.Libraries.{HoldAscending}
-use Rattle.clu_passes.specs.KnownFiles.{AreRepsSettled}
-use Rattle.clu_passes.specs.Lost.{lost}
-use Rattle.clu_passes.specs.OwnModules.{AreOwnModules}
-use Rattle.clu_passes.specs.Reps.{AreReps}
+use Rattle.clu_passes.specs.RepsOfTree.{HaveReps}
 use Rattle.clu_passes.specs.Tags.{asks_tags}
 use Rattle.clu_check_mod.specs.Answered.{IsFirst}
 use Rattle.clu_check_mod.specs.Bad.{bad_of_all, bad_of_types}
@@ -29,6 +26,11 @@ use Rattle.clu_check_mod.specs.Walks.{NoneBefore, first_on}
 use Rattle.clu_check_mod.specs.declared.rules.Walk.TheVariants as walk
 use Rattle.clu_check_mod.specs.declared.walk.Extent.{Extent}
 use Rattle.clu_check_mod.specs.declared.walk.Extent.TheVariants as extent
+
+-- what the grammar says of the tree of a text besides what its nodes are made of: where parameters stand, and equates of `rep`
+pub record IsOfGrammar (nodes : List Node) (rounds : List Round) : Type 0 where
+  pub parameters : AreOfModules nodes rounds
+  pub reps : HaveReps nodes
 
 -- what is so of specifications that are kept of accepted files: what is looked for in them by its name ascends
 pub record IsLibrary (library : List Spec) : Type 0 where
@@ -81,12 +83,3 @@ module _ (nodes : List Node) (library : List Spec) (asked : Extent) (first : Opt
 
   abbrev pub headed_file : List Specification → File
   headed_file specs = checked_file headed.file.syntax.now headed.file.rounds.now specs
-
-  -- what is not shown yet of the tables
-  pub record IsLeft (specs : List Specification) : Type 0 where
-    -- of the file with its headings: by what `rep` is declared, that it comes to the same after one step more, and its modules
-    pub reps : AreReps (headed_file specs)
-    pub settled : AreRepsSettled (headed_file specs) headed.file
-    pub owned : AreOwnModules headed.file.bindings.now.modules (modules headed.file.syntax.now)
-    -- no tag of a type on which a Tagcase selects stands twice
-    pub once : (n : ℕ) → n < length (tabled specs).nodes → lost (tabled specs) n ≡ false → HasTagsOnce (tags_by known n)

@@ -27,7 +27,6 @@ ghost use Rattle.clu_name_rules.specs.Constructors.{ValuesAscend};
 ghost use Rattle.clu_type_rules.specs.declared.known.Known.{Known};
 ghost use Rattle.clu_type_rules.specs.Rules.{violates, violates_of_types};
 ghost use Rattle.clu_type_rules.specs.Walking.{first_fault, first_of};
-ghost use Rattle.clu_passes.specs.Bound.{AreOfModules};
 ghost use Rattle.clu_passes.specs.Refusing.{AgreeBelow, AgreeInEquates, AgreeWithin, IsOrder, heading_fault, of_types, rest_fault};
 ghost use Rattle.clu_passes.specs.Turns.{arm_declared, bit};
 ghost use Rattle.clu_check_mod.specs.Answered.{IsAnswer, IsFirst, IsUnspecified};
@@ -37,9 +36,11 @@ ghost use Rattle.clu_check_mod.specs.Walks.{WalksAscend, first_in};
 ghost use Rattle.clu_check_mod.specs.declared.errors.CheckError.{CheckError};
 ghost use Rattle.clu_check_mod.specs.declared.walk.Extent.{Extent};
 ghost use Rattle.clu_check_mod.specs.declared.walk.Extent.TheVariants as extent;
-ghost use Rattle.clu_checked.specs.Checked.{IsLeft, IsLibrary, TagsKnown, bits, bits_of_types, circular, file, known, order, plain, tables};
+ghost use Rattle.clu_checked.specs.Checked.{IsLibrary, IsOfGrammar, TagsKnown, bits, bits_of_types, circular, file, known, order, plain, tables};
 
 pub use demands::demands_answered;
+pub use handing::handed_on;
+pub use of_source::first_of_source;
 
 /// The first fault that a check answers is what the walks find by the rules over its tables.
 pub fn walks_found()
@@ -77,9 +78,11 @@ pub fn types_ascend()
 /// The first fault of the tree of a text by the tables that a check makes of it is the refusal of the file, and that of its headings
 /// the one of these. Where there is none each module has a specification.
 pub fn first_checked()
-    ensures whole { (t : Text) (nodes : List Node) → IsParsed t nodes → (rounds : List Round) → AreRounds nodes rounds → AreFew nodes rounds → (library : List Spec) → length (modules nodes) + length library < 2 ^ 32 - 1 → AreOfModules nodes rounds → IsLibrary library → ((first : Option Refused) (is : IsFirst nodes library extent.Whole first) → IsLeft nodes library extent.Whole first is (map specification_told library)) → (first : Option Refused) → IsFirst nodes library extent.Whole first → first ≡ refusal (checked_file nodes rounds (map specification_told library)) }
-    ensures headings { (t : Text) (nodes : List Node) → IsParsed t nodes → (rounds : List Round) → AreRounds nodes rounds → AreFew nodes rounds → (library : List Spec) → length (modules nodes) + length library < 2 ^ 32 - 1 → AreOfModules nodes rounds → IsLibrary library → ((first : Option Refused) (is : IsFirst nodes library extent.Headings first) → IsLeft nodes library extent.Headings first is (map specification_told library)) → (first : Option Refused) → IsFirst nodes library extent.Headings first → first ≡ heading_refusal (checked_file nodes rounds (map specification_told library)) }
-    ensures lost { (t : Text) (nodes : List Node) → IsParsed t nodes → (rounds : List Round) → AreRounds nodes rounds → AreFew nodes rounds → (library : List Spec) → length (modules nodes) + length library < 2 ^ 32 - 1 → AreOfModules nodes rounds → IsLibrary library → (asked : Extent) → ((first : Option Refused) (is : IsFirst nodes library asked first) → IsLeft nodes library asked first is (map specification_told library)) → IsUnspecified nodes library asked → ⊥ }
+    ensures whole { (t : Text) (nodes : List Node) → IsParsed t nodes → (rounds : List Round) → AreRounds nodes rounds → AreFew nodes rounds → (library : List Spec) → length (modules nodes) + length library < 2 ^ 32 - 1 → IsOfGrammar nodes rounds → IsLibrary library → (first : Option Refused) → IsFirst nodes library extent.Whole first → first ≡ refusal (checked_file nodes rounds (map specification_told library)) }
+    ensures headings { (t : Text) (nodes : List Node) → IsParsed t nodes → (rounds : List Round) → AreRounds nodes rounds → AreFew nodes rounds → (library : List Spec) → length (modules nodes) + length library < 2 ^ 32 - 1 → IsOfGrammar nodes rounds → IsLibrary library → (first : Option Refused) → IsFirst nodes library extent.Headings first → first ≡ heading_refusal (checked_file nodes rounds (map specification_told library)) }
+    ensures lost { (t : Text) (nodes : List Node) → IsParsed t nodes → (rounds : List Round) → AreRounds nodes rounds → AreFew nodes rounds → (library : List Spec) → length (modules nodes) + length library < 2 ^ 32 - 1 → IsOfGrammar nodes rounds → IsLibrary library → (asked : Extent) → IsUnspecified nodes library asked → ⊥ }
 {}
 
+mod handing;
+mod of_source;
 mod types;

@@ -1,6 +1,6 @@
 -- The rules on statements: V15 AssignType, V21 NotTagged, V22 TagMissingOrTwice, V28 NotInLoop, V29 NotInIterator,
 -- V30 ReturnValues, and with those on expressions V14 ResultCount, V16 NotBool and V36 IteratorUse.
-use Rattle.std.specs.Prelude.{ℕ, suc, ◌==◌, ◌&&◌, ◌||◌, not, Bool, true, false, List, [], ◌∷◌, length, map, flat_map, is_none, bytes_eq, if◌then◌else◌, Option, Some, None}
+use Rattle.std.specs.Prelude.{ℕ, suc, ◌==◌, ◌&&◌, ◌||◌, nat_lt, not, Bool, true, false, List, [], ◌∷◌, length, map, flat_map, is_none, bytes_eq, if◌then◌else◌, Option, Some, None}
 use Rattle.std.specs.List.{list_any, list_all}
 use Rattle.std.specs.Option.{option_and_then}
 use Rattle.clu_types.specs.CluType.{CluType, bool_type, oneof_of, variant_of, CluTypes, no_types, type_and, Fields, no_fields, field_and}
@@ -54,9 +54,9 @@ tags_of (oneof_of fs) = Some fs
 tags_of (variant_of fs) = Some fs
 tags_of _ = None
 
-abbrev pub has_every_tag : Fields → List Identifier → Bool
-has_every_tag no_fields names = true
-has_every_tag (field_and tag t fs) names = list_any (bytes_eq tag) names && has_every_tag fs names
+abbrev pub count_of : Fields → ℕ
+count_of no_fields = 0
+count_of (field_and tag t fs) = suc (count_of fs)
 
 abbrev pub has_others : Otherwise → Bool
 has_others nothing_else = false
@@ -214,8 +214,9 @@ module _ (f : File) where
   has_bad_tag n (Some fs) tags = not (list_all (is_selector_of fs) tags) || stands_twice tags || list_any (λ tag. list_any (bytes_eq tag) (tags_before n)) tags
   has_bad_tag n None tags = false
 
+  -- fewer are named than there are: no arm names a foreign tag, or one of another arm
   abbrev pub leaves_tag : Option Fields → List Identifier → Otherwise → Bool
-  leaves_tag (Some fs) tags nothing_else = not (has_every_tag fs tags)
+  leaves_tag (Some fs) tags nothing_else = nat_lt (length tags) (count_of fs)
   leaves_tag _ tags other = false
 
   abbrev pub leaves_some_tag : ℕ → Statement → Bool

@@ -1,5 +1,5 @@
-//! The rules of the checker: definitions in `specs`, and what is proved of their order as contracts of functions that do
-//! nothing. No code is proved against them yet.
+//! The rules of the checker: definitions in `specs`, against which the check is proved, and what is proved of their order as contracts
+//! of functions that do nothing.
 #![tactic(auto)]
 
 mod laws;

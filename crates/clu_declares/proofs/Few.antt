@@ -295,3 +295,12 @@ few_declared t nodes rounds tokens parsed file small =
     let last : file.root.last + 1 ≡ tokens = file.last_is in
     let all : length (declared_to nodes rounds (length nodes)) ≤ names_to t nodes parsed.shape (length nodes) + 3 * length nodes = all_size t nodes parsed.shape rounds (length nodes) in
     omega (arith, a, b, span, first, last, all, small)
+
+pub few_nodes : (t : Text) (nodes : List Node) (tokens : ℕ) → IsParsed t nodes → IsFileOver tokens nodes → tokens ≤ 2 ^ 20 → length nodes ≤ 2 ^ 22
+few_nodes t nodes tokens parsed file small =
+    let r = rooms t nodes parsed.shape 0 (length nodes) ((length nodes - 1) ∷ []) parsed.order in
+    let a : length nodes + slacks t nodes parsed.shape ((length nodes - 1) ∷ []) ≤ 0 + 4 * spans t nodes parsed.shape ((length nodes - 1) ∷ []) = r.0 in
+    let span : span_of (slice_get nodes (length nodes - 1)) ≡ (file.root.last + 1) - file.root.first = ap span_of file.is_last in
+    let first : file.root.first ≡ 0 = file.first_is in
+    let last : file.root.last + 1 ≡ tokens = file.last_is in
+    omega (arith, a, span, first, last, small)

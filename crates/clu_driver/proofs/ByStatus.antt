@@ -81,7 +81,7 @@ specs_not_entered kept name known specs files files' faults faults' (inr put) = 
 
 not_specified : (kept : Kept) (name file : List ℕ) (nodes : List Node) (known : library.Contents) (files files' : Option Files) (faults faults' : ℕ) → SpecifiedShows kept outcome.Usage name file nodes known files faults files' faults' → ⊥
 not_specified kept name file nodes known files files' faults faults' (inl refused) = refused.0
-not_specified kept name file nodes known files files' faults faults' (inr entered) = specs_not_entered kept name known entered.0 files files' faults faults' entered.2
+not_specified kept name file nodes known files files' faults faults' (inr entered) = specs_not_entered kept name known entered.1.0 files files' faults faults' entered.1.2
 
 not_accepted : (name file : List ℕ) (known : library.Contents) (bytes : List ℕ) (tokens : List Token) (nodes : List Node) (files files' : Option Files) (faults faults' : ℕ) → CompiledShows outcome.Usage name file known bytes tokens nodes files faults files' faults' → ⊥
 not_accepted name file known bytes tokens nodes files files' faults faults' (inl refused) = refused.0

@@ -6,16 +6,16 @@ use Rattle.clu_base.specs.declared.tokens.Token.{Token}
 use Rattle.clu_build.specs.Entering.{own_of, text_at}
 use Rattle.clu_core.specs.declared.checked.Checked.{Checked}
 use Rattle.clu_library.specs.Contents.{Contents}
-use Rattle.clu_check_mod.specs.Modules.{BeginWithOwn}
+use Rattle.clu_check_mod.specs.Modules.{AreOf, BeginWithOwn}
 use Rattle.clu_tree.specs.Nodes.{modules}
 use Rattle.clu_tree.specs.declared.node.Node.{Node}
 use Rattle.clu_types.specs.declared.spec.Spec.{Spec}
 use Rattle.clu_driver.specs.Found.{IsFound, IsUnder, NotHad}
 use Rattle.clu_driver.specs.Held.{HasLibrary, IsLibraryFile, IsUnreadable, NotLibrary}
-use Rattle.clu_driver.specs.Libraries.{CompileShows, CompiledShows, EnteredShows, LinkShows, LinkedShows, NotBeside, NotGathered, SpecifiedShows, SpecifyShows}
+use Rattle.clu_driver.specs.Libraries.{CompileShows, CompiledShows, EnteredShows, LinkShows, LinkedShows, NotBeside, NotGathered, SpecifiedShows, SpecifyShows, SpecsShow}
 use Rattle.clu_driver.specs.Shows.{Reported}
 use Rattle.clu_driver.specs.declared.specifying.Kept.{Kept}
-use Rattle.clu_driver.specs.Sources.{IsChecked, IsParsed, IsSource, NotGot, NotSource}
+use Rattle.clu_driver.specs.Sources.{IsChecked, IsHeaded, IsParsed, IsSource, NotGot, NotSource}
 use Rattle.clu_outcome.specs.declared.outcome.Outcome.{Outcome}
 use Rattle.clu_outcome.specs.declared.outcome.Outcome.TheVariants as outcome
 use Rattle.clu_driver.proofs.Found.{found_with, not_parsed}
@@ -73,6 +73,15 @@ entered_compiled how name file known lib bytes lent tokens read nodes tree c che
     let of_tokens : EnteredShows how name known (own_of c) (text_at bytes tokens c.syntax) files faults files' faults' = subst (λ (t : List Token). EnteredShows how name known (own_of c) (text_at bytes t c.syntax) files faults files' faults') read_is of_bytes in
     compiled_shows how name file known bytes tokens nodes c files files' faults faults' (syntax_is ∙ tree_is) (subst (λ (ns : List Node). BeginWithOwn ns c.specs.items) tree_is own)
     (subst (λ (ns : List Node). IsChecked known.specs ns) tree_is (subst (λ (ss : List Spec). IsChecked ss tree) specs_are accepted)) of_tokens
+
+-- and of specifications alone
+pub entered_specified : (kept : Kept) (how : Outcome) (name file : List ℕ) (known lib : Contents) (nodes tree : List Node) (own lent specs : List Spec) (files files' : Option Files) (faults faults' : ℕ)
+    → lib ≡ known → lent ≡ own → specs ≡ known.specs → tree ≡ nodes → IsHeaded specs tree → AreOf tree (modules tree) own
+    → SpecsShow kept how name lib lent files faults files' faults' → SpecifiedShows kept how name file nodes known files faults files' faults'
+entered_specified kept how name file known lib nodes tree own lent specs files files' faults faults' lib_is lent_is specs_are tree_is accepted named shown =
+    let of_library : SpecsShow kept how name known lent files faults files' faults' = subst (λ (l : Contents). SpecsShow kept how name l lent files faults files' faults') lib_is shown in
+    let of_own : SpecsShow kept how name known own files faults files' faults' = subst (λ (ss : List Spec). SpecsShow kept how name known ss files faults files' faults') lent_is of_library in
+    inr (subst (λ (ns : List Node). IsHeaded known.specs ns) tree_is (subst (λ (ss : List Spec). IsHeaded ss tree) specs_are accepted), (own, subst (λ (ns : List Node). AreOf ns (modules ns) own) tree_is named, of_own))
 
 pub link_shows : (how : Outcome) (library program start : List ℕ) (known kept : Contents) (files read files' : Option Files) (faults between faults' : ℕ)
     → known ≡ kept → HasLibrary files library kept → read ≡ files → faults ≤ between → LinkedShows how library program (map to_ascii_lowercase start) known read between files' faults' → LinkShows how library program start files faults files' faults'

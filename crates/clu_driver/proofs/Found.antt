@@ -7,9 +7,11 @@ use Rattle.clu_image.specs.Faults.{IsRefusal, fault_of}
 use Rattle.clu_base.specs.declared.errors.FormatError.TheVariants.{Bad}
 use Rattle.clu_base.specs.declared.errors.FormatError.{FormatError}
 use Rattle.clu_base.specs.declared.tokens.Token.{Token}
+use Rattle.clu_parser.specs.Order.{IsFileOver, IsPostOrder}
 use Rattle.clu_parser.specs.Parsing as parser
+use Rattle.clu_parser.specs.Shape.{HaveForms, IsShaped}
 use Rattle.clu_parser.specs.declared.errors.ParseError.{ParseError}
-use Rattle.clu_tree.specs.Nodes.{modules}
+use Rattle.clu_tree.specs.Nodes.{IsTree, modules}
 use Rattle.clu_tree.specs.declared.node.Node.{Node}
 use Rattle.clu_types.specs.declared.spec.Spec.{Spec}
 use Rattle.clu_words.specs.Command.{Limits}
@@ -19,7 +21,7 @@ use Rattle.clu_asm.specs.Faults.{IsFault, IsFaultAt}
 use Rattle.clu_driver.specs.Commands.{AsmShows, AssembledShows, GoShows, IsBadText, PutShows}
 use Rattle.clu_driver.specs.Puts.{NotPut}
 use Rattle.clu_driver.specs.Found.{IsFound}
-use Rattle.clu_driver.specs.Sources.{IsAccepted, IsChecked, IsParsed, IsRefusedBy, IsSource, NotBuilt, NotCompiled, NotMade, NotParsed, NotSource}
+use Rattle.clu_driver.specs.Sources.{IsAccepted, IsChecked, IsParsed, IsRead, IsRefusedBy, IsSource, NotBuilt, NotCompiled, NotMade, NotParsed, NotSource}
 use Rattle.clu_driver.specs.World.{Streams, World, world_of}
 use Rattle.clu_outcome.specs.declared.outcome.Outcome.{Outcome}
 use Rattle.clu_outcome.specs.declared.outcome.Outcome.TheVariants as outcome
@@ -123,6 +125,22 @@ pub read_fault : (bytes read : List ℕ) (tokens lexed : List Token) (error know
 read_fault bytes read tokens lexed error known is same_bytes same_tokens fault =
     subst (λ t. parser.IsFault bytes t known) same_tokens
     (subst (λ b. parser.IsFault b lexed known) same_bytes (subst (λ e. parser.IsFault read lexed e) is fault))
+
+-- a tree that was read
+pub tree_read : (b bytes : List ℕ) (ts tokens : List Token) (tree nodes : List Node) → b ≡ bytes → ts ≡ tokens → nodes ≡ tree → IsTree tree → IsPostOrder tree → IsFileOver (length ts) tree → IsShaped (parser.text_of b ts) tree → HaveForms tree → IsRead bytes tokens nodes
+tree_read b bytes ts tokens tree nodes same alike is tree_is order root shape forms =
+    let P : List ℕ → List Token → Type 0 = λ b ts. IsShaped (parser.text_of b ts) tree in
+    subst (λ (ns : List Node). IsRead bytes tokens ns) (sym is)
+    (record {
+      parsed = record {
+        tree = tree_is;
+        order = order;
+        file = (root.root, root.is_last, root.kind_is);
+        shape = subst (λ (ts : List Token). P bytes ts) alike (subst (λ (b : List ℕ). P b ts) same shape);
+        forms = forms;
+      };
+      root = subst (λ (ts : List Token). IsFileOver (length ts) tree) alike root;
+    })
 
 -- an accepted tree that is not built is not compiled
 pub unbuilt : {X : Type 0} (result : Result X Outcome) (name : List ℕ) (nodes : List Node) (specs : List Spec) → IsChecked [] nodes → BeginWithOwn nodes specs → IfErr result (λ how. NotBuilt how (take (length (modules nodes)) specs)) → IfErr result (λ how. NotMade how name nodes)

@@ -1,13 +1,22 @@
 -- What holds of the content that was read holds of the library under its name.
-use Rattle.std.proofs.Common.{◌≡◌, ℕ, List, Option, Some, None, Result, Ok, Err, IfErr, IfOk, subst, sym}
+use Rattle.std.proofs.Common.{◌≡◌, ℕ, List, [], All, Option, Some, None, Result, Ok, Err, IfErr, IfOk, arith, subst, sym}
+use Rattle.std.proofs.lemmas.List.{length-map}
+use Rattle.std.proofs.lemmas.Option.{none-some}
 use Rattle.clu_base.specs.Outside.{Files}
 use Rattle.clu_base.specs.declared.errors.FormatError.TheVariants.{Bad}
 use Rattle.clu_base.specs.declared.errors.FormatError.{FormatError}
+use Rattle.clu_library.specs.Contents.{Contents, nothing}
+use Rattle.clu_library.specs.Libraries.{IsLibrary}
+use Rattle.clu_library.specs.LibraryReading.{library_seen}
 use Rattle.clu_specs.specs.Reading.{Fails}
+use Rattle.clu_specs.specs.Seen.{seen}
+use Rattle.clu_specs.specs.Specifications.{SpecHolds}
 use Rattle.clu_driver.specs.Found.{IsUnder, NotHad}
-use Rattle.clu_driver.specs.Held.{IsBadAt, IsUnreadable, NotLibrary}
+use Rattle.clu_driver.specs.Held.{AreKept, IsBadAt, IsUnreadable, NotLibrary}
 use Rattle.clu_outcome.specs.declared.outcome.Outcome.{Outcome}
 use Rattle.clu_outcome.specs.declared.outcome.Outcome.TheVariants as outcome
+use Rattle.clu_driver.proofs.Ascending.{library_ascends}
+use Rattle.clu_driver.proofs.Showing.{library_shows}
 
 pub under_with : (P : Option (List ℕ) → Type 0) (files : Option Files) (name : List ℕ) (content : Option (List ℕ)) → IsUnder files name (λ c. c ≡ content) → P content → IsUnder files name P
 under_with P None name content held p = tt
@@ -36,3 +45,17 @@ unreadable _ name files faults faults' content held why = elim why [ ]
 pub unknown : (how : Outcome) (name : List ℕ) (files : Option Files) (faults faults' : ℕ) → NotHad how name faults faults' → NotLibrary how name files faults faults'
 unknown (outcome.LibraryBad at) name files faults faults' why = elim why [ ]
 unknown _ name files faults faults' why = why
+
+-- what a library that is read keeps
+pub read_kept : (l : Contents) → IsLibrary (library_seen l) → All SpecHolds l.specs → AreKept l.specs
+read_kept l is holds = let same = length-map l.specs seen in let most = is.few_modules in record { few = omega (arith, same, most); ascending = record { components = library_shows l is; operations = library_ascends l is holds } }
+
+-- and an empty one
+pub none_kept : AreKept []
+none_kept = record { few = omega arith; ascending = record { components = tt; operations = λ i s at. absurd (none-some s at) } }
+
+pub empty_kept : (l : Contents) → l ≡ nothing → AreKept l.specs
+empty_kept l is = subst (λ (l : Contents). AreKept l.specs) (sym is) none_kept
+
+pub same_kept : (a b : Contents) → a ≡ b → AreKept b.specs → AreKept a.specs
+same_kept a b same = subst (λ (l : Contents). AreKept l.specs) (sym same)

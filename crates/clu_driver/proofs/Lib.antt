@@ -1,5 +1,7 @@
+pub mod Ascending
 pub mod Asked
 pub mod ByStatus
+pub mod ByCheck
 pub mod Entered
 pub mod FailureText
 pub mod Found
@@ -7,3 +9,4 @@ pub mod Held
 pub mod OneMore
 pub mod Repeated
 pub mod Runs
+pub mod Showing

@@ -21,7 +21,7 @@ use Rattle.clu_driver.specs.Held.{HasLibrary, IsLibraryFile, NotLibrary}
 use Rattle.clu_driver.specs.Puts.{IsPut, NotPut}
 use Rattle.clu_driver.specs.Refusals.{NotEntered, NotLinked, NotSpecified}
 use Rattle.clu_driver.specs.Shows.{RunShows, TextShows}
-use Rattle.clu_driver.specs.Sources.{IsChecked, IsParsed, IsSource, NotAccepted, NotGot, NotParsed}
+use Rattle.clu_driver.specs.Sources.{IsChecked, IsHeaded, IsParsed, IsSource, NotAccepted, NotGot, NotParsed}
 use Rattle.clu_driver.specs.World.{IsUnrun, Streams, World}
 use Rattle.clu_outcome.specs.declared.outcome.Outcome.{Outcome}
 use Rattle.clu_outcome.specs.declared.outcome.Outcome.TheVariants as outcome
@@ -73,11 +73,12 @@ SpecsShow kept how name known specs files faults files' faults' =
     (NotSpecified kept how known specs × (files' ≡ files))
     ⊎ ((after : Contents) × IsSpecified kept known specs after × LibraryShows how name after files files' faults faults')
 
--- the headings of a tree were refused and no file changed, or the specifications of its modules were entered
+-- the headings of a tree were refused and no file changed, or they were accepted and the specifications of its modules were entered
 abbrev pub SpecifiedShows : Kept → Outcome → List ℕ → List ℕ → List Node → Contents → Option Files → ℕ → Option Files → ℕ → Type 0
 SpecifiedShows kept how name file nodes known files faults files' faults' =
     (NotAccepted extent.Headings how file known.specs nodes × (files' ≡ files))
-    ⊎ ((specs : List Spec) × AreOf nodes (modules nodes) specs × SpecsShow kept how name known specs files faults files' faults')
+    ⊎ (IsHeaded known.specs nodes
+    × ((specs : List Spec) × AreOf nodes (modules nodes) specs × SpecsShow kept how name known specs files faults files' faults'))
 
 -- spec and replace: library or source was refused and no file changed, or the source is a file of the grammar and was specified
 unfoldable pub SpecifyShows : Kept → Outcome → List ℕ → List ℕ → Option Files → ℕ → Option Files → ℕ → Type 0

@@ -6,16 +6,18 @@ use Rattle.clu_base.specs.declared.rules.Refused.{Refused}
 use Rattle.clu_base.specs.declared.rules.Rule.TheVariants as rule
 use Rattle.clu_base.specs.declared.tokens.Token.{Token}
 use Rattle.clu_reach.specs.Starts.{IsBadStart}
-use Rattle.clu_check_mod.specs.Answered.{IsFirst, IsUnspecified}
 use Rattle.clu_check_mod.specs.Modules.{AreOf, IsClosedAt}
 use Rattle.clu_check_mod.specs.Refusals.{IsOfTree}
 use Rattle.clu_check_mod.specs.declared.errors.CheckError.{CheckError}
 use Rattle.clu_check_mod.specs.declared.errors.CheckError.TheVariants as check
 use Rattle.clu_check_mod.specs.declared.walk.Extent.{Extent}
 use Rattle.clu_check_mod.specs.declared.walk.Extent.TheVariants as extent
+use Rattle.clu_checked.specs.Violations.{IsFirstViolation}
 use Rattle.clu_lexer.specs.Tokens.{Tokens}
 use Rattle.clu_lexer.specs.Tokens as lexer
 use Rattle.clu_lexer.specs.declared.tokens.LexError.TheVariants as lex
+use Rattle.clu_declares.specs.Declares as declares
+use Rattle.clu_parser.specs.Order.{IsFileOver}
 use Rattle.clu_parser.specs.Parsing as parser
 use Rattle.clu_parser.specs.declared.errors.ParseError.TheVariants as parse
 use Rattle.clu_tree.specs.Nodes.{modules}
@@ -35,12 +37,27 @@ pub record IsSource (bytes : List ℕ) (tokens : List Token) (nodes : List Node)
 abbrev pub IsParsed : List ℕ → List Node → Type 0
 IsParsed bytes nodes = (tokens : List Token) × IsSource bytes tokens nodes
 
--- under these specifications, by the tables that a check makes of the tree, no rule is violated; at the routine or cluster of none
--- of its modules V4 or V34 is
+-- under these specifications no rule is violated
 abbrev pub IsChecked : List Spec → List Node → Type 0
-IsChecked library nodes = All (IsClosedAt nodes) (modules nodes) × IsFirst nodes library extent.Whole None
+IsChecked library nodes = All (IsClosedAt nodes) (modules nodes) × IsFirstViolation nodes library extent.Whole None
 
--- the bytes are a file of the grammar, and the check accepts its tree
+-- of its headings none is
+abbrev pub IsHeaded : List Spec → List Node → Type 0
+IsHeaded library nodes = IsFirstViolation nodes library extent.Headings None
+
+-- what reading says of the tree besides
+pub record IsRead (bytes : List ℕ) (tokens : List Token) (nodes : List Node) : Type 0 where
+  pub parsed : declares.IsParsed (parser.text_of bytes tokens) nodes
+  pub root : IsFileOver (length tokens) nodes
+
+-- these nodes are the tree of a source
+pub record HasSource (nodes : List Node) : Type 0 where
+  pub bytes : List ℕ
+  pub tokens : List Token
+  pub source : IsSource bytes tokens nodes
+  pub read : IsRead bytes tokens nodes
+
+-- the bytes are a file of the grammar in which no rule is violated under no other specifications than its own
 abbrev pub IsAccepted : List ℕ → Type 0
 IsAccepted bytes = (nodes : List Node) × IsParsed bytes nodes × IsChecked [] nodes
 
@@ -77,13 +94,11 @@ IsRefusalOf (check.Refused r) _ name = ⊥
 IsRefusalOf check.Memory how name = how ≡ outcome.Memory
 IsRefusalOf check.NotYet how name = how ≡ outcome.NotYet
 
--- why a tree, or its headings, are not accepted under these specifications: a rule on modules is refused at the place of one of its
--- nodes, the first by the tables that a check makes of the tree, or memory was; NotYet comes only where no rule is violated and a
--- specification is lost
+-- why a tree, or its headings, are not accepted under these specifications: this is the first rule that is violated, with its place, or
+-- memory was refused
 abbrev pub NotAccepted : Extent → Outcome → List ℕ → List Spec → List Node → Type 0
-NotAccepted asked (outcome.Refused n r) name library nodes = (n.now ≡ name) × IsOfTree nodes (check.Refused r) × IsFirst nodes library asked (Some r)
+NotAccepted asked (outcome.Refused n r) name library nodes = (n.now ≡ name) × IsOfTree nodes (check.Refused r) × IsFirstViolation nodes library asked (Some r)
 NotAccepted asked outcome.Memory name library nodes = Unit {0}
-NotAccepted asked outcome.NotYet name library nodes = IsUnspecified nodes library asked
 NotAccepted asked _ name library nodes = ⊥
 
 -- of these specifications, the first of the module with which a program starts

@@ -3,8 +3,10 @@
 ghost use Rattle.std.specs.Prelude.{◌≡◌, IfErr, IfOk, OnOk};
 ghost use Rattle.clu_check_mod.specs.Modules.{AreOf, BeginWithOwn};
 ghost use Rattle.clu_check_mod.specs.declared.walk.Extent.TheVariants as extent;
+ghost use Rattle.clu_checked.specs.Violations.{IsHanded};
 ghost use Rattle.clu_tree.specs.Nodes.{modules};
-ghost use Rattle.clu_driver.specs.Sources.{IsChecked, IsRefusalOf, NotAccepted};
+ghost use Rattle.clu_driver.specs.Held.{AreKept};
+ghost use Rattle.clu_driver.specs.Sources.{HasSource, IsChecked, IsHeaded, IsRefusalOf, NotAccepted};
 
 use clu_check_mod::{CheckError, check, specs_of};
 use clu_core::Checked;
@@ -13,17 +15,20 @@ use clu_syntax::Syntax;
 use clu_types::{Spec, Specs};
 use std::alloc::Global;
 
-/// The syntax of the source `name`, checked over specifications, with its own in the place of those of their modules. The
-/// outcomes are `Refused` by one of the rules V4 to V37, `Memory` and `NotYet`.
+/// The syntax of the source `name`, checked over specifications, with its own in the place of those of their modules, and what
+/// the definitions say of its nodes. The outcomes are `Refused` by the first of the rules V4 to V37 that is violated, and `Memory`.
 pub fn checked<'a>(
     alloc: Global,
     name: &'a str,
     syntax: Syntax,
     specs: &Specs,
 ) -> Result<Box<Checked>, Outcome<'a>>
+    requires source { HasSource syntax }
+    requires specs { AreKept specs.now }
     ensures syntax { IfOk result (λ checked. checked.value.syntax ≡ syntax) }
     ensures specs { IfOk result (λ checked. BeginWithOwn syntax checked.value.specs.items) }
     ensures accepted { OnOk result (IsChecked specs.now syntax) }
+    ensures handed { IfOk result (λ checked. IsHanded syntax specs.now checked.value) }
     ensures refused { IfErr result (λ how. NotAccepted extent.Whole how name.now specs.now syntax) }
 {
     match check(alloc, syntax, specs) {
@@ -40,7 +45,10 @@ pub fn headings<'a>(
     syntax: &Syntax,
     specs: &Specs,
 ) -> Result<Vec<Spec>, Outcome<'a>>
+    requires source { HasSource syntax.now }
+    requires specs { AreKept specs.now }
     ensures own { IfOk result (λ own. AreOf syntax.now (modules syntax.now) own.items) }
+    ensures accepted { OnOk result (IsHeaded specs.now syntax.now) }
     ensures refused { IfErr result (λ how. NotAccepted extent.Headings how name.now specs.now syntax.now) }
 {
     match specs_of(alloc, syntax, specs) {

@@ -7,7 +7,7 @@ ghost use Rattle.clu_tree.specs.Nodes.{modules};
 ghost use Rattle.clu_words.specs.Command.{seen_limits};
 ghost use Rattle.clu_driver.specs.Commands.{GoShows, IsImagePut, PutShows};
 ghost use Rattle.clu_driver.specs.Puts.{NotPut};
-ghost use Rattle.clu_driver.specs.Sources.{IsAccepted, IsChecked, NotBuilt, NotCompiled, NotMade};
+ghost use Rattle.clu_driver.specs.Sources.{IsAccepted, IsChecked, IsRead, IsSource, NotBuilt, NotCompiled, NotMade};
 ghost use Rattle.clu_driver.specs.Found.{IsFound};
 ghost use Rattle.clu_driver.specs.Shows.{IsAsked, Reported, untraced};
 ghost use Rattle.clu_driver.specs.World.{streams_of, world_of};
@@ -109,6 +109,8 @@ fn image_of<'a>(
     source: Parsed,
     flags: Flags,
 ) -> Result<Built, Outcome<'a>>
+    requires parsed { IsSource source.bytes.items source.tokens.items source.syntax }
+    requires read { IsRead source.bytes.items source.tokens.items source.syntax }
     ensures traced { IfOk result (λ built. is_some built.map ≡ flags.trace) }
     ensures accepted { OnOk result (IsChecked [] source.syntax) }
     ensures refused { IfErr result (λ how. NotMade how name.now source.syntax) }

@@ -2,9 +2,9 @@
 
 ghost use Rattle.std.specs.Prelude.{◌≡◌, ◌≤◌, ◌⊎◌, IfErr, IfOk, length, option_map};
 ghost use Rattle.clu_driver.specs.Found.{IsFound};
-ghost use Rattle.clu_driver.specs.Held.{HasLibrary, IsLibraryFile, IsLibraryOf, IsUnreadable};
+ghost use Rattle.clu_driver.specs.Held.{AreKept, HasLibrary, IsLibraryFile, IsLibraryOf, IsUnreadable};
 ghost use Rattle.clu_driver.specs.Libraries.{NotGathered};
-ghost use Rattle.clu_driver.specs.Sources.{IsSource, NotSource};
+ghost use Rattle.clu_driver.specs.Sources.{IsRead, IsSource, NotSource};
 
 use crate::file::content_if_any;
 use crate::libraries::library_of;
@@ -32,8 +32,10 @@ pub fn gather<'a, F: Store>(
     ensures counts { F.faults files.old ≤ F.faults files.new }
     ensures kept { F.files files.new ≡ F.files files.old }
     ensures library { IfOk result (λ g. HasLibrary (F.files files.old) library.now g.library.value) }
+    ensures specs { IfOk result (λ g. AreKept g.library.value.specs) }
     ensures found { IfOk result (λ g. IsFound (F.files files.old) file.now (λ bytes. bytes ≡ g.source.value.bytes.items)) }
     ensures parsed { IfOk result (λ g. IsSource g.source.value.bytes.items g.source.value.tokens.items g.source.value.syntax) }
+    ensures read { IfOk result (λ g. IsRead g.source.value.bytes.items g.source.value.tokens.items g.source.value.syntax) }
     ensures refused { IfErr result (λ how. NotGathered how library.now file.now (F.files files.old) (F.faults files.old) (F.faults files.new)) }
 {
     match content_if_any(alloc, library, files) {
@@ -54,8 +56,10 @@ fn read_both<'a>(
 ) -> Result<Gathered, Outcome<'a>>
     requires { length bytes.items ≤ 1_048_576 }
     ensures library { IfOk result (λ g. IsLibraryOf (option_map (λ v. v.items) content) g.library.value) }
+    ensures specs { IfOk result (λ g. AreKept g.library.value.specs) }
     ensures same { IfOk result (λ g. g.source.value.bytes.items ≡ bytes.items) }
     ensures parsed { IfOk result (λ g. IsSource g.source.value.bytes.items g.source.value.tokens.items g.source.value.syntax) }
+    ensures read { IfOk result (λ g. IsRead g.source.value.bytes.items g.source.value.tokens.items g.source.value.syntax) }
     ensures refused { IfErr result (λ how. IsUnreadable how (option_map (λ v. v.items) content) ⊎ (IsLibraryFile (option_map (λ v. v.items) content) × NotSource how name.now bytes.items)) }
 {
     let library = library_of(alloc, content)?;
@@ -68,6 +72,7 @@ fn boxed<'a>(alloc: Global, name: &'a str, bytes: Vec<u8>) -> Result<Box<Parsed>
     requires { length bytes.items ≤ 1_048_576 }
     ensures same { IfOk result (λ source. source.value.bytes.items ≡ bytes.items) }
     ensures parsed { IfOk result (λ source. IsSource source.value.bytes.items source.value.tokens.items source.value.syntax) }
+    ensures read { IfOk result (λ source. IsRead source.value.bytes.items source.value.tokens.items source.value.syntax) }
     ensures refused { IfErr result (λ how. NotSource how name.now bytes.items) }
 {
     let source = source(alloc, name, bytes)?;

@@ -2,7 +2,7 @@
 
 ghost use Rattle.std.specs.Prelude.{◌≡◌, ◌≤◌, IfErr, IfOk, List, OnOk, Option, Some, option_map, ℕ};
 ghost use Rattle.clu_library.specs.LibraryFile.{library_bytes};
-ghost use Rattle.clu_driver.specs.Held.{HasLibrary, IsLibraryFile, IsLibraryOf, IsUnreadable, NotLibrary};
+ghost use Rattle.clu_driver.specs.Held.{AreKept, HasLibrary, IsLibraryFile, IsLibraryOf, IsUnreadable, NotLibrary};
 ghost use Rattle.clu_driver.specs.Libraries.{BytesShow, IsUnwritable, LibraryShows};
 ghost use Rattle.clu_driver.specs.Shows.{Reported};
 
@@ -30,6 +30,7 @@ pub fn library_in<'a, F: Store>(
 /// The library of a file's content. The outcomes are `LibraryBad` and `Memory`.
 pub fn library_of<'a>(alloc: Global, content: Option<Vec<u8>>) -> Result<Box<Library>, Outcome<'a>>
     ensures library { IfOk result (λ library. IsLibraryOf (option_map (λ v. v.items) content) library.value) }
+    ensures specs { IfOk result (λ library. AreKept library.value.specs) }
     ensures refused { IfErr result (λ how. IsUnreadable how (option_map (λ v. v.items) content)) }
 {
     match content {
@@ -40,10 +41,14 @@ pub fn library_of<'a>(alloc: Global, content: Option<Vec<u8>>) -> Result<Box<Lib
 
 fn read<'a>(alloc: Global, bytes: &[u8]) -> Result<Box<Library>, Outcome<'a>>
     ensures library { IfOk result (λ library. IsLibraryOf (Some bytes.now) library.value) }
+    ensures specs { IfOk result (λ library. AreKept library.value.specs) }
     ensures refused { IfErr result (λ how. IsUnreadable how (Some bytes.now)) }
 {
     match Library::read(alloc, bytes) {
-        Ok(library) => boxed(alloc, library),
+        Ok(library) => {
+            library.sound();
+            boxed(alloc, library)
+        }
         Err(FormatError::Bad(offset)) => Err(Outcome::LibraryBad(offset)),
         Err(FormatError::Memory) => Err(Outcome::Memory),
     }

@@ -2,8 +2,10 @@
 
 ghost use Rattle.std.specs.Prelude.{◌≡◌};
 ghost use Rattle.clu_build.specs.Entering.{own_of, text_at};
+ghost use Rattle.clu_driver.specs.Held.{AreKept};
 ghost use Rattle.clu_driver.specs.Libraries.{CompileShows, CompiledShows, EnteredShows};
 ghost use Rattle.clu_driver.specs.Shows.{Reported};
+ghost use Rattle.clu_driver.specs.Sources.{IsRead, IsSource};
 
 use crate::checking::checked;
 use crate::gathering::{Gathered, gather};
@@ -45,6 +47,9 @@ fn compile_source<E: Sink, F: Store>(
     errors: &mut E,
     files: &mut F,
 ) -> u8
+    requires parsed { IsSource gathered.source.value.bytes.items gathered.source.value.tokens.items gathered.source.value.syntax }
+    requires read { IsRead gathered.source.value.bytes.items gathered.source.value.tokens.items gathered.source.value.syntax }
+    requires specs { AreKept gathered.library.value.specs }
     ensures told { Reported (λ how. CompiledShows how name.now file.now gathered.library.value gathered.source.value.bytes.items gathered.source.value.tokens.items gathered.source.value.syntax (F.files files.old) (F.faults files.old) (F.files files.new) (F.faults files.new))
         result (E.written errors.old) (E.written errors.new) (E.faults errors.old) (E.faults errors.new) }
 {

@@ -1,8 +1,10 @@
 //! Reading a source file into its tokens and its syntax.
 
 ghost use Rattle.std.specs.Prelude.{◌≡◌, ◌≤◌, IfErr, IfOk, length};
+ghost use Rattle.clu_parser.specs.Shape.{HaveForms};
+ghost use Rattle.clu_tree.specs.Nodes.{IsTree};
 ghost use Rattle.clu_driver.specs.Found.{IsFound};
-ghost use Rattle.clu_driver.specs.Sources.{IsSource, NotGot, NotParsed, NotSource};
+ghost use Rattle.clu_driver.specs.Sources.{IsRead, IsSource, NotGot, NotParsed, NotSource};
 
 use crate::file::first_content;
 use clu_base::{Place, Refused, Rule, Store, Token};
@@ -10,6 +12,7 @@ use clu_lexer::{LexError, lex};
 use clu_outcome::Outcome;
 use clu_parser::{ParseError, parse};
 use clu_syntax::Syntax;
+use clu_tree::Tree;
 use std::alloc::Global;
 
 /// The most bytes of a source file.
@@ -33,6 +36,7 @@ pub fn parse_file<'a, F: Store>(
     ensures kept { F.files files.new ≡ F.files files.old }
     ensures found { IfOk result (λ source. IsFound (F.files files.old) name.now (λ bytes. bytes ≡ source.bytes.items)) }
     ensures parsed { IfOk result (λ source. IsSource source.bytes.items source.tokens.items source.syntax) }
+    ensures read { IfOk result (λ source. IsRead source.bytes.items source.tokens.items source.syntax) }
     ensures refused { IfErr result (λ how. NotParsed how name.now (F.files files.old) (F.faults files.old) (F.faults files.new)) }
 {
     let bytes = source_content(alloc, name, files)?;
@@ -64,6 +68,7 @@ pub fn source<'a>(alloc: Global, name: &'a str, bytes: Vec<u8>) -> Result<Parsed
     requires { length bytes.items ≤ 1_048_576 }
     ensures same { IfOk result (λ source. source.bytes.items ≡ bytes.items) }
     ensures parsed { IfOk result (λ source. IsSource source.bytes.items source.tokens.items source.syntax) }
+    ensures read { IfOk result (λ source. IsRead source.bytes.items source.tokens.items source.syntax) }
     ensures refused { IfErr result (λ how. NotSource how name.now bytes.items) }
 {
     match lex(alloc, &bytes) {
@@ -71,7 +76,7 @@ pub fn source<'a>(alloc: Global, name: &'a str, bytes: Vec<u8>) -> Result<Parsed
             Ok(tree) => Ok(Parsed {
                 bytes,
                 tokens,
-                syntax: Syntax::new(tree),
+                syntax: syntax_of(tree),
             }),
             Err(ParseError::Syntax(place)) => Err(refused(name, Rule::Syntax, place)),
             Err(ParseError::TooDeep(place)) => Err(refused(name, Rule::TooDeep, place)),
@@ -80,6 +85,16 @@ pub fn source<'a>(alloc: Global, name: &'a str, bytes: Vec<u8>) -> Result<Parsed
         Err(LexError::Token(place)) => Err(refused(name, Rule::Token, place)),
         Err(LexError::Memory) => Err(Outcome::Memory),
     }
+}
+
+// The syntax of a tree; its count says that it is one.
+fn syntax_of(tree: Tree) -> Syntax
+    requires { HaveForms tree }
+    ensures same { result ≡ tree }
+    ensures tree { IsTree tree }
+{
+    let _nodes = tree.len();
+    Syntax::new(tree)
 }
 
 fn refused<'a>(name: &'a str, rule: Rule, place: Place) -> Outcome<'a>

@@ -1,9 +1,11 @@
 //! The commands `spec` and `replace`: enter the specifications of a source's modules into a library.
 
 ghost use Rattle.std.specs.Prelude.{◌≡◌, IfErr, OnOk};
+ghost use Rattle.clu_driver.specs.Held.{AreKept};
 ghost use Rattle.clu_driver.specs.Libraries.{IsSpecified, SpecifiedShows, SpecifyShows, SpecsShow};
 ghost use Rattle.clu_driver.specs.Refusals.{IsOfSpecifying};
 ghost use Rattle.clu_driver.specs.Shows.{Reported};
+ghost use Rattle.clu_driver.specs.Sources.{IsRead, IsSource};
 
 use crate::checking::headings;
 use crate::gathering::{Gathered, gather};
@@ -53,6 +55,9 @@ fn specify_source<E: Sink, F: Store>(
     errors: &mut E,
     files: &mut F,
 ) -> u8
+    requires parsed { IsSource gathered.source.value.bytes.items gathered.source.value.tokens.items gathered.source.value.syntax }
+    requires read { IsRead gathered.source.value.bytes.items gathered.source.value.tokens.items gathered.source.value.syntax }
+    requires specs { AreKept gathered.library.value.specs }
     ensures told { Reported (λ how. SpecifiedShows kept how library.now file.now gathered.source.value.syntax gathered.library.value (F.files files.old) (F.faults files.old) (F.files files.new) (F.faults files.new))
         result (E.written errors.old) (E.written errors.new) (E.faults errors.old) (E.faults errors.new) }
 {

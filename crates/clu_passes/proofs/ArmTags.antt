@@ -1,9 +1,9 @@
 -- V22 by the tags that a Tagcase selects, by the bits of tags that stand twice, and by how many tags the arms name.
-use Rattle.std.proofs.Common.{◌≡◌, ◌∙◌, ◌-◌, ℕ, zero, suc, Bool, true, false, ◌&&◌, ◌||◌, not, if◌then◌else◌, List, [], ◌∷◌, ◌++◌, length, take, drop, flat_map, bytes_eq, ◌==◌, Option, Some, None, refl, sym, ap, ap₂, subst}
+use Rattle.std.proofs.Common.{◌≡◌, ◌∙◌, ℕ, zero, suc, ◌-◌, Bool, true, false, ◌&&◌, ◌||◌, not, if◌then◌else◌, List, [], ◌∷◌, ◌++◌, length, take, drop, flat_map, bytes_eq, nat_lt, Option, Some, None, refl, sym, ap, ap₂, subst}
 use Rattle.std.specs.Prelude.{slice_get}
 use Rattle.std.specs.Option.{option_and_then, option_map}
 use Rattle.std.specs.List.{AllByRecursion, list_any, list_all}
-use Rattle.std.proofs.lemmas.Bool.{true≢false, and_parts, and_from, eq-eqb, or_left, or_right}
+use Rattle.std.proofs.lemmas.Bool.{true≢false, and_parts, and_from}
 use Rattle.clu_tree.specs.declared.node.Node.{Node}
 use Rattle.clu_tree.specs.declared.node.NodeKind.{NodeKind}
 use Rattle.clu_tree.specs.declared.node.NodeKind.TheVariants as kind
@@ -21,14 +21,13 @@ use Rattle.clu_syntax.specs.Nodes.{before, item_at, item_with, tags_of, tag_arm_
 use Rattle.clu_settle.specs.Names.{names_of}
 use Rattle.clu_meaning.specs.Scoping.{Scope}
 use Rattle.clu_checking.specs.Specifications.{Specification}
-use Rattle.clu_checking.specs.Files.{File, item, parent, children, children_at}
-use Rattle.clu_checking.specs.NameRules.{stands_twice, siblings_before, before_in}
+use Rattle.clu_checking.specs.Files.{File, item, children}
+use Rattle.clu_checking.specs.NameRules.{stands_twice, siblings_before}
 use Rattle.clu_checking.specs.ExpressionRules as expressions
 use Rattle.clu_checking.specs.StatementRules as statements
 use Rattle.clu_checking.specs.StatementRules.{v22, v22_in}
-use Rattle.clu_declares.proofs.Below.{item_there, same_kind}
+use Rattle.clu_declares.proofs.Below.{item_there}
 use Rattle.clu_declares.proofs.Facts.{There, there}
-use Rattle.clu_declares.proofs.Parents.{of_all}
 use Rattle.clu_head.specs.Refused.{is_set}
 use Rattle.clu_name_rules.specs.declared.repeated.ListKind.TheVariants as list
 use Rattle.clu_name_rules.specs.Components.{is_selector_of, leaves_some}
@@ -37,16 +36,13 @@ use Rattle.clu_name_rules.specs.Words.{words_to}
 use Rattle.clu_type_rules.specs.declared.known.Known.{Known}
 use Rattle.clu_type_rules.specs.StatementRules.{tags_by}
 use Rattle.clu_type_rules.specs.Tags as of_tags
-use Rattle.clu_passes.specs.Bound.{IsFirstKnown, HasTagsOnce}
+use Rattle.clu_passes.specs.Bound.{IsFirstKnown}
 use Rattle.clu_passes.specs.ConstantTables.{AreTables}
 use Rattle.clu_passes.specs.FactTables.{AreFacts}
-use Rattle.clu_passes.specs.Notes.{has, HaveParents, DeclareModules, AreRepeated}
+use Rattle.clu_passes.specs.Notes.{HaveParents, DeclareModules, AreRepeated}
 use Rattle.clu_passes.proofs.ByNotes.{item_strict, node_known}
-use Rattle.clu_passes.proofs.Counting.{either_false}
-use Rattle.clu_passes.proofs.EachOnce.{some_before, IsFresh, stand_once}
 use Rattle.clu_passes.proofs.FactNodes as so
 use Rattle.clu_passes.proofs.Known.{is_known, are_known}
-use Rattle.clu_passes.proofs.OfParents.{is_in}
 use Rattle.clu_passes.proofs.Selectors.{selectors_are, tags_by_count}
 use Rattle.clu_passes.proofs.StandTwice as listed
 use Rattle.clu_passes.proofs.StandTwice.{own_before}
@@ -61,14 +57,6 @@ or_assoc false b c = refl
 and_none : (b : Bool) → (b && false) ≡ false
 and_none true = refl
 and_none false = refl
-
-not_false : (b : Bool) → not b ≡ false → b ≡ true
-not_false true e = refl
-not_false false e = absurd (true≢false e)
-
-all_members : (P : ℕ → Type 0) (cs : List ℕ) → ((c : ℕ) → has c cs ≡ true → P c) → AllByRecursion P cs
-all_members P [] f = tt
-all_members P (c ∷ cs) f = (f c (or_left (c == c) (has c cs) (eq-eqb c c refl)), all_members P cs (λ d h. f d (or_right (c == d) (has d cs) h)))
 
 front_known : (all : List Identifier) (m : ℕ) (names : List Identifier) → are_known all names ≡ true → are_known all (take m names) ≡ true
 front_known all zero names known = refl
@@ -170,68 +158,21 @@ module _ (k : Known) (scope : Scope) (library : List Specification) (refused : L
         ap₂ (λ (o : Option Fields) (tags : List Identifier). statements.has_bad_tag f n o tags) told.is (sym (tags_are nodes n))
         ∙ bad_same n is (of_tags.tags_round k n)
 
-    -- ---- arms at which V22 is not violated
-
-    record IsFine (fs : List Field) (all : List ℕ) (c : ℕ) : Type 0 where
-      selectors : list_all (is_selector_of fs) (tags_at nodes c) ≡ true
-      fresh : IsFresh (tags_at nodes) all c
-
-    fine_arm : (n c : ℕ) (fs : List Field) → parent f c ≡ Some n → option_and_then statements.tags_of (statements.tagged_by f (item f n).statement) ≡ Some (fields_at (types_of terms) fs) → kind_at nodes c ≡ kind.TagArm → v22 f c ≡ false → IsFine fs (children f n) c
-    fine_arm n c fs above told is fine =
-        let its : statements.has_bad_tag f c (Some (fields_at (types_of terms) fs)) (tags_at nodes c) ≡ false =
-        ap₂ (λ (o : Option Fields) (tags : List Identifier). statements.has_bad_tag f c o tags)
-        (sym told ∙ ap (λ (o : Option ℕ). option_and_then statements.tags_of (statements.tagged_at f o)) (sym above)) (tags_are nodes c)
-        ∙ ap (λ (j : NodeKind). v22_in f j c) (sym is) ∙ fine in
-        let parts = either_false (not (list_all (expressions.is_selector_of (fields_at (types_of terms) fs)) (tags_at nodes c)) || stands_twice (tags_at nodes c)) (list_any (λ tag. list_any (bytes_eq tag) (statements.tags_before f c)) (tags_at nodes c)) its in
-        let first = either_false (not (list_all (expressions.is_selector_of (fields_at (types_of terms) fs)) (tags_at nodes c))) (stands_twice (tags_at nodes c)) parts.0 in
-        record {
-          selectors = sym (selectors_are (types_of terms) fs (tags_at nodes c)) ∙ not_false (list_all (expressions.is_selector_of (fields_at (types_of terms) fs)) (tags_at nodes c)) first.0;
-          fresh = (
-            first.1,
-            ap (λ (xs : List Identifier). some_before xs (tags_at nodes c)) (sym (all_tags f (before_in (children f n) c)))
-                ∙ ap (λ (o : Option ℕ). some_before (flat_map (statements.tags_at f) (before_in (children_at f o) c)) (tags_at nodes c)) (sym above)
-                ∙ parts.1,
-          );
-        }
-
-    fine_other : (all : List ℕ) (c : ℕ) (fs : List Field) → is_of kind.TagArm (kind_at nodes c) ≡ false → IsFine fs all c
-    fine_other all c fs other =
-        let none : tags_at nodes c ≡ [] = no_tags nodes c other in
-        record {
-          selectors = ap (list_all (is_selector_of fs)) none;
-          fresh = (ap stands_twice none, ap (some_before (flat_map (tags_at nodes) (before_in all c))) none);
-        }
-
-    fine_at : (n : ℕ) (fs : List Field) → option_and_then statements.tags_of (statements.tagged_by f (item f n).statement) ≡ Some (fields_at (types_of terms) fs) → AllByRecursion (λ c. v22 f c ≡ false) (children f n) → (c : ℕ) → has c (children f n) ≡ true → IsFine fs (children f n) c
-    fine_at n fs told fine c h = by (is_of kind.TagArm (kind_at nodes c)) refl
-      where
-        by : (b : Bool) → is_of kind.TagArm (kind_at nodes c) ≡ b → IsFine fs (children f n) c
-        by true e = fine_arm n c fs (parents.above n c h) told (same_kind kind.TagArm (kind_at nodes c) e) (of_all (λ c. v22 f c ≡ false) c (children f n) fine (is_in c (children f n) h))
-        by false e = fine_other (children f n) c fs e
-
-    all_selectors : (fs : List Field) (all cs : List ℕ) → AllByRecursion (IsFine fs all) cs → list_all (λ c. list_all (is_selector_of fs) (tags_at nodes c)) cs ≡ true
-    all_selectors fs all [] fine = refl
-    all_selectors fs all (c ∷ cs) fine = ap₂ (λ (a b : Bool). a && b) fine.0.selectors (all_selectors fs all cs fine.1)
-
     -- ---- a Tagcase
 
-    left_same : (n : ℕ) (code : Option (List Field)) → HasTagsOnce code → option_and_then statements.tags_of (statements.tagged_by f (item f n).statement) ≡ option_map (fields_at (types_of terms)) code → AllByRecursion (λ c. v22 f c ≡ false) (children f n) →
-        statements.leaves_tag f (option_map (fields_at (types_of terms)) code) (flat_map (statements.tags_at f) (children f n)) nothing_else ≡ of_tags.leaves_tag k n code
-    left_same n None once told fine = refl
-    left_same n (Some fs) once told fine =
-        let each : (c : ℕ) → has c (children f n) ≡ true → IsFine fs (children f n) c = fine_at n fs told fine in
-        ap (λ (tags : List Identifier). not (statements.has_every_tag (fields_at (types_of terms) fs) tags)) (all_tags f (children f n))
-        ∙ tags_by_count (types_of terms) fs (tags_at nodes) (children f n) once
-        (stand_once (tags_at nodes) (children f n) (parents.once n) (λ c h. (each c h).fresh))
-        (all_selectors fs (children f n) (children f n) (all_members (IsFine fs (children f n)) (children f n) each))
+    left_same : (n : ℕ) (code : Option (List Field)) → statements.leaves_tag f (option_map (fields_at (types_of terms)) code) (flat_map (statements.tags_at f) (children f n)) nothing_else ≡ of_tags.leaves_tag k n code
+    left_same n None = refl
+    left_same n (Some fs) =
+        ap (λ (tags : List Identifier). nat_lt (length tags) (statements.count_of (fields_at (types_of terms) fs))) (all_tags f (children f n))
+        ∙ tags_by_count (types_of terms) fs (tags_at nodes) (children f n)
         ∙ ap (leaves_some (tags_at nodes) (length fs)) (so.children_same k scope library refused (slice_get nodes n))
 
     with_others : (o : Option Fields) (tags : List Identifier) (token : ℕ) (cs : List ℕ) (n : ℕ) → statements.leaves_tag f o tags (otherwise_of (items n) nodes (Some token) cs) ≡ false
     with_others None tags token cs n = refl
     with_others (Some fs) tags token cs n = refl
 
-    tagcase_is : (others : ℕ → Item) (n : ℕ) → kind_at nodes n ≡ kind.Tagcase → lost n ≡ false → HasTagsOnce (tags_by k n) → AllByRecursion (λ c. v22 f c ≡ false) (children f n) → v22_in f kind.Tagcase n ≡ (of_tags.has_no_others_at k others n && of_tags.leaves_tag k n (tags_by k n))
-    tagcase_is others n is here once fine =
+    tagcase_is : (others : ℕ → Item) (n : ℕ) → kind_at nodes n ≡ kind.Tagcase → lost n ≡ false → v22_in f kind.Tagcase n ≡ (of_tags.has_no_others_at k others n && of_tags.leaves_tag k n (tags_by k n))
+    tagcase_is others n is here =
         let x : There nodes n kind.Tagcase = there nodes n kind.Tagcase refl is in
         let told : Told (tags_by k n) (option_and_then statements.tags_of (statements.tagged_by f (item f n).statement)) =
         tags_told k scope library refused shaped tree are lost facts n (λ hit c cs e. (subst (AllByRecursion (λ c. lost c ≡ false)) e (facts.below n here)).0) in
@@ -250,17 +191,17 @@ module _ (k : Known) (scope : Scope) (library : List Specification) (refused : L
         by node None e told same =
             ap (λ (token : Option ℕ). statements.leaves_tag f (option_and_then statements.tags_of (statements.tagged_by f (statement_of (items n) nodes n node kind.Tagcase))) (flat_map (statements.tags_at f) (children f n)) (otherwise_of (items n) nodes token (after_run nodes kind.TagArm (drop 1 node.children)))) e
             ∙ ap (λ (o : Option Fields). statements.leaves_tag f o (flat_map (statements.tags_at f) (children f n)) nothing_else) (same ∙ told)
-            ∙ left_same n (tags_by k n) once told fine
+            ∙ left_same n (tags_by k n)
             ∙ ap (λ (token : Option ℕ). of_tags.has_no_others (tagcase_of others nodes n (child 0 node) token (drop 1 node.children)) && of_tags.leaves_tag k n (tags_by k n)) (sym e)
         by node (Some token) e told same =
             ap (λ (token : Option ℕ). statements.leaves_tag f (option_and_then statements.tags_of (statements.tagged_by f (statement_of (items n) nodes n node kind.Tagcase))) (flat_map (statements.tags_at f) (children f n)) (otherwise_of (items n) nodes token (after_run nodes kind.TagArm (drop 1 node.children)))) e
             ∙ with_others (option_and_then statements.tags_of (statements.tagged_by f (statement_of (items n) nodes n node kind.Tagcase))) (flat_map (statements.tags_at f) (children f n)) token (after_run nodes kind.TagArm (drop 1 node.children)) n
             ∙ ap (λ (token : Option ℕ). of_tags.has_no_others (tagcase_of others nodes n (child 0 node) token (drop 1 node.children)) && of_tags.leaves_tag k n (tags_by k n)) (sym e)
 
-    by_kind : (others : ℕ → Item) (n : ℕ) → lost n ≡ false → IsFirstKnown f lost n → HasTagsOnce (tags_by k n) → AllByRecursion (λ c. v22 f c ≡ false) (children f n) → (j : NodeKind) → kind_at nodes n ≡ j → v22_in f j n ≡ of_tags.v22_at k others j n
-    by_kind others n here round once fine kind.TagArm is = arm_is n is round
-    by_kind others n here round once fine kind.Tagcase is = tagcase_is others n is here once fine
-    by_kind others n here round once fine _ is = refl
+    by_kind : (others : ℕ → Item) (n : ℕ) → lost n ≡ false → IsFirstKnown f lost n → (j : NodeKind) → kind_at nodes n ≡ j → v22_in f j n ≡ of_tags.v22_at k others j n
+    by_kind others n here round kind.TagArm is = arm_is n is round
+    by_kind others n here round kind.Tagcase is = tagcase_is others n is here
+    by_kind others n here round _ is = refl
 
-    pub v22_is : (others : ℕ → Item) (n : ℕ) → lost n ≡ false → IsFirstKnown f lost n → HasTagsOnce (tags_by k n) → AllByRecursion (λ c. v22 f c ≡ false) (children f n) → v22 f n ≡ of_tags.v22 k others n
-    v22_is others n here round once fine = by_kind others n here round once fine (kind_at nodes n) refl
+    pub v22_is : (others : ℕ → Item) (n : ℕ) → lost n ≡ false → IsFirstKnown f lost n → v22 f n ≡ of_tags.v22 k others n
+    v22_is others n here round = by_kind others n here round (kind_at nodes n) refl

@@ -1,6 +1,6 @@
 -- What is known at a node before which no rule is violated: its brackets, and that nothing is lost at it if it violates none of the rules
 -- by which a value is lost.
-use Rattle.std.proofs.Common.{◌≡◌, ◌∙◌, ℕ, ◌<◌, ◌≤◌, ◌||◌, Bool, true, false, List, [], ◌∷◌, length, drop, is_some, Option, Some, None, inl, inr, refl, sym, ap, subst, arith}
+use Rattle.std.proofs.Common.{◌≡◌, ◌∙◌, ℕ, ◌<◌, ◌≤◌, ◌&&◌, ◌||◌, Bool, true, false, List, [], ◌∷◌, length, drop, is_some, Option, Some, None, inl, inr, refl, sym, ap, subst, arith}
 use Rattle.std.specs.Prelude.{slice_get}
 use Rattle.std.specs.List.{AllByRecursion}
 use Rattle.std.proofs.lemmas.Bool.{true≢false}
@@ -12,13 +12,14 @@ use Rattle.clu_tree.specs.declared.node.NodeKind.TheVariants as kind
 use Rattle.clu_tree.specs.Nodes.{IsTree}
 use Rattle.clu_parser.specs.Shape.{HaveForms}
 use Rattle.clu_parser.specs.Trees.{Text}
+use Rattle.clu_syntax.specs.declared.words.SimpleType.TheVariants as simple
 use Rattle.clu_syntax.specs.Kinds.{is_expression, is_type, kind_at}
 use Rattle.clu_syntax.specs.Slots.{any, slots}
 use Rattle.clu_syntax.specs.Splits.{child, children_of, is_of}
 use Rattle.clu_settle.proofs.Shapes.{first_part}
 use Rattle.clu_checking.specs.Specifications.{Specification}
-use Rattle.clu_checking.specs.Files.{File, is_kind, kind_in, parent, round}
-use Rattle.clu_checking.specs.ConstantRules.{is_of_heading}
+use Rattle.clu_checking.specs.Files.{File, is_kind, item, kind_in, parent, round}
+use Rattle.clu_checking.specs.ConstantRules.{is_of_heading, is_word}
 use Rattle.clu_checking.specs.Rules.{least, violates}
 use Rattle.clu_checking.specs.Refusals.{is_bad_of, is_no_type_at, rules_of_types}
 use Rattle.clu_declares.proofs.Facts.{There, there}
@@ -134,7 +135,7 @@ module _ (t : Text) (k : Known) (library : List Specification) (refused : List �
 
   module _ (fine : is_lost_itself f n ≡ false) where
     pub here : reads_facts (kind_in f n) ≡ true → lost f n ≡ false
-    here reads = kept_there f of_file parents n inside clear (constant_of (kind_in f n) reads) (no_simple (kind_in f n) reads) fine
+    here reads = kept_there f of_file parents n inside clear (constant_of (kind_in f n) reads) (ap (λ (b : Bool). b && is_word simple.Cvt (item f n).type) (no_simple (kind_in f n) reads)) fine
 
     no_odd : NamesOdd f of_file n → ⊥
     no_odd odd = true≢false (sym (odd_itself f of_file n odd) ∙ fine)

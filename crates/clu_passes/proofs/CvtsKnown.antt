@@ -53,7 +53,7 @@ use Rattle.clu_name_rules.specs.Closed.{is_definition}
 use Rattle.clu_name_rules.specs.declared.tables.Tables.{Tables}
 use Rattle.clu_passes.specs.ConstantTables.{IsKnown, Means, file_with}
 use Rattle.clu_passes.specs.FactTables.{IsType}
-use Rattle.clu_passes.specs.KnownFiles.{AreCvtsKnown, AreRepsSettled, IsRepFine}
+use Rattle.clu_passes.specs.KnownFiles.{AreCvtsKnown, IsRepFine}
 use Rattle.clu_passes.specs.Lost.{is_cvt_at}
 use Rattle.clu_passes.specs.Made.{IsWhole}
 use Rattle.clu_passes.specs.Reps.{AreReps, IsAtHome, IsRep}
@@ -130,7 +130,7 @@ module _ (t : Text) (h : Headed) (its : Tables) (library : List Specification) (
 
   -- ---- `rep`
 
-  module _ (reps : AreReps f) (settles : AreRepsSettled f r) where
+  module _ (reps : AreReps f) where
     -- it is noted just if it is declared
     place_is : (n : ℕ) → n < length nodes → (o : Option Declared) → declaration f n (codes "rep") ≡ o → is_none (rep_at r n) ≡ is_none o
     place_is n less o said = ap is_none (rep.rep_there t h its library refused whole n less) ∙ by (found ds (codes "rep") n) said
@@ -272,7 +272,7 @@ module _ (t : Text) (h : Headed) (its : Tables) (library : List Specification) (
           means_it = (subst (λ (m : Meaning). Means nodes m (meaning f c (codes "rep"))) meant_c (rep.means_so t h its library refused whole c)).1
 
           same_value : settled scope (item f right).constant ≡ value_settled scope (item f right).constant
-          same_value = settles n d.node right (drop 1 e.node.children) (named_by (declaration f n (codes "rep")) said) kids known.0
+          same_value = rep.right_settled t h its library refused whole c right meant_c known.0
 
           value_is : rep_value f (meaning f c (codes "rep")) ≡ Some representation
           value_is =

@@ -30,7 +30,7 @@ use Rattle.clu_passes.proofs.ValuesKnown.{IsBelow, all_by, child_below}
 -- ---- no fault at any node
 
 module _ (f : File) where
-  none_among : (fault : ℕ → Option Rule) (a len : ℕ) → a + len ≤ length f.nodes → refused_at f (first_among fault (range_with_len a len)) ≡ None → (n : ℕ) → a ≤ n → n < a + len → fault n ≡ None
+  pub none_among : (fault : ℕ → Option Rule) (a len : ℕ) → a + len ≤ length f.nodes → refused_at f (first_among fault (range_with_len a len)) ≡ None → (n : ℕ) → a ≤ n → n < a + len → fault n ≡ None
   none_among fault a zero all e n from to = absurd (omega (arith, from, to))
   none_among fault a (suc len) all e n from to = by (fault a) refl e (λ more e. none_among fault (a + 1) len (omega (arith, all)) e n (omega (arith, more)) (omega (arith, to)))
     where

@@ -81,6 +81,9 @@ settled_later nodes scope old new constants values grows known = record {
   each = λ n is.
       let here = value_within (length old) (length constants) values n known.within in
       subst (λ o. Agrees o (value_of_constant scope (settled scope) (item_at nodes n).constant)) (sym (told_kept old new constants constants grows ([], no_more constants) (value_of values n) here.0 here.1)) (known.each n is);
+  rights = λ n r name so.
+      let here = value_within (length old) (length constants) values r known.within in
+      subst (λ o. Agrees o (settled scope (item_at nodes r).constant)) (sym (told_kept old new constants constants grows ([], no_more constants) (value_of values r) here.0 here.1)) (known.rights n r name so);
 }
   where
     no_more : (cs : List Const) → cs ≡ cs ++ []

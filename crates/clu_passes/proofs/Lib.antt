@@ -248,6 +248,7 @@ pub mod AskedWhole
 pub mod AskedTells
 pub mod OpersLost
 pub mod HeadsTyped
+pub mod OwnNumbered
 pub mod OwnTypeKept
 pub mod HeadsMade
 pub mod FailuresKnown
@@ -280,3 +281,14 @@ pub mod RepsAtHome
 pub mod VariableTypes
 pub mod CvtsKnown
 pub mod RepsOfTree
+pub mod RepNodes
+pub mod RepRows
+pub mod RepsOfBuilt
+pub mod ReservedNames
+pub mod AcceptedFine
+pub mod InvokedExpressions
+pub mod InvokedNodes
+pub mod InvokedCalls
+pub mod CalleesWanted
+pub mod InvokedAtNode
+pub mod InvokedLater

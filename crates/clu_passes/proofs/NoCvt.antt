@@ -1,6 +1,6 @@
 -- No `cvt` stands before an expression, nor before the name of a type, in what it reads: a whole type of a heading is no part of one. So
 -- nothing is lost there where no type is refused before it, nor its own value lost.
-use Rattle.std.proofs.Common.{◌≡◌, ◌∙◌, ℕ, ◌<◌, ◌≤◌, ◌&&◌, ◌||◌, if◌then◌else◌, Bool, true, false, length, Option, Some, None, inl, inr, refl, sym, ap, subst, arith}
+use Rattle.std.proofs.Common.{◌≡◌, ◌∙◌, ℕ, ◌<◌, ◌≤◌, ◌||◌, if◌then◌else◌, Bool, true, false, length, Option, Some, None, inl, inr, refl, sym, ap, subst, arith}
 use Rattle.std.specs.Prelude.{slice_get}
 use Rattle.std.proofs.lemmas.Bool.{true≢false, and_parts, cases_lt}
 use Rattle.clu_base.specs.declared.rules.Rule.TheVariants as rule
@@ -9,7 +9,6 @@ use Rattle.clu_tree.specs.declared.node.NodeKind.{NodeKind}
 use Rattle.clu_tree.specs.declared.node.NodeKind.TheVariants as kind
 use Rattle.clu_syntax.specs.declared.words.SimpleType.TheVariants as simple
 use Rattle.clu_syntax.specs.Kinds.{is_expression, is_type, kind_of}
-use Rattle.clu_syntax.specs.Splits.{is_of}
 use Rattle.clu_checking.specs.Files.{File, is_kind, item, kind_in, parent, parent_of, round}
 use Rattle.clu_checking.specs.ConstantRules.{is_word, v31}
 use Rattle.clu_checking.specs.Refusals.{is_no_type_at}
@@ -45,7 +44,7 @@ module _ (f : File) (of : IsFileOfTree f) where
   index_top : (p : ℕ) → is_kind f kind.Index p ≡ true → (node : Node) → slice_get f.nodes p ≡ Some node → IsTop node.kind
   index_top p hit node at = constant_top node.kind (ap (λ (j : NodeKind). is_expression j || is_type j) (sym (ap kind_of at) ∙ same_kind kind.Index (kind_in f p) hit))
 
-  module _ (parents : HaveParents f) (n : ℕ) (inside : n < length f.nodes) (clear : IsClear f n) (const : (is_expression (kind_in f n) || is_type (kind_in f n)) ≡ true) (apart : is_of kind.Simple (kind_in f n) ≡ false) where
+  module _ (parents : HaveParents f) (n : ℕ) (inside : n < length f.nodes) (clear : IsClear f n) (const : (is_expression (kind_in f n) || is_type (kind_in f n)) ≡ true) (apart : is_cvt_at f n ≡ false) where
     abbrev NoneBefore : Type 0
     NoneBefore = (m : ℕ) → first_read f n ≤ m → m < n → is_cvt_at f m ≡ false
 
@@ -103,7 +102,7 @@ module _ (f : File) (of : IsFileOfTree f) where
       | inl less ↦ before m low less
       | inr back ↦
           let same : n ≡ m = omega (arith, high, back) in
-          subst (λ (i : ℕ). is_cvt_at f i ≡ false) same (ap (λ (b : Bool). b && is_word simple.Cvt (item f n).type) apart)
+          subst (λ (i : ℕ). is_cvt_at f i ≡ false) same apart
     ]
 
     pub kept_there : is_lost_itself f n ≡ false → lost f n ≡ false

@@ -36,7 +36,7 @@ use Rattle.clu_passes.proofs.OnesSaid.{expression_ones, statement_ones, expressi
 
 -- ---- the kind of an expression
 
-abbrev form : Expression → NodeKind
+abbrev pub form : Expression → NodeKind
 form (an_infix m o a b) = kind.Infix
 form (a_prefix m s e) = kind.Prefix
 form (a_paren m e) = kind.Paren
@@ -76,7 +76,7 @@ module _ (items : ℕ → Item) (nodes : List Node) (n : ℕ) where
   form_of node kind.Down is = refl
   form_of node _ is = absurd (true≢false (sym is))
 
-form_at : (nodes : List Node) (n : ℕ) → is_expression (kind_at nodes n) ≡ true → form (item_at nodes n).expression ≡ kind_at nodes n
+pub form_at : (nodes : List Node) (n : ℕ) → is_expression (kind_at nodes n) ≡ true → form (item_at nodes n).expression ≡ kind_at nodes n
 form_at nodes n is = by (slice_get nodes n) refl
   where
     by : (its : Option Node) → slice_get nodes n ≡ its → form (item_at nodes n).expression ≡ kind_at nodes n

@@ -69,12 +69,12 @@ use Rattle.clu_passes.proofs.TypesNoted.{type_noted}
 
 -- ---- lists with one item more
 
-item_before : {A : Type 0} (xs : List A) (y : A) (k : ℕ) → k < length xs → slice_get (xs ++ y ∷ []) k ≡ slice_get xs k
+pub item_before : {A : Type 0} (xs : List A) (y : A) (k : ℕ) → k < length xs → slice_get (xs ++ y ∷ []) k ≡ slice_get xs k
 item_before [] y k lt = absurd (omega (arith, lt))
 item_before (x ∷ xs) y zero lt = refl
 item_before (x ∷ xs) y (suc k) lt = item_before xs y k (omega (arith, lt))
 
-item_behind : {A : Type 0} (xs : List A) (y : A) (k : ℕ) → k ≡ length xs → slice_get (xs ++ y ∷ []) k ≡ Some y
+pub item_behind : {A : Type 0} (xs : List A) (y : A) (k : ℕ) → k ≡ length xs → slice_get (xs ++ y ∷ []) k ≡ Some y
 item_behind [] y k e = ap (λ (j : ℕ). slice_get (y ∷ []) j) e
 item_behind (x ∷ xs) y zero e = absurd (omega (arith, e))
 item_behind (x ∷ xs) y (suc k) e = item_behind xs y k (omega (arith, e))
@@ -165,16 +165,16 @@ module _ (t : Text) (h : Headed) (scope : Scope) (library : List Specification) 
       kids : Typed f n what.applied_terms before.types.items (children f n)
       kids = children_typed n old before typed_before (children f n) (kids_before n) (below n here) what.applied_terms what.applied_grows
 
-      its_types : is_expression (kind_in f n) ≡ true → HasTypes f h items what.applied_terms n (item f n).expression
+      pub its_types : is_expression (kind_in f n) ≡ true → HasTypes f h items what.applied_terms n (item f n).expression
       its_types e = known_types n here e what.applied_terms to_applied
 
       given : AreOperands f what.applied_terms (types_given before.types.items (children_in h.file n)) (kind_in f n) n
       given = node_given t h scope library refused parsed up items what.applied_terms applied_arena (tells what.applied_terms to_applied) applied_facts looked.0.finding.within before.types.items n its looked.1 kids its_types
 
-      told : is_expression (kind_in f n) ≡ true → IsAppliedTold h what.applied_terms what.applied_finding n (stands_by h.file before.types.items n (item f n).expression) its
+      pub told : is_expression (kind_in f n) ≡ true → IsAppliedTold h what.applied_terms what.applied_finding n (stands_by h.file before.types.items n (item f n).expression) its
       told = node_told t h scope library refused parsed up items what.applied_terms applied_arena (tells what.applied_terms to_applied) applied_facts looked.0.finding.within before.types.items n its looked.1 kids its_types
 
-      stands_then : NodeStandsFor f what.applied_terms applied_facts (kind_in f n) n its
+      pub stands_then : NodeStandsFor f what.applied_terms applied_facts (kind_in f n) n its
       stands_then = node_stands t h scope library refused parsed up items what.applied_terms applied_arena (tells what.applied_terms to_applied) applied_facts looked.0.finding.within before.types.items n its looked.1 kids its_types
 
       node_typed : IsType new what.of (typed f n)

@@ -148,7 +148,7 @@ module _ (f : File) (n : ℕ) (terms : List Term) (types : List (Option TypeId))
       stand_in : (form : List Part) → its_form.form ≡ form → Stand nodes n (slots_of form) x.node.children
       stand_in form e = subst (λ (form : List Part). Stand nodes n (slots_of form) x.node.children) e (fitted nodes parsed.tree n x.node x.at its_form)
 
-      only : (form : List Part) → forms k ≡ form ∷ [] → Stand nodes n (slots_of form) x.node.children
+      pub only : (form : List Part) → forms k ≡ form ∷ [] → Stand nodes n (slots_of form) x.node.children
       only form one = elim (subst (λ (fs : List (List Part)). IsFormOf its_form.form fs) one (subst (λ (k : NodeKind). IsFormOf its_form.form (forms k)) x.is its_form.of_kind)) [ inl e ↦ stand_in form e | inr never ↦ absurd never ]
 
       its_children : children f n ≡ x.node.children

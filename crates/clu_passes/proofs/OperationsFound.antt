@@ -63,7 +63,7 @@ abbrev name_by : CluType → Option (List ℕ)
 name_by (cluster_of c given) = Some c
 name_by t = None
 
-shape_same : (types : List CluType) (its : Term) → shape_of_term its ≡ shape_by (type_of types its)
+pub shape_same : (types : List CluType) (its : Term) → shape_of_term its ≡ shape_by (type_of types its)
 shape_same types (term.Cluster c given) = refl
 shape_same types (term.Param k) = refl
 shape_same types _ = refl

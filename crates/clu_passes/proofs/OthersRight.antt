@@ -208,13 +208,13 @@ module _ (t : Text) (k : Known) (library : List Specification) (refused : List �
   tagged : kind_in f n ≡ kind.Tagcase → Agree kind.Tagcase
   tagged is =
       let here : lost n ≡ false = here_always kind.Tagcase is refl refl refl refl in
-      (reading.same_tagged t k library refused all lost known items bits n here, λ a. (reading.same_tags t k library refused all lost known items bits n here inside (first_known kind.Tagcase is refl here) (seen.tags_fine f (so.of_file t k library refused all) (so.parents t k library refused all) k lost known placed n inside plain apart first quiet), λ b. tt))
+      (reading.same_tagged t k library refused all lost known items bits n here, λ a. (reading.same_tags t k library refused all lost known items bits n here (first_known kind.Tagcase is refl here), λ b. tt))
 
   tag_arm : kind_in f n ≡ kind.TagArm → Agree kind.TagArm
   tag_arm is = (
     range,
     λ a. let here : lost n ≡ false = here_named kind.TagArm is refl refl refl a in
-        (defined kind.TagArm is refl, λ b. (bound_by kind.TagArm is refl here tt, λ c. (reading.same_tags t k library refused all lost known items bits n here inside (first_known kind.TagArm is refl here) (seen.tags_fine f (so.of_file t k library refused all) (so.parents t k library refused all) k lost known placed n inside plain apart first quiet), λ d. tt))),
+        (defined kind.TagArm is refl, λ b. (bound_by kind.TagArm is refl here tt, λ c. (reading.same_tags t k library refused all lost known items bits n here (first_known kind.TagArm is refl here), λ d. tt))),
   )
 
   -- ---- what leaves a routine

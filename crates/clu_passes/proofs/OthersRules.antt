@@ -106,9 +106,9 @@ module _ (t : Text) (k : Known) (library : List Specification) (refused : List �
     pub same_tagged : Same n rule.NotTagged
     same_tagged = sym (v21_is k scope library refused shaped tree are lost known.rules.facts n here)
 
-    pub same_tags : n < length f.nodes → IsFirstKnown f lost n → AllByRecursion (λ (c : ℕ). v22 f c ≡ false) (children f n) → Same n rule.TagMissingOrTwice
-    same_tags inside first fine =
-        sym (v22_is k scope library refused shaped tree are lost known.rules.facts (so.parents t k library refused all) (so.modules t k library refused all) all.noted.repeated items n here first (known.once n inside here) fine)
+    pub same_tags : IsFirstKnown f lost n → Same n rule.TagMissingOrTwice
+    same_tags first =
+        sym (v22_is k scope library refused shaped tree are lost known.rules.facts (so.parents t k library refused all) (so.modules t k library refused all) all.noted.repeated items n here first)
 
     pub same_results : AllByRecursion (IsResultKnown f k n) (results_round k n) → Same n rule.ReturnValues
     same_results results = sym (v30_is k scope library refused shaped tree lost known.rules.facts (so.stands t k library refused all) known.parts items n here results)

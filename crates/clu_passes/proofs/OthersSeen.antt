@@ -1,6 +1,6 @@
 -- Of what a rule reads at a statement, or at what else stands in routines and clusters, nothing is lost, if its walk finds no fault
 -- before it.
-use Rattle.std.proofs.Common.{◌≡◌, ◌∙◌, ℕ, ◌<◌, ◌≤◌, ◌&&◌, Bool, true, false, List, [], ◌∷◌, length, Option, Some, None, inl, inr, refl, sym, ap, subst, arith}
+use Rattle.std.proofs.Common.{◌≡◌, ◌∙◌, ℕ, ◌<◌, ◌≤◌, ◌&&◌, Bool, true, false, List, [], ◌∷◌, length, Option, Some, inl, inr, refl, sym, ap, subst, arith}
 use Rattle.std.specs.Prelude.{slice_get}
 use Rattle.std.specs.List.{AllByRecursion}
 use Rattle.std.proofs.lemmas.Bool.{true≢false, cases_lt}
@@ -14,19 +14,17 @@ use Rattle.clu_syntax.specs.declared.words.SimpleType.TheVariants as simple
 use Rattle.clu_syntax.specs.Kinds.{kind_of}
 use Rattle.clu_syntax.specs.Syntax.{Identifier}
 use Rattle.clu_names.specs.declared.binding.Names.{Names}
-use Rattle.clu_checking.specs.Files.{File, children, is_kind, item, kind_in, node_children, parent, round}
+use Rattle.clu_checking.specs.Files.{File, children, is_kind, item, kind_in, parent, round}
 use Rattle.clu_checking.specs.NameRules.{v4, v5}
 use Rattle.clu_checking.specs.ConstantRules.{is_of_heading, is_word, v31}
-use Rattle.clu_checking.specs.Rules.{all_rules, least, violates}
+use Rattle.clu_checking.specs.Rules.{violates}
 use Rattle.clu_checking.specs.Refusals.{is_bad, is_bad_of, is_no_type_at, rest, rules_of_types}
-use Rattle.clu_checking.specs.StatementRules.{v22}
 use Rattle.clu_bindings.specs.declared.meaning.Meaning.{Meaning}
 use Rattle.clu_bindings.specs.declared.meaning.Meaning.TheVariants as meant
 use Rattle.clu_declares.proofs.Around.{there}
 use Rattle.clu_declares.proofs.Below.{same_kind}
 use Rattle.clu_declares.proofs.Facts as facts
 use Rattle.clu_declares.proofs.Facts.{There}
-use Rattle.clu_declares.proofs.Parents.{IsIn}
 use Rattle.clu_type_rules.specs.declared.known.Known.{Known}
 use Rattle.clu_type_rules.specs.Asked.{is_asked}
 use Rattle.clu_type_rules.specs.Known as its_known
@@ -42,17 +40,16 @@ use Rattle.clu_passes.specs.Lost.{is_cvt_at}
 use Rattle.clu_passes.specs.Notes.{HaveParents}
 use Rattle.clu_passes.specs.OthersKnown.{AreOthersKnown, ArePlaced, IsArmDecl, IsArmType, IsBare, IsFine, IsTypeFine, IsTypeSeen, IsVariableSeen, is_in_headings}
 use Rattle.clu_passes.specs.Refusing.{IsOrder}
-use Rattle.clu_passes.specs.Right.{IsFirst, IsQuiet}
+use Rattle.clu_passes.specs.Right.{IsFirst}
 use Rattle.clu_passes.specs.Trees.{IsFileOfTree, is_of_constant}
-use Rattle.clu_passes.proofs.ByKinds.{least_at, not_elsewhere}
+use Rattle.clu_passes.proofs.ByKinds.{not_elsewhere}
 use Rattle.clu_passes.proofs.CvtPlaces.{misplaced_at}
 use Rattle.clu_passes.proofs.LostRefused.{refused_by}
 use Rattle.clu_passes.proofs.OthersArms.{decl_fine}
-use Rattle.clu_passes.proofs.OthersFine.{asks_values, fine_before, fine_below, fine_here, fine_seen, is_clear, least_none, outside_of}
+use Rattle.clu_passes.proofs.OthersFine.{asks_values, fine_before, fine_below, fine_here, fine_seen, is_clear, outside_of}
 use Rattle.clu_passes.proofs.OthersFirsts.{IsNodeSeen, first_seen}
 use Rattle.clu_passes.proofs.OthersRounds.{bare_below, headed, in_rest, no_part_bare}
 use Rattle.clu_passes.proofs.Subtrees.{is_subtree}
-use Rattle.clu_passes.proofs.ValuesKnown.{IsBelow, all_by, child_below}
 use Rattle.clu_passes.proofs.Within.{forest_goes_on}
 
 and_both : (a b : Bool) → (a && b) ≡ true → (a ≡ true) × (b ≡ true)
@@ -74,18 +71,6 @@ module _ (f : File) (of : IsFileOfTree f) (parents : HaveParents f) (k : Known) 
 
   pub clear : IsClear f n
   clear = is_clear f of parents n first has_node.node has_node.at has_node.its_plain apart
-
-  -- at no child V22 is violated
-  pub tags_fine : IsQuiet f (is_bad f) n → AllByRecursion (λ (c : ℕ). v22 f c ≡ false) (children f n)
-  tags_fine quiet = by (slice_get f.nodes n) refl
-    where
-      by : (o : Option Node) → slice_get f.nodes n ≡ o → AllByRecursion (λ (c : ℕ). v22 f c ≡ false) (node_children f o)
-      by None at = tt
-      by (Some node) at = all_by (λ (c : ℕ). v22 f c ≡ false) node.children (λ c i.
-          let b : IsBelow f of n c = child_below f of n node at c i in
-          let low : quiet.low ≤ (round f n).first = quiet.from.own in
-          let more : (round f n).first ≤ c = b.least in
-          least_none (violates f (is_bad f) c) all_rules 18 rule.TagMissingOrTwice refl (least_at f of (is_bad f) c ∙ quiet.quiet c (omega (arith, low, more)) b.less))
 
   -- ---- `cvt` that is not refused stands in a heading
 

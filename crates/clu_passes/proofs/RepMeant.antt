@@ -21,7 +21,7 @@ use Rattle.clu_names.specs.Latest.{at}
 use Rattle.clu_names.specs.Scopes.{declarations}
 use Rattle.clu_meaning.specs.Scoping as means
 use Rattle.clu_meaning.specs.Scoping.{Scope, declaration_at}
-use Rattle.clu_meaning.specs.Settling.{Value as Settled}
+use Rattle.clu_meaning.specs.Settling.{Value as Settled, settled}
 use Rattle.clu_checking.specs.Settled.{value_settled}
 use Rattle.clu_checking.specs.Specifications.{Specification}
 use Rattle.clu_checking.specs.Files.{File, declaring_node, equate_named, equate_of, is_kind, is_refused, is_refused_at, item, kind_in, meaning, parent, round, scope_in}
@@ -35,6 +35,7 @@ use Rattle.clu_settle.specs.declared.value.Value.TheVariants as value
 use Rattle.clu_settle.specs.Lists.{type_id}
 use Rattle.clu_settle.specs.Names.{is_constant}
 use Rattle.clu_settle.specs.Values.{Agrees, IsWithin, told}
+use Rattle.clu_settle.proofs.Reading.{constant_there}
 use Rattle.clu_declares.proofs.Parents.{IsIn}
 use Rattle.clu_bindings.specs.declared.file.File.{File as Read}
 use Rattle.clu_bindings.specs.declared.file.Headed.{Headed}
@@ -61,6 +62,7 @@ use Rattle.clu_passes.proofs.LostRefused.{IsSideOf, side_inside}
 use Rattle.clu_passes.proofs.NamedEquates.{to_equate}
 use Rattle.clu_passes.proofs.NamesMean.{name_means}
 use Rattle.clu_passes.proofs.RepsSaid.{found_so, rep_equated}
+use Rattle.clu_passes.proofs.Strings.{value_same}
 use Rattle.clu_passes.proofs.TablesMade.{tables_are}
 use Rattle.clu_passes.proofs.ValuesKnown as known_at
 
@@ -73,6 +75,14 @@ none_get (x ∷ xs) (suc p) d e = none_get xs p d e
 in_found : (b : Bool) (o : Option ℕ) (p : ℕ) → (if b then o else None) ≡ Some p → o ≡ Some p
 in_found true o p e = e
 in_found false o p e = absurd (none-some p e)
+
+-- what agrees with a known value is the same
+same_told : (types : List CluType) (constants : List Const) (v : Value) (a b : Settled) → (v ≡ value.Lost → ⊥) → Agrees (told types constants v) a → Agrees (told types constants v) b → a ≡ b
+same_told types constants value.Nothing a b known x y = x ∙ sym y
+same_told types constants value.Lost a b known x y = absurd (known refl)
+same_told types constants (value.Type id) a b known x y = x ∙ sym y
+same_told types constants (value.Constant k) a b known x y = x ∙ sym y
+same_told types constants (value.Parameter k) a b known x y = x ∙ sym y
 
 module _ (t : Text) (h : Headed) (its : Tables) (library : List Specification) (refused : List ℕ) (whole : IsWhole t (record its { file = h.file }) library refused) where
   abbrev tables : Tables
@@ -169,6 +179,15 @@ module _ (t : Text) (h : Headed) (its : Tables) (library : List Specification) (
   right_typed c const known =
       value_typed (value_in r c) (value_settled scope (item f c).constant) known (value_within tables scope library refused whole.made.file.parsed.forms whole.made.file.parsed.tree are c)
       (value_agrees tables scope library refused whole.made.file.parsed.forms whole.made.file.parsed.tree are c known const)
+
+  -- one step of unfolding more changes nothing of the right side of its equate, if that is known
+  pub right_settled : (n c : ℕ) → meant_there n ≡ meant.Equate c → IsKnown r c → settled scope (item f c).constant ≡ value_settled scope (item f c).constant
+  right_settled n c is known =
+      let so : Means nodes (meant.Equate c) (meaning f n (codes "rep")) = subst (λ (m : Meaning). Means nodes m (meaning f n (codes "rep"))) is (means_so n) in
+      same_told (types_of terms) r.constants.now (value_in r c) (settled scope (item f c).constant) (value_settled scope (item f c).constant) known
+      (subst (λ (v : Value). Agrees (told (types_of terms) r.constants.now v) (settled scope (item f c).constant)) (sym (value_same r.values.now c))
+      (whole.made.file.values.rights n c (codes "rep") (constant_there nodes c so.0, so.0, so.1)))
+      (value_agrees tables scope library refused whole.made.file.parsed.forms whole.made.file.parsed.tree are c known so.0)
 
   type_so : (m : Meaning) (x : means.Meaning) → Means nodes m x → ((c : ℕ) → m ≡ meant.Equate c → is_constant nodes c ≡ true → IsKnown r c) → IsType terms (type_meant r (Some m)) (rep_value f x)
   type_so (meant.Equate c) x is known = subst (λ (x : means.Meaning). IsType terms (settled_type r c) (rep_value f x)) (sym is.1) (right_typed c is.0 (known c refl is.0))

@@ -47,10 +47,6 @@ module _ (types : List CluType) where
   each_is [] names = refl
   each_is (f ∷ fs) names = ap (λ (b : Bool). list_any (bytes_eq f.name) names && b) (each_is fs names)
 
-  pub every_is : (fs : List Field) (tags : List Identifier) → statements.has_every_tag (fields_at types fs) tags ≡ has_all (names_of_fields fs) tags
-  every_is [] tags = refl
-  every_is (f ∷ fs) tags = ap (λ (b : Bool). list_any (bytes_eq f.name) tags && b) (every_is fs tags)
-
 -- a selector stands among the names
 stands_among : (fs : List Field) (name : Identifier) → is_selector_of fs name ≡ list_any (bytes_eq name) (names_of_fields fs)
 stands_among [] name = refl
@@ -92,9 +88,6 @@ module _ (types : List CluType) (fs : List Field) (names : List Identifier) (onc
       by true same = ap not (same refl) ∙ twice_not (nat_lt (length names) (length fs))
       by false same = refl
 
-  pub tag_left_is : list_all (is_selector_of fs) names ≡ true → not (statements.has_every_tag (fields_at types fs) names) ≡ nat_lt (length names) (length fs)
-  tag_left_is within = ap not (every_is types fs names ∙ has_all_is within) ∙ twice_not (nat_lt (length names) (length fs))
-
 -- ---- the names of several nodes, one after the other
 
 taken_off : (a taken left : ℕ) → nat_lt a (left - taken) ≡ nat_lt (taken + a) left
@@ -122,7 +115,11 @@ module _ (types : List CluType) (fs : List Field) (names : ℕ → List Identifi
       ∙ ap (λ (b : Bool). not b || nat_lt (length (flat_map names cs)) (length fs)) (all_flat (is_selector_of fs) names cs)
       ∙ ap (λ (b : Bool). not (list_all (λ c. list_all (is_selector_of fs) (names c)) cs) || b) (sym (leaves_is names (length fs) cs))
 
-  pub tags_by_count : list_all (λ c. list_all (is_selector_of fs) (names c)) cs ≡ true → not (statements.has_every_tag (fields_at types fs) (flat_map names cs)) ≡ leaves_some names (length fs) cs
-  tags_by_count within =
-      tag_left_is types fs (flat_map names cs) once_in once_of (all_flat (is_selector_of fs) names cs ∙ within)
-      ∙ sym (leaves_is names (length fs) cs)
+-- fewer tags are named than the type has just if some of them are left
+module _ (types : List CluType) where
+  count_is : (fs : List Field) → statements.count_of (fields_at types fs) ≡ length fs
+  count_is [] = refl
+  count_is (f ∷ fs) = omega (arith, count_is fs)
+
+  pub tags_by_count : (fs : List Field) (names : ℕ → List Identifier) (cs : List ℕ) → nat_lt (length (flat_map names cs)) (statements.count_of (fields_at types fs)) ≡ leaves_some names (length fs) cs
+  tags_by_count fs names cs = ap (nat_lt (length (flat_map names cs))) (count_is fs) ∙ sym (leaves_is names (length fs) cs)

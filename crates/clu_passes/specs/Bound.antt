@@ -4,7 +4,6 @@ use Rattle.std.specs.List.{AllByRecursion}
 use Rattle.clu_tree.specs.declared.node.Node.{Node}
 use Rattle.clu_tree.specs.declared.node.NodeKind.{NodeKind}
 use Rattle.clu_tree.specs.declared.node.NodeKind.TheVariants as kind
-use Rattle.clu_types.specs.declared.term.Field.{Field}
 use Rattle.clu_syntax.specs.declared.round.Round.{Round}
 use Rattle.clu_syntax.specs.Kinds.{is_type, kind_at}
 use Rattle.clu_syntax.specs.Items.{Item}
@@ -12,7 +11,6 @@ use Rattle.clu_syntax.specs.Syntax.{Identifier}
 use Rattle.clu_meaning.specs.Scoping as means
 use Rattle.clu_checking.specs.Files.{File, item, kind_in, stands_in, parent, children, names, meaning, is_of_module}
 use Rattle.clu_checking.specs.Headings as headings
-use Rattle.clu_checking.specs.NameRules.{stands_twice}
 use Rattle.clu_checking.specs.Wanted.{first_name_at}
 use Rattle.clu_settle.specs.Parameters.{is_parameter}
 use Rattle.clu_bindings.specs.declared.file.File.{File as Read}
@@ -26,7 +24,6 @@ use Rattle.clu_type_rules.specs.Known as known
 use Rattle.clu_type_rules.specs.Bindings.{meanings}
 use Rattle.clu_type_rules.specs.ExceptionRules.{exception_named, arm_for, arm_declarations}
 use Rattle.clu_passes.specs.ConstantTables.{Means, IsEquateKnown}
-use Rattle.clu_passes.specs.Counting.{names_of_fields}
 use Rattle.clu_passes.specs.FactTables.{IsResultKnown, IsType}
 
 -- the types that stand at nodes, as the body in which a node stands sees them, but where something is lost, as it is at `cvt`
@@ -96,13 +93,6 @@ module _ (f : File) (lost : ℕ → Bool) where
   -- what stands first in the node round an arm: that on which its Tagcase selects, or the statement that it guards
   abbrev pub IsFirstKnown : ℕ → Type 0
   IsFirstKnown n = (p c : ℕ) (cs : List ℕ) → parent f n ≡ Some p → has_arms (kind_in f p) ≡ true → children f p ≡ c ∷ cs → lost c ≡ false
-
--- ---- tags
-
--- no tag of the type stands twice: where one does, a rule is violated at the type
-abbrev pub HasTagsOnce : Option (List Field) → Type 0
-HasTagsOnce (Some fields) = stands_twice (names_of_fields fields) ≡ false
-HasTagsOnce None = Unit {0}
 
 -- ---- exceptions
 

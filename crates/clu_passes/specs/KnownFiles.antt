@@ -4,7 +4,6 @@ use Rattle.std.specs.Prelude.{◌≡◌, ◌<◌, ℕ, true, false, List, [], �
 use Rattle.clu_parser.specs.Trees.{Text}
 use Rattle.clu_types.specs.declared.term.Term.{Term}
 use Rattle.clu_syntax.specs.Items.{Item}
-use Rattle.clu_meaning.specs.Settling.{settled}
 use Rattle.clu_checking.specs.Settled.{value_settled}
 use Rattle.clu_checking.specs.Typing.{is_type_value}
 use Rattle.clu_checking.specs.Specifications.{Specification}
@@ -32,10 +31,6 @@ AreCountsTold f h = (n : ℕ) → n < length f.nodes → IsOutside f n → is_re
 -- the right side of the `rep` that counts at the node is known, and a type
 abbrev pub IsRepFine : File → Read → ℕ → Type 0
 IsRepFine f r n = (e c : ℕ) (cs : List ℕ) → equate_named f n (codes "rep") ≡ Some e → children f e ≡ c ∷ cs → IsKnown r c × ((is_no_type_side f (kind_in f c) c ≡ false) × (is_type_value (value_settled f.scope (item f c).constant) ≡ true))
-
--- one step of unfolding more changes nothing of the right side of a `rep` that is known
-abbrev pub AreRepsSettled : File → Read → Type 0
-AreRepsSettled f r = (n e c : ℕ) (cs : List ℕ) → equate_named f n (codes "rep") ≡ Some e → children f e ≡ c ∷ cs → IsKnown r c → settled f.scope (item f c).constant ≡ value_settled f.scope (item f c).constant
 
 -- `cvt` at t as the body in which n stands sees it, which is that of the routine m, in the same cluster
 abbrev pub AreCvtsKnown : File → Headed → List Term → Type 0

@@ -53,3 +53,4 @@ pub mod Reps
 pub mod KnownFiles
 pub mod OwnModules
 pub mod RepsOfTree
+pub mod InvokedSaid

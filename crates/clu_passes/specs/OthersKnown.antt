@@ -16,8 +16,8 @@ use Rattle.clu_type_rules.specs.Known as known
 use Rattle.clu_type_rules.specs.Bindings.{meanings}
 use Rattle.clu_type_rules.specs.ExceptionRules.{arm_declarations, arm_for, exception_named}
 use Rattle.clu_type_rules.specs.Objects.{names}
-use Rattle.clu_type_rules.specs.StatementRules.{results_round, tags_by}
-use Rattle.clu_passes.specs.Bound.{AreInside, HasTagsOnce, IsInsideKnown, is_assigning}
+use Rattle.clu_type_rules.specs.StatementRules.{results_round}
+use Rattle.clu_passes.specs.Bound.{AreInside, IsInsideKnown, is_assigning}
 use Rattle.clu_passes.specs.Clear.{IsOutside}
 use Rattle.clu_passes.specs.FactTables.{IsResultKnown}
 use Rattle.clu_passes.specs.Losing.{is_plain, walk_of}
@@ -118,5 +118,3 @@ pub record AreOthersKnown (f : File) (k : Known) (lost : ℕ → Bool) : Type 0 
   -- types that a node sees, `cvt` among them
   pub variables : (n t : ℕ) → n < length f.nodes → IsTypeFine f n t → IsInsideKnown f k n t
   pub given : (n t : ℕ) → n < length f.nodes → IsTypeFine f n t → IsResultKnown f k n t
-  -- no tag of the type on which a Tagcase selects stands twice
-  pub once : (n : ℕ) → n < length f.nodes → lost n ≡ false → HasTagsOnce (tags_by k n)

@@ -1,7 +1,7 @@
 //! That names which are all selectors or tags of a type, each once, are all of them if none is left: what `clu_name_rules` and
 //! `clu_type_rules` count is what the definitions ask. So V17 is the rule of the definitions; and so is V13.
 
-ghost use Rattle.std.specs.Prelude.{◌≡◌, ◌||◌, ℕ, Bool, List, Some, false, flat_map, length, not, true};
+ghost use Rattle.std.specs.Prelude.{◌≡◌, ◌||◌, ℕ, Bool, List, Some, false, flat_map, length, nat_lt, not, true};
 ghost use Rattle.std.specs.List.{AllByRecursion, list_all};
 ghost use Rattle.clu_tree.specs.Nodes.{IsTree};
 ghost use Rattle.clu_parser.specs.Shape.{HaveForms};
@@ -15,7 +15,7 @@ ghost use Rattle.clu_checking.specs.Specifications.{Specification};
 ghost use Rattle.clu_checking.specs.Files.{File, children};
 ghost use Rattle.clu_checking.specs.NameRules.{stands_twice};
 ghost use Rattle.clu_checking.specs.ExpressionRules.{has_other_selectors, v13, v17};
-ghost use Rattle.clu_checking.specs.StatementRules.{has_every_tag};
+ghost use Rattle.clu_checking.specs.StatementRules.{count_of};
 ghost use Rattle.clu_bindings.specs.Readers.{children_in, kind_in};
 ghost use Rattle.clu_name_rules.specs.declared.tables.Tables.{Tables};
 ghost use Rattle.clu_name_rules.specs.Components.{is_selector_of, leaves_some};
@@ -33,9 +33,9 @@ pub fn selectors_by_count()
     ensures { (f : File) (types : List CluType) (fields : List Field) (names : ℕ → List Identifier) (cs : List ℕ) → stands_twice (names_of_fields fields) ≡ false → stands_twice (flat_map names cs) ≡ false → has_other_selectors f (Some (fields_at types fields)) (flat_map names cs) ≡ (not (list_all (λ c. list_all (is_selector_of fields) (names c)) cs) || leaves_some names (length fields) cs) }
 {}
 
-/// The tags of arms that name no foreign one.
+/// The tags of arms.
 pub fn tags_by_count()
-    ensures { (types : List CluType) (fields : List Field) (names : ℕ → List Identifier) (cs : List ℕ) → stands_twice (names_of_fields fields) ≡ false → stands_twice (flat_map names cs) ≡ false → list_all (λ c. list_all (is_selector_of fields) (names c)) cs ≡ true → not (has_every_tag (fields_at types fields) (flat_map names cs)) ≡ leaves_some names (length fields) cs }
+    ensures { (types : List CluType) (fields : List Field) (names : ℕ → List Identifier) (cs : List ℕ) → nat_lt (length (flat_map names cs)) (count_of (fields_at types fields)) ≡ leaves_some names (length fields) cs }
 {}
 
 /// V17, where the type of a constructor is known and no selector of it stands twice, and V17 is violated at no node below.

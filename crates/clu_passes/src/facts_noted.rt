@@ -31,9 +31,11 @@ ghost use Rattle.clu_typing.specs.Sets.{HaveSame};
 ghost use Rattle.clu_type_rules.specs.Askers.{with_finding};
 ghost use Rattle.clu_passes.specs.ConstantTables.{AreTables, IsEquateKnown, IsFirstKnown, IsIndexKnown, IsKnown, file_with};
 ghost use Rattle.clu_passes.specs.FactTables.{AreFacts, IsType, typed};
+ghost use Rattle.clu_passes.specs.InvokedSaid.{AreSaid};
 ghost use Rattle.clu_passes.specs.NamesKnown.{HasTypes, IsNameKnown, IsTypeKnown, variable_of};
 ghost use Rattle.clu_passes.specs.PassNoted.{IsKnownFile};
 ghost use Rattle.clu_passes.specs.Raised.{raises_of};
+ghost use Rattle.clu_passes.specs.Trees.{IsFileOfTree};
 
 /// The types of all expressions.
 pub fn types_noted()
@@ -67,4 +69,9 @@ pub fn types_held()
 /// The same with more types and more that was found, as it is when the rules are asked.
 pub fn facts_kept()
     ensures { (t : Text) (h : Headed) (scope : Scope) (library : List Specification) (refused : List ℕ) (items : ℕ → Item) (first : List Term) (lost : ℕ → Bool) → IsKnownFile t h (file_with h.file scope library refused) items first lost → (terms : List Term) (facts : Facts) → IsArena terms → AreKnown h items first (length h.file.syntax.now) terms facts → (new : List Term) → Grows terms new → (finding : Finding) → Follows facts.finding finding → AreFacts (file_with h.file scope library refused) new (with_finding facts finding) lost }
+{}
+
+/// What is noted as invoked at each node, with these types and names.
+pub fn invoked_kept()
+    ensures { (t : Text) (h : Headed) (scope : Scope) (library : List Specification) (refused : List ℕ) (items : ℕ → Item) (first : List Term) (lost : ℕ → Bool) → IsKnownFile t h (file_with h.file scope library refused) items first lost → IsFileOfTree (file_with h.file scope library refused) → (terms : List Term) (facts : Facts) → IsArena terms → AreKnown h items first (length h.file.syntax.now) terms facts → (new : List Term) → Grows terms new → (finding : Finding) → Follows facts.finding finding → AreSaid (file_with h.file scope library refused) new (with_finding facts finding) lost }
 {}

@@ -26,7 +26,7 @@ ghost use Rattle.clu_passes.specs.Ascending.{SpecificationsAscend};
 ghost use Rattle.clu_passes.specs.ConstantTables.{AreWantedKnown, file_with};
 ghost use Rattle.clu_passes.specs.FactTables.{AreFacts, IsType};
 ghost use Rattle.clu_passes.specs.FoundTold.{TellHeads};
-ghost use Rattle.clu_passes.specs.KnownFiles.{AreCvtsKnown, AreRepsSettled, AreRoutinesAtHome, IsFileRead};
+ghost use Rattle.clu_passes.specs.KnownFiles.{AreCvtsKnown, AreRoutinesAtHome, IsFileRead};
 ghost use Rattle.clu_passes.specs.Lost.{lost};
 ghost use Rattle.clu_passes.specs.Made.{IsWhole};
 ghost use Rattle.clu_passes.specs.Notes.{HaveParents};
@@ -70,5 +70,5 @@ pub fn nodes_known()
 pub fn reps_told()
     ensures routines { (f : File) → IsFileOfTree f → HaveParents f → f.scope.declarations ≡ declarations f.nodes f.rounds → AreReps f → AreRoutinesAtHome f }
     ensures variables { (t : Text) (k : Known) (library : List Specification) (refused : List ℕ) → IsWhole t k.tables library refused → AreRepsThere (file_with k.tables.file (scope_in k.tables.file.syntax.now k.tables.file.rounds.now) library refused) → AreVariableTypes (file_with k.tables.file (scope_in k.tables.file.syntax.now k.tables.file.rounds.now) library refused) k.tables.file }
-    ensures cvts { (t : Text) (h : Headed) (its : Tables) (library : List Specification) (refused : List ℕ) → IsWhole t (record its { file = h.file }) library refused → AreOwned its.types.now h.file.values.now h.file.syntax.now (length h.file.syntax.now) h.file.bindings.now.own.items → AreReps (file_with h.file (scope_in h.file.syntax.now h.file.rounds.now) library refused) → AreRepsSettled (file_with h.file (scope_in h.file.syntax.now h.file.rounds.now) library refused) h.file → AreCvtsKnown (file_with h.file (scope_in h.file.syntax.now h.file.rounds.now) library refused) h its.types.now }
+    ensures cvts { (t : Text) (h : Headed) (its : Tables) (library : List Specification) (refused : List ℕ) → IsWhole t (record its { file = h.file }) library refused → AreOwned its.types.now h.file.values.now h.file.syntax.now (length h.file.syntax.now) h.file.bindings.now.own.items → AreReps (file_with h.file (scope_in h.file.syntax.now h.file.rounds.now) library refused) → AreCvtsKnown (file_with h.file (scope_in h.file.syntax.now h.file.rounds.now) library refused) h its.types.now }
 {}

@@ -2,15 +2,19 @@
 
 ghost use Rattle.std.specs.Prelude.{◌≡◌, ◌<◌, ◌^◌, ℕ, Bool, true, false, List, Some, length, get_or, slice_get};
 ghost use Rattle.std.specs.List.{list_any};
+ghost use Rattle.clu_base.specs.declared.tokens.Token.{Token};
+ghost use Rattle.clu_lexer.specs.Tokens.{Tokens};
 ghost use Rattle.clu_tree.specs.declared.node.Node.{Node};
 ghost use Rattle.clu_tree.specs.Nodes.{IsTree};
-ghost use Rattle.clu_parser.specs.Shape.{HaveForms};
+ghost use Rattle.clu_parser.specs.Parsing.{IsTreeOf, text_of};
+ghost use Rattle.clu_parser.specs.Shape.{HaveForms, IsShaped};
 ghost use Rattle.clu_parser.specs.Trees.{Built, IsBuilt, Text};
 ghost use Rattle.clu_syntax.specs.declared.round.Round.{Round};
 ghost use Rattle.clu_syntax.specs.Rounds.{AreRounds};
 ghost use Rattle.clu_syntax.specs.Syntax.{Identifier};
 ghost use Rattle.clu_names.specs.declared.scopes.Declared.{Declared};
 ghost use Rattle.clu_names.specs.declared.binding.Names.{Names};
+ghost use Rattle.clu_names.specs.Denotes.{is_rep};
 ghost use Rattle.clu_names.specs.Scopes.{declarations};
 ghost use Rattle.clu_checking.specs.Files.{File, kind_in};
 ghost use Rattle.clu_checking.specs.NameRules.{is_redefined, names_defined, stands_twice};
@@ -28,6 +32,7 @@ ghost use Rattle.clu_declares.specs.Declares.{IsParsed};
 ghost use Rattle.clu_passes.specs.Bound.{AreOfModules};
 ghost use Rattle.clu_passes.specs.Notes.{DeclareModules, HaveParents, HaveRoutines};
 ghost use Rattle.clu_passes.specs.Owns.{declares_all};
+ghost use Rattle.clu_passes.specs.RepsOfTree.{HaveReps};
 ghost use Rattle.clu_passes.specs.Tables.{AreFoundStrings, AreNames, OpenOfOne};
 
 /// Each node stands once among the children of its parent, and among those of no other node.
@@ -68,4 +73,14 @@ pub fn redefined_by_places()
 /// Each Parm is a parameter of a module, since the grammar has none of a routine of a cluster.
 pub fn parms_of_modules()
     ensures { (t : Text) (nodes : List Node) (rounds : List Round) → IsParsed t nodes → AreRounds nodes rounds → (z : Built) → IsBuilt t z → z.nodes ≡ nodes → AreOfModules nodes rounds }
+{}
+
+/// No name of the tree of a text is the word `rep`, which is reserved.
+pub fn names_reserved()
+    ensures { (bytes : List ℕ) (tokens : List Token) (nodes : List Node) → Tokens bytes tokens → IsShaped (text_of bytes tokens) nodes → (n : ℕ) (node : Node) → slice_get nodes n ≡ Some node → list_any is_rep node.names ≡ false }
+{}
+
+/// In the tree of a text no name is the word `rep`, and an equate without a name stands in a cluster.
+pub fn reps_of_built()
+    ensures { (bytes : List ℕ) (tokens : List Token) (nodes : List Node) → Tokens bytes tokens → IsTreeOf bytes tokens nodes → HaveReps nodes }
 {}

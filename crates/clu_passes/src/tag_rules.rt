@@ -2,23 +2,20 @@
 //! is left is a count.
 
 ghost use Rattle.std.specs.Prelude.{◌≡◌, ℕ, Bool, false, List};
-ghost use Rattle.std.specs.List.{AllByRecursion};
 ghost use Rattle.clu_tree.specs.Nodes.{IsTree};
 ghost use Rattle.clu_parser.specs.Shape.{HaveForms};
 ghost use Rattle.clu_syntax.specs.Items.{Item};
 ghost use Rattle.clu_meaning.specs.Scoping.{Scope};
 ghost use Rattle.clu_checking.specs.Specifications.{Specification};
-ghost use Rattle.clu_checking.specs.Files.{children};
 ghost use Rattle.clu_checking.specs.StatementRules.{v22};
 ghost use Rattle.clu_type_rules.specs.declared.known.Known.{Known};
-ghost use Rattle.clu_type_rules.specs.StatementRules.{tags_by};
 ghost use Rattle.clu_type_rules.specs.Tags as of_tables;
-ghost use Rattle.clu_passes.specs.Bound.{HasTagsOnce, IsFirstKnown};
+ghost use Rattle.clu_passes.specs.Bound.{IsFirstKnown};
 ghost use Rattle.clu_passes.specs.ConstantTables.{file_with, AreTables};
 ghost use Rattle.clu_passes.specs.FactTables.{AreFacts};
 ghost use Rattle.clu_passes.specs.Notes.{AreRepeated, DeclareModules, HaveParents};
 
-/// V22, where no tag of the type on which a Tagcase selects stands twice, and V22 is violated at no node below.
+/// V22, where the type on which the Tagcase round an arm selects is known.
 pub fn v22_by_facts()
-    ensures { (k : Known) (scope : Scope) (library : List Specification) (refused : List ℕ) → HaveForms k.tables.file.syntax.now → IsTree k.tables.file.syntax.now → AreTables (file_with k.tables.file scope library refused) k.tables → (lost : ℕ → Bool) → AreFacts (file_with k.tables.file scope library refused) k.tables.types.now k.facts.now lost → HaveParents (file_with k.tables.file scope library refused) → DeclareModules (file_with k.tables.file scope library refused) → AreRepeated (file_with k.tables.file scope library refused) k.tables.items.now.repeated.items → (items : ℕ → Item) (n : ℕ) → lost n ≡ false → IsFirstKnown (file_with k.tables.file scope library refused) lost n → HasTagsOnce (tags_by k n) → AllByRecursion (λ c. v22 (file_with k.tables.file scope library refused) c ≡ false) (children (file_with k.tables.file scope library refused) n) → v22 (file_with k.tables.file scope library refused) n ≡ of_tables.v22 k items n }
+    ensures { (k : Known) (scope : Scope) (library : List Specification) (refused : List ℕ) → HaveForms k.tables.file.syntax.now → IsTree k.tables.file.syntax.now → AreTables (file_with k.tables.file scope library refused) k.tables → (lost : ℕ → Bool) → AreFacts (file_with k.tables.file scope library refused) k.tables.types.now k.facts.now lost → HaveParents (file_with k.tables.file scope library refused) → DeclareModules (file_with k.tables.file scope library refused) → AreRepeated (file_with k.tables.file scope library refused) k.tables.items.now.repeated.items → (items : ℕ → Item) (n : ℕ) → lost n ≡ false → IsFirstKnown (file_with k.tables.file scope library refused) lost n → v22 (file_with k.tables.file scope library refused) n ≡ of_tables.v22 k items n }
 {}

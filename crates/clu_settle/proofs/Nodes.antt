@@ -47,17 +47,17 @@ indexed_so scope unfolded n _ cs = refl
 
 module _ (nodes : List Node) (scope : Scope) (meanings : List Meaning) (types : List CluType) (constants : List Const) (values : List Value) (unfolded : Constant → Settled) (known : AreKnown nodes scope meanings types constants values unfolded) where
   -- what the name of a node means
-  meaning_by : (n : ℕ) (x : Meaning) (m : means.Meaning) → may_name (slice_get nodes n) ≡ true → meaning_in (slice_get meanings n) ≡ x → Means nodes x m → MeaningAgrees types constants values unfolded x m
-  meaning_by n (meaning.Equate right) m may is h = ((item_at nodes right).constant, h.2, known.rights n right may is)
-  meaning_by n (meaning.TypeParameter k) m may is h = h
-  meaning_by n (meaning.ConstantParameter k) m may is h = h
-  meaning_by n meaning.Module m may is h = h
-  meaning_by n meaning.Other m may is h = h
+  meaning_by : (n : ℕ) (name : Identifier) (x : Meaning) → Means nodes x (meaning_of scope n name) → MeaningAgrees types constants values unfolded x (meaning_of scope n name)
+  meaning_by n name (meaning.Equate right) h = ((item_at nodes right).constant, h.2, known.rights n right name h)
+  meaning_by n name (meaning.TypeParameter k) h = h
+  meaning_by n name (meaning.ConstantParameter k) h = h
+  meaning_by n name meaning.Module h = h
+  meaning_by n name meaning.Other h = h
 
   pub meaning_agrees : (n : ℕ) (name : Identifier) → may_name (slice_get nodes n) ≡ true → name_at nodes n ≡ name → MeaningAgrees types constants values unfolded (meaning_in (slice_get meanings n)) (meaning_of scope n name)
   meaning_agrees n name may is =
       subst (λ (name : Identifier). MeaningAgrees types constants values unfolded (meaning_in (slice_get meanings n)) (meaning_of scope n name)) is
-      (meaning_by n (meaning_in (slice_get meanings n)) (meaning_of scope n (name_at nodes n)) may refl (known.meant.each n may))
+      (meaning_by n (name_at nodes n) (meaning_in (slice_get meanings n)) (known.meant.each n may))
 
   -- ---- a constant is the type or the expression there
 

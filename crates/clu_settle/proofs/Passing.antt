@@ -30,7 +30,7 @@ use Rattle.clu_settle.specs.declared.meanings.Meaning.{Meaning}
 use Rattle.clu_settle.specs.declared.meanings.Meaning.TheVariants as meaning
 use Rattle.clu_settle.specs.Values.{told, Agrees, TypeWithin, ConstantWithin, IsWithin, AreWithin, Kept}
 use Rattle.clu_settle.specs.Lists.{value_of}
-use Rattle.clu_settle.specs.Names.{is_constant, may_name, meaning_in, name_at, Means, AreMeanings}
+use Rattle.clu_settle.specs.Names.{is_constant, Means, AreMeanings}
 use Rattle.clu_settle.specs.Known.{AreKnown}
 use Rattle.clu_settle.specs.Steps.{expression_node, type_node, constant_node, right_in, rights_in, is_right, counted, ArePassed}
 use Rattle.clu_settle.specs.Settled.{AreSettled}
@@ -186,32 +186,16 @@ module _ (nodes : List Node) (meanings : List Meaning) (order : List ℕ) (p n :
         agrees_here (value_of_constant scope (unfolded_to scope steps) (item_at nodes n).constant)
         (made scope (unfolded_to scope steps) (passed.known scope meant steps (omega (arith, here, enough))) is)
 
-    -- what a name means that stands for the right side r
-    record Right (r : ℕ) : Type 0 where
-      right : is_right scope r ≡ true
-      is : is_constant nodes r ≡ true
+    -- what a name means is the right side of a declared equate
+    meant_is_right : (k r : ℕ) (name : Identifier) → Means nodes (meaning.Equate r) (meaning_of scope k name) → is_right scope r ≡ true
+    meant_is_right k r name h = subst (λ (x : ℕ). is_right scope x ≡ true) (node_there nodes r h.0) (equate_is_right scope k name (item_at nodes r).constant h.2)
 
-    right_of : (x : Meaning) (m : means.Meaning) (k r : ℕ) (name : Identifier) → x ≡ meaning.Equate r → m ≡ meaning_of scope k name → Means nodes x m → Right r
-    right_of (meaning.Equate r') m k r name e is h =
-        let same : r' ≡ r = cc in
-        let node : constant_node (item_at nodes r').constant ≡ r' = node_there nodes r' h.0 in
-        let found : is_right scope (constant_node (item_at nodes r').constant) ≡ true = equate_is_right scope k name (item_at nodes r').constant (sym is ∙ h.2) in
-        record {
-          right = subst (λ (x : ℕ). is_right scope x ≡ true) (node ∙ same) found;
-          is = subst (λ (x : ℕ). is_constant nodes x ≡ true) same h.1;
-        }
-    right_of (meaning.TypeParameter k') m k r name e is h = absurd (cc)
-    right_of (meaning.ConstantParameter k') m k r name e is h = absurd (cc)
-    right_of meaning.Module m k r name e is h = absurd (cc)
-    right_of meaning.Other m k r name e is h = absurd (cc)
-
-    rights_more : (steps k r : ℕ) → counted (is_right scope) order (suc p) ≤ steps → may_name (slice_get nodes k) ≡ true → meaning_in (slice_get meanings k) ≡ meaning.Equate r → Agrees (told (types_of types') constants' (value_of values' r)) (unfolded_to scope steps (item_at nodes r).constant)
-    rights_more steps k r enough may e = elim (cases_eq r n) [
+    rights_more : (steps k r : ℕ) (name : Identifier) → counted (is_right scope) order (suc p) ≤ steps → Means nodes (meaning.Equate r) (meaning_of scope k name) → Agrees (told (types_of types') constants' (value_of values' r)) (unfolded_to scope steps (item_at nodes r).constant)
+    rights_more steps k r name enough h = elim (cases_eq r n) [
       | inl same ↦
-          let its : Right r = right_of (meaning_in (slice_get meanings k)) (meaning_of scope k (name_at nodes k)) k r (name_at nodes k) e refl (meant.each k may) in
           subst (λ (r : ℕ). Agrees (told (types_of types') constants' (value_of values' r)) (unfolded_to scope steps (item_at nodes r).constant)) (sym same)
-          (right_here steps (subst (λ (r : ℕ). is_right scope r ≡ true) same its.right) (subst (λ (r : ℕ). is_constant nodes r ≡ true) same its.is) enough)
-      | inr apart ↦ agrees_other r (unfolded_to scope steps (item_at nodes r).constant) apart ((passed.known scope meant steps (fewer steps enough)).rights k r may e)
+          (right_here steps (subst (λ (r : ℕ). is_right scope r ≡ true) same (meant_is_right k r name h)) (subst (λ (r : ℕ). is_constant nodes r ≡ true) same h.1) enough)
+      | inr apart ↦ agrees_other r (unfolded_to scope steps (item_at nodes r).constant) apart ((passed.known scope meant steps (fewer steps enough)).rights k r name h)
     ]
 
     known_more : (steps : ℕ) → counted (is_right scope) order (suc p) ≤ steps → AreKnown nodes scope meanings (types_of types') constants' values' (unfolded_to scope steps)
@@ -220,7 +204,7 @@ module _ (nodes : List Node) (meanings : List Meaning) (order : List ℕ) (p n :
       shaped = (passed.known scope meant steps (fewer steps enough)).shaped;
       meant = meant;
       each = λ m is. each_more steps m enough is;
-      rights = λ k r may e. rights_more steps k r enough may e;
+      rights = λ k r name h. rights_more steps k r name enough h;
     }
 
   pub one_passed : ArePassed nodes meanings order (suc p) types' constants' values'
@@ -267,7 +251,7 @@ none_passed nodes meanings order types constants values tree shaped e = record {
     shaped = shaped;
     meant = meant;
     each = λ n is. nothing n (value_of_constant scope (unfolded_to scope steps) (item_at nodes n).constant);
-    rights = λ k r may is. nothing r (unfolded_to scope steps (item_at nodes r).constant);
+    rights = λ k r name h. nothing r (unfolded_to scope steps (item_at nodes r).constant);
   };
 }
   where
@@ -283,6 +267,7 @@ all_passed nodes meanings order types constants values distinct passed scope mea
       size = passed.size;
       within = passed.within;
       each = (passed.known scope meant (length scope.declarations) (omega (arith, few, enough))).each;
+      rights = (passed.known scope meant (length scope.declarations) (omega (arith, few, enough))).rights;
     }
 
 -- ---- an order in which each number stands once

@@ -1,4 +1,4 @@
-use Rattle.std.proofs.Common.{◌≡◌, ◌∙◌, ℕ, Bool, false, List, Option, OnOk, IfErr, ap, length, replicate, subst, sym}
+use Rattle.std.proofs.Common.{◌≡◌, ◌∙◌, ℕ, Bool, false, List, None, Option, OnOk, IfErr, ap, length, replicate, subst, sym}
 use Rattle.clu_base.specs.declared.rules.Refused.{Refused}
 use Rattle.clu_tree.specs.declared.node.Node.{Node}
 use Rattle.clu_types.specs.declared.term.Term.{Term}
@@ -11,7 +11,7 @@ use Rattle.clu_type_rules.specs.declared.unmet.Unmet.{Unmet}
 use Rattle.clu_type_rules.specs.Askers.{AreFoundAt, FindsOn, with_finding}
 use Rattle.clu_type_rules.specs.Disagreeing.{with_clauses}
 use Rattle.clu_type_rules.specs.Needs.{world}
-use Rattle.clu_check_mod.specs.Answered.{AreAsked, AreTables, IsFirstOf}
+use Rattle.clu_check_mod.specs.Answered.{AreAsked, AreTables, IsFirstOf, IsFoundOf}
 use Rattle.clu_check_mod.specs.Bad.{EquatesAscend, bad_of_all}
 use Rattle.clu_check_mod.specs.Refusals.{IsOfTree, IsTold}
 use Rattle.clu_check_mod.specs.Walks.{AreClosed, WalksAscend, first_in}
@@ -50,15 +50,10 @@ returns-clause-first c =
           c.known_of-known.ensures.disagrees ∙ c.as_slice.ensures.value ∙ c.in_ok-disagrees.ensures
           ∙ ap (λ (nodes : ℕ). with_clauses headed.heads.now.asked nodes (replicate nodes false)) (c.len-nodes.ensures.len ∙ ap (λ (all : List Node). length all) c.tree.ensures.same);
     } in
-    told_answer {P = λ (items : ℕ → Item). EquatesAscend c.known_of-known.result × WalksAscend c.known_of-known.result (bad_of_all c.known_of-known.result items c.args.lists.now.circles.order.items) items c.args.extent} (IsFirstOf headed c.args.types.now facts c.args.lists.now c.args.long.now c.args.extent)
-    (λ (items : ℕ → Item). first_in c.known_of-known.result (bad_of_all c.known_of-known.result items c.args.lists.now.circles.order.items) items c.args.extent)
-    c.ask_rules.result c.ask_rules.ensures.decided
-    (λ items ascend.
-    let same = c.as_slice-4.ensures.value ∙ c.in_ok-bad.ensures items ascend.0 ∙ ap (bad_of_all c.known_of-known.result items) c.as_slice-3.ensures.value in
-    subst (λ (bad : List Bool). IsTold c.ask_rules.result (first_in c.known_of-known.result bad items c.args.extent)) same
-    (c.ask_rules.ensures.exact items ascend.0.0 (subst (λ (bad : List Bool). WalksAscend c.known_of-known.result bad items c.args.extent) (sym same) ascend.1)))
-    (λ o is. record {
-      known = c.known_of-known.result;
+    let Ascend : (ℕ → Item) → Type 0 = λ items. EquatesAscend known × WalksAscend known (bad_of_all known items c.args.lists.now.circles.order.items) items c.args.extent in
+    let first : (ℕ → Item) → Option Refused = λ items. first_in known (bad_of_all known items c.args.lists.now.circles.order.items) items c.args.extent in
+    let gives : (o : Option Refused) → ((items : ℕ → Item) → Ascend items → first items ≡ o) → IsFirstOf headed c.args.types.now facts c.args.lists.now c.args.long.now c.args.extent o = λ o is. record {
+      known = known;
       headed_is = c.known_of-known.ensures.headed;
       tables = subst (λ (t : Tables). AreTables t c.args.headed.file c.args.lists.now c.args.long.now) (sym c.known_of-known.ensures.tables) (record {
         file_is = made.file;
@@ -73,4 +68,12 @@ returns-clause-first c =
       routines = c.known_of-known.ensures.routines;
       asks = asks;
       is = λ items equates walks. is items (equates, walks);
-    })
+    } in
+    told_answer {P = Ascend} (IsFoundOf headed c.args.types.now facts c.args.lists.now c.args.long.now c.args.extent c.unmet_of.new.types c.unmet_of.new.facts) (IsFirstOf headed c.args.types.now facts c.args.lists.now c.args.long.now c.args.extent)
+    first
+    c.ask_rules.result c.ask_rules.ensures.decided
+    (λ items ascend.
+    let same = c.as_slice-4.ensures.value ∙ c.in_ok-bad.ensures items ascend.0 ∙ ap (bad_of_all c.known_of-known.result items) c.as_slice-3.ensures.value in
+    subst (λ (bad : List Bool). IsTold c.ask_rules.result (first_in c.known_of-known.result bad items c.args.extent)) same
+    (c.ask_rules.ensures.exact items ascend.0.0 (subst (λ (bad : List Bool). WalksAscend c.known_of-known.result bad items c.args.extent) (sym same) ascend.1)))
+    gives (λ told. record { is = gives None told; types_are = types_are; facts_are = facts_are })

@@ -4,7 +4,7 @@ use Rattle.clu_bindings.specs.declared.file.File.{File}
 use Rattle.clu_head.specs.declared.heads.Heads.{Heads}
 use Rattle.clu_head.specs.Modules.{AreHeadsOf}
 use Rattle.clu_head.specs.Refused.{counts_to}
-use Rattle.clu_check_mod.specs.Answered.{IsFirstBy, IsFirstIn, IsUnspecifiedBy, IsUnspecifiedIn}
+use Rattle.clu_check_mod.specs.Answered.{AreFoundBy, IsFirstBy, IsFirstIn, IsFoundBy, IsFoundIn, IsUnspecifiedBy, IsUnspecifiedIn}
 use Rattle.clu_check_mod.specs.Bad.{refused_of}
 use Rattle.clu_check_mod.specs.Refusals.{IsOfTree}
 use Rattle.clu_check_mod.specs.Walks.{IsFound}
@@ -48,4 +48,7 @@ returns-clause-first c =
     } in
     answer_more (IsFirstBy c.headed_by-headed.result c.heads_of.new.types c.args.lists.now c.in_ok-long.long c.args.extent) (IsFirstIn c.args.file c.args.types.now c.args.lists.now c.args.extent)
     (IsUnspecifiedBy c.headed_by-headed.result c.heads_of.new.types c.args.lists.now c.in_ok-long.long c.args.extent) (IsUnspecifiedIn c.args.file c.args.types.now c.args.lists.now c.args.extent) first
-    (λ none. record { is = first None none.is; lost = none.lost }) c.check_headed.result c.check_headed.ensures.first
+    (λ none. record { is = first None none.is; lost = none.lost }) c.check_headed.result
+    (λ found. IsFoundBy c.headed_by-headed.result c.heads_of.new.types c.args.lists.now c.in_ok-long.long c.args.extent c.check_headed.new.types found.value) (λ found. IsFoundIn c.args.file c.args.types.now c.args.lists.now c.args.extent c.check_headed.new.types found.value)
+    (λ found was. record { is = first None was.is; are = subst (λ (f : File). AreFoundBy f.syntax.now was.is.is.known c.check_headed.new.types found.value) c.headed_by-headed.ensures.file was.are })
+    c.check_headed.ensures.first

@@ -1,8 +1,17 @@
-use Rattle.std.proofs.Common.{◌≡◌, [], IfErr, length, rules, take}
+use Rattle.std.proofs.Common.{List, [], IfErr, length, rules, subst, sym, take}
 use Rattle.clu_tree.specs.Nodes.{modules}
+use Rattle.clu_types.specs.declared.spec.Spec.{Spec}
+use Rattle.clu_driver.specs.Held.{AreKept}
 use Rattle.clu_driver.specs.Sources.{IsChecked, NotBuilt}
 use Rattle.clu_driver.proofs.Found.{unbuilt}
+use Rattle.clu_driver.proofs.Held.{none_kept}
 use Rattle.clu_driver.proofs.compiling.image_of.Goals as goal
+
+pub checked-requires-clause-source : goal.checked-requires-clause-source
+checked-requires-clause-source c = record { bytes = c.args.source.bytes.items; tokens = c.args.source.tokens.items; source = c.requires.parsed; read = c.requires.read }
+
+pub checked-requires-clause-specs : goal.checked-requires-clause-specs
+checked-requires-clause-specs c = subst (λ (specs : List Spec). AreKept specs) (sym c.new.ensures) none_kept
 
 pub returns-in-Ok-clause-refused : goal.returns-in-Ok-clause-refused
 returns-in-Ok-clause-refused c =

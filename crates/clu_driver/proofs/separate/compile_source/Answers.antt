@@ -1,8 +1,19 @@
-use Rattle.std.proofs.Common.{◌∙◌, ap}
+use Rattle.std.proofs.Common.{◌∙◌, List, ap, subst, sym}
 use Rattle.clu_library.specs.Contents.{Contents}
+use Rattle.clu_types.specs.declared.spec.Spec.{Spec}
+use Rattle.clu_driver.specs.Held.{AreKept}
+use Rattle.clu_driver.specs.Sources.{HasSource}
 use Rattle.clu_driver.specs.declared.sources.Parsed.{Parsed}
 use Rattle.clu_driver.proofs.Entered.{entered_compiled, shown_as}
 use Rattle.clu_driver.proofs.separate.compile_source.Goals as goal
+
+pub checked-requires-clause-source : goal.checked-requires-clause-source
+checked-requires-clause-source g c =
+    subst (λ (p : Parsed). HasSource p.syntax) (sym c.into_inner-bytes.ensures)
+    (record { bytes = c.args.gathered.source.value.bytes.items; tokens = c.args.gathered.source.value.tokens.items; source = c.requires.parsed; read = c.requires.read })
+
+pub checked-requires-clause-specs : goal.checked-requires-clause-specs
+checked-requires-clause-specs g c = subst (λ (specs : List Spec). AreKept specs) (sym (c.specs.ensures ∙ ap (λ (l : Contents). l.specs) c.deref-3.ensures)) c.requires.specs
 
 pub returns-in-Ok : goal.returns-in-Ok
 returns-in-Ok g c =

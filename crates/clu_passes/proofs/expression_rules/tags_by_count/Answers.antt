@@ -2,4 +2,4 @@ use Rattle.clu_passes.proofs.Selectors.{tags_by_count}
 use Rattle.clu_passes.proofs.expression_rules.tags_by_count.Goals as goal
 
 pub returns : goal.returns
-returns c = λ types fields names cs once_in once_of. tags_by_count types fields names cs once_in once_of
+returns c = tags_by_count

@@ -10,4 +10,4 @@ pub returns-clause-variables : goal.returns-clause-variables
 returns-clause-variables c = λ t k library refused all reps. variable_types t k library refused all reps
 
 pub returns-clause-cvts : goal.returns-clause-cvts
-returns-clause-cvts c = λ t h its library refused whole owned reps settles. cvts_known t h its library refused whole owned reps settles
+returns-clause-cvts c = λ t h its library refused whole owned reps. cvts_known t h its library refused whole owned reps

@@ -1,0 +1,14 @@
+use Rattle.std.proofs.Common.{None}
+use Rattle.clu_check_mod.specs.declared.walk.Extent.TheVariants as extent
+use Rattle.clu_driver.proofs.ByCheck.{handed, refused_told, violation}
+use Rattle.clu_driver.proofs.checking.checked.Goals as goal
+
+pub returns-in-Ok-clause-accepted : goal.returns-in-Ok-clause-accepted
+returns-in-Ok-clause-accepted c = (c.in-Ok.ensures.closed, violation c.args.syntax c.args.specs.now c.requires.source c.requires.specs extent.Whole None c.in-Ok.ensures.first)
+
+pub returns-in-Ok-clause-handed : goal.returns-in-Ok-clause-handed
+returns-in-Ok-clause-handed c = handed c.args.syntax c.args.specs.now c.requires.source c.requires.specs c.in-Ok.checked.value c.in-Ok.ensures.noted
+
+pub returns-in-Err-clause-refused : goal.returns-in-Err-clause-refused
+returns-in-Err-clause-refused c =
+    refused_told c.args.syntax c.args.specs.now c.requires.source c.requires.specs extent.Whole c.in-Err.error c.refusal.result c.args.name.now c.refusal.ensures c.in-Err.ensures.refused c.in-Err.ensures.first
