@@ -1,7 +1,9 @@
 -- From what one function answers of a file to what the one answers that calls it.
-use Rattle.std.proofs.Common.{◌≡◌, ◌∙◌, ℕ, List, length, Option, Some, None, Result, Ok, Err, IfErr, ap, subst, sym, vec_items}
+use Rattle.std.proofs.Common.{◌≡◌, ◌∙◌, ℕ, List, length, Option, Some, None, Result, Ok, Err, IfErr, ap, subst, sym, take, vec_items}
+use Rattle.std.proofs.lemmas.List.{length-map}
 use Rattle.clu_base.specs.declared.rules.Refused.{Refused}
 use Rattle.clu_tree.specs.declared.node.Node.{Node}
+use Rattle.clu_tree.specs.Nodes.{modules}
 use Rattle.clu_syntax.specs.declared.round.Round.{Round}
 use Rattle.clu_syntax.specs.Items.{Item}
 use Rattle.clu_syntax.specs.Rounds.{AreRounds}
@@ -20,7 +22,8 @@ use Rattle.clu_bindings.specs.Numbered.{AreNumbered}
 use Rattle.clu_bindings.specs.Owned.{AreOwned}
 use Rattle.clu_typing.specs.declared.facts.Facts.{Facts}
 use Rattle.clu_typing.specs.Pass.{AreKnown, HaveTypes, IsSound}
-use Rattle.clu_check_mod.specs.Answered.{AreFoundBy, AreFoundIn, AreLists, AreNamed, AreValues, IsAnswerBy, IsAnswerWith, IfLost, IsFirst, IsFirstBy, IsFirstIn, IsFirstOf, IsFirstWith, IsFoundBy, IsFoundIn, IsFoundOf, IsFoundWith, IsNoLoss, IsNoRefusal, IsUnspecified, IsUnspecifiedIn, IsUnspecifiedWith}
+use Rattle.clu_check_mod.specs.Answered.{AreFoundBy, AreFoundIn, AreLists, AreNamed, AreOwn, AreValues, IsAnswerBy, IsAnswerWith, IfLost, IsFirst, IsFirstBy, IsFirstIn, IsFirstOf, IsFirstWith, IsFoundBy, IsFoundIn, IsFoundOf, IsFoundWith, IsNoLoss, IsNoRefusal, IsUnspecified, IsUnspecifiedIn, IsUnspecifiedWith}
+use Rattle.clu_check_mod.specs.Modules.{AreMade, AreOf, name_of}
 use Rattle.clu_check_mod.specs.Notes.{operations_of}
 use Rattle.clu_check_mod.specs.Refusals.{IsOfTree, IsTold}
 use Rattle.clu_check_mod.specs.declared.checking.Found.{Found}
@@ -72,14 +75,15 @@ module _ (headed : Headed) (before terms : List Term) (lists : Lists) (long : Lo
     is = is;
   }
 
-  pub found_by : (last : List Term) (now : Facts) (found : Found) → IsFoundOf headed terms lent lists long asked last now → found.type_of.items ≡ now.types.items → found.op_of.items ≡ operations_of last now headed.file.syntax.now → IsFoundBy headed before lists long asked last found
+  pub found_by : (last : List Term) (now : Facts) (found : Found) → IsFoundOf headed terms lent lists long asked last now → found.type_of.items ≡ now.types.items → found.op_of.items ≡ operations_of last now headed.file.syntax.now → AreMade last headed.heads.now.modules.items found.own.items → IsFoundBy headed before lists long asked last found
   unfolding first_by
-  found_by last now found was type_of op_of = record {
+  found_by last now found was type_of op_of own = record {
     is = first_by None was.is;
     are = record {
       types_are = was.types_are;
       type_of = type_of ∙ ap (λ (f : Facts). f.types.items) (sym was.facts_are);
       op_of = op_of ∙ ap (λ (f : Facts). operations_of last f headed.file.syntax.now) (sym was.facts_are);
+      own = subst (λ (h : Headed). AreMade last h.heads.now.modules.items found.own.items) (sym was.is.headed_is) own;
     };
   }
 
@@ -148,3 +152,16 @@ module _ (nodes first second : List Node) (all before between rounds : List Roun
   pub found_of_tree : (later : Values) (found : Found) → IsFoundWith nodes rounds names settled library asked later.types found → later.values ≡ settled.values → later.constants ≡ settled.constants → AreFoundIn nodes library asked later found
   unfolding first_of_tree
   found_of_tree later found was values constants = record { is = first_of_tree None was.is; are = was.are; values = ap vec_items values; constants = constants }
+
+made_last : (nodes : List Node) (library : List Spec) (asked : Extent) (later : Values) (found : Found) (was : AreFoundIn nodes library asked later found) → AreMade was.is.is.is.is.is.known.tables.types.now was.is.is.is.is.is.known.headed.heads.now.modules.items found.own.items
+made_last nodes library asked later found was = subst (λ (terms : List Term). AreMade terms was.is.is.is.is.is.known.headed.heads.now.modules.items found.own.items) (sym was.are.types_are) was.are.own
+
+pub own_found : (nodes : List Node) (library : List Spec) (asked : Extent) (later : Values) (found : Found) → AreFoundIn nodes library asked later found → AreOf nodes (modules nodes) found.own.items → AreOwn nodes library asked found.own.items
+own_found nodes library asked later found was are = record { is = was.is; named = are; made = made_last nodes library asked later found was }
+
+-- its own specifications, among all of which they are the first
+pub own_first : (nodes : List Node) (library : List Spec) (asked : Extent) (later : Values) (found : Found) (all : List Spec) → AreFoundIn nodes library asked later found → AreOf nodes (modules nodes) found.own.items → take (length found.own.items) all ≡ found.own.items
+    → AreOwn nodes library asked (take (length (modules nodes)) all)
+own_first nodes library asked later found all was are front =
+    let many : length (modules nodes) ≡ length found.own.items = sym (length-map (modules nodes) (name_of nodes)) ∙ ap (λ (xs : List (Option (List ℕ))). length xs) are ∙ length-map found.own.items (λ (x : Spec). Some x.name) in
+    subst (AreOwn nodes library asked) (sym (ap (λ (n : ℕ). take n all) many ∙ front)) (own_found nodes library asked later found was are)

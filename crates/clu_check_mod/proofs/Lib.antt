@@ -4,6 +4,7 @@ pub mod Closed
 pub mod Finding
 pub mod Looking
 pub mod Losing
+pub mod Making
 pub mod Modules
 pub mod OwnSpecs
 pub mod Places

@@ -12,3 +12,6 @@ BeginWithOwn_behind nodes own others had =
     let many : length (modules nodes) ≡ length own = sym (length-map (modules nodes) (name_of nodes)) ∙ ap (λ (xs : List (Option (List ℕ))). length xs) had ∙ length-map own (λ (x : Spec). Some x.name) in
     let front : take (length (modules nodes)) (own ++ others) ≡ own = ap (λ (n : ℕ). take n (own ++ others)) many ∙ take-append_seam own others in
     had ∙ ap (λ (xs : List Spec). map (λ (x : Spec). Some x.name) xs) (sym front)
+
+pub kept_behind : (own others : List Spec) → take (length own) (own ++ others) ≡ own
+kept_behind own others = take-append_seam own others

@@ -4,6 +4,7 @@ use Rattle.clu_base.specs.declared.constants.Const.{Const}
 use Rattle.clu_base.specs.declared.rules.Refused.{Refused}
 use Rattle.clu_circles.specs.Circles.{AreCircles}
 use Rattle.clu_tree.specs.declared.node.Node.{Node}
+use Rattle.clu_tree.specs.Nodes.{modules}
 use Rattle.clu_syntax.specs.declared.round.Round.{Round}
 use Rattle.clu_syntax.specs.Items.{Item}
 use Rattle.clu_syntax.specs.Rounds.{AreRounds}
@@ -46,7 +47,7 @@ use Rattle.clu_type_rules.specs.Askers.{AreAskers, AreFoundAt, FindsOn, with_fin
 use Rattle.clu_type_rules.specs.Disagreeing.{with_clauses}
 use Rattle.clu_type_rules.specs.Needs.{Looks, Setting, world}
 use Rattle.clu_type_rules.specs.Routines.{parts_to}
-use Rattle.clu_check_mod.specs.Modules.{AreSpecified}
+use Rattle.clu_check_mod.specs.Modules.{AreMade, AreOf, AreSpecified}
 use Rattle.clu_core.specs.declared.checked.Checked.{Checked}
 use Rattle.clu_check_mod.specs.Bad.{EquatesAscend, bad_of_all, refused_of}
 use Rattle.clu_check_mod.specs.Notes.{constants_of, denoted_of, operations_of}
@@ -215,11 +216,12 @@ pub record IsFoundOf (headed : Headed) (terms : List Term) (facts : Facts) (list
   pub types_are : is.known.tables.types.now ≡ last
   pub facts_are : is.known.facts.now ≡ now
 
--- the types of nodes and what they invoke, by what is known of them
+-- the types of nodes, what they invoke and the specifications of modules, by what is known of them
 pub record AreFoundBy (nodes : List Node) (known : Known) (last : List Term) (found : Found) : Type 0 where
   pub types_are : known.tables.types.now ≡ last
   pub type_of : found.type_of.items ≡ known.facts.now.types.items
   pub op_of : found.op_of.items ≡ operations_of last known.facts.now nodes
+  pub own : AreMade last known.headed.heads.now.modules.items found.own.items
 
 pub record IsFoundBy (headed : Headed) (before : List Term) (lists : Lists) (long : Long) (asked : Extent) (last : List Term) (found : Found) : Type 0 where
   pub is : IsFirstBy headed before lists long asked None
@@ -249,6 +251,12 @@ pub record IsNoted (nodes : List Node) (library : List Spec) (checked : Checked)
   pub denoted : checked.denoted.items ≡ denoted_of is.settled.values.items nodes
   pub constant_of : checked.constant_of.items ≡ constants_of nodes is.settled.values.items
   pub constants : checked.constants ≡ is.settled.constants
+
+-- and there is a specification of each of its modules, made of the head of its place
+pub record AreOwn (nodes : List Node) (library : List Spec) (asked : Extent) (own : List Spec) : Type 0 where
+  pub is : IsFirst nodes library asked None
+  pub named : AreOf nodes (modules nodes) own
+  pub made : AreMade is.is.is.is.is.known.tables.types.now is.is.is.is.is.known.headed.heads.now.modules.items own
 
 -- ---- no fault comes first, and of a module there is no specification, though its headings are known
 

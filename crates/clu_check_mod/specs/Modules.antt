@@ -1,11 +1,12 @@
 -- The modules of a tree by their names, and their specifications.
-use Rattle.std.specs.Prelude.{◌≡◌, ℕ, ◌-◌, List, length, map, take, slice_get, Option, Some, IfSome}
+use Rattle.std.specs.Prelude.{◌≡◌, ℕ, ◌-◌, List, length, map, take, slice_get, Option, Some, None, IfSome}
 use Rattle.std.specs.Prelude.{option_and_then}
 use Rattle.clu_tree.specs.declared.node.Node.{Node}
 use Rattle.clu_tree.specs.Nodes.{modules}
 use Rattle.clu_types.specs.declared.spec.Spec.{Spec}
 use Rattle.clu_types.specs.declared.term.Term.{Term}
 use Rattle.clu_head.specs.declared.head.Head.{Head}
+use Rattle.clu_head.specs.Kept.{IsFormOf}
 use Rattle.clu_head.specs.Whole.{IsWhole}
 use Rattle.clu_name_rules.specs.Closed.{IsClosed}
 
@@ -37,3 +38,17 @@ pub record IsSpecified (nodes : List Node) (types : List Term) (n : ℕ) (h : He
 -- of each module of the tree, in the order of the text
 abbrev pub AreSpecified : List Node → List Term → List Head → Type 0
 AreSpecified nodes types heads = (i n : ℕ) → slice_get (modules nodes) i ≡ Some n → (h : Head) × (slice_get heads i ≡ Some h) × IsSpecified nodes types n h
+
+-- this specification is made of the head, whose types are of this arena
+pub record IsMade (types : List Term) (h : Head) (s : Spec) : Type 0 where
+  pub name : s.name ≡ h.name
+  pub kinds : map Some s.kinds ≡ h.kinds
+  pub form : IsFormOf types s.types h.form s.form
+
+abbrev pub IsMadeIf : List Term → Option Head → Spec → Type 0
+IsMadeIf types (Some h) s = IsMade types h s
+IsMadeIf types None s = ⊥
+
+-- each specification is made of the head of its place
+abbrev pub AreMade : List Term → List Head → List Spec → Type 0
+AreMade types heads specs = (i : ℕ) (s : Spec) → slice_get specs i ≡ Some s → IsMadeIf types (slice_get heads i) s

@@ -1,11 +1,11 @@
 //! The check of a file: all tables are made, and then the rules are asked.
 
-ghost use Rattle.std.specs.Prelude.{◌≡◌, All, IfErr, IfOk, OnOk, length, map, nat_lt};
+ghost use Rattle.std.specs.Prelude.{◌≡◌, All, IfErr, IfOk, OnOk, length, map, nat_lt, take};
 ghost use Rattle.clu_tree.specs.Nodes.{modules};
 ghost use Rattle.clu_names.specs.Denotes.{bound_to, starts_to};
 ghost use Rattle.clu_types.specs.Arena.{Grows};
 ghost use Rattle.clu_name_rules.specs.Lengths.{constant_length, lengths_of};
-ghost use Rattle.clu_check_mod.specs.Answered.{AreFoundIn, AreLists, AreValues, IsAnswer, IsAnswerWith, IsFirst, IsFirstBy, IsFirstIn, IsFirstOf, IsFirstWith, IsFoundBy, IsFoundIn, IsFoundOf, IsFoundWith, IsNoted, IsUnspecified, IsUnspecifiedBy, IsUnspecifiedIn, IsUnspecifiedWith};
+ghost use Rattle.clu_check_mod.specs.Answered.{AreFoundIn, AreLists, AreOwn, AreValues, IsAnswer, IsAnswerWith, IsFirst, IsFirstBy, IsFirstIn, IsFirstOf, IsFirstWith, IsFoundBy, IsFoundIn, IsFoundOf, IsFoundWith, IsNoted, IsUnspecified, IsUnspecifiedBy, IsUnspecifiedIn, IsUnspecifiedWith};
 ghost use Rattle.clu_check_mod.specs.Modules.{AreOf, BeginWithOwn, IsClosedAt};
 ghost use Rattle.clu_check_mod.specs.Refusals.{IsOfTree};
 ghost use Rattle.clu_check_mod.specs.Walks.{AreClosed, IsFound};
@@ -372,6 +372,7 @@ pub fn check(alloc: Global, syntax: Syntax, library: &Specs) -> Result<Box<Check
     ensures refused { IfErr result (IsOfTree syntax) }
     ensures first { IsAnswer (IsFirst syntax library.now Extent.Whole) (IsUnspecified syntax library.now Extent.Whole) result }
     ensures noted { IfOk result (λ checked. IsNoted syntax library.now checked.value) }
+    ensures made { IfOk result (λ checked. AreOwn syntax library.now Extent.Whole (take (length (modules syntax)) checked.value.specs.items)) }
 {
     let (settled, mut found) = check_syntax(alloc, &syntax, library, Extent::Whole)?;
     add_others(alloc, &mut found.own, library)?;
@@ -387,6 +388,7 @@ pub fn specs_of(alloc: Global, syntax: &Syntax, library: &Specs) -> Result<Vec<S
     ensures own { IfOk result (λ own. AreOf syntax.now (modules syntax.now) own.items) }
     ensures refused { IfErr result (IsOfTree syntax.now) }
     ensures first { IsAnswer (IsFirst syntax.now library.now Extent.Headings) (IsUnspecified syntax.now library.now Extent.Headings) result }
+    ensures made { IfOk result (λ own. AreOwn syntax.now library.now Extent.Headings own.items) }
 {
     let (_, found) = check_syntax(alloc, syntax, library, Extent::Headings)?;
     let Found { own, .. } = Box::into_inner(found);

@@ -1,12 +1,12 @@
 //! The specifications under which a file is compiled: those of its own modules, and of all others of the library.
 
-ghost use Rattle.std.specs.Prelude.{◌≡◌, ◌-◌, IfErr, IfOk, IfSome, IsSome, List, OnOk, Some, length, option_and_then, slice_get};
+ghost use Rattle.std.specs.Prelude.{◌≡◌, ◌-◌, IfErr, IfOk, IfSome, IsSome, List, OnOk, Some, length, option_and_then, slice_get, take};
 ghost use Rattle.std.specs.Option.{option_copied};
 ghost use Rattle.clu_tree.specs.Nodes.{modules};
 ghost use Rattle.clu_tree.specs.declared.node.Node.{Node};
 ghost use Rattle.clu_head.specs.Whole.{IsWhole};
 ghost use Rattle.clu_check_mod.specs.Answered.{IfLost, IsNoRefusal};
-ghost use Rattle.clu_check_mod.specs.Modules.{AreOf, AreSpecified, BeginWithOwn, IsSpecified, definition_of, name_of};
+ghost use Rattle.clu_check_mod.specs.Modules.{AreMade, AreOf, AreSpecified, BeginWithOwn, IsMade, IsMadeIf, IsSpecified, definition_of, name_of};
 
 use crate::errors::CheckError;
 use clu_base::{Bytes, Memory};
@@ -55,6 +55,15 @@ fn node_at(tree: &Tree, n: u32) -> Option<&Node>
     }
 }
 
+/// The specification that is made of a head, if none of its types is lost.
+fn spec_made(alloc: Global, types: &TypeArena, head: &Head) -> Result<Option<Box<Spec>>, Memory>
+    ensures name { IfOk result (λ found. IfSome found (λ spec. spec.value.name ≡ head.now.name)) }
+    ensures made { IfOk result (λ found. IfSome found (λ spec. IsMade types.now head.now spec.value)) }
+    ensures whole { IfOk result (λ found. IsWhole types.now head.now → IsSome found) }
+{
+    spec_of(alloc, types, head)
+}
+
 /// The specification of a module of this name, if this is its head and none of its types is lost.
 #[tactic(auto, using(crate::proofs::Losing::other_name))]
 fn spec_if(
@@ -64,10 +73,11 @@ fn spec_if(
     name: &Bytes,
 ) -> Result<Option<Box<Spec>>, Memory>
     ensures named { IfOk result (λ found. IfSome found (λ spec. spec.value.name ≡ name.now)) }
+    ensures made { IfOk result (λ found. IfSome found (λ spec. IsMade types.now head.now spec.value)) }
     ensures whole { IfOk result (λ found. head.now.name ≡ name.now → IsWhole types.now head.now → IsSome found) }
 {
     if head.name == *name {
-        Ok(spec_of(alloc, types, head)?)
+        Ok(spec_made(alloc, types, head)?)
     } else {
         Ok(None)
     }
@@ -81,6 +91,7 @@ fn spec_by(
     name: &Bytes,
 ) -> Result<Option<Box<Spec>>, Memory>
     ensures named { IfOk result (λ found. IfSome found (λ spec. spec.value.name ≡ name.now)) }
+    ensures made { IfOk result (λ found. IfSome found (λ spec. IsMadeIf types.now (option_copied head.entry) spec.value)) }
     ensures whole { IfOk result (λ found. IfSome (option_copied head.entry) (λ h. h.name ≡ name.now → IsWhole types.now h → IsSome found)) }
 {
     match head {
@@ -97,6 +108,7 @@ fn spec_named(
     name: &Bytes,
 ) -> Result<Box<Spec>, CheckError>
     ensures named { IfOk result (λ spec. spec.value.name ≡ name.now) }
+    ensures made { IfOk result (λ spec. IsMadeIf types.now (option_copied head.entry) spec.value) }
     ensures refused { IfErr result IsNoRefusal }
     ensures lost { IfErr result (λ e. IfLost e (IfSome (option_copied head.entry) (λ h. h.name ≡ name.now → IsWhole types.now h → ⊥))) }
 {
@@ -117,6 +129,7 @@ fn own_spec(
     n: u32,
 ) -> Result<Box<Spec>, CheckError>
     ensures named { IfOk result (λ spec. name_of tree.now n ≡ Some spec.value.name) }
+    ensures made { IfOk result (λ spec. IsMadeIf types.now (option_copied head.entry) spec.value) }
     ensures refused { IfErr result IsNoRefusal }
     ensures lost { IfErr result (λ e. IfLost e (IfSome (option_copied head.entry) (λ h. IsSpecified tree.now types.now n h → ⊥))) }
 {
@@ -140,6 +153,7 @@ pub fn own_specs(
     heads: &[Head],
 ) -> Result<Vec<Spec>, CheckError>
     ensures own { IfOk result (λ own. AreOf tree.now (modules tree.now) own.items) }
+    ensures made { IfOk result (λ own. AreMade types.now heads.now own.items) }
     ensures refused { IfErr result IsNoRefusal }
     ensures lost { IfErr result (λ e. IfLost e (AreSpecified tree.now types.now heads.now → ⊥)) }
 {
@@ -153,9 +167,10 @@ pub fn own_specs(
 }
 
 /// Adds after the specifications of a file, ascending by name, those of all other modules of the library.
-#[tactic(auto, using(crate::proofs::OwnSpecs::BeginWithOwn_behind))]
+#[tactic(auto, using(crate::proofs::OwnSpecs::BeginWithOwn_behind, crate::proofs::OwnSpecs::kept_behind))]
 pub fn add_others(alloc: Global, own: &mut Vec<Spec>, library: &Specs) -> Result<(), Memory>
-    ensures { OnOk result ((nodes : List Node) → AreOf nodes (modules nodes) own.old.items → BeginWithOwn nodes own.new.items) }
+    ensures begins { OnOk result ((nodes : List Node) → AreOf nodes (modules nodes) own.old.items → BeginWithOwn nodes own.new.items) }
+    ensures kept { OnOk result (take (length own.old.items) own.new.items ≡ own.old.items) }
 {
     let mut others = others(alloc, own.as_slice(), library)?;
     own.append(&mut others)?;

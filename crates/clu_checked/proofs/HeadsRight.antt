@@ -228,7 +228,7 @@ module _ (t : Text) (nodes : List Node) (parsed : IsParsed t nodes) (library : L
   -- ---- what is found by them
 
   -- which modules are those of the file
-  own_right : AreOwnModules is.is.is.headed.file.bindings.now.modules (modules is.is.is.headed.file.syntax.now)
+  pub own_right : AreOwnModules is.is.is.headed.file.bindings.now.modules (modules is.is.is.headed.file.syntax.now)
   own_right =
       let small : length nodes + length (declarations nodes is.rounds) < 2 ^ 32 = few in
       subst (λ (g : Read). AreOwnModules g.bindings.now.modules (modules g.syntax.now)) (sym is.is.is.file_is)

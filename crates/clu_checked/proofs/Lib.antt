@@ -18,4 +18,5 @@ pub mod AcceptedNodes
 pub mod NotedOperations
 pub mod Noted
 pub mod Sources
+pub mod Specified
 pub mod RepsRight

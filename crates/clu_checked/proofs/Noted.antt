@@ -33,7 +33,8 @@ use Rattle.clu_settle.specs.declared.value.Value.{Value}
 use Rattle.clu_settle.specs.declared.value.Value.TheVariants as value
 use Rattle.clu_settle.specs.Lists.{type_id, value_of}
 use Rattle.clu_settle.specs.Names.{is_constant}
-use Rattle.clu_settle.specs.Values.{Agrees, told}
+use Rattle.clu_settle.specs.Values.{Agrees, IsWithin, told}
+use Rattle.clu_settle.proofs.Within.{value_within}
 use Rattle.clu_bindings.specs.declared.file.File.{File as Read}
 use Rattle.clu_bindings.specs.Tables.{optional}
 use Rattle.clu_head.specs.There.{is_there}
@@ -68,19 +69,19 @@ use Rattle.clu_checked.proofs.Whole.{last_arena, whole}
 
 -- ---- what a value that is known says
 
-denoted_so : (types : List CluType) (constants : List Const) (v : Value) (s : Settled) → (v ≡ value.Lost → ⊥) → Agrees (told types constants v) s → IsDenoted types (type_id v) s
-denoted_so types constants (value.Type id) s here agrees = agrees
-denoted_so types constants value.Lost s here agrees = absurd (here refl)
-denoted_so types constants value.Nothing s here agrees = ap is_type_value agrees
-denoted_so types constants (value.Constant k) s here agrees = ap is_type_value agrees
-denoted_so types constants (value.Parameter k) s here agrees = ap is_type_value agrees
+denoted_so : (terms : List Term) (constants : List Const) (v : Value) (s : Settled) → (v ≡ value.Lost → ⊥) → IsWithin (length terms) (length constants) v → Agrees (told (types_of terms) constants v) s → IsDenoted terms (type_id v) s
+denoted_so terms constants (value.Type id) s here within agrees = (within.0, agrees)
+denoted_so terms constants value.Lost s here within agrees = absurd (here refl)
+denoted_so terms constants value.Nothing s here within agrees = ap is_type_value agrees
+denoted_so terms constants (value.Constant k) s here within agrees = ap is_type_value agrees
+denoted_so terms constants (value.Parameter k) s here within agrees = ap is_type_value agrees
 
-named_so : (types : List CluType) (constants : List Const) (v : Value) (s : Settled) → (v ≡ value.Lost → ⊥) → Agrees (told types constants v) s → IsNamed constants (constant_in v) s
-named_so types constants (value.Constant k) s here agrees = agrees
-named_so types constants (value.Parameter k) s here agrees = agrees
-named_so types constants value.Lost s here agrees = absurd (here refl)
-named_so types constants value.Nothing s here agrees = ap is_constant_value agrees
-named_so types constants (value.Type id) s here agrees = ap is_constant_value agrees
+named_so : (terms : List Term) (constants : List Const) (v : Value) (s : Settled) → (v ≡ value.Lost → ⊥) → IsWithin (length terms) (length constants) v → Agrees (told (types_of terms) constants v) s → IsNamed constants (constant_in v) s
+named_so terms constants (value.Constant k) s here within agrees = (within.1, agrees)
+named_so terms constants (value.Parameter k) s here within agrees = agrees
+named_so terms constants value.Lost s here within agrees = absurd (here refl)
+named_so terms constants value.Nothing s here within agrees = ap is_constant_value agrees
+named_so terms constants (value.Type id) s here within agrees = ap is_constant_value agrees
 
 -- ---- nodes
 
@@ -233,16 +234,19 @@ module _ (t : Text) (nodes : List Node) (parsed : IsParsed t nodes) (library : L
   agrees : (n : ℕ) → is_constant f.nodes n ≡ true → Agrees (told (types_of k.tables.types.now) r.constants.now (value_of r.values.now n)) (value_settled f.scope (item f n).constant)
   agrees n here = whole_there.made.file.values.each n here
 
+  within : (n : ℕ) → IsWithin (length k.tables.types.now) (length r.constants.now) (value_of r.values.now n)
+  within n = value_within (length k.tables.types.now) (length r.constants.now) r.values.now n whole_there.made.file.values.within
+
   denoted_is : (n : ℕ) → n < length f.nodes → optional (slice_get checked.denoted.items n) ≡ type_id (value_of r.values.now n)
   denoted_is n inside =
       ap (λ (ids : List (Option TypeId)). optional (slice_get ids n)) (noted.denoted ∙ ap₂ denoted_of (sym values_are) (sym nodes_are))
       ∙ ap optional (table_at (denoted_at r.values.now) (length f.nodes) n inside)
 
-  denoted_handed : (n : ℕ) → is_constant f.nodes n ≡ true → is_cvt_at f n ≡ false → IsDenoted (types_of checked.types) (optional (slice_get checked.denoted.items n)) (value_settled f.scope (item f n).constant)
+  denoted_handed : (n : ℕ) → is_constant f.nodes n ≡ true → is_cvt_at f n ≡ false → IsDenoted checked.types (optional (slice_get checked.denoted.items n)) (value_settled f.scope (item f n).constant)
   denoted_handed n here apart =
-      subst (λ (terms : List Term). IsDenoted (types_of terms) (optional (slice_get checked.denoted.items n)) (value_settled f.scope (item f n).constant)) noted.types_are
-      (subst (λ (o : Option TypeId). IsDenoted (types_of k.tables.types.now) o (value_settled f.scope (item f n).constant)) (sym (denoted_is n (constant_inside n here)))
-      (denoted_so (types_of k.tables.types.now) r.constants.now (value_of r.values.now n) (value_settled f.scope (item f n).constant) (value_known n here apart) (agrees n here)))
+      subst (λ (terms : List Term). IsDenoted terms (optional (slice_get checked.denoted.items n)) (value_settled f.scope (item f n).constant)) noted.types_are
+      (subst (λ (o : Option TypeId). IsDenoted k.tables.types.now o (value_settled f.scope (item f n).constant)) (sym (denoted_is n (constant_inside n here)))
+      (denoted_so k.tables.types.now r.constants.now (value_of r.values.now n) (value_settled f.scope (item f n).constant) (value_known n here apart) (within n) (agrees n here)))
 
   named_is : (n : ℕ) → is_kind f kind.Name n ≡ true → n < length f.nodes → optional (slice_get checked.constant_of.items n) ≡ constant_in (value_of r.values.now n)
   named_is n name inside =
@@ -256,7 +260,7 @@ module _ (t : Text) (nodes : List Node) (parsed : IsParsed t nodes) (library : L
       let here : is_constant f.nodes n ≡ true = of_expression n expression in
       subst (λ (cs : List Const). IsNamed cs (optional (slice_get checked.constant_of.items n)) (value_settled f.scope (item f n).constant)) constants_are
       (subst (λ (o : Option NamedConstant). IsNamed r.constants.now o (value_settled f.scope (item f n).constant)) (sym (named_is n name (constant_inside n here)))
-      (named_so (types_of k.tables.types.now) r.constants.now (value_of r.values.now n) (value_settled f.scope (item f n).constant) (value_known n here (expression_apart f n expression)) (agrees n here)))
+      (named_so k.tables.types.now r.constants.now (value_of r.values.now n) (value_settled f.scope (item f n).constant) (value_known n here (expression_apart f n expression)) (within n) (agrees n here)))
 
   pub handed_on : IsHandedOn (file nodes library extent.Whole None noted.is specs) checked
   handed_on =

@@ -1,3 +1,5 @@
 pub mod Checked
 pub mod Noted
+pub mod Sources
+pub mod Specified
 pub mod Violations

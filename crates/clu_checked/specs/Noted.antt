@@ -24,14 +24,14 @@ use Rattle.clu_core.specs.declared.op_ref.OpRef.{OpRef}
 use Rattle.clu_core.specs.declared.op_ref.OpRef.TheVariants as op
 use Rattle.clu_passes.specs.Lost.{is_cvt_at}
 
--- the type to which a text settles, or that it settles to none
-abbrev pub IsDenoted : List CluType → Option TypeId → Value → Type 0
-IsDenoted types (Some id) v = v ≡ settled_type (type_at types id)
-IsDenoted types None v = is_type_value v ≡ false
+-- the type of the arena to which a text settles, or that it settles to none
+abbrev pub IsDenoted : List Term → Option TypeId → Value → Type 0
+IsDenoted terms (Some id) v = (id.0 < length terms) × (v ≡ settled_type (type_at (types_of terms) id))
+IsDenoted terms None v = is_type_value v ≡ false
 
--- the same of its constant
+-- the same of its constant, in the list of all
 abbrev pub IsNamed : List Const → Option NamedConstant → Value → Type 0
-IsNamed constants (Some (constant.Known k)) v = v ≡ settled_constant (constant_at constants k)
+IsNamed constants (Some (constant.Known k)) v = (k < length constants) × (v ≡ settled_constant (constant_at constants k))
 IsNamed constants (Some (constant.Parameter k)) v = v ≡ settled_parameter k
 IsNamed constants None v = is_constant_value v ≡ false
 
@@ -64,6 +64,6 @@ pub record IsHandedOn (f : File) (checked : Checked) : Type 0 where
   -- at each node the operation that it names or invokes, if any; of a comparison with `~` it is the comparison's
   pub operations : (n : ℕ) → IsOperation checked.types (optional (slice_get checked.op_of.items n)) (invoked_at f n)
   -- the types that expressions and types denote; `cvt` stands for another one at each node that sees it
-  pub denoted : (n : ℕ) → is_constant f.nodes n ≡ true → is_cvt_at f n ≡ false → IsDenoted (types_of checked.types) (optional (slice_get checked.denoted.items n)) (value_settled f.scope (item f n).constant)
+  pub denoted : (n : ℕ) → is_constant f.nodes n ≡ true → is_cvt_at f n ≡ false → IsDenoted checked.types (optional (slice_get checked.denoted.items n)) (value_settled f.scope (item f n).constant)
   -- the constants for which names stand
   pub constants : (n : ℕ) → is_kind f kind.Name n ≡ true → IsNamed checked.constants (optional (slice_get checked.constant_of.items n)) (value_settled f.scope (item f n).constant)

@@ -13,6 +13,7 @@ use Rattle.clu_core.specs.declared.checked.Checked.{Checked}
 use Rattle.clu_check_mod.specs.declared.walk.Extent.{Extent}
 use Rattle.clu_check_mod.specs.declared.walk.Extent.TheVariants as extent
 use Rattle.clu_checked.specs.Noted.{IsHandedOn}
+use Rattle.clu_checked.specs.Specified.{AreSpecifications}
 
 -- on the walk over the headings alone, or on both walks
 abbrev pub first_in : Extent → File → Option Refused
@@ -30,3 +31,9 @@ pub record IsHanded (nodes : List Node) (library : List Spec) (checked : Checked
   pub rounds : List Round
   pub surrounded : AreRounds nodes rounds
   pub is : IsHandedOn (checked_file nodes rounds (map specification_told library)) checked
+
+-- these are the specifications of its modules by what the definitions say of this file
+pub record HasSpecifications (nodes : List Node) (library : List Spec) (own : List Spec) : Type 0 where
+  pub rounds : List Round
+  pub surrounded : AreRounds nodes rounds
+  pub is : AreSpecifications (checked_file nodes rounds (map specification_told library)) own

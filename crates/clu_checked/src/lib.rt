@@ -41,6 +41,7 @@ ghost use Rattle.clu_checked.specs.Checked.{IsLibrary, IsOfGrammar, TagsKnown, b
 pub use demands::demands_answered;
 pub use handing::handed_on;
 pub use of_source::first_of_source;
+pub use specifying::specified_on;
 
 /// The first fault that a check answers is what the walks find by the rules over its tables.
 pub fn walks_found()
@@ -85,4 +86,5 @@ pub fn first_checked()
 
 mod handing;
 mod of_source;
+mod specifying;
 mod types;

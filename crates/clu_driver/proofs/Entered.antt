@@ -6,16 +6,16 @@ use Rattle.clu_base.specs.declared.tokens.Token.{Token}
 use Rattle.clu_build.specs.Entering.{own_of, text_at}
 use Rattle.clu_core.specs.declared.checked.Checked.{Checked}
 use Rattle.clu_library.specs.Contents.{Contents}
-use Rattle.clu_check_mod.specs.Modules.{AreOf, BeginWithOwn}
 use Rattle.clu_tree.specs.Nodes.{modules}
 use Rattle.clu_tree.specs.declared.node.Node.{Node}
 use Rattle.clu_types.specs.declared.spec.Spec.{Spec}
+use Rattle.clu_checked.specs.Sources.{IsSource}
 use Rattle.clu_driver.specs.Found.{IsFound, IsUnder, NotHad}
 use Rattle.clu_driver.specs.Held.{HasLibrary, IsLibraryFile, IsUnreadable, NotLibrary}
 use Rattle.clu_driver.specs.Libraries.{CompileShows, CompiledShows, EnteredShows, LinkShows, LinkedShows, NotBeside, NotGathered, SpecifiedShows, SpecifyShows, SpecsShow}
 use Rattle.clu_driver.specs.Shows.{Reported}
 use Rattle.clu_driver.specs.declared.specifying.Kept.{Kept}
-use Rattle.clu_driver.specs.Sources.{IsChecked, IsHeaded, IsParsed, IsSource, NotGot, NotSource}
+use Rattle.clu_driver.specs.Sources.{AreSpecificationsOf, IsChecked, IsHeaded, IsParsed, NotGot, NotSource}
 use Rattle.clu_outcome.specs.declared.outcome.Outcome.{Outcome}
 use Rattle.clu_outcome.specs.declared.outcome.Outcome.TheVariants as outcome
 use Rattle.clu_driver.proofs.Found.{found_with, not_parsed}
@@ -56,7 +56,7 @@ compile_shows how library file bytes tokens nodes known files read files' faults
 
 -- the specifications and texts of a tree are those of what was checked
 pub compiled_shows : (how : Outcome) (name file : List ℕ) (known : Contents) (bytes : List ℕ) (tokens : List Token) (nodes : List Node) (c : Checked) (files files' : Option Files) (faults faults' : ℕ)
-    → c.syntax ≡ nodes → BeginWithOwn nodes c.specs.items → IsChecked known.specs nodes → EnteredShows how name known (own_of c) (text_at bytes tokens c.syntax) files faults files' faults'
+    → c.syntax ≡ nodes → AreSpecificationsOf known.specs nodes (take (length (modules nodes)) c.specs.items) → IsChecked known.specs nodes → EnteredShows how name known (own_of c) (text_at bytes tokens c.syntax) files faults files' faults'
     → CompiledShows how name file known bytes tokens nodes files faults files' faults'
 compiled_shows how name file known bytes tokens nodes c files files' faults faults' tree own checked shown =
     let P : List Node → Type 0 = λ ns. EnteredShows how name known (take (length (modules ns)) c.specs.items) (text_at bytes tokens ns) files faults files' faults' in
@@ -64,24 +64,25 @@ compiled_shows how name file known bytes tokens nodes c files files' faults faul
 
 -- the same of what was lent of the library, the source and what was checked
 pub entered_compiled : (how : Outcome) (name file : List ℕ) (known lib : Contents) (bytes lent : List ℕ) (tokens read : List Token) (nodes tree : List Node) (c checked : Checked) (specs : List Spec) (files files' : Option Files) (faults faults' : ℕ)
-    → lib ≡ known → lent ≡ bytes → read ≡ tokens → checked ≡ c → c.syntax ≡ tree → BeginWithOwn tree c.specs.items → specs ≡ known.specs → tree ≡ nodes → IsChecked specs tree
+    → lib ≡ known → lent ≡ bytes → read ≡ tokens → checked ≡ c → c.syntax ≡ tree → AreSpecificationsOf specs tree (take (length (modules tree)) c.specs.items) → specs ≡ known.specs → tree ≡ nodes → IsChecked specs tree
     → EnteredShows how name lib (own_of checked) (text_at lent read checked.syntax) files faults files' faults' → CompiledShows how name file known bytes tokens nodes files faults files' faults'
 entered_compiled how name file known lib bytes lent tokens read nodes tree c checked specs files files' faults faults' lib_is lent_is read_is checked_is syntax_is own specs_are tree_is accepted shown =
     let of_library : EnteredShows how name known (own_of checked) (text_at lent read checked.syntax) files faults files' faults' = subst (λ (l : Contents). EnteredShows how name l (own_of checked) (text_at lent read checked.syntax) files faults files' faults') lib_is shown in
     let of_checked : EnteredShows how name known (own_of c) (text_at lent read c.syntax) files faults files' faults' = subst (λ (x : Checked). EnteredShows how name known (own_of x) (text_at lent read x.syntax) files faults files' faults') checked_is of_library in
     let of_bytes : EnteredShows how name known (own_of c) (text_at bytes read c.syntax) files faults files' faults' = subst (λ (b : List ℕ). EnteredShows how name known (own_of c) (text_at b read c.syntax) files faults files' faults') lent_is of_checked in
     let of_tokens : EnteredShows how name known (own_of c) (text_at bytes tokens c.syntax) files faults files' faults' = subst (λ (t : List Token). EnteredShows how name known (own_of c) (text_at bytes t c.syntax) files faults files' faults') read_is of_bytes in
-    compiled_shows how name file known bytes tokens nodes c files files' faults faults' (syntax_is ∙ tree_is) (subst (λ (ns : List Node). BeginWithOwn ns c.specs.items) tree_is own)
+    compiled_shows how name file known bytes tokens nodes c files files' faults faults' (syntax_is ∙ tree_is)
+    (subst (λ (ns : List Node). AreSpecificationsOf known.specs ns (take (length (modules ns)) c.specs.items)) tree_is (subst (λ (ss : List Spec). AreSpecificationsOf ss tree (take (length (modules tree)) c.specs.items)) specs_are own))
     (subst (λ (ns : List Node). IsChecked known.specs ns) tree_is (subst (λ (ss : List Spec). IsChecked ss tree) specs_are accepted)) of_tokens
 
 -- and of specifications alone
 pub entered_specified : (kept : Kept) (how : Outcome) (name file : List ℕ) (known lib : Contents) (nodes tree : List Node) (own lent specs : List Spec) (files files' : Option Files) (faults faults' : ℕ)
-    → lib ≡ known → lent ≡ own → specs ≡ known.specs → tree ≡ nodes → IsHeaded specs tree → AreOf tree (modules tree) own
+    → lib ≡ known → lent ≡ own → specs ≡ known.specs → tree ≡ nodes → IsHeaded specs tree → AreSpecificationsOf specs tree own
     → SpecsShow kept how name lib lent files faults files' faults' → SpecifiedShows kept how name file nodes known files faults files' faults'
 entered_specified kept how name file known lib nodes tree own lent specs files files' faults faults' lib_is lent_is specs_are tree_is accepted named shown =
     let of_library : SpecsShow kept how name known lent files faults files' faults' = subst (λ (l : Contents). SpecsShow kept how name l lent files faults files' faults') lib_is shown in
     let of_own : SpecsShow kept how name known own files faults files' faults' = subst (λ (ss : List Spec). SpecsShow kept how name known ss files faults files' faults') lent_is of_library in
-    inr (subst (λ (ns : List Node). IsHeaded known.specs ns) tree_is (subst (λ (ss : List Spec). IsHeaded ss tree) specs_are accepted), (own, subst (λ (ns : List Node). AreOf ns (modules ns) own) tree_is named, of_own))
+    inr (subst (λ (ns : List Node). IsHeaded known.specs ns) tree_is (subst (λ (ss : List Spec). IsHeaded ss tree) specs_are accepted), (own, subst (λ (ns : List Node). AreSpecificationsOf known.specs ns own) tree_is (subst (λ (ss : List Spec). AreSpecificationsOf ss tree own) specs_are named), of_own))
 
 pub link_shows : (how : Outcome) (library program start : List ℕ) (known kept : Contents) (files read files' : Option Files) (faults between faults' : ℕ)
     → known ≡ kept → HasLibrary files library kept → read ≡ files → faults ≤ between → LinkedShows how library program (map to_ascii_lowercase start) known read between files' faults' → LinkShows how library program start files faults files' faults'

@@ -2,7 +2,6 @@
 use Rattle.std.proofs.Common.{◌≡◌, ◌≢◌, ◌≤◌, ◌<◌, ◌+◌, ◌∙◌, ap, sym, inr, subst, arith, length, take, List, [], ℕ, IfErr, IfOk, Option, Some, None, Result, Ok, Err}
 use Rattle.std.proofs.lemmas.List.{length-take, take_all}
 use Rattle.clu_base.specs.Outside.{Files}
-use Rattle.clu_check_mod.specs.Modules.{BeginWithOwn}
 use Rattle.clu_image.specs.Faults.{IsRefusal, fault_of}
 use Rattle.clu_base.specs.declared.errors.FormatError.TheVariants.{Bad}
 use Rattle.clu_base.specs.declared.errors.FormatError.{FormatError}
@@ -18,10 +17,11 @@ use Rattle.clu_words.specs.Command.{Limits}
 use Rattle.rv_isa.specs.Image.{Contents, IsImage}
 use Rattle.clu_asm.specs.AssemblyText.{asm_text}
 use Rattle.clu_asm.specs.Faults.{IsFault, IsFaultAt}
+use Rattle.clu_checked.specs.Sources.{IsRead, IsSource}
 use Rattle.clu_driver.specs.Commands.{AsmShows, AssembledShows, GoShows, IsBadText, PutShows}
 use Rattle.clu_driver.specs.Puts.{NotPut}
 use Rattle.clu_driver.specs.Found.{IsFound}
-use Rattle.clu_driver.specs.Sources.{IsAccepted, IsChecked, IsParsed, IsRead, IsRefusedBy, IsSource, NotBuilt, NotCompiled, NotMade, NotParsed, NotSource}
+use Rattle.clu_driver.specs.Sources.{AreSpecificationsOf, IsAccepted, IsChecked, IsParsed, IsRefusedBy, NotBuilt, NotCompiled, NotMade, NotParsed, NotSource}
 use Rattle.clu_driver.specs.World.{Streams, World, world_of}
 use Rattle.clu_outcome.specs.declared.outcome.Outcome.{Outcome}
 use Rattle.clu_outcome.specs.declared.outcome.Outcome.TheVariants as outcome
@@ -143,6 +143,6 @@ tree_read b bytes ts tokens tree nodes same alike is tree_is order root shape fo
     })
 
 -- an accepted tree that is not built is not compiled
-pub unbuilt : {X : Type 0} (result : Result X Outcome) (name : List ℕ) (nodes : List Node) (specs : List Spec) → IsChecked [] nodes → BeginWithOwn nodes specs → IfErr result (λ how. NotBuilt how (take (length (modules nodes)) specs)) → IfErr result (λ how. NotMade how name nodes)
+pub unbuilt : {X : Type 0} (result : Result X Outcome) (name : List ℕ) (nodes : List Node) (specs : List Spec) → IsChecked [] nodes → AreSpecificationsOf [] nodes (take (length (modules nodes)) specs) → IfErr result (λ how. NotBuilt how (take (length (modules nodes)) specs)) → IfErr result (λ how. NotMade how name nodes)
 unbuilt (Ok built) name nodes specs checked own refused = tt
 unbuilt (Err how) name nodes specs checked own refused = inr (checked, (take (length (modules nodes)) specs, own, refused))

@@ -11,8 +11,9 @@ use Rattle.clu_library.specs.LibraryReading.{library_seen}
 use Rattle.clu_specs.specs.Reading.{Fails}
 use Rattle.clu_specs.specs.Seen.{seen}
 use Rattle.clu_specs.specs.Specifications.{SpecHolds}
+use Rattle.clu_checked.specs.Sources.{AreKept}
 use Rattle.clu_driver.specs.Found.{IsUnder, NotHad}
-use Rattle.clu_driver.specs.Held.{AreKept, IsBadAt, IsUnreadable, NotLibrary}
+use Rattle.clu_driver.specs.Held.{IsBadAt, IsUnreadable, NotLibrary}
 use Rattle.clu_outcome.specs.declared.outcome.Outcome.{Outcome}
 use Rattle.clu_outcome.specs.declared.outcome.Outcome.TheVariants as outcome
 use Rattle.clu_driver.proofs.Ascending.{library_ascends}

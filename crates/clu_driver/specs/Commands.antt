@@ -12,12 +12,13 @@ use Rattle.clu_tree.specs.declared.node.Node.{Node}
 use Rattle.clu_words.specs.Command.{Limits, Meant}
 use Rattle.clu_words.specs.Command as command
 use Rattle.rv_isa.specs.Image.{Contents, IsImage}
+use Rattle.clu_checked.specs.Sources.{IsSource}
 use Rattle.clu_driver.specs.Found.{IsFound, NotRead}
 use Rattle.clu_driver.specs.Generated.{generated_text}
 use Rattle.clu_driver.specs.Libraries.{CompileShows, LinkShows, RunOfShows, SpecifyShows, XrefShows}
 use Rattle.clu_driver.specs.Puts.{IsPut, NotPut}
 use Rattle.clu_driver.specs.Shows.{IsAsked, RunShows, TextShows, untraced}
-use Rattle.clu_driver.specs.Sources.{IsAccepted, IsSource, NotCompiled, NotParsed}
+use Rattle.clu_driver.specs.Sources.{IsAccepted, NotCompiled, NotParsed}
 use Rattle.clu_driver.specs.World.{IsUnrun, IsUntouched, World, world_of}
 use Rattle.clu_outcome.specs.declared.outcome.Outcome.{Outcome}
 use Rattle.clu_outcome.specs.declared.outcome.Outcome.TheVariants as outcome

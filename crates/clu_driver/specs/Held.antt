@@ -1,8 +1,6 @@
 -- The library of a file, and why it has none.
-use Rattle.std.specs.Prelude.{◌≡◌, ◌≤◌, ℕ, List, length, Option, Some, None, Result, Ok, Err}
+use Rattle.std.specs.Prelude.{◌≡◌, ℕ, List, length, Option, Some, None, Result, Ok, Err}
 use Rattle.clu_base.specs.Outside.{Files}
-use Rattle.clu_types.specs.declared.spec.Spec.{Spec}
-use Rattle.clu_checked.specs.Checked.{IsLibrary}
 use Rattle.clu_library.specs.Contents.{Contents, nothing}
 use Rattle.clu_library.specs.LibraryReading.{SeenLibrary, library_read, library_seen}
 use Rattle.clu_specs.specs.Reading.{offset_of}
@@ -20,12 +18,6 @@ IsLibraryOf content library = library_of content ≡ Ok (library_seen library)
 
 abbrev pub IsLibraryFile : Option (List ℕ) → Type 0
 IsLibraryFile content = (library : Contents) × IsLibraryOf content library
-
--- the specifications are no more than a library may keep, and each is whole, with its operations and the components of the types that
--- it shows in ascending order
-pub record AreKept (specs : List Spec) : Type 0 where
-  pub few : length specs ≤ 4096
-  pub ascending : IsLibrary specs
 
 -- where files are told, this is the library under the name
 abbrev pub HasLibrary : Option Files → List ℕ → Contents → Type 0

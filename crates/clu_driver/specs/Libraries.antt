@@ -1,5 +1,5 @@
 -- What the commands on libraries show of their outcome. `known` is the library that the file has before the command.
-use Rattle.std.specs.Prelude.{◌≡◌, ◌≤◌, ◌⊎◌, ℕ, List, All, Option, Some, None, map}
+use Rattle.std.specs.Prelude.{◌≡◌, ◌≤◌, ◌⊎◌, ℕ, List, Option, Some, None, map}
 use Rattle.std.specs.Char.{to_ascii_lowercase}
 use Rattle.clu_base.specs.Outside.{Files}
 use Rattle.clu_base.specs.declared.tokens.Token.{Token}
@@ -10,18 +10,18 @@ use Rattle.clu_library.specs.Contents.{Contents, program_of}
 use Rattle.clu_library.specs.LibraryFile.{library_bytes}
 use Rattle.clu_library.specs.Unmet.{TellsUnmet}
 use Rattle.clu_library.specs.declared.program.Program.{Program}
-use Rattle.clu_check_mod.specs.Modules.{AreOf}
 use Rattle.clu_check_mod.specs.declared.walk.Extent.TheVariants as extent
 use Rattle.clu_tree.specs.Nodes.{modules}
 use Rattle.clu_tree.specs.declared.node.Node.{Node}
 use Rattle.clu_types.specs.declared.spec.Spec.{Spec}
 use Rattle.clu_words.specs.Command.{Limits}
+use Rattle.clu_checked.specs.Sources.{IsSource}
 use Rattle.clu_driver.specs.Found.{IsFound, IsUnder}
 use Rattle.clu_driver.specs.Held.{HasLibrary, IsLibraryFile, NotLibrary}
 use Rattle.clu_driver.specs.Puts.{IsPut, NotPut}
 use Rattle.clu_driver.specs.Refusals.{NotEntered, NotLinked, NotSpecified}
 use Rattle.clu_driver.specs.Shows.{RunShows, TextShows}
-use Rattle.clu_driver.specs.Sources.{IsChecked, IsHeaded, IsParsed, IsSource, NotAccepted, NotGot, NotParsed}
+use Rattle.clu_driver.specs.Sources.{AreSpecificationsOf, IsChecked, IsHeaded, IsParsed, NotAccepted, NotGot, NotParsed}
 use Rattle.clu_driver.specs.World.{IsUnrun, Streams, World}
 use Rattle.clu_outcome.specs.declared.outcome.Outcome.{Outcome}
 use Rattle.clu_outcome.specs.declared.outcome.Outcome.TheVariants as outcome
@@ -78,7 +78,7 @@ abbrev pub SpecifiedShows : Kept → Outcome → List ℕ → List ℕ → List 
 SpecifiedShows kept how name file nodes known files faults files' faults' =
     (NotAccepted extent.Headings how file known.specs nodes × (files' ≡ files))
     ⊎ (IsHeaded known.specs nodes
-    × ((specs : List Spec) × AreOf nodes (modules nodes) specs × SpecsShow kept how name known specs files faults files' faults'))
+    × ((specs : List Spec) × AreSpecificationsOf known.specs nodes specs × SpecsShow kept how name known specs files faults files' faults'))
 
 -- spec and replace: library or source was refused and no file changed, or the source is a file of the grammar and was specified
 unfoldable pub SpecifyShows : Kept → Outcome → List ℕ → List ℕ → Option Files → ℕ → Option Files → ℕ → Type 0
@@ -93,7 +93,7 @@ abbrev pub CompiledShows : Outcome → List ℕ → List ℕ → Contents → Li
 CompiledShows how name file known bytes tokens nodes files faults files' faults' =
     (NotAccepted extent.Whole how file known.specs nodes × (files' ≡ files))
     ⊎ (IsChecked known.specs nodes
-    × ((own : List Spec) × AreOf nodes (modules nodes) own × EnteredShows how name known own (text_at bytes tokens nodes) files faults files' faults'))
+    × ((own : List Spec) × AreSpecificationsOf known.specs nodes own × EnteredShows how name known own (text_at bytes tokens nodes) files faults files' faults'))
 
 -- compile: library or source was refused and no file changed, or the source is a file of the grammar and was compiled
 unfoldable pub CompileShows : Outcome → List ℕ → List ℕ → Option Files → ℕ → Option Files → ℕ → Type 0

@@ -12,12 +12,11 @@ use Rattle.clu_check_mod.specs.declared.errors.CheckError.{CheckError}
 use Rattle.clu_check_mod.specs.declared.errors.CheckError.TheVariants as check
 use Rattle.clu_check_mod.specs.declared.walk.Extent.{Extent}
 use Rattle.clu_check_mod.specs.declared.walk.Extent.TheVariants as extent
-use Rattle.clu_checked.specs.Violations.{IsFirstViolation}
+use Rattle.clu_checked.specs.Sources.{IsSource}
+use Rattle.clu_checked.specs.Violations.{HasSpecifications, IsFirstViolation}
 use Rattle.clu_lexer.specs.Tokens.{Tokens}
 use Rattle.clu_lexer.specs.Tokens as lexer
 use Rattle.clu_lexer.specs.declared.tokens.LexError.TheVariants as lex
-use Rattle.clu_declares.specs.Declares as declares
-use Rattle.clu_parser.specs.Order.{IsFileOver}
 use Rattle.clu_parser.specs.Parsing as parser
 use Rattle.clu_parser.specs.declared.errors.ParseError.TheVariants as parse
 use Rattle.clu_tree.specs.Nodes.{modules}
@@ -27,13 +26,7 @@ use Rattle.clu_driver.specs.Found.{IsFound, NotRead}
 use Rattle.clu_outcome.specs.declared.outcome.Outcome.{Outcome}
 use Rattle.clu_outcome.specs.declared.outcome.Outcome.TheVariants as outcome
 
--- the bytes are no more than a source may have and a file of the grammar: these are its tokens, and these nodes its tree
-pub record IsSource (bytes : List ℕ) (tokens : List Token) (nodes : List Node) : Type 0 where
-  pub small : length bytes ≤ 1048576
-  pub tokens_are : Tokens bytes tokens
-  pub tree_is : parser.IsTreeOf bytes tokens nodes
-
--- the same, whatever its tokens are
+-- the bytes are a source, and these nodes its tree
 abbrev pub IsParsed : List ℕ → List Node → Type 0
 IsParsed bytes nodes = (tokens : List Token) × IsSource bytes tokens nodes
 
@@ -45,17 +38,10 @@ IsChecked library nodes = All (IsClosedAt nodes) (modules nodes) × IsFirstViola
 abbrev pub IsHeaded : List Spec → List Node → Type 0
 IsHeaded library nodes = IsFirstViolation nodes library extent.Headings None
 
--- what reading says of the tree besides
-pub record IsRead (bytes : List ℕ) (tokens : List Token) (nodes : List Node) : Type 0 where
-  pub parsed : declares.IsParsed (parser.text_of bytes tokens) nodes
-  pub root : IsFileOver (length tokens) nodes
-
--- these nodes are the tree of a source
-pub record HasSource (nodes : List Node) : Type 0 where
-  pub bytes : List ℕ
-  pub tokens : List Token
-  pub source : IsSource bytes tokens nodes
-  pub read : IsRead bytes tokens nodes
+-- these are the specifications of its modules under those of a library, in the order of the text
+pub record AreSpecificationsOf (library : List Spec) (nodes : List Node) (own : List Spec) : Type 0 where
+  pub named : AreOf nodes (modules nodes) own
+  pub are : HasSpecifications nodes library own
 
 -- the bytes are a file of the grammar in which no rule is violated under no other specifications than its own
 abbrev pub IsAccepted : List ℕ → Type 0
@@ -119,7 +105,7 @@ NotBuilt _ specs = ⊥
 
 -- the tree is accepted, and its modules, with these specifications in the order of the text, are not built
 abbrev pub IsUnbuilt : Outcome → List Node → Type 0
-IsUnbuilt how nodes = IsChecked [] nodes × ((specs : List Spec) × AreOf nodes (modules nodes) specs × NotBuilt how specs)
+IsUnbuilt how nodes = IsChecked [] nodes × ((specs : List Spec) × AreSpecificationsOf [] nodes specs × NotBuilt how specs)
 
 -- why a tree is not compiled
 abbrev pub NotMade : Outcome → List ℕ → List Node → Type 0

@@ -1,12 +1,11 @@
 //! The check of a source's syntax over specifications, and what a refusal by it comes to.
 
-ghost use Rattle.std.specs.Prelude.{◌≡◌, IfErr, IfOk, OnOk};
-ghost use Rattle.clu_check_mod.specs.Modules.{AreOf, BeginWithOwn};
+ghost use Rattle.std.specs.Prelude.{◌≡◌, IfErr, IfOk, OnOk, length, take};
 ghost use Rattle.clu_check_mod.specs.declared.walk.Extent.TheVariants as extent;
+ghost use Rattle.clu_checked.specs.Sources.{AreKept, HasSource};
 ghost use Rattle.clu_checked.specs.Violations.{IsHanded};
 ghost use Rattle.clu_tree.specs.Nodes.{modules};
-ghost use Rattle.clu_driver.specs.Held.{AreKept};
-ghost use Rattle.clu_driver.specs.Sources.{HasSource, IsChecked, IsHeaded, IsRefusalOf, NotAccepted};
+ghost use Rattle.clu_driver.specs.Sources.{AreSpecificationsOf, IsChecked, IsHeaded, IsRefusalOf, NotAccepted};
 
 use clu_check_mod::{CheckError, check, specs_of};
 use clu_core::Checked;
@@ -26,7 +25,7 @@ pub fn checked<'a>(
     requires source { HasSource syntax }
     requires specs { AreKept specs.now }
     ensures syntax { IfOk result (λ checked. checked.value.syntax ≡ syntax) }
-    ensures specs { IfOk result (λ checked. BeginWithOwn syntax checked.value.specs.items) }
+    ensures specs { IfOk result (λ checked. AreSpecificationsOf specs.now syntax (take (length (modules syntax)) checked.value.specs.items)) }
     ensures accepted { OnOk result (IsChecked specs.now syntax) }
     ensures handed { IfOk result (λ checked. IsHanded syntax specs.now checked.value) }
     ensures refused { IfErr result (λ how. NotAccepted extent.Whole how name.now specs.now syntax) }
@@ -47,7 +46,7 @@ pub fn headings<'a>(
 ) -> Result<Vec<Spec>, Outcome<'a>>
     requires source { HasSource syntax.now }
     requires specs { AreKept specs.now }
-    ensures own { IfOk result (λ own. AreOf syntax.now (modules syntax.now) own.items) }
+    ensures own { IfOk result (λ own. AreSpecificationsOf specs.now syntax.now own.items) }
     ensures accepted { OnOk result (IsHeaded specs.now syntax.now) }
     ensures refused { IfErr result (λ how. NotAccepted extent.Headings how name.now specs.now syntax.now) }
 {

@@ -1,10 +1,11 @@
 //! What the commands that enter a source into a library read: the library and the source.
 
 ghost use Rattle.std.specs.Prelude.{◌≡◌, ◌≤◌, ◌⊎◌, IfErr, IfOk, length, option_map};
+ghost use Rattle.clu_checked.specs.Sources.{AreKept, IsRead, IsSource};
 ghost use Rattle.clu_driver.specs.Found.{IsFound};
-ghost use Rattle.clu_driver.specs.Held.{AreKept, HasLibrary, IsLibraryFile, IsLibraryOf, IsUnreadable};
+ghost use Rattle.clu_driver.specs.Held.{HasLibrary, IsLibraryFile, IsLibraryOf, IsUnreadable};
 ghost use Rattle.clu_driver.specs.Libraries.{NotGathered};
-ghost use Rattle.clu_driver.specs.Sources.{IsRead, IsSource, NotSource};
+ghost use Rattle.clu_driver.specs.Sources.{NotSource};
 
 use crate::file::content_if_any;
 use crate::libraries::library_of;

@@ -2,7 +2,8 @@
 
 ghost use Rattle.std.specs.Prelude.{◌≡◌, ◌≤◌, IfErr, IfOk, List, OnOk, Option, Some, option_map, ℕ};
 ghost use Rattle.clu_library.specs.LibraryFile.{library_bytes};
-ghost use Rattle.clu_driver.specs.Held.{AreKept, HasLibrary, IsLibraryFile, IsLibraryOf, IsUnreadable, NotLibrary};
+ghost use Rattle.clu_checked.specs.Sources.{AreKept};
+ghost use Rattle.clu_driver.specs.Held.{HasLibrary, IsLibraryFile, IsLibraryOf, IsUnreadable, NotLibrary};
 ghost use Rattle.clu_driver.specs.Libraries.{BytesShow, IsUnwritable, LibraryShows};
 ghost use Rattle.clu_driver.specs.Shows.{Reported};
 

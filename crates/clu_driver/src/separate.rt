@@ -2,10 +2,9 @@
 
 ghost use Rattle.std.specs.Prelude.{◌≡◌};
 ghost use Rattle.clu_build.specs.Entering.{own_of, text_at};
-ghost use Rattle.clu_driver.specs.Held.{AreKept};
+ghost use Rattle.clu_checked.specs.Sources.{AreKept, IsRead, IsSource};
 ghost use Rattle.clu_driver.specs.Libraries.{CompileShows, CompiledShows, EnteredShows};
 ghost use Rattle.clu_driver.specs.Shows.{Reported};
-ghost use Rattle.clu_driver.specs.Sources.{IsRead, IsSource};
 
 use crate::checking::checked;
 use crate::gathering::{Gathered, gather};

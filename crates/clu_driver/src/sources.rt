@@ -3,8 +3,9 @@
 ghost use Rattle.std.specs.Prelude.{◌≡◌, ◌≤◌, IfErr, IfOk, length};
 ghost use Rattle.clu_parser.specs.Shape.{HaveForms};
 ghost use Rattle.clu_tree.specs.Nodes.{IsTree};
+ghost use Rattle.clu_checked.specs.Sources.{IsRead, IsSource};
 ghost use Rattle.clu_driver.specs.Found.{IsFound};
-ghost use Rattle.clu_driver.specs.Sources.{IsRead, IsSource, NotGot, NotParsed, NotSource};
+ghost use Rattle.clu_driver.specs.Sources.{NotGot, NotParsed, NotSource};
 
 use crate::file::first_content;
 use clu_base::{Place, Refused, Rule, Store, Token};

@@ -1,11 +1,10 @@
 //! The commands `spec` and `replace`: enter the specifications of a source's modules into a library.
 
 ghost use Rattle.std.specs.Prelude.{◌≡◌, IfErr, OnOk};
-ghost use Rattle.clu_driver.specs.Held.{AreKept};
+ghost use Rattle.clu_checked.specs.Sources.{AreKept, IsRead, IsSource};
 ghost use Rattle.clu_driver.specs.Libraries.{IsSpecified, SpecifiedShows, SpecifyShows, SpecsShow};
 ghost use Rattle.clu_driver.specs.Refusals.{IsOfSpecifying};
 ghost use Rattle.clu_driver.specs.Shows.{Reported};
-ghost use Rattle.clu_driver.specs.Sources.{IsRead, IsSource};
 
 use crate::checking::headings;
 use crate::gathering::{Gathered, gather};

@@ -314,14 +314,20 @@ fn spells(word: &[u8], text: &[u8]) -> bool
     }
 }
 
-/// The same; texts of other lengths, which are most, are not looked into.
+/// The same; texts of other lengths or with another first letter, which are most, are not looked into.
 fn is_spelled(word: &[u8], text: &[u8]) -> bool
     ensures { result ≡ spells word.now text.now }
 {
     if word.len() != text.len() {
         return false;
     }
-    spells(word, text)
+    match word {
+        [] => true,
+        [w, word @ ..] => match text {
+            [] => false,
+            [t, text @ ..] => *w == t.to_ascii_lowercase() && spells(word, text),
+        },
+    }
 }
 
 /// The symbol of the entry that the text spells.

@@ -1,9 +1,15 @@
-use Rattle.std.proofs.Common.{◌≡◌, ◌∙◌, List, ap, ap₂, refl, subst, sym, vec_items}
+use Rattle.std.proofs.Common.{◌≡◌, ◌∙◌, List, ap, ap₂, length, refl, subst, sym, take, vec_items}
+use Rattle.clu_tree.specs.declared.node.Node.{Node}
+use Rattle.clu_tree.specs.Nodes.{modules}
+use Rattle.clu_types.specs.declared.spec.Spec.{Spec}
 use Rattle.clu_types.specs.declared.term.Term.{Term}
 use Rattle.clu_settle.specs.declared.settling.Values.{Values}
-use Rattle.clu_check_mod.specs.Answered.{IsNoted}
+use Rattle.clu_core.specs.declared.checked.Checked.{Checked}
+use Rattle.clu_check_mod.specs.Answered.{AreOwn, IsNoted}
 use Rattle.clu_check_mod.specs.Notes.{constants_of, denoted_of, operations_of}
 use Rattle.clu_check_mod.specs.declared.checking.Found.{Found}
+use Rattle.clu_check_mod.specs.declared.walk.Extent.TheVariants as extent
+use Rattle.clu_check_mod.proofs.Answered.{own_first}
 use Rattle.clu_check_mod.proofs.Closed.{closed_modules}
 use Rattle.clu_check_mod.proofs.checking.check.Goals as goal
 
@@ -26,3 +32,15 @@ returns-clause-noted c =
       constant_of = ap vec_items put.constant_of ∙ c.in_ok-constant_of.ensures ∙ ap₂ constants_of c.tree.ensures.same (c.as_slice.ensures.value ∙ ap (λ (v : Values). v.values.items) first ∙ was.values);
       constants = put.constants ∙ was.constants;
     })
+
+pub returns-clause-made : goal.returns-clause-made
+returns-clause-made c =
+    let nodes : List Node = c.args.syntax in
+    let put = c.checked-checked.ensures.specs in
+    let found : Found = c.in_ok-settled.found.value in
+    let lent : Found = c.deref_mut.result.now in
+    let old : lent.own.items ≡ found.own.items = ap (λ (f : Found). f.own.items) c.deref_mut.ensures.value in
+    let all : List Spec = c.checked-checked.result.specs.items in
+    subst (λ (done : Checked). AreOwn nodes c.args.library.now extent.Whole (take (length (modules nodes)) done.specs.items)) (sym c.in_ok-new.ensures.ok)
+    (own_first nodes c.args.library.now extent.Whole c.in_ok-settled.settled.value found all c.in_ok-settled.ensures.noted c.in_ok-settled.ensures.found.0
+    (ap (λ (xs : List Spec). take (length xs) all) (sym old) ∙ ap (λ (xs : List Spec). take (length lent.own.items) xs) put ∙ c.in_ok-add_others.ensures.kept ∙ old))

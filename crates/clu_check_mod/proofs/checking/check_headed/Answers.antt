@@ -1,4 +1,4 @@
-use Rattle.std.proofs.Common.{◌≡◌, ◌∙◌, List, None, ap, subst, vec_items}
+use Rattle.std.proofs.Common.{◌≡◌, ◌∙◌, List, None, ap, subst, sym, vec_items}
 use Rattle.std.proofs.lemmas.Result.{err_from_is_err_and}
 use Rattle.clu_tree.specs.declared.node.Node.{Node}
 use Rattle.clu_tree.specs.Nodes.{modules}
@@ -9,7 +9,7 @@ use Rattle.clu_types.proofs.Carrying.{grows_on}
 use Rattle.clu_typing.specs.declared.facts.Facts.{Facts}
 use Rattle.clu_head.specs.declared.head.Head.{Head}
 use Rattle.clu_check_mod.specs.Answered.{IfLost, IsFirstBy, IsFirstOf, IsUnspecifiedBy}
-use Rattle.clu_check_mod.specs.Modules.{AreOf, AreSpecified}
+use Rattle.clu_check_mod.specs.Modules.{AreMade, AreOf, AreSpecified}
 use Rattle.clu_check_mod.specs.Notes.{operations_of}
 use Rattle.clu_check_mod.specs.declared.checking.Found.{Found}
 use Rattle.clu_check_mod.proofs.Answered.{error_more, first_by, found_by, no_more, not_of_tree}
@@ -65,8 +65,10 @@ returns-clause-first c =
     let put = c.found_of.ensures in
     let nodes : List Node = c.args.headed.file.syntax.now in
     let found : Found = c.in_ok-new.field-0.value in
+    let own : c.in_ok-own.own.items ≡ found.own.items = sym (ap (λ (f : Found). f.own.items) made ∙ put.own) in
     let box : c.deref.result.now ≡ c.ask.new.facts = c.deref.ensures in
     found_by c.args.headed c.args.types.now c.facts_of.new.types c.args.lists.now c.args.long.now c.args.extent c.in_ok-facts.facts.value c.deref_mut.result.now c.deref_mut.ensures.value
     c.in_ok-facts.ensures.known c.in_ok-facts.ensures.sound c.in_ok-facts.ensures.kept c.ask.new.types c.ask.new.facts found c.in_ok-ask.ensures.first
     (ap (λ (f : Found). f.type_of.items) made ∙ ap vec_items put.types)
     (ap (λ (f : Found). f.op_of.items) made ∙ ap vec_items put.operations ∙ c.in_ok-op_of.ensures ∙ ap (λ (f : Facts). operations_of c.ask.new.types f c.tree.result.now) box ∙ ap (operations_of c.ask.new.types c.ask.new.facts) c.tree.ensures.same)
+    (subst (AreMade c.ask.new.types c.args.headed.heads.now.modules.items) own (subst (λ (hs : List Head). AreMade c.ask.new.types hs c.in_ok-own.own.items) c.as_slice-heads.ensures.value c.in_ok-own.ensures.made))

@@ -5,9 +5,9 @@ use Rattle.clu_tree.specs.declared.node.Node.{Node}
 use Rattle.clu_printed.specs.Again.{IsReadAgain}
 use Rattle.clu_printed.proofs.Again.{read_again}
 use Rattle.clu_printer.specs.Printed.{printed}
+use Rattle.clu_checked.specs.Sources.{IsSource}
 use Rattle.clu_driver.specs.Commands.{IsPrintOf}
 use Rattle.clu_driver.specs.Found.{IsFound}
-use Rattle.clu_driver.specs.Sources.{IsSource}
 use Rattle.clu_driver.proofs.printing.printed_text.Goals as goal
 
 print_found : (files : Option Files) (name bytes text : List ℕ) (tokens : List Token) (nodes : List Node) → IsFound files name (λ b. b ≡ bytes) → IsSource bytes tokens nodes → text ≡ printed bytes tokens nodes → IsFound files name (λ b. IsPrintOf b text)

@@ -1,8 +1,7 @@
 use Rattle.std.proofs.Common.{◌∙◌, List, ap, subst, sym}
 use Rattle.clu_library.specs.Contents.{Contents}
 use Rattle.clu_types.specs.declared.spec.Spec.{Spec}
-use Rattle.clu_driver.specs.Held.{AreKept}
-use Rattle.clu_driver.specs.Sources.{HasSource}
+use Rattle.clu_checked.specs.Sources.{AreKept, HasSource}
 use Rattle.clu_driver.specs.declared.sources.Parsed.{Parsed}
 use Rattle.clu_driver.proofs.Entered.{entered_specified, shown_as}
 use Rattle.clu_driver.proofs.specifying.specify_source.Goals as goal
