@@ -1,8 +1,9 @@
 -- The modules of a tree are nodes of it.
-use Rattle.std.proofs.Common.{◌≡◌, ◌<◌, ◌+◌, ℕ, zero, suc, List, [], ◌∷◌, ◌++◌, length, All, get_or, Option, Some, None, refl, sym, ap, ◌∙◌, subst, arith, append_assoc}
+use Rattle.std.proofs.Common.{◌≡◌, ◌<◌, ◌+◌, ℕ, zero, suc, Bool, true, false, List, [], ◌∷◌, ◌++◌, length, All, get_or, Option, Some, None, refl, sym, ap, ◌∙◌, subst, arith, append_assoc}
 use Rattle.std.proofs.lemmas.List.{length-append}
 use Rattle.std.proofs.lemmas.List.Elements.{All-append}
-use Rattle.std.specs.Prelude.{slice_get}
+use Rattle.std.proofs.lemmas.Bool.{true≢false}
+use Rattle.std.specs.Prelude.{slice_get, slice_index_or}
 use Rattle.clu_tree.specs.declared.node.Node.{Node}
 use Rattle.clu_tree.specs.declared.node.NodeKind.{NodeKind}
 use Rattle.clu_tree.specs.declared.node.NodeKind.TheVariants as k
@@ -38,3 +39,16 @@ from before (m ∷ ms) =
 -- each number of the modules is that of a Module
 pub are_modules : (nodes : List Node) → All (IsModule nodes) (modules nodes)
 are_modules nodes = from [] nodes
+
+abbrev is_module : NodeKind → Bool
+is_module k.Module = true
+is_module _ = false
+
+inside : (nodes : List Node) (n : ℕ) → IsModule nodes n → n < length nodes
+inside [] n is = absurd (true≢false (sym (ap is_module is)))
+inside (m ∷ nodes) zero is = omega arith
+inside (m ∷ nodes) (suc n) is = let less : n < length nodes = inside nodes n is in omega (arith, less)
+
+-- each of these numbers is that of a node
+pub module_within : (nodes : List Node) (ns : List ℕ) (i : ℕ) → ns ≡ modules nodes → i < length ns → slice_index_or ns i 0 < length nodes
+module_within nodes ns i is less = inside nodes (slice_index_or ns i 0) (subst (All (IsModule nodes)) (sym is) (are_modules nodes) i 0 less)

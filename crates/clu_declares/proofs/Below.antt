@@ -2,7 +2,7 @@
 -- the other.
 use Rattle.std.proofs.Common.{◌≡◌, ◌∙◌, ℕ, zero, suc, ◌<◌, ◌&&◌, ◌||◌, Bool, true, false, if◌then◌else◌, List, [], ◌∷◌, ◌++◌, map, take, drop, Some, slice_get, refl, ap, sym, rules, append_assoc, append-nil, lt-ltb}
 use Rattle.std.specs.List.{AllByRecursion}
-use Rattle.std.proofs.lemmas.Bool.{true≢false}
+use Rattle.std.proofs.lemmas.Bool.{or_parts, true≢false}
 use Rattle.std.proofs.lemmas.List.{take-append-drop}
 use Rattle.clu_tree.specs.declared.node.Node.{Node}
 use Rattle.clu_tree.specs.declared.node.NodeKind.{NodeKind}
@@ -37,14 +37,6 @@ binds k = is_statement k || is_other k
 
 pub same_kind : (k other : NodeKind) → is_of k other ≡ true → other ≡ k
 same_kind k other e = same_true the_type (search rules) other k e
-
-or_false_left : (a b : Bool) → (a || b) ≡ false → a ≡ false
-or_false_left true b e = absurd (true≢false e)
-or_false_left false b e = refl
-
-or_false_right : (a b : Bool) → (a || b) ≡ false → b ≡ false
-or_false_right true b e = absurd (true≢false e)
-or_false_right false b e = e
 
 pub and_false : (a b : Bool) → (a && b) ≡ false → a ≡ true → b ≡ false
 and_false true b e h = e
@@ -108,8 +100,8 @@ module _ (nodes : List Node) (rounds : List Round) where
   pub none_at : (n : ℕ) → binds (kind_at nodes n) ≡ false → all_at n ≡ []
   unfolding all_at
   none_at n e =
-      all_other (kind_at nodes n) n (or_false_left (is_statement (kind_at nodes n)) (is_other (kind_at nodes n)) e)
-      ∙ others_none (kind_at nodes n) n (or_false_right (is_statement (kind_at nodes n)) (is_other (kind_at nodes n)) e)
+      all_other (kind_at nodes n) n (or_parts (is_statement (kind_at nodes n)) (is_other (kind_at nodes n)) e).0
+      ∙ others_none (kind_at nodes n) n (or_parts (is_statement (kind_at nodes n)) (is_other (kind_at nodes n)) e).1
 
   pub equate_all : (n : ℕ) → kind_at nodes n ≡ kind.Equate → all_at n ≡ equate_binding (item_at nodes n).equate ∷ []
   unfolding all_at all_of others_of

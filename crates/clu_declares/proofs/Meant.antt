@@ -1,7 +1,7 @@
 -- Each declaration is what the table of meanings says of it.
-use Rattle.std.proofs.Common.{◌≡◌, ◌∙◌, ◌⊎◌, ℕ, zero, suc, ◌+◌, ◌-◌, ◌^◌, ◌<◌, ◌||◌, ◌==◌, Bool, true, false, if◌then◌else◌, min, List, [], ◌∷◌, ◌++◌, length, map, take, drop, get_or, Option, Some, None, slice_get, refl, ap, ap₂, sym, subst, inl, inr, arith, codes, eqb-true}
+use Rattle.std.proofs.Common.{◌≡◌, ◌∙◌, ◌⊎◌, ℕ, zero, suc, ◌+◌, ◌-◌, ◌^◌, ◌<◌, ◌==◌, Bool, true, false, if◌then◌else◌, min, List, [], ◌∷◌, ◌++◌, length, map, take, drop, get_or, Option, Some, None, slice_get, refl, ap, ap₂, sym, subst, inl, inr, arith, codes, eqb-true}
 use Rattle.std.specs.Prelude.{bytes_eq}
-use Rattle.std.proofs.lemmas.Bool.{true≢false, cases_Bool}
+use Rattle.std.proofs.lemmas.Bool.{true≢false, cases_Bool, or_parts}
 use Rattle.std.proofs.lemmas.Option.{same_Some, slice_get_within}
 use Rattle.std.proofs.lemmas.Slice.Eq.{bytes_eq-Decides}
 use Rattle.clu_tree.specs.declared.node.Node.{Node}
@@ -38,14 +38,10 @@ use Rattle.clu_declares.proofs.Said.{bound_own, bound_map, bound_names, only_nam
 
 -- ---- what is not bound is a module
 
-neither : (a b : Bool) → (a || b) ≡ false → (a ≡ false) × (b ≡ false)
-neither true b e = absurd (true≢false e)
-neither false b e = (refl, e)
-
 no_binding : (bs : Bindings) (n : ℕ) (name : Identifier) → has bs n name ≡ false → bound_at bs n name ≡ means.is_module
 no_binding [] n name e = refl
 no_binding (b ∷ bs) n name e =
-    let p = neither (is_it b n name) (has bs n name) e in
+    let p = or_parts (is_it b n name) (has bs n name) e in
     ap (λ (t : Bool). if t then b.meaning else bound_at bs n name) p.0 ∙ no_binding bs n name p.1
 
 -- ---- a place among the names that one node declares

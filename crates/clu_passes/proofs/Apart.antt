@@ -4,7 +4,7 @@ use Rattle.std.proofs.Common.{◌≡◌, ◌∙◌, ◌⊎◌, ◌&&◌, ℕ, ze
 use Rattle.std.specs.Prelude.{◌↔◌, replicate, slice_get}
 use Rattle.std.specs.List.{list_any, range_with_len}
 use Rattle.std.specs.Option.{option_map}
-use Rattle.std.proofs.lemmas.Bool.{true≢false, cases_lt}
+use Rattle.std.proofs.lemmas.Bool.{true≢false, cases_lt, and_parts}
 use Rattle.std.proofs.lemmas.List.{length-map}
 use Rattle.std.proofs.lemmas.List.Folds.{fold-map}
 use Rattle.std.proofs.lemmas.List.Sums.{fold-append}
@@ -97,10 +97,6 @@ map_get h (y ∷ xs) (suc i) x e = map_get h xs i x e
 pub if_some : (b : Bool) (x y : ℕ) → if◌then◌else◌ {A = Option ℕ} b (Some x) None ≡ Some y → (b ≡ true) × (x ≡ y)
 if_some true x y e = (refl, same_Some x y e)
 if_some false x y e = absurd (none-some y e)
-
-and_left : (a b : Bool) → (a && b) ≡ true → a ≡ true
-and_left true b e = refl
-and_left false b e = absurd (true≢false (sym e))
 
 pub bit_false : (bits : List Bool) (k : ℕ) → k < length bits → (slice_get bits k ≡ Some true → ⊥) → (o : Option Bool) → slice_get bits k ≡ o → slice_get bits k ≡ Some false
 bit_false bits k less other (Some false) is = is
@@ -211,7 +207,7 @@ module _ (f : File) (of : IsFileOfTree f) (names : Names) (are : AreNames f name
       let many : length equates ≡ length order = length-map order (λ place. equate_declared f.nodes (slice_get ds place)) in
       record {
         behind = omega (arith, at, number, same, many);
-        decl = subst (λ (n : ℕ). is_there kind.Decl (slice_get f.nodes n) ≡ true) same (and_left (is_there kind.Decl (slice_get f.nodes m.item)) (stands_in f.nodes f.rounds kind.When m.item) both.0);
+        decl = subst (λ (n : ℕ). is_there kind.Decl (slice_get f.nodes n) ≡ true) same (and_parts (is_there kind.Decl (slice_get f.nodes m.item)) (stands_in f.nodes f.rounds kind.When m.item) both.0).0;
       }
 
   which : (p e : ℕ) → slice_get es p ≡ Some (Some e) → IsEquate p e ⊎ IsArm p e

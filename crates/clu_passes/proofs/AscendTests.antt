@@ -1,6 +1,6 @@
 -- The test of ascending components says that they ascend.
-use Rattle.std.proofs.Common.{◌≡◌, ◌∙◌, ◌&&◌, inl, inr, ℕ, zero, suc, not, Bool, true, false, List, refl, sym, ap, subst}
-use Rattle.std.proofs.lemmas.Bool.{true≢false, and_parts}
+use Rattle.std.proofs.Common.{◌≡◌, ◌&&◌, inl, inr, ℕ, zero, suc, not, true, List, refl, ap, subst}
+use Rattle.std.proofs.lemmas.Bool.{and_parts, and_from, not-true}
 use Rattle.clu_types.specs.CluType.{CluType, array_of, sequence_of, record_of, struct_of, oneof_of, variant_of, proc_of, iter_of, cluster_of, parameter, CluTypes, no_types, type_and, Fields, no_fields, field_and, Signals, no_signals, signal_and, Actuals, no_actuals, actual_type, actual_const, actual_param}
 use Rattle.clu_types.specs.Substituted.{type_of_actual, type_put}
 use Rattle.clu_meaning.specs.Settling.{comes_after}
@@ -8,16 +8,9 @@ use Rattle.clu_passes.specs.Ascending.{ComesFirst, Ascends, TypesAscend, FieldsA
 use Rattle.clu_passes.specs.Met.{IsComponent, IsPartOf}
 use Rattle.clu_passes.specs.Settings.{comes_first, ascends, types_ascend, fields_ascend, signals_ascend, actuals_ascend}
 
-and_both : (a b : Bool) → a ≡ true → b ≡ true → (a && b) ≡ true
-and_both a b p q = ap (λ (x : Bool). x && b) p ∙ q
-
-is_false : (b : Bool) → not b ≡ true → b ≡ false
-is_false true e = absurd (true≢false (sym e))
-is_false false e = refl
-
 first_true : (name : List ℕ) (fields : Fields) → comes_first name fields ≡ true → ComesFirst name fields
 first_true name no_fields e = tt
-first_true name (field_and other t others) e = is_false (comes_after name other) e
+first_true name (field_and other t others) e = not-true (comes_after name other) e
 
 true_first : (name : List ℕ) (fields : Fields) → ComesFirst name fields → comes_first name fields ≡ true
 true_first name no_fields e = refl
@@ -69,28 +62,28 @@ mutual
   true_ascends (oneof_of fields) up = true_fields fields up
   true_ascends (variant_of fields) up = true_fields fields up
   true_ascends (proc_of args results signals) up =
-      and_both (types_ascend args) (types_ascend results && signals_ascend signals) (true_types args up.0) (and_both (types_ascend results) (signals_ascend signals) (true_types results up.1) (true_signals signals up.2))
+      and_from (types_ascend args) (types_ascend results && signals_ascend signals) (true_types args up.0) (and_from (types_ascend results) (signals_ascend signals) (true_types results up.1) (true_signals signals up.2))
   true_ascends (iter_of args results signals) up =
-      and_both (types_ascend args) (types_ascend results && signals_ascend signals) (true_types args up.0) (and_both (types_ascend results) (signals_ascend signals) (true_types results up.1) (true_signals signals up.2))
+      and_from (types_ascend args) (types_ascend results && signals_ascend signals) (true_types args up.0) (and_from (types_ascend results) (signals_ascend signals) (true_types results up.1) (true_signals signals up.2))
   true_ascends (cluster_of name given) up = true_actuals given up
   true_ascends _ up = refl
 
   true_types : (ts : CluTypes) → TypesAscend ts → types_ascend ts ≡ true
   true_types no_types up = refl
-  true_types (type_and t ts) up = and_both (ascends t) (types_ascend ts) (true_ascends t up.0) (true_types ts up.1)
+  true_types (type_and t ts) up = and_from (ascends t) (types_ascend ts) (true_ascends t up.0) (true_types ts up.1)
 
   true_fields : (fields : Fields) → FieldsAscend fields → fields_ascend fields ≡ true
   true_fields no_fields up = refl
   true_fields (field_and name t fields) up =
-      and_both (comes_first name fields) (ascends t && fields_ascend fields) (true_first name fields up.0) (and_both (ascends t) (fields_ascend fields) (true_ascends t up.1) (true_fields fields up.2))
+      and_from (comes_first name fields) (ascends t && fields_ascend fields) (true_first name fields up.0) (and_from (ascends t) (fields_ascend fields) (true_ascends t up.1) (true_fields fields up.2))
 
   true_signals : (signals : Signals) → SignalsAscend signals → signals_ascend signals ≡ true
   true_signals no_signals up = refl
-  true_signals (signal_and name ts signals) up = and_both (types_ascend ts) (signals_ascend signals) (true_types ts up.0) (true_signals signals up.1)
+  true_signals (signal_and name ts signals) up = and_from (types_ascend ts) (signals_ascend signals) (true_types ts up.0) (true_signals signals up.1)
 
   true_actuals : (given : Actuals) → ActualsAscend given → actuals_ascend given ≡ true
   true_actuals no_actuals up = refl
-  true_actuals (actual_type t given) up = and_both (ascends t) (actuals_ascend given) (true_ascends t up.0) (true_actuals given up.1)
+  true_actuals (actual_type t given) up = and_from (ascends t) (actuals_ascend given) (true_ascends t up.0) (true_actuals given up.1)
   true_actuals (actual_const c given) up = true_actuals given up
   true_actuals (actual_param n given) up = true_actuals given up
 

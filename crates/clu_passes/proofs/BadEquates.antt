@@ -2,7 +2,7 @@
 use Rattle.std.proofs.Common.{◌≡◌, ◌∙◌, ℕ, zero, suc, ◌+◌, ◌-◌, ◌<◌, ◌≤◌, ◌&&◌, ◌||◌, not, if◌then◌else◌, Bool, true, false, List, [], ◌∷◌, length, map, codes, is_some, Option, Some, None, inl, inr, refl, sym, ap, subst, arith, rules}
 use Rattle.std.specs.Prelude.{slice_get}
 use Rattle.std.specs.List.{list_any, range_with_len, AllByRecursion}
-use Rattle.std.proofs.lemmas.Bool.{true≢false, cases_lt}
+use Rattle.std.proofs.lemmas.Bool.{true≢false, cases_lt, or_parts}
 use Rattle.clu_base.specs.declared.rules.Rule.{Rule}
 use Rattle.clu_base.specs.declared.rules.Rule.TheVariants as rule
 use Rattle.clu_tree.specs.declared.node.Node.{Node}
@@ -36,19 +36,11 @@ any_same g h a (suc len) same =
     ap (λ (b : Bool). b || list_any g (range_with_len (a + 1) len)) (same a (omega arith) (omega arith))
     ∙ ap (λ (b : Bool). h a || b) (any_same g h (a + 1) len (λ n l m. same n (omega (arith, l)) (omega (arith, m))))
 
-or_left : (a b : Bool) → (a || b) ≡ false → a ≡ false
-or_left true b e = e
-or_left false b e = refl
-
-or_right : (a b : Bool) → (a || b) ≡ false → b ≡ false
-or_right true b e = absurd (true≢false e)
-or_right false b e = e
-
 pub none_in : (g : ℕ → Bool) (a len : ℕ) → list_any g (range_with_len a len) ≡ false → (n : ℕ) → a ≤ n → n < a + len → g n ≡ false
 none_in g a zero e n l m = absurd (omega (arith, l, m))
 none_in g a (suc len) e n l m = elim (cases_lt a n) [
-  | inl more ↦ none_in g (a + 1) len (or_right (g a) (list_any g (range_with_len (a + 1) len)) e) n (omega (arith, more)) (omega (arith, m))
-  | inr back ↦ let same : a ≡ n = omega (arith, l, back) in ap g (sym same) ∙ or_left (g a) (list_any g (range_with_len (a + 1) len)) e
+  | inl more ↦ none_in g (a + 1) len (or_parts (g a) (list_any g (range_with_len (a + 1) len)) e).1 n (omega (arith, more)) (omega (arith, m))
+  | inr back ↦ let same : a ≡ n = omega (arith, l, back) in ap g (sym same) ∙ (or_parts (g a) (list_any g (range_with_len (a + 1) len)) e).0
 ]
 
 pub least_same : (v w : Rule → Bool) → ((r : Rule) → v r ≡ w r) → (rs : List Rule) → least v rs ≡ least w rs
@@ -138,8 +130,8 @@ module _ (f : File) (b c : ℕ → Bool) (leads : ℕ → Bool) (known : (e : �
   pub names_same : (n : ℕ) (its : List Identifier) → list_any (leads_on f leads) (equates_at f n its) ≡ false → AllByRecursion (λ (name : Identifier). is_bad_name f b n name ≡ is_bad_name f c n name) its
   names_same n [] e = tt
   names_same n (name ∷ its) e = (
-    named_same (declared_by f n name) (or_left (leads_on f leads (equate_named f n name)) (list_any (leads_on f leads) (equates_at f n its)) e),
-    names_same n its (or_right (leads_on f leads (equate_named f n name)) (list_any (leads_on f leads) (equates_at f n its)) e),
+    named_same (declared_by f n name) (or_parts (leads_on f leads (equate_named f n name)) (list_any (leads_on f leads) (equates_at f n its)) e).0,
+    names_same n its (or_parts (leads_on f leads (equate_named f n name)) (list_any (leads_on f leads) (equates_at f n its)) e).1,
   )
 
 module _ (f : File) (b c : ℕ → Bool) (same : (e : ℕ) → is_kind f kind.Equate e ≡ true → is_circular f e ≡ false → b e ≡ c e) where

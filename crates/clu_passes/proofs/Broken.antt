@@ -1,7 +1,7 @@
 -- V18 and V20 by what is asked at a node and not met.
 use Rattle.std.proofs.Common.{◌≡◌, ◌∙◌, ◌⊎◌, inl, inr, ℕ, zero, suc, ◌<◌, ◌&&◌, ◌||◌, not, Bool, true, false, List, [], ◌∷◌, Contains, length, map, get_or, Option, refl, sym, ap, subst, arith}
 use Rattle.std.specs.List.{list_any}
-use Rattle.std.proofs.lemmas.Bool.{true≢false}
+use Rattle.std.proofs.lemmas.Bool.{true≢false, and_parts, and_from}
 use Rattle.clu_types.specs.CluType.{CluType}
 use Rattle.clu_checking.specs.Files.{File}
 use Rattle.clu_checking.specs.Headings.{specification}
@@ -46,17 +46,6 @@ same_truth true b to from = sym (to refl)
 same_truth false true to from = from refl
 same_truth false false to from = refl
 
-and_left : (a b : Bool) → (a && b) ≡ true → a ≡ true
-and_left true b e = refl
-and_left false b e = absurd (true≢false (sym e))
-
-and_right : (a b : Bool) → (a && b) ≡ true → b ≡ true
-and_right true b e = e
-and_right false b e = absurd (true≢false (sym e))
-
-and_both : (a b : Bool) → a ≡ true → b ≡ true → (a && b) ≡ true
-and_both a b p q = ap (λ (x : Bool). x && b) p ∙ q
-
 not_true : (b : Bool) → not b ≡ true → b ≡ true → ⊥
 not_true true e is = absurd (true≢false (sym e))
 not_true false e is = absurd (true≢false (sym is))
@@ -90,15 +79,15 @@ module _ (f : File) (n : ℕ) (found : CluType → List ℕ → Option Told) (te
       let q = told_list asks r.0 r.1 in (
         q.0,
         q.1,
-        ap (λ (x : Asked). x.in_set) q.2 ∙ only r.0.in_set (and_left (kind r.0.in_set) (not (is_met f n r.0)) r.2),
-        λ m. not_true (is_met f n r.0) (and_right (kind r.0.in_set) (not (is_met f n r.0)) r.2)
+        ap (λ (x : Asked). x.in_set) q.2 ∙ only r.0.in_set (and_parts (kind r.0.in_set) (not (is_met f n r.0)) r.2).0,
+        λ m. not_true (is_met f n r.0) (and_parts (kind r.0.in_set) (not (is_met f n r.0)) r.2).1
             (ap (is_met f n) (sym q.2) ∙ (met_same (given_at f n) (specification f) found tell q.0).0 m),
       )
 
   from_bit : (kind : Bool → Bool) (its : Bool) → kind its ≡ true → SomeUnmet found its asks → list_any (broken kind) (map asked_told asks) ≡ true
   from_bit kind its of h =
       true_some (broken kind) (map asked_told asks) (asked_told h.0) (list_told asks h.0 h.1)
-      (and_both (kind h.0.in_set) (not (is_met f n (asked_told h.0))) (ap kind h.2 ∙ of)
+      (and_from (kind h.0.in_set) (not (is_met f n (asked_told h.0))) (ap kind h.2 ∙ of)
       (true_not (is_met f n (asked_told h.0)) (λ e. h.3 ((met_same (given_at f n) (specification f) found tell h.0).1 e))))
 
   only_not : (b : Bool) → not b ≡ true → b ≡ false

@@ -3,7 +3,7 @@
 use Rattle.std.proofs.Common.{◌≡◌, ◌∙◌, ℕ, ◌<◌, ◌≤◌, ◌&&◌, ◌||◌, Bool, true, false, List, [], ◌∷◌, length, drop, is_some, Option, Some, None, inl, inr, refl, sym, ap, subst, arith}
 use Rattle.std.specs.Prelude.{slice_get}
 use Rattle.std.specs.List.{AllByRecursion}
-use Rattle.std.proofs.lemmas.Bool.{true≢false}
+use Rattle.std.proofs.lemmas.Bool.{true≢false, or_right}
 use Rattle.clu_base.specs.declared.rules.Rule.{Rule}
 use Rattle.clu_base.specs.declared.rules.Rule.TheVariants as rule
 use Rattle.clu_tree.specs.declared.node.Node.{Node}
@@ -41,7 +41,6 @@ use Rattle.clu_passes.specs.Trees.{IsFileOfTree}
 use Rattle.clu_passes.proofs.ByKinds.{not_elsewhere}
 use Rattle.clu_passes.proofs.CvtPlaces.{no_part, parent_told}
 use Rattle.clu_passes.proofs.LostNodes.{odd_itself}
-use Rattle.clu_passes.proofs.LostRefused.{or_right}
 use Rattle.clu_passes.proofs.NamedEquates.{expression_led}
 use Rattle.clu_passes.proofs.NoCvt.{kept_there}
 use Rattle.clu_passes.proofs.TypesBad.{clear_there, not_sooner}

@@ -2,6 +2,7 @@
 use Rattle.std.proofs.Common.{◌≡◌, ◌∙◌, ℕ, suc, ◌+◌, add-one, Bool, true, false, ◌&&◌, ◌||◌, if◌then◌else◌, List, [], ◌∷◌, ◌++◌, take, drop, flat_map, Option, Some, None, refl, sym, ap, ap₂, subst}
 use Rattle.std.specs.Prelude.{slice_get, is_none, not, length}
 use Rattle.std.specs.List.{AllByRecursion}
+use Rattle.std.proofs.lemmas.Bool.{or_parts}
 use Rattle.clu_tree.specs.declared.node.Node.{Node}
 use Rattle.clu_tree.specs.declared.node.NodeKind.{NodeKind}
 use Rattle.clu_tree.specs.declared.node.NodeKind.TheVariants as kind
@@ -45,7 +46,6 @@ use Rattle.clu_passes.specs.Notes.{has, HaveParents, DeclareModules, AreRepeated
 use Rattle.clu_passes.proofs.Actuals.{Known, type_known}
 use Rattle.clu_passes.proofs.AtNodes.{names_are}
 use Rattle.clu_passes.proofs.ByNotes.{items_told}
-use Rattle.clu_passes.proofs.Counting.{either_false}
 use Rattle.clu_passes.proofs.EachOnce.{some_before, IsFresh, stand_once}
 use Rattle.clu_passes.proofs.FactNodes.{object_wanted}
 use Rattle.clu_passes.proofs.FactTypes.{IsTerm, term_of_type}
@@ -125,7 +125,7 @@ module _ (t : Tables) (scope : Scope) (library : List Specification) (refused : 
       by : (b : Bool) → is_of kind.FieldE (kind_at nodes c) ≡ b → IsFresh picked (children f n) c
       by true e =
           let its : (stands_twice (names f c) || stands_before f kind.FieldE c) ≡ false = ap (λ (k : NodeKind). v17_at f k c) (sym (same_kind kind.FieldE (kind_at nodes c) e)) ∙ fine in
-          let both = either_false (stands_twice (names f c)) (stands_before f kind.FieldE c) its in (
+          let both = or_parts (stands_twice (names f c)) (stands_before f kind.FieldE c) its in (
             ap (λ (b : Bool). stands_twice (if◌then◌else◌ {A = List Identifier} b (names f c) [])) e ∙ both.0,
             ap (λ (b : Bool). some_before (flat_map picked (before_in (children f n) c)) (if◌then◌else◌ {A = List Identifier} b (names f c) [])) e
                 ∙ ap (λ (xs : List Identifier). some_before xs (names f c)) (sym (names_picked (before_in (children f n) c)))

@@ -3,7 +3,7 @@
 use Rattle.std.proofs.Common.{◌≡◌, ◌∙◌, ◌⊎◌, ℕ, zero, suc, ◌<◌, ◌≤◌, ◌-◌, ◌&&◌, ◌||◌, nat_le, Bool, true, false, cond, if◌then◌else◌, List, [], ◌∷◌, ◌++◌, drop, length, map, filter, is_some, get_or, Option, Some, None, inl, inr, refl, sym, ap, ap₂, subst, arith}
 use Rattle.std.specs.Prelude.{slice_get}
 use Rattle.std.specs.List.{AllByRecursion, list_any}
-use Rattle.std.proofs.lemmas.Bool.{true≢false, and_parts, leb-true}
+use Rattle.std.proofs.lemmas.Bool.{true≢false, and_parts, leb-true, or_parts}
 use Rattle.std.proofs.lemmas.Option.{none-some, same_Some, slice_get_within, slice_get-get_or}
 use Rattle.clu_base.specs.declared.rules.Rule.TheVariants as rule
 use Rattle.clu_tree.specs.declared.node.Node.{Node}
@@ -80,14 +80,6 @@ none_of p q (c ∷ cs) all = ap₂ (λ (a b : Bool). a || b) (by (p c) refl) (no
     by : (b : Bool) → p c ≡ b → (p c && q c) ≡ false
     by false is = ap (λ (b : Bool). b && q c) is
     by true is = ap (λ (b : Bool). b && q c) is ∙ all.0 is
-
-none_first : (a b : Bool) → (a || b) ≡ false → a ≡ false
-none_first true b e = absurd (true≢false e)
-none_first false b e = refl
-
-none_second : (a b : Bool) → (a || b) ≡ false → b ≡ false
-none_second true b e = absurd (true≢false e)
-none_second false b e = e
 
 fourth_in : (a b c x e : Bool) → x ≡ true → (a || b || c || x || e) ≡ true
 fourth_in true b c x e h = refl
@@ -224,7 +216,7 @@ module _ (f : File) (of : IsFileOfTree f) where
       circles = not_so (list_any (leads_round n) (a ∷ b ∷ ns)) (is_no_type_at f n) (λ so. refused_by f of n 2 rule.CircularEquate refl (ap (λ (k : NodeKind). leads_to_circle f k n) kind_is ∙ ap (list_any (leads_round n)) names_are ∙ so)) clear
 
       circle : is_circular f e ≡ false
-      circle = sym (ap (is_circular_at f) named) ∙ none_first (leads_round n b) (list_any (leads_round n) ns) (none_second (leads_round n a) (list_any (leads_round n) (b ∷ ns)) circles)
+      circle = sym (ap (is_circular_at f) named) ∙ (or_parts (leads_round n b) (list_any (leads_round n) ns) (or_parts (leads_round n a) (list_any (leads_round n) (b ∷ ns)) circles).1).0
 
       bads : list_any (is_bad_one n) (a ∷ b ∷ ns) ≡ false
       bads =
@@ -237,7 +229,7 @@ module _ (f : File) (of : IsFileOfTree f) where
       bad : types_bad f of e ≡ false
       bad =
           sym (ap (is_bad_at f (types_bad f of)) named ∙ ap (λ (c : Bool). bad_unless f (types_bad f of) c e) circle)
-          ∙ none_first (is_bad_one n b) (list_any (is_bad_one n) ns) (none_second (is_bad_one n a) (list_any (is_bad_one n) (b ∷ ns)) bads)
+          ∙ (or_parts (is_bad_one n b) (list_any (is_bad_one n) ns) (or_parts (is_bad_one n a) (list_any (is_bad_one n) (b ∷ ns)) bads).1).0
 
   -- ---- what is refused
 

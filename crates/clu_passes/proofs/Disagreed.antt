@@ -2,7 +2,7 @@
 use Rattle.std.proofs.Common.{◌≡◌, ◌∙◌, ◌⊎◌, inl, inr, ℕ, zero, suc, ◌+◌, ◌<◌, ◌≤◌, ◌==◌, ◌&&◌, ◌||◌, not, Bool, true, false, if◌then◌else◌, List, [], ◌∷◌, Contains, length, map, get_or, slice_get, replicate, bytes_eq, option_map, Option, Some, None, IfSome, refl, sym, ap, subst, arith, eqb-true, eq-eqb}
 use Rattle.std.specs.List.{list_any}
 use Rattle.std.specs.Option.{option_or}
-use Rattle.std.proofs.lemmas.Bool.{true≢false, cases_lt, cases_eq}
+use Rattle.std.proofs.lemmas.Bool.{cases_lt, cases_eq, and_parts}
 use Rattle.std.proofs.lemmas.Option.{none-some, same_Some, slice_get_past}
 use Rattle.std.proofs.lemmas.Slice.Eq.{bytes_eq-Decides}
 use Rattle.clu_types.specs.CluType.{CluType}
@@ -62,10 +62,6 @@ turned a b = same_truth (a == b) (b == a) (λ e. eq-eqb b a (sym (eqb-true a b e
 
 turned_name : (a b : List ℕ) → bytes_eq a b ≡ bytes_eq b a
 turned_name a b = same_truth (bytes_eq a b) (bytes_eq b a) (λ e. (bytes_eq-Decides b a).1 (sym ((bytes_eq-Decides a b).0 e))) (λ e. (bytes_eq-Decides a b).1 (sym ((bytes_eq-Decides b a).0 e)))
-
-and_right : (a b : Bool) → (a && b) ≡ true → b ≡ true
-and_right true b e = e
-and_right false b e = absurd (true≢false (sym e))
 
 and_turned : (a b : Bool) → (a && b) ≡ (b && a)
 and_turned true true = refl
@@ -204,7 +200,7 @@ module _ (f : File) (bad : ℕ → Bool) (terms : List Term) (arena : IsArena te
   in_a_set : in_set ≡ true → (o : Option ℕ) → parent f n ≡ o → clause_of f n ≡ o → tables.is_disagreeing asked (length f.nodes) n ≡ checking.disagrees_with n [] (checking.asked_in_set f bad o)
   in_a_set e None at is = found_none is
   in_a_set e (Some c) at is =
-      let stands : stands_in f kind.TypeSet n ≡ true = and_right (is_kind f kind.Oper n) (stands_in f kind.TypeSet n) e in
+      let stands : stands_in f kind.TypeSet n ≡ true = (and_parts (is_kind f kind.Oper n) (stands_in f kind.TypeSet n) e).1 in
       let set : is_kind f kind.TypeSet c ≡ true = sym (ap (is_kind_at f kind.TypeSet) at) ∙ stands in
       found_in kind.TypeSet c (λ x. cc) (same_kind kind.TypeSet (kind_in f c) set) is
 

@@ -1,26 +1,21 @@
 -- The names of several nodes, one after the other, have none twice if no node has one twice, or one that stands before it.
 use Rattle.std.proofs.Common.{◌≡◌, ◌∙◌, ℕ, Bool, true, false, ◌||◌, not, ◌==◌, if◌then◌else◌, List, [], ◌∷◌, ◌++◌, flat_map, bytes_eq, refl, sym, ap, subst, append_assoc, append-nil}
 use Rattle.std.specs.List.{list_any}
-use Rattle.std.proofs.lemmas.Bool.{true≢false, eq-eqb, ne_eqb, and_parts, not-true, or_left, or_right}
+use Rattle.std.proofs.lemmas.Bool.{true≢false, eq-eqb, ne_eqb, and_parts, not-true, or_left, or_parts, or_right, or_from}
 use Rattle.std.proofs.lemmas.Cmp.{nat_list_eq_equiv}
 use Rattle.std.proofs.lemmas.List.Folds.{list_any-append}
 use Rattle.clu_syntax.specs.Syntax.{Identifier}
 use Rattle.clu_checking.specs.NameRules.{stands_twice, before_in}
 use Rattle.clu_passes.specs.Notes.{has, each_once}
-use Rattle.clu_passes.proofs.Counting.{either_false}
 use Rattle.clu_passes.proofs.Noted.{any_same}
-
-or_none : (a b : Bool) → a ≡ false → b ≡ false → (a || b) ≡ false
-or_none true b e d = e
-or_none false b e d = d
 
 none_either : (p q : Identifier → Bool) (xs : List Identifier) → list_any (λ x. p x || q x) xs ≡ false → (list_any p xs ≡ false) × (list_any q xs ≡ false)
 none_either p q [] e = (refl, refl)
 none_either p q (x ∷ xs) e =
-    let both = either_false (p x || q x) (list_any (λ x. p x || q x) xs) e in
-    let here = either_false (p x) (q x) both.0 in
+    let both = or_parts (p x || q x) (list_any (λ x. p x || q x) xs) e in
+    let here = or_parts (p x) (q x) both.0 in
     let rest = none_either p q xs both.1 in
-    (or_none (p x) (list_any p xs) here.0 rest.0, or_none (q x) (list_any q xs) here.1 rest.1)
+    (or_from (p x) (list_any p xs) here.0 rest.0, or_from (q x) (list_any q xs) here.1 rest.1)
 
 -- one of the names is among those before
 abbrev pub some_before : List Identifier → List Identifier → Bool
@@ -34,11 +29,11 @@ fewer before more names e =
 joined : (xs ys : List Identifier) → stands_twice xs ≡ false → stands_twice ys ≡ false → some_before xs ys ≡ false → stands_twice (xs ++ ys) ≡ false
 joined [] ys once_x once_y apart = once_y
 joined (x ∷ xs) ys once_x once_y apart =
-    let first = either_false (list_any (bytes_eq x) xs) (stands_twice xs) once_x in
+    let first = or_parts (list_any (bytes_eq x) xs) (stands_twice xs) once_x in
     let parts = none_either (λ y. bytes_eq y x) (λ y. list_any (bytes_eq y) xs) ys apart in
     let none : list_any (bytes_eq x) ys ≡ false = any_same (bytes_eq x) (λ y. bytes_eq y x) (λ y. nat_list_eq_equiv.symm x y) ys ∙ parts.0 in
-    or_none (list_any (bytes_eq x) (xs ++ ys)) (stands_twice (xs ++ ys))
-    (list_any-append (bytes_eq x) xs ys ∙ or_none (list_any (bytes_eq x) xs) (list_any (bytes_eq x) ys) first.0 none)
+    or_from (list_any (bytes_eq x) (xs ++ ys)) (stands_twice (xs ++ ys))
+    (list_any-append (bytes_eq x) xs ys ∙ or_from (list_any (bytes_eq x) xs) (list_any (bytes_eq x) ys) first.0 none)
     (joined xs ys first.1 once_y parts.1)
 
 -- ---- a list that has each node once
@@ -65,7 +60,7 @@ module _ (names : ℕ → List Identifier) where
   apart before [] fresh = refl
   apart before (c ∷ cs) fresh =
       list_any-append (λ name. list_any (bytes_eq name) before) (names c) (flat_map names cs)
-      ∙ or_none (some_before before (names c)) (some_before before (flat_map names cs)) fresh.1.0 (fewer before (names c) (flat_map names cs) (apart (before ++ names c) cs fresh.1.1)).0
+      ∙ or_from (some_before before (names c)) (some_before before (flat_map names cs)) fresh.1.0 (fewer before (names c) (flat_map names cs) (apart (before ++ names c) cs fresh.1.1)).0
 
   once_all : (before : List Identifier) (cs : List ℕ) → AreFresh before cs → stands_twice (flat_map names cs) ≡ false
   once_all before [] fresh = refl

@@ -2,7 +2,7 @@
 use Rattle.std.proofs.Common.{◌≡◌, ◌∙◌, ℕ, zero, suc, ◌+◌, ◌==◌, ◌&&◌, ◌||◌, nat_lt, not, Bool, true, false, List, [], ◌∷◌, ◌++◌, length, map, flat_map, Option, Some, None, refl, sym, ap}
 use Rattle.std.specs.Prelude.{slice_get, is_none, bytes_eq}
 use Rattle.std.specs.List.{list_any}
-use Rattle.std.proofs.lemmas.Bool.{true≢false}
+use Rattle.std.proofs.lemmas.Bool.{true≢false, or_from, and_right}
 use Rattle.clu_base.specs.declared.rules.Rule.{Rule}
 use Rattle.clu_base.specs.declared.rules.Rule.TheVariants as rule
 use Rattle.clu_tree.specs.declared.node.Node.{Node}
@@ -30,14 +30,6 @@ use Rattle.clu_checking.specs.ExceptionRules.{v23_in, v25_in, arm_for, v26_in}
 use Rattle.clu_checking.specs.ModuleRules.{v33_in, size_of}
 use Rattle.clu_checking.specs.Rules.{violates, least, all_rules}
 use Rattle.clu_type_rules.specs.Asked.{is_asked}
-
-and_no : (a b : Bool) → b ≡ false → (a && b) ≡ false
-and_no true b e = e
-and_no false b e = refl
-
-or_no : (a b : Bool) → a ≡ false → b ≡ false → (a || b) ≡ false
-or_no true b e d = absurd (true≢false e)
-or_no false b e d = d
 
 -- ---- values of types are no constants
 
@@ -150,7 +142,7 @@ module _ (f : File) (bad : ℕ → Bool) (n : ℕ) where
   v14_elsewhere kind.Call e = absurd (true≢false e)
   v14_elsewhere kind.SetField e = refl
   v14_elsewhere kind.SetIndex e = refl
-  v14_elsewhere k e = or_no (not_one k) false (or_no (one_wanted k) false (and_no (is_one_wanted k (wanted f n)) false refl) refl) refl
+  v14_elsewhere k e = or_from (not_one k) false (or_from (one_wanted k) false (and_right (is_one_wanted k (wanted f n)) false refl) refl) refl
 
   v15_elsewhere : (k : NodeKind) → is_asked k rule.AssignType ≡ false → (v15_in f k n) ≡ false
   v15_elsewhere kind.Own e = absurd (true≢false e)
@@ -290,7 +282,7 @@ module _ (f : File) (bad : ℕ → Bool) (n : ℕ) where
   v36_elsewhere kind.Index is e = absurd (true≢false e)
   v36_elsewhere kind.Get is e = absurd (true≢false e)
   v36_elsewhere kind.Call is e = absurd (true≢false e)
-  v36_elsewhere k is e = and_no (not (is_loop_call (wanted f n))) (list_any invokes_iterator (invocations f n)) (ap (λ (j : NodeKind). list_any invokes_iterator (invocations_by f j n)) is)
+  v36_elsewhere k is e = and_right (not (is_loop_call (wanted f n))) (list_any invokes_iterator (invocations f n)) (ap (λ (j : NodeKind). list_any invokes_iterator (invocations_by f j n)) is)
 
   v37_elsewhere : (k : NodeKind) → is_asked k rule.OwnPlace ≡ false → (is_of kind.Own k && list_any (names_argument f) (below f n)) ≡ false
   v37_elsewhere kind.Own e = absurd (true≢false e)
@@ -309,7 +301,7 @@ module _ (f : File) (bad : ℕ → Bool) (n : ℕ) where
     literal_elsewhere _ e = refl
 
     v4_elsewhere : is_asked (kind_in f n) rule.LiteralRange ≡ false → v4 f n ≡ false
-    v4_elsewhere e = or_no (list_any is_long (names f n)) (has_bad_literal f (kind_in f n) n) (ap (list_any is_long) (none e)) (literal_elsewhere (kind_in f n) e)
+    v4_elsewhere e = or_from (list_any is_long (names f n)) (has_bad_literal f (kind_in f n) n) (ap (list_any is_long) (none e)) (literal_elsewhere (kind_in f n) e)
 
     -- what stands in an equate is a constant or a type set
     no_side : (k : NodeKind) → kind_in f n ≡ k → is_right_side k ≡ false → stands_in f kind.Equate n ≡ false
@@ -327,7 +319,7 @@ module _ (f : File) (bad : ℕ → Bool) (n : ℕ) where
     rep_not (Some p) e = ap (λ (b : Bool). b && has_no_name (names f p)) e
 
     neither_not : (k : NodeKind) → is_no_constant f k n ≡ false → (is_constant_wanted (wanted f n) && is_no_constant f k n) ≡ false
-    neither_not k e = and_no (is_constant_wanted (wanted f n)) (is_no_constant f k n) e
+    neither_not k e = and_right (is_constant_wanted (wanted f n)) (is_no_constant f k n) e
 
     abbrev by_neither : NodeKind → Bool → Bool
     by_neither k b = (is_constant_wanted (wanted f n) && is_no_constant f k n) && b
@@ -335,8 +327,8 @@ module _ (f : File) (bad : ℕ → Bool) (n : ℕ) where
     -- V8: neither a whole constant, nor a name, nor too long
     v8_of : (k : NodeKind) → is_no_constant f k n ≡ false → has_bad_constant f bad k n ≡ false → is_too_long f is_long_constant n ≡ false → (by_neither k (not (wants_type f n)) || has_bad_constant f bad k n || is_too_long f is_long_constant n) ≡ false
     v8_of k none its long =
-        or_no (by_neither k (not (wants_type f n)) || has_bad_constant f bad k n) (is_too_long f is_long_constant n)
-        (or_no (by_neither k (not (wants_type f n))) (has_bad_constant f bad k n) (ap (λ (b : Bool). b && not (wants_type f n)) (neither_not k none)) its)
+        or_from (by_neither k (not (wants_type f n)) || has_bad_constant f bad k n) (is_too_long f is_long_constant n)
+        (or_from (by_neither k (not (wants_type f n))) (has_bad_constant f bad k n) (ap (λ (b : Bool). b && not (wants_type f n)) (neither_not k none)) its)
         long
 
     abbrev wrong_rep : NodeKind → Bool
@@ -346,10 +338,10 @@ module _ (f : File) (bad : ℕ → Bool) (n : ℕ) where
     v9_of : (k : NodeKind) → is_no_constant f k n ≡ false → is_no_type f k n ≡ false → has_bad_type f bad k n ≡ false → stands_in f kind.Equate n ≡ false →
         (by_neither k (wants_type f n) || (is_rep_equate f (parent f n) && is_no_type_side f k n) || is_no_type f k n || has_bad_type f bad k n || is_too_long f is_long_type n) ≡ false
     v9_of k none type its side =
-        or_no (wrong_rep k || is_no_type f k n || has_bad_type f bad k n) (is_too_long f is_long_type n)
-        (or_no (wrong_rep k || is_no_type f k n) (has_bad_type f bad k n)
-        (or_no (wrong_rep k) (is_no_type f k n)
-        (or_no (by_neither k (wants_type f n)) (is_rep_equate f (parent f n) && is_no_type_side f k n)
+        or_from (wrong_rep k || is_no_type f k n || has_bad_type f bad k n) (is_too_long f is_long_type n)
+        (or_from (wrong_rep k || is_no_type f k n) (has_bad_type f bad k n)
+        (or_from (wrong_rep k) (is_no_type f k n)
+        (or_from (by_neither k (wants_type f n)) (is_rep_equate f (parent f n) && is_no_type_side f k n)
         (ap (λ (b : Bool). b && wants_type f n) (neither_not k none))
         (ap (λ (b : Bool). b && is_no_type_side f k n) (rep_not (parent f n) side)))
         type)
@@ -357,12 +349,12 @@ module _ (f : File) (bad : ℕ → Bool) (n : ℕ) where
         (too_long_not is_long_type side)
 
     type_long : is_type (kind_in f n) ≡ true → is_too_long f is_long_constant n ≡ false
-    type_long e = and_no (stands_in f kind.Equate n && not (is_kind f kind.TypeSet n)) (not (is_cvt (item f n).constant) && is_long_constant (value_settled f.scope (item f n).constant))
-        (and_no (not (is_cvt (item f n).constant)) (is_long_constant (value_settled f.scope (item f n).constant))
+    type_long e = and_right (stands_in f kind.Equate n && not (is_kind f kind.TypeSet n)) (not (is_cvt (item f n).constant) && is_long_constant (value_settled f.scope (item f n).constant))
+        (and_right (not (is_cvt (item f n).constant)) (is_long_constant (value_settled f.scope (item f n).constant))
         (ap (λ (c : Constant). is_long_constant (value_settled f.scope c)) (type_is f.nodes n (slice_get f.nodes n) refl e) ∙ no_long_type f.scope (item f n).type))
 
     set_long : is_kind f kind.TypeSet n ≡ true → is_too_long f is_long_constant n ≡ false
-    set_long e = ap (λ (b : Bool). b && (not (is_cvt (item f n).constant) && is_long_constant (value_settled f.scope (item f n).constant))) (and_no (stands_in f kind.Equate n) (not (is_kind f kind.TypeSet n)) (ap not e))
+    set_long e = ap (λ (b : Bool). b && (not (is_cvt (item f n).constant) && is_long_constant (value_settled f.scope (item f n).constant))) (and_right (stands_in f kind.Equate n) (not (is_kind f kind.TypeSet n)) (ap not e))
 
     v8_elsewhere : (k : NodeKind) → kind_in f n ≡ k → is_asked k rule.NotConstant ≡ false → (by_neither k (not (wants_type f n)) || has_bad_constant f bad k n || is_too_long f is_long_constant n) ≡ false
     v8_elsewhere kind.Infix is e = absurd (true≢false e)

@@ -3,7 +3,7 @@ use Rattle.std.proofs.Common.{◌≡◌, ◌∙◌, ◌<◌, ◌≤◌, ◌⊎�
 use Rattle.std.specs.Prelude.{slice_get, not}
 use Rattle.std.specs.Option.{option_or}
 use Rattle.std.specs.List.{list_any, range_with_len}
-use Rattle.std.proofs.lemmas.Bool.{true≢false, cases_lt, and_parts, eq-eqb, ne_eqb, leb-true}
+use Rattle.std.proofs.lemmas.Bool.{true≢false, cases_lt, and_parts, eq-eqb, ne_eqb, leb-true, not-true}
 use Rattle.std.proofs.lemmas.List.{take-append-drop}
 use Rattle.std.proofs.lemmas.Option.{slice_get_within}
 use Rattle.clu_tree.specs.declared.node.Node.{Node}
@@ -36,7 +36,7 @@ use Rattle.clu_type_rules.specs.declared.known.Known.{Known}
 use Rattle.clu_type_rules.specs.ExceptionRules as of_tables
 use Rattle.clu_type_rules.specs.ExceptionRules.{first_named, arm_from}
 use Rattle.clu_passes.specs.Firsts.{AreItems}
-use Rattle.clu_passes.proofs.Exits.{arm_slots, other_slots, whens_here, same_whens, whens_apart, others_no_when, statement_no_when, resignal_no_when, not_true, when_names, starts_told, except_stands, routine_free}
+use Rattle.clu_passes.proofs.Exits.{arm_slots, other_slots, whens_here, same_whens, whens_apart, others_no_when, statement_no_when, resignal_no_when, when_names, starts_told, except_stands, routine_free}
 use Rattle.clu_passes.proofs.FactNodes as so
 use Rattle.clu_passes.proofs.FirstItems.{word_found, item_is}
 use Rattle.clu_passes.proofs.Guards.{IsGuarded, guarded, starts, is_statement_of, one_same, not_guarded}
@@ -320,7 +320,7 @@ module _ (k : Known) (scope : Scope) (library : List Specification) (refused : L
       none_there : q.node.kind ≡ kind.Resignal → code_at p ≡ None
       none_there is =
           code_is p ∙ ap (λ (its : Option Node). find has_name (children_of its)) q.at
-          ∙ no_when q.node.children (λ c i. not_true (is_of kind.When (kind_at nodes c))
+          ∙ no_when q.node.children (λ c i. not-true (is_of kind.When (kind_at nodes c))
           (kind_of_child nodes parsed.tree p q.node q.at (parsed.forms p q.node q.at) c i (λ j. not (is_of kind.When j)) (λ j. ap (λ (m : NodeKind). not (is_of kind.When j) || no_form (forms m) j) is ∙ resignal_no_when j)))
 
       in_resignal : q.node.kind ≡ kind.Resignal → Found n

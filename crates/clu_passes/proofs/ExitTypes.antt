@@ -58,7 +58,7 @@ use Rattle.clu_passes.proofs.OfParents.{has_it, have_parents}
 use Rattle.clu_passes.proofs.OneName.{OneName, exit_name}
 
 -- the first of some children of a kind stand among all
-in_run : (nodes : List Node) (j : NodeKind) (d : ℕ) (cs : List ℕ) → IsIn d (run nodes j cs) → IsIn d cs
+pub in_run : (nodes : List Node) (j : NodeKind) (d : ℕ) (cs : List ℕ) → IsIn d (run nodes j cs) → IsIn d cs
 in_run nodes j d cs i = subst (IsIn d) (take-append-drop (leading nodes j cs) cs) (in_front d (run nodes j cs) (drop (leading nodes j cs) cs) i)
 
 module _ (k : Known) (scope : Scope) (library : List Specification) (refused : List ℕ) where

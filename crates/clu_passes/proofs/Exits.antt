@@ -3,7 +3,7 @@ use Rattle.std.proofs.Common.{◌≡◌, ◌∙◌, ◌<◌, ◌≤◌, ℕ, zer
 use Rattle.std.specs.Prelude.{slice_get, is_some, is_none, not}
 use Rattle.std.specs.Option.{option_or}
 use Rattle.std.specs.List.{list_any}
-use Rattle.std.proofs.lemmas.Bool.{true≢false, cases_lt, and_parts, or_cases, eq-eqb, ne_eqb}
+use Rattle.std.proofs.lemmas.Bool.{true≢false, cases_lt, and_parts, or_cases, eq-eqb, ne_eqb, not-true}
 use Rattle.std.proofs.lemmas.List.{take-append-drop}
 use Rattle.std.proofs.lemmas.List.Folds.{list_any-append}
 use Rattle.std.proofs.lemmas.Option.{slice_get_within}
@@ -124,10 +124,6 @@ pub resignal_no_when : (j : NodeKind) → (not (is_of kind.When j) || no_form (f
 unfolding no_form
 resignal_no_when kind.File = refl
 resignal_no_when _ = refl
-
-pub not_true : (b : Bool) → not b ≡ true → b ≡ false
-not_true true e = absurd (true≢false (sym e))
-not_true false e = refl
 
 not_false : (b : Bool) → not b ≡ false → b ≡ true
 not_false true e = refl
@@ -364,7 +360,7 @@ module _ (k : Known) (scope : Scope) (library : List Specification) (refused : L
         not_asked is =
             asked_is p
             ∙ ap (λ (its : Option Node). list_any (bytes_eq name) (whens_in words nodes (children_of its))) q.at
-            ∙ ap (list_any (bytes_eq name)) (no_whens words nodes q.node.children (λ c i. not_true (is_of kind.When (kind_at nodes c))
+            ∙ ap (list_any (bytes_eq name)) (no_whens words nodes q.node.children (λ c i. not-true (is_of kind.When (kind_at nodes c))
             (kind_of_child nodes parsed.tree p q.node q.at (parsed.forms p q.node q.at) c i (λ j. not (is_of kind.When j)) (λ j. ap (λ (m : NodeKind). not (is_of kind.When j) || no_form (forms m) j) is ∙ resignal_no_when j))))
 
         in_routine : q.node.kind ≡ kind.Routine → (steps : ℕ) → length nodes ≤ n + steps → is_some (arm_from k word (round_at f.rounds n).guard steps) ≡ guarded_by asked n

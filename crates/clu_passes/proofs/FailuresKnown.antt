@@ -2,7 +2,7 @@
 use Rattle.std.proofs.Common.{◌≡◌, ◌∙◌, ℕ, ◌<◌, ◌≤◌, ◌&&◌, ◌||◌, not, if◌then◌else◌, Bool, true, false, List, length, is_some, Option, Some, None, inl, inr, refl, sym, ap, subst, arith}
 use Rattle.std.specs.Prelude.{slice_get}
 use Rattle.std.specs.List.{AllByRecursion}
-use Rattle.std.proofs.lemmas.Bool.{true≢false, and_parts, cases_lt}
+use Rattle.std.proofs.lemmas.Bool.{true≢false, and_parts, cases_lt, or_right}
 use Rattle.clu_base.specs.declared.rules.Rule.TheVariants as rule
 use Rattle.clu_tree.specs.declared.node.Node.{Node}
 use Rattle.clu_tree.specs.declared.node.NodeKind.{NodeKind}
@@ -52,7 +52,7 @@ use Rattle.clu_passes.specs.Trees.{IsFileOfTree}
 use Rattle.clu_passes.proofs.Actuals as actuals
 use Rattle.clu_passes.proofs.ByNodes.{type_there}
 use Rattle.clu_passes.proofs.CvtPlaces.{constant_top, cvt_refused}
-use Rattle.clu_passes.proofs.LostRefused.{or_right, reason_there, refused_by}
+use Rattle.clu_passes.proofs.LostRefused.{reason_there, refused_by}
 use Rattle.clu_passes.proofs.TablesMade.{tables_are}
 use Rattle.clu_passes.proofs.ValuesKnown as at
 

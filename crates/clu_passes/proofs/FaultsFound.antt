@@ -2,7 +2,7 @@
 use Rattle.std.proofs.Common.{◌≡◌, ◌∙◌, ◌⊎◌, ℕ, zero, suc, ◌+◌, ◌-◌, ◌<◌, ◌≤◌, ◌||◌, ◌&&◌, if◌then◌else◌, Bool, true, false, List, [], ◌∷◌, ◌++◌, length, map, filter, cond, is_some, Option, Some, None, inl, inr, refl, sym, ap, subst, arith}
 use Rattle.std.specs.Prelude.{find, slice_get}
 use Rattle.std.specs.List.{AllByRecursion, list_any, range_with_len}
-use Rattle.std.proofs.lemmas.Bool.{cases_eq, true≢false}
+use Rattle.std.proofs.lemmas.Bool.{cases_eq, true≢false, and_parts}
 use Rattle.std.proofs.lemmas.List.{length-map}
 use Rattle.std.proofs.lemmas.Option.{get_or_from_slice_get, none-some, slice_get_within}
 use Rattle.clu_base.specs.declared.rules.Rule.{Rule}
@@ -167,10 +167,6 @@ given : (b : Bool) (e : ℕ) → if◌then◌else◌ {A = Option ℕ} b (Some e)
 given true e h = refl
 given false e h = absurd (none-some e h)
 
-and_left : (a b : Bool) → (a && b) ≡ true → a ≡ true
-and_left true b e = refl
-and_left false b e = absurd (true≢false (sym e))
-
 behind_get : {X : Type 0} (xs ys : List X) (j : ℕ) → slice_get (xs ++ ys) (length xs + j) ≡ slice_get ys j
 behind_get [] ys j = let same : 0 + j ≡ j = omega arith in ap (slice_get ys) same
 behind_get (x ∷ xs) ys j = let same : suc (length xs) + j ≡ suc (length xs + j) = omega arith in ap (slice_get (x ∷ (xs ++ ys))) same ∙ behind_get xs ys j
@@ -214,7 +210,7 @@ module _ (f : File) (of : IsFileOfTree f) (names : Names) (order : List ℕ) (ci
 
       module _ (e : ℕ) (arm : arm_declared f.nodes f.rounds e ≡ Some e) where
         its_node : IsNode kind.Decl (slice_get f.nodes e)
-        its_node = node_there kind.Decl (slice_get f.nodes e) (and_left (is_there kind.Decl (slice_get f.nodes e)) (stands_in f.nodes f.rounds kind.When e) (given (is_there kind.Decl (slice_get f.nodes e) && stands_in f.nodes f.rounds kind.When e) e arm))
+        its_node = node_there kind.Decl (slice_get f.nodes e) (and_parts (is_there kind.Decl (slice_get f.nodes e)) (stands_in f.nodes f.rounds kind.When e) (given (is_there kind.Decl (slice_get f.nodes e) && stands_in f.nodes f.rounds kind.When e) e arm)).0
 
         abbrev equates : List (Option ℕ)
         equates = map (λ place. equate_declared f.nodes (slice_get f.scope.declarations place)) order

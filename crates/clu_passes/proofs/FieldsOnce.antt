@@ -2,6 +2,7 @@
 use Rattle.std.proofs.Common.{◌≡◌, ◌∙◌, ℕ, ◌||◌, if◌then◌else◌, Bool, true, false, List, [], ◌∷◌, ◌++◌, flat_map, refl, sym, ap}
 use Rattle.std.specs.Prelude.{bytes_eq}
 use Rattle.std.specs.List.{list_any}
+use Rattle.std.proofs.lemmas.Bool.{or_from, or_parts}
 use Rattle.std.proofs.lemmas.Cmp.{nat_list_eq_equiv}
 use Rattle.std.proofs.lemmas.List.Folds.{list_any-append}
 use Rattle.clu_types.specs.CluType.{CluType, record_of, struct_of, oneof_of, variant_of, Fields, no_fields, field_and}
@@ -17,7 +18,6 @@ use Rattle.clu_meaning.specs.Settling as settling
 use Rattle.clu_checking.specs.NameRules.{stands_twice}
 use Rattle.clu_name_rules.specs.Components as components
 use Rattle.clu_passes.specs.Counting.{names_of_fields}
-use Rattle.clu_passes.proofs.Counting.{either_false}
 
 abbrev pub names_in : Fields → List Identifier
 names_in no_fields = []
@@ -46,10 +46,6 @@ term_named types _ = refl
 
 -- ---- tests
 
-or_none : (a b : Bool) → a ≡ false → b ≡ false → (a || b) ≡ false
-or_none true b e d = e
-or_none false b e d = d
-
 swap : (a b c : Bool) → (a || (b || c)) ≡ (b || (a || c))
 swap true true c = refl
 swap true false c = refl
@@ -70,13 +66,13 @@ any_put p name t (field_and other u rest) = by (comes_after name other) (any_put
 once_put : (name : Identifier) (t : CluType) (fs : Fields) → list_any (bytes_eq name) (names_in fs) ≡ false → stands_twice (names_in fs) ≡ false → stands_twice (names_in (with_field name t fs)) ≡ false
 once_put name t no_fields apart once = refl
 once_put name t (field_and other u rest) apart once =
-    let a = either_false (bytes_eq name other) (list_any (bytes_eq name) (names_in rest)) apart in
-    let b = either_false (list_any (bytes_eq other) (names_in rest)) (stands_twice (names_in rest)) once in
+    let a = or_parts (bytes_eq name other) (list_any (bytes_eq name) (names_in rest)) apart in
+    let b = or_parts (list_any (bytes_eq other) (names_in rest)) (stands_twice (names_in rest)) once in
     by (comes_after name other)
-    (or_none (list_any (bytes_eq other) (names_in (with_field name t rest))) (stands_twice (names_in (with_field name t rest)))
-    (any_put (bytes_eq other) name t rest ∙ or_none (bytes_eq other name) (list_any (bytes_eq other) (names_in rest)) (nat_list_eq_equiv.symm other name ∙ a.0) b.0)
+    (or_from (list_any (bytes_eq other) (names_in (with_field name t rest))) (stands_twice (names_in (with_field name t rest)))
+    (any_put (bytes_eq other) name t rest ∙ or_from (bytes_eq other name) (list_any (bytes_eq other) (names_in rest)) (nat_list_eq_equiv.symm other name ∙ a.0) b.0)
     (once_put name t rest a.1 b.1))
-    (or_none (bytes_eq name other || list_any (bytes_eq name) (names_in rest)) (list_any (bytes_eq other) (names_in rest) || stands_twice (names_in rest)) apart once)
+    (or_from (bytes_eq name other || list_any (bytes_eq name) (names_in rest)) (list_any (bytes_eq other) (names_in rest) || stands_twice (names_in rest)) apart once)
   where
     by : (c : Bool) → stands_twice (other ∷ names_in (with_field name t rest)) ≡ false → stands_twice (name ∷ other ∷ names_in rest) ≡ false →
         stands_twice (names_in (if c then field_and other u (with_field name t rest) else field_and name t (field_and other u rest))) ≡ false
@@ -90,20 +86,20 @@ any_all p (name ∷ names) t fs = any_put p name t (with_fields names t fs) ∙ 
 once_all : (names : List Identifier) (t : CluType) (fs : Fields) → stands_twice (names ++ names_in fs) ≡ false → stands_twice (names_in (with_fields names t fs)) ≡ false
 once_all [] t fs once = once
 once_all (name ∷ names) t fs once =
-    let both = either_false (list_any (bytes_eq name) (names ++ names_in fs)) (stands_twice (names ++ names_in fs)) once in
+    let both = or_parts (list_any (bytes_eq name) (names ++ names_in fs)) (stands_twice (names ++ names_in fs)) once in
     once_put name t (with_fields names t fs) (any_all (bytes_eq name) names t fs ∙ both.0) (once_all names t fs both.1)
 
 -- ---- names that stand behind others
 
 once_behind : (xs ys : List Identifier) → stands_twice (xs ++ ys) ≡ false → stands_twice ys ≡ false
 once_behind [] ys once = once
-once_behind (x ∷ xs) ys once = once_behind xs ys (either_false (list_any (bytes_eq x) (xs ++ ys)) (stands_twice (xs ++ ys)) once).1
+once_behind (x ∷ xs) ys once = once_behind xs ys (or_parts (list_any (bytes_eq x) (xs ++ ys)) (stands_twice (xs ++ ys)) once).1
 
 exchanged : (xs ys zs : List Identifier) → ((p : Identifier → Bool) → list_any p ys ≡ list_any p zs) → stands_twice ys ≡ false → stands_twice (xs ++ zs) ≡ false → stands_twice (xs ++ ys) ≡ false
 exchanged [] ys zs same once both = once
 exchanged (x ∷ xs) ys zs same once both =
-    let parts = either_false (list_any (bytes_eq x) (xs ++ zs)) (stands_twice (xs ++ zs)) both in
-    or_none (list_any (bytes_eq x) (xs ++ ys)) (stands_twice (xs ++ ys))
+    let parts = or_parts (list_any (bytes_eq x) (xs ++ zs)) (stands_twice (xs ++ zs)) both in
+    or_from (list_any (bytes_eq x) (xs ++ ys)) (stands_twice (xs ++ ys))
     (list_any-append (bytes_eq x) xs ys ∙ ap (λ (b : Bool). list_any (bytes_eq x) xs || b) (same (bytes_eq x)) ∙ sym (list_any-append (bytes_eq x) xs zs) ∙ parts.0)
     (exchanged xs ys zs same once parts.1)
 

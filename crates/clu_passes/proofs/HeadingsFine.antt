@@ -1,6 +1,6 @@
 -- Where the walk over the headings finds no fault, no type is refused in what stands there: the parameters, arguments, results, signals
 -- and where clauses of routines and clusters.
-use Rattle.std.proofs.Common.{◌≡◌, ◌∙◌, ℕ, zero, suc, ◌+◌, ◌-◌, ◌<◌, ◌≤◌, ◌||◌, Bool, true, false, List, [], ◌∷◌, length, map, is_some, Option, Some, None, inl, inr, refl, sym, ap, subst, arith}
+use Rattle.std.proofs.Common.{◌≡◌, ◌∙◌, ℕ, zero, suc, ◌+◌, ◌-◌, ◌<◌, ◌≤◌, ◌||◌, Bool, true, false, length, is_some, Option, Some, None, inl, inr, refl, sym, ap, subst, arith}
 use Rattle.std.specs.Prelude.{slice_get}
 use Rattle.std.specs.List.{AllByRecursion, range_with_len}
 use Rattle.std.proofs.lemmas.Bool.{true≢false, cases_lt}
@@ -9,21 +9,17 @@ use Rattle.clu_base.specs.declared.rules.Rule.{Rule}
 use Rattle.clu_tree.specs.declared.node.Node.{Node}
 use Rattle.clu_tree.specs.declared.node.NodeKind.{NodeKind}
 use Rattle.clu_tree.specs.declared.node.NodeKind.TheVariants as kind
-use Rattle.clu_syntax.specs.declared.bodies.Part.{Part}
 use Rattle.clu_syntax.specs.declared.round.Round.{Round}
-use Rattle.clu_syntax.specs.Bodies.{first_part}
 use Rattle.clu_syntax.specs.Kinds.{is_of_heading, kind_at, kind_of}
-use Rattle.clu_syntax.specs.Rounds.{child_part, child_round, heading_in, is_of_cluster, round_at, rounds_in}
+use Rattle.clu_syntax.specs.Rounds.{heading_in, is_of_cluster}
 use Rattle.clu_syntax.specs.Splits.{is_of}
-use Rattle.clu_parts.proofs.Fitting.{AreBefore, children_before}
 use Rattle.clu_declares.proofs.Around.{there}
-use Rattle.clu_declares.proofs.Facts.{further}
 use Rattle.clu_declares.proofs.Parents.{IsIn, of_all}
 use Rattle.clu_checking.specs.Files.{File, kind_in, round}
 use Rattle.clu_checking.specs.Refusals.{Walk, fault_at, first_among, heading_refusal, headings, is_no_type_at, refused_at, refused_by}
 use Rattle.clu_passes.specs.Losing.{IsPlain, is_definition, is_plain, walk_by, walk_of}
 use Rattle.clu_passes.specs.Trees.{IsFileOfTree}
-use Rattle.clu_passes.proofs.RefusedBelow.{walk_same}
+use Rattle.clu_passes.proofs.RefusedBelow.{IsHeaded, each_headed, not_definition, walk_same}
 use Rattle.clu_passes.proofs.RefusedFaults.{refused_faulty}
 use Rattle.clu_passes.proofs.ValuesKnown.{IsBelow, all_by, child_below}
 
@@ -54,23 +50,6 @@ module _ (f : File) where
 
 -- ---- which children are of headings
 
-module _ (nodes : List Node) (rounds : List Round) (n : ℕ) (node : Node) where
-  record IsHeaded (c : ℕ) : Type 0 where
-    its : Node
-    at : slice_get nodes c ≡ Some its
-    heading : (round_at rounds c).heading ≡ heading_in node.kind its (round_at rounds n)
-
-  headed_in : (before : Part) (first : ℕ) (cs : List ℕ) → AreBefore (length nodes) cs → map (round_at rounds) cs ≡ rounds_in nodes n node (round_at rounds n) before first cs → AllByRecursion IsHeaded cs
-  unfolding rounds_in
-  headed_in before first [] l e = tt
-  headed_in before first (c ∷ cs) l e =
-      let part : Part = child_part nodes node (slice_get nodes c) before first (c ∷ cs) in
-      let head : round_at rounds c ≡ child_round nodes n node (slice_get nodes c) (round_at rounds n) first part = cc in
-      let tail : map (round_at rounds) cs ≡ rounds_in nodes n node (round_at rounds n) part (c + 1) cs = cc in
-      let m = there nodes c l.0 in
-      let its_round : round_at rounds c ≡ child_round nodes n node (Some m.0) (round_at rounds n) first part = head ∙ ap (λ (o : Option Node). child_round nodes n node o (round_at rounds n) first part) m.1 in
-      (record { its = m.0; at = m.1; heading = ap (λ (r : Round). r.heading) its_round }, headed_in part (c + 1) cs l.1 tail)
-
 plain_heading : (k : NodeKind) → is_of_heading k ≡ true → is_plain k ≡ true
 plain_heading kind.Parm e = refl
 plain_heading kind.Decl e = refl
@@ -79,13 +58,6 @@ plain_heading kind.Signals e = refl
 plain_heading kind.Where e = refl
 plain_heading kind.File e = absurd (true≢false (sym e))
 plain_heading _ e = absurd (true≢false (sym e))
-
-no_definition : (k : NodeKind) → is_plain k ≡ true → is_definition k ≡ false
-no_definition kind.Module e = absurd (true≢false (sym e))
-no_definition kind.Routine e = absurd (true≢false (sym e))
-no_definition kind.Cluster e = absurd (true≢false (sym e))
-no_definition kind.File e = absurd (true≢false (sym e))
-no_definition _ e = refl
 
 -- those of a cluster that are so by their kind alone
 abbrev pub is_clustered : NodeKind → Bool
@@ -125,12 +97,6 @@ module _ (f : File) (of : IsFileOfTree f) where
     pub fine_children : IsFine n → AllByRecursion IsFine node.children
     fine_children fine = all_by IsFine node.children (fine_child fine)
 
-    each_headed : AllByRecursion (IsHeaded f.nodes f.rounds n node) node.children
-    each_headed =
-        let inside : n < length f.nodes = slice_get_within f.nodes n node at in
-        headed_in f.nodes f.rounds n node (first_part f.nodes node (round f n).first) (round f n).first node.children
-        (further n (length f.nodes) node.children (omega (arith, inside)) (children_before f.nodes of.tree n node at)) (of.surrounded.children_are n node at)
-
   module _ (clear : heading_refusal f ≡ None) where
     fine_in_heading : (c : ℕ) (its : Node) → slice_get f.nodes c ≡ Some its → is_of_heading its.kind ≡ true → (round f c).heading ≡ true → IsFine c
     fine_in_heading c its at of_heading headed m low high =
@@ -145,18 +111,18 @@ module _ (f : File) (of : IsFileOfTree f) where
 
         walk_here : walk_of f c ≡ headings
         walk_here =
-            ap (λ (b : Bool). walk_by b (round f c).heading) (ap (λ (o : Option Node). is_definition (kind_of o)) at ∙ no_definition its.kind plain)
+            ap (λ (b : Bool). walk_by b (round f c).heading) (ap (λ (o : Option Node). is_definition (kind_of o)) at ∙ not_definition its.kind plain)
             ∙ ap (walk_by false) headed
 
     module _ (n : ℕ) (node : Node) (at : slice_get f.nodes n ≡ Some node) where
       pub fine_of_routine : node.kind ≡ kind.Routine → (c : ℕ) → IsIn c node.children → FineOf is_of_heading c
       fine_of_routine is c i test =
-          let x : IsHeaded f.nodes f.rounds n node c = of_all (IsHeaded f.nodes f.rounds n node) c node.children (each_headed n node at) i in
+          let x : IsHeaded f.nodes f.rounds n node c = of_all (IsHeaded f.nodes f.rounds n node) c node.children (each_headed f of n node at) i in
           let its : is_of_heading x.its.kind ≡ true = sym (ap (λ (o : Option Node). is_of_heading (kind_of o)) x.at) ∙ test in
           fine_in_heading c x.its x.at its (x.heading ∙ ap (λ (k : NodeKind). heading_in k x.its (round f n)) is ∙ its)
 
       pub fine_of_cluster : node.kind ≡ kind.Cluster → (c : ℕ) → IsIn c node.children → FineOf is_clustered c
       fine_of_cluster is c i test =
-          let x : IsHeaded f.nodes f.rounds n node c = of_all (IsHeaded f.nodes f.rounds n node) c node.children (each_headed n node at) i in
+          let x : IsHeaded f.nodes f.rounds n node c = of_all (IsHeaded f.nodes f.rounds n node) c node.children (each_headed f of n node at) i in
           let its : is_clustered x.its.kind ≡ true = sym (ap (λ (o : Option Node). is_clustered (kind_of o)) x.at) ∙ test in
           fine_in_heading c x.its x.at (clustered_heading x.its.kind its) (x.heading ∙ ap (λ (k : NodeKind). heading_in k x.its (round f n)) is ∙ clustered_headed x.its x.its.kind (round f n) refl its)

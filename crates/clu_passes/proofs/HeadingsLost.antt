@@ -3,7 +3,7 @@ use Rattle.std.proofs.Common.{◌≡◌, ◌∙◌, ℕ, zero, suc, ◌+◌, ◌
 use Rattle.std.specs.Prelude.{slice_get}
 use Rattle.std.specs.List.{AllByRecursion, list_any, range_with_len}
 use Rattle.std.specs.Option.{option_and_then, option_map}
-use Rattle.std.proofs.lemmas.Bool.{true≢false, and_from, cases_lt, le-leb}
+use Rattle.std.proofs.lemmas.Bool.{true≢false, and_from, cases_lt, le-leb, or_right}
 use Rattle.std.proofs.lemmas.Option.{none-some, slice_get_within}
 use Rattle.clu_base.specs.declared.constants.Const.{Const}
 use Rattle.clu_base.specs.declared.rules.Rule.TheVariants as rule
@@ -53,7 +53,7 @@ use Rattle.clu_passes.specs.Losing.{HasReason, IsReason, IsWholeCvt}
 use Rattle.clu_passes.specs.Trees.{IsFileOfTree}
 use Rattle.clu_passes.proofs.CvtPlaces.{constant_top, cvt_refused, misplaced_at}
 use Rattle.clu_passes.proofs.LegalForms.{word_is}
-use Rattle.clu_passes.proofs.LostRefused.{lost_refused, or_right, refused_by}
+use Rattle.clu_passes.proofs.LostRefused.{lost_refused, refused_by}
 use Rattle.clu_passes.proofs.Subtrees.{is_subtree}
 use Rattle.clu_passes.proofs.ValuesKnown.{IsBelow, child_below}
 use Rattle.clu_passes.proofs.Within.{forest_goes_on}

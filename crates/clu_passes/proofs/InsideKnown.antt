@@ -2,7 +2,7 @@
 use Rattle.std.proofs.Common.{◌≡◌, ◌∙◌, ℕ, ◌<◌, ◌≤◌, ◌^◌, ◌+◌, ◌&&◌, ◌||◌, not, if◌then◌else◌, Bool, true, false, List, [], ◌∷◌, length, codes, is_none, is_some, Option, Some, None, inl, inr, refl, sym, ap, ap₂, subst, arith}
 use Rattle.std.specs.Prelude.{drop, slice_get}
 use Rattle.std.specs.List.{AllByRecursion}
-use Rattle.std.proofs.lemmas.Bool.{true≢false, cases_lt}
+use Rattle.std.proofs.lemmas.Bool.{true≢false, cases_lt, or_parts, and_parts, or_right}
 use Rattle.std.proofs.lemmas.Option.{none-some, same_Some, slice_get_within}
 use Rattle.clu_base.specs.declared.rules.Rule.TheVariants as rule
 use Rattle.clu_tree.specs.declared.node.Node.{Node}
@@ -63,7 +63,7 @@ use Rattle.clu_passes.proofs.Constants.{word_is}
 use Rattle.clu_passes.proofs.EquatesOutside.{equate_outside}
 use Rattle.clu_passes.proofs.LegalForms.{node_of_type}
 use Rattle.clu_passes.proofs.CvtPlaces.{constant_top, cvt_refused, parent_told}
-use Rattle.clu_passes.proofs.LostRefused.{IsSideOf, or_right, reason_there, refused_by, side_inside}
+use Rattle.clu_passes.proofs.LostRefused.{IsSideOf, reason_there, refused_by, side_inside}
 use Rattle.clu_passes.proofs.Subtrees.{is_subtree}
 use Rattle.clu_passes.proofs.Within.{forest_goes_on}
 use Rattle.clu_passes.proofs.NamesHeld.{settled_known}
@@ -137,18 +137,6 @@ cluster_there : (word cluster heading rep : Bool) → word ≡ true → ((word &
 cluster_there true true heading rep w e = refl
 cluster_there true false heading rep w e = absurd (true≢false e)
 cluster_there false cluster heading rep w e = absurd (true≢false (sym w))
-
-left_of : (a b : Bool) → (a || b) ≡ false → a ≡ false
-left_of true b e = e
-left_of false b e = refl
-
-right_of : (a b : Bool) → (a || b) ≡ false → b ≡ false
-right_of true b e = absurd (true≢false e)
-right_of false b e = e
-
-both_and : (a b : Bool) → (a && b) ≡ true → (a ≡ true) × (b ≡ true)
-both_and true b e = (refl, e)
-both_and false b e = absurd (true≢false (sym e))
 
 -- one of two is true
 one_of : (a b : Bool) → (not a && not b) ≡ false → b ≡ false → a ≡ true
@@ -416,7 +404,7 @@ module _ (t : Text) (h : Headed) (its : Tables) (library : List Specification) (
   word_at c of_type = by (is_cvt_at f c) refl
     where
       by : (b : Bool) → is_cvt_at f c ≡ b → is_word simple.Cvt (item f c).type ≡ is_cvt_at f c
-      by true hit = (both_and (is_of kind.Simple (kind_in f c)) (is_word simple.Cvt (item f c).type) hit).1 ∙ sym hit
+      by true hit = (and_parts (is_of kind.Simple (kind_in f c)) (is_word simple.Cvt (item f c).type) hit).1 ∙ sym hit
       by false apart = word_apart c of_type apart ∙ sym apart
 
   module _ (its_refused : List ℕ) where
@@ -464,7 +452,7 @@ module _ (t : Text) (h : Headed) (its : Tables) (library : List Specification) (
     -- `cvt` that is not refused stands in a cluster
     in_cluster : (c : ℕ) → is_type (kind_at nodes c) ≡ true → is_cvt_at f c ≡ true → ((m : ℕ) → (round f c).first ≤ m → m ≤ c → is_no_type_at g m ≡ false) → is_cluster_round f c ≡ true
     in_cluster c of_type hit fine =
-        let parts = both_and (is_of kind.Simple (kind_in f c)) (is_word simple.Cvt (item f c).type) hit in
+        let parts = and_parts (is_of kind.Simple (kind_in f c)) (is_word simple.Cvt (item f c).type) hit in
         cluster_there (is_word simple.Cvt (item f c).type) (is_cluster_round f c) (is_of_heading f (parent f c)) (is_word simple.Rep (item f c).type && not (is_cluster_round f c)) parts.1
         (ap (λ (k : NodeKind). v31_at f k c) (sym (is_simple (kind_in f c) parts.0)) ∙ placed_there c (fine c (upto c of_type) (omega arith)))
       where
@@ -571,9 +559,9 @@ module _ (t : Text) (h : Headed) (its : Tables) (library : List Specification) (
       ∙ ap (λ (b : Bool). bound.is_refused h c || (b && bound.is_refused_rep h n)) (sym (cvt_is items c its_type.is)) in
       unless_by (bound.is_refused_inside h items n c) (is_refused_inside f n (item f c).type) (type_inside r items n c) (Some (headings.type_inside f n (item f c).type)) (sym same)
       (λ fine.
-      let its_fine : is_refused f c ≡ false = left_of (is_refused f c) (is_cvt_at f c && is_refused_rep f n) (sym seen ∙ fine) in
+      let its_fine : is_refused f c ≡ false = (or_parts (is_refused f c) (is_cvt_at f c && is_refused_rep f n) (sym seen ∙ fine)).0 in
       let good : v31 f c ≡ false = placed_there [] c (fine_in c inside its_fine c (upto [] c its_type.is) (omega arith)) in
       inside_told [] items n n c less its_type.is (λ hit. (its_type.home hit good, its_type.home hit good)) (fine_in c inside its_fine)
       (λ hit. rep_fine [] n (λ e m named low high.
-      let told : is_refused_rep f n ≡ false = ap (λ (b : Bool). b && is_refused_rep f n) (sym hit) ∙ right_of (is_refused f c) (is_cvt_at f c && is_refused_rep f n) (sym seen ∙ fine) in
+      let told : is_refused_rep f n ≡ false = ap (λ (b : Bool). b && is_refused_rep f n) (sym hit) ∙ (or_parts (is_refused f c) (is_cvt_at f c && is_refused_rep f n) (sym seen ∙ fine)).1 in
       fine_in e (kind_there e (named_equate (declaring_node f (declaration f n (codes "rep"))) e named)) (sym (ap (is_refused_at f) named) ∙ told) m low (omega (arith, high)))))

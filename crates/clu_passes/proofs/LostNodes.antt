@@ -3,7 +3,7 @@
 use Rattle.std.proofs.Common.{◌≡◌, ◌∙◌, ℕ, ◌-◌, ◌<◌, ◌≤◌, ◌||◌, if◌then◌else◌, Bool, true, false, List, [], ◌∷◌, ◌++◌, length, is_some, Option, Some, None, inl, inr, refl, sym, ap, subst, arith}
 use Rattle.std.specs.Prelude.{slice_get}
 use Rattle.std.specs.List.{AllByRecursion}
-use Rattle.std.proofs.lemmas.Bool.{true≢false}
+use Rattle.std.proofs.lemmas.Bool.{true≢false, or_parts}
 use Rattle.std.proofs.lemmas.Option.{none-some, same_Some}
 use Rattle.clu_base.specs.declared.rules.Rule.{Rule}
 use Rattle.clu_base.specs.declared.rules.Rule.TheVariants as rule
@@ -33,14 +33,6 @@ use Rattle.clu_passes.proofs.Within.{forest_goes_on}
 
 -- ---- tests
 
-left_false : (a b : Bool) → (a || b) ≡ false → a ≡ false
-left_false true b e = e
-left_false false b e = refl
-
-right_false : (a b : Bool) → (a || b) ≡ false → b ≡ false
-right_false true b e = absurd (true≢false e)
-right_false false b e = e
-
 -- ---- lists of rules
 
 module _ (v : Rule → Bool) where
@@ -69,17 +61,17 @@ module _ (f : File) where
 
   pub fine_itself : (n : ℕ) → lost f n ≡ false → is_lost_itself f n ≡ false
   unfolding lost
-  fine_itself n e = right_false (is_lost_before f n) (is_lost_itself f n) (left_false (is_lost_before f n || is_lost_itself f n) (is_cvt_at f n) e)
+  fine_itself n e = (or_parts (is_lost_before f n) (is_lost_itself f n) (or_parts (is_lost_before f n || is_lost_itself f n) (is_cvt_at f n) e).0).1
 
   pub no_cvt : (n : ℕ) → lost f n ≡ false → is_cvt_at f n ≡ false
   unfolding lost
-  no_cvt n e = right_false (is_lost_before f n || is_lost_itself f n) (is_cvt_at f n) e
+  no_cvt n e = (or_parts (is_lost_before f n || is_lost_itself f n) (is_cvt_at f n) e).1
 
   -- before it nothing is gone
   pub none_gone : (n : ℕ) → lost f n ≡ false → (m : ℕ) → first_read f n ≤ m → m < n → is_gone f m ≡ false
   unfolding lost
   none_gone n e m low less =
-      none_in (is_gone f) (first_read f n) (n - first_read f n) (left_false (is_lost_before f n) (is_lost_itself f n) (left_false (is_lost_before f n || is_lost_itself f n) (is_cvt_at f n) e)) m low (omega (arith, low, less))
+      none_in (is_gone f) (first_read f n) (n - first_read f n) (or_parts (is_lost_before f n) (is_lost_itself f n) (or_parts (is_lost_before f n || is_lost_itself f n) (is_cvt_at f n) e).0).0 m low (omega (arith, low, less))
 
 module _ (f : File) (of : IsFileOfTree f) where
   -- ---- a name of a bad or circular equate is lost itself
@@ -170,7 +162,7 @@ module _ (f : File) (of : IsFileOfTree f) where
     -- ---- nothing is lost at a node just if nothing is gone before it, nor by itself its value
 
     pub clear_there : (n : ℕ) → lost f n ≡ false → IsClear f n
-    clear_there n e = record { low = first_read f n; from = from_first n; clear = λ m low less. left_false (is_no_type_at f m) (is_cvt_at f m) (none_gone f n e m low less) }
+    clear_there n e = record { low = first_read f n; from = from_first n; clear = λ m low less. (or_parts (is_no_type_at f m) (is_cvt_at f m) (none_gone f n e m low less)).0 }
 
     pub not_lost : (n : ℕ) → ((m : ℕ) → first_read f n ≤ m → m < n → is_gone f m ≡ false) → is_lost_itself f n ≡ false → is_cvt_at f n ≡ false → lost f n ≡ false
     unfolding lost
@@ -216,7 +208,7 @@ module _ (f : File) (of : IsFileOfTree f) where
           let begins : first_read f n ≤ first_read f c = not_later c (first_read f n) child_from in
           let itself : is_gone f c ≡ false = none_gone f n e c (omega (arith, own, least)) less in
           not_lost c (λ m low before. none_gone f n e m (omega (arith, begins, low)) (omega (arith, before, less)))
-          (plain_itself f c (left_false (is_no_type_at f c) (is_cvt_at f c) itself)) (right_false (is_no_type_at f c) (is_cvt_at f c) itself)
+          (plain_itself f c (or_parts (is_no_type_at f c) (is_cvt_at f c) itself).0) (or_parts (is_no_type_at f c) (is_cvt_at f c) itself).1
 
     pub lost_below : (n : ℕ) → lost f n ≡ false → AllByRecursion (λ c. lost f c ≡ false) (children f n)
     lost_below n e = by (slice_get f.nodes n) refl

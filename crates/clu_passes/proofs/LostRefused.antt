@@ -2,7 +2,7 @@
 use Rattle.std.proofs.Common.{◌≡◌, ◌∙◌, ◌⊎◌, ℕ, zero, suc, ◌+◌, ◌-◌, ◌^◌, ◌==◌, ◌<◌, ◌≤◌, if◌then◌else◌, ◌&&◌, ◌||◌, not, nat_le, nat_lt, Bool, true, false, List, [], ◌∷◌, ◌++◌, length, map, codes, is_some, Option, Some, None, inl, inr, refl, sym, ap, subst, arith, rules}
 use Rattle.std.specs.Prelude.{slice_get}
 use Rattle.std.specs.List.{list_any, range_with_len, AllByRecursion}
-use Rattle.std.proofs.lemmas.Bool.{true≢false, cases_lt}
+use Rattle.std.proofs.lemmas.Bool.{true≢false, cases_lt, or_parts, or_right, or_left}
 use Rattle.std.proofs.lemmas.Option.{none-some, same_Some, slice_get_within, slice_get_past}
 use Rattle.clu_base.specs.declared.rules.Rule.{Rule}
 use Rattle.clu_base.specs.declared.rules.Rule.TheVariants as rule
@@ -77,18 +77,6 @@ any_there p a (suc len) n l m e = elim (cases_lt a n) [
     by : (b : Bool) → list_any p (range_with_len (a + 1) len) ≡ true → (b || list_any p (range_with_len (a + 1) len)) ≡ true
     by true later = refl
     by false later = later
-
-pub or_right : (a b : Bool) → b ≡ true → (a || b) ≡ true
-or_right true b e = refl
-or_right false b e = e
-
-or_left : (a b : Bool) → a ≡ true → (a || b) ≡ true
-or_left true b e = refl
-or_left false b e = absurd (true≢false (sym e))
-
-none_left : (a b : Bool) → (a || b) ≡ false → a ≡ false
-none_left true b e = e
-none_left false b e = refl
 
 large : (n : ℕ) → nat_le (2 ^ 63) n ≡ true → nat_lt 9223372036854775807 n ≡ true
 large n e = e
@@ -393,7 +381,7 @@ module _ (f : File) (of : IsFileOfTree f) where
 
       by : (b : Bool) → is_circular f x.equate ≡ b → IsReason f n ⊎ NotLost right
       by true circle = inl (inl (refused_by n 2 rule.CircularEquate refl (circle_there (kind_in f n) n right x refl circle)))
-      by false circle = elim (decided x.equate right x.side_of circle (sym (ap (leads_on f leads) x.named) ∙ none_left (leads_on f leads (equate_named f n x.name)) (list_any (leads_on f leads) (equates_at f n x.others)) none_first)) [
+      by false circle = elim (decided x.equate right x.side_of circle (sym (ap (leads_on f leads) x.named) ∙ (or_parts (leads_on f leads (equate_named f n x.name)) (list_any (leads_on f leads) (equates_at f n x.others)) none_first).0)) [
         | inl bad ↦ inl (inl (bad_refused n (bad_there (kind_in f n) n right x refl (bad_named n right x circle bad))))
         | inr found ↦ inr found
       ]

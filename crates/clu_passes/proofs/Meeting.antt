@@ -2,7 +2,7 @@
 use Rattle.std.proofs.Common.{◌≡◌, ◌∙◌, ◌↔◌, ◌⊎◌, inl, inr, ℕ, zero, suc, ◌-◌, ◌<◌, ◌==◌, ◌&&◌, Bool, true, false, if◌then◌else◌, List, [], ◌∷◌, ◌++◌, Contains, length, map, flat_map, get_or, Option, Some, None, IsTrue, refl, sym, ap, subst, arith, eq-eqb, eqb-true}
 use Rattle.std.specs.List.{list_all}
 use Rattle.std.specs.Option.{option_map}
-use Rattle.std.proofs.lemmas.Bool.{true≢false}
+use Rattle.std.proofs.lemmas.Bool.{true≢false, and_parts, and_from}
 use Rattle.std.proofs.lemmas.Option.{none-some, same_Some}
 use Rattle.std.proofs.lemmas.List.Elements.{Contains-append_left, Contains-append_right}
 use Rattle.clu_types.specs.CluType.{CluType, null_type, bool_type, int_type, char_type, string_type, any_type, stream_type, array_of, sequence_of, record_of, struct_of, oneof_of, variant_of, proc_of, iter_of, cluster_of, parameter, Fields, no_fields, field_and, Actuals, no_actuals, actual_type, actual_const, actual_param}
@@ -22,14 +22,6 @@ use Rattle.clu_passes.specs.Met.{IsComponent, IsPartOf, given_counted, counted, 
 use Rattle.clu_passes.proofs.PartNeeds.{needs_of_parts}
 
 -- ---- tests and lists
-
-and_left : (a b : Bool) → (a && b) ≡ true → a ≡ true
-and_left true b e = refl
-and_left false b e = absurd (true≢false (sym e))
-
-and_right : (a b : Bool) → (a && b) ≡ true → b ≡ true
-and_right true b e = e
-and_right false b e = absurd (true≢false (sym e))
 
 module _ {X : Type 0} where
   head_or_tail : (x : X) (xs : List X) (m : X) → Contains (x ∷ xs) m → (x ≡ m) ⊎ Contains xs m
@@ -62,8 +54,8 @@ module _ {X : Type 0} where
   each_true : (p : X → Bool) (xs : List X) → list_all p xs ≡ true → (x : X) → Contains xs x → p x ≡ true
   each_true p [] all x h = in_none x h
   each_true p (y ∷ xs) all x h = elim (head_or_tail y xs x h) [
-    | inl is ↦ ap p (sym is) ∙ and_left (p y) (list_all p xs) all
-    | inr there ↦ each_true p xs (and_right (p y) (list_all p xs) all) x there
+    | inl is ↦ ap p (sym is) ∙ (and_parts (p y) (list_all p xs) all).0
+    | inr there ↦ each_true p xs (and_parts (p y) (list_all p xs) all).1 x there
   ]
 
 module _ {X Y : Type 0} where
@@ -94,9 +86,6 @@ module _ {X Y : Type 0} where
     | inl here ↦ (x, in_head x xs, here)
     | inr there ↦ (let r = from_flat f xs y there in (r.0, in_tail x xs r.0 r.1, r.2))
   ]
-
-and_both : (a b : Bool) → a ≡ true → b ≡ true → (a && b) ≡ true
-and_both a b p q = ap (λ (x : Bool). x && b) p ∙ q
 
 not_first : (i : ℕ) → (suc (suc i) == 1) ≡ false
 not_first i = by (suc (suc i) == 1) refl
@@ -220,7 +209,7 @@ module _ (given : List Demand) (specified : Identifier → Option Specification)
             let a = answered t name wanted h (Some (builtin_found op)) (is ∙ ap (option_map builtin_found) e) in
             let it : builtin_found op ≡ a.0 = same_Some (builtin_found op) a.0 a.1 in
             let found : Answer wanted (builtin_found op) = subst (Answer wanted) (sym it) a.2 in
-            and_both (fits (builtin_type op.iter op) wanted) (are_met_by test op.needs) found.0
+            and_from (fits (builtin_type op.iter op) wanted) (are_met_by test op.needs) found.0
             (all_true (λ (n : Needed). test n.of n.op n.wanted) op.needs (λ n k. each op e n k (found.1 (needed n) (in_mapped needed op.needs n k))))
 
     in_part : (t of : CluType) (name : List ℕ) (wanted : CluType) (fs : Fields) → (t ≡ of) ⊎ IsComponent fs of → (t ≡ of → meets given specified t name wanted ≡ true) → (IsComponent fs of → part_meets given specified fs of name wanted ≡ true) → (b : Bool) → same_type t of ≡ b
@@ -254,7 +243,7 @@ module _ (given : List Demand) (specified : Identifier → Option Specification)
     of_heading c placed name wanted h (Some its) e each =
         let a = answered (cluster_of c placed) name wanted h (Some (routine_found placed its)) (ap (option_map (routine_found placed)) e) in
         let found : Answer wanted (routine_found placed its) = subst (Answer wanted) (sym (same_Some (routine_found placed its) a.0 a.1)) a.2 in
-        and_both (may_fit (option_map (substituted placed) its.type) wanted) (list_all (λ d. is_put_met (put given specified placed) placed d d.wanted) its.demands) found.0
+        and_from (may_fit (option_map (substituted placed) its.type) wanted) (list_all (λ d. is_put_met (put given specified placed) placed d d.wanted) its.demands) found.0
         (all_true (λ d. is_put_met (put given specified placed) placed d d.wanted) its.demands (λ d k. one_put placed its.demands d k d.wanted refl (λ w there. found.1 w there) each))
 
     mutual
@@ -309,12 +298,12 @@ module _ (given : List Demand) (specified : Identifier → Option Specification)
       by None e met = absurd (true≢false (sym met))
       by (Some op) e met =
           is_met asks (ask t name wanted) (map asked_of (map needed op.needs))
-          (ap (asks_by wanted) (is ∙ ap (option_map builtin_found) e) ∙ ap (λ (b : Bool). if b then Some (map asked_of (map needed op.needs)) else None) (and_left (fits (builtin_type op.iter op) wanted) (are_met_by test op.needs) met))
+          (ap (asks_by wanted) (is ∙ ap (option_map builtin_found) e) ∙ ap (λ (b : Bool). if b then Some (map asked_of (map needed op.needs)) else None) (and_parts (fits (builtin_type op.iter op) wanted) (are_met_by test op.needs) met).0)
           (λ m h.
           (let r = from_mapped asked_of (map needed op.needs) m h in
           let q = from_mapped needed op.needs r.0 r.1 in
           subst (λ (x : Ask). IsMet asks x) (ap asked_of q.2 ∙ r.2)
-          (each op e q.0 q.1 (each_true (λ (n : Needed). test n.of n.op n.wanted) op.needs (and_right (fits (builtin_type op.iter op) wanted) (are_met_by test op.needs) met) q.0 q.1))))
+          (each op e q.0 q.1 (each_true (λ (n : Needed). test n.of n.op n.wanted) op.needs (and_parts (fits (builtin_type op.iter op) wanted) (are_met_by test op.needs) met).1 q.0 q.1))))
 
   nothing_needed : (t : CluType) (name : List ℕ) (o : Operation) → operation t name ≡ Some o → ((of : CluType) → IsPartOf t of → ⊥) → (n : Needed) → Contains o.needs n → IsMet asks (ask n.of n.op n.wanted)
   nothing_needed t name o e none n k = absurd (none n.of (needs_of_parts t name o e n k))
@@ -334,12 +323,12 @@ module _ (given : List Demand) (specified : Identifier → Option Specification)
       let fit : Bool = may_fit (option_map (substituted placed) its.type) wanted in
       let rest : Bool = list_all (λ d. is_put_met (put given specified placed) placed d d.wanted) its.demands in
       is_met asks (ask (cluster_of c placed) name wanted) (map asked_of (flat_map (demanded placed) its.demands))
-      (ap (λ (o : Option Heading). asks_by wanted (option_map (routine_found placed) o)) e ∙ ap (λ (b : Bool). if b then Some (map asked_of (flat_map (demanded placed) its.demands)) else None) (and_left fit rest met))
+      (ap (λ (o : Option Heading). asks_by wanted (option_map (routine_found placed) o)) e ∙ ap (λ (b : Bool). if b then Some (map asked_of (flat_map (demanded placed) its.demands)) else None) (and_parts fit rest met).0)
       (λ m h.
       (let r = from_mapped asked_of (flat_map (demanded placed) its.demands) m h in
       let q = from_flat (demanded placed) its.demands r.0 r.1 in
       subst (λ (x : Ask). IsMet asks x) r.2
-      (put_closed placed q.0 each q.0.wanted (each_true (λ d. is_put_met (put given specified placed) placed d d.wanted) its.demands (and_right fit rest met) q.0 q.1) r.0 q.2)))
+      (put_closed placed q.0 each q.0.wanted (each_true (λ d. is_put_met (put given specified placed) placed d d.wanted) its.demands (and_parts fit rest met).1 q.0 q.1) r.0 q.2)))
 
   abbrev none_asked : Option (List Ask)
   none_asked = Some []

@@ -8,6 +8,7 @@ use Rattle.std.proofs.lemmas.Slice.Eq.{bytes_eq-Decides}
 use Rattle.clu_tree.specs.declared.node.Node.{Node}
 use Rattle.clu_tree.specs.declared.node.NodeKind.{NodeKind}
 use Rattle.clu_tree.specs.declared.node.NodeKind.TheVariants as kind
+use Rattle.clu_parser.specs.Shape.{HaveForms}
 use Rattle.clu_parser.specs.Trees.{Text}
 use Rattle.clu_types.specs.declared.term.Term.{Term}
 use Rattle.clu_types.specs.Arena.{IsArena}
@@ -64,7 +65,7 @@ pub and_on : (a b c : Bool) → ((a && b) && c) ≡ (a && (b && c))
 and_on true b c = refl
 and_on false b c = refl
 
-and_if : (a x : Bool) → (a && x) ≡ (if a then x else false)
+pub and_if : (a x : Bool) → (a && x) ≡ (if a then x else false)
 and_if true x = refl
 and_if false x = refl
 
@@ -79,6 +80,18 @@ routine_said P (Some k) (Some s) same = same.1
 routine_said P (Some k) None same = absurd same
 routine_said P None (Some s) same = absurd same
 routine_said P None None same = refl
+
+-- ---- the first name of a node of a kind of which all names denote
+
+pub of_first : (f : File) → HaveForms f.nodes → (P : Identifier → Type 0) (n : ℕ) (k : NodeKind) → 1 ≤ least_names k → ((node : Node) → names_in k node ≡ node.names) → is_of k kind.File ≡ false → kind_at f.nodes n ≡ k →
+    ((node : Node) (name : Identifier) (rest : List Identifier) → slice_get f.nodes n ≡ Some node → names_in node.kind node ≡ name ∷ rest → slice_get node.names 0 ≡ Some name → P name) → P (first_name_at f n)
+of_first f forms P n k least used other is told =
+    let th : There f.nodes n k = there f.nodes n k other is in
+    let some : least_names th.node.kind ≤ length th.node.names = (enough f.nodes forms n th.node th.at).names in
+    let same : least_names th.node.kind ≡ least_names k = ap least_names th.is in
+    let x = names_there th.node.names (omega (arith, least, some, same)) in
+    let its : first_name_at f n ≡ first_name th.node.names = ap (λ (o : Option Node). first_name (node_names f o)) th.at in
+    subst P (sym its) (told th.node (first_name th.node.names) x.0 th.at (ap (λ (k : NodeKind). names_in k th.node) th.is ∙ used th.node ∙ x.1) (ap (λ (names : List Identifier). slice_get names 0) x.1))
 
 -- ---- modules of the file by their specifications
 
@@ -210,14 +223,7 @@ module _ (t : Text) (r : Read) (library : List Specification) (refused : List �
   -- ---- by kinds of nodes
 
   meant_at : (n : ℕ) (k : NodeKind) → 1 ≤ least_names k → ((node : Node) → names_in k node ≡ node.names) → is_of k kind.File ≡ false → kind_at nodes n ≡ k → IsMeant f r n (first_name_at f n)
-  meant_at n k least used other is =
-      let th : There nodes n k = there nodes n k other is in
-      let some : least_names th.node.kind ≤ length th.node.names = (enough nodes parsed.forms n th.node th.at).names in
-      let same : least_names th.node.kind ≡ least_names k = ap least_names th.is in
-      let x = names_there th.node.names (omega (arith, least, some, same)) in
-      let its : first_name_at f n ≡ first_name th.node.names = ap (λ (o : Option Node). first_name (node_names f o)) th.at in
-      subst (IsMeant f r n) (sym its)
-      (meant_so n (first_name th.node.names) th.node x.0 th.at (ap (λ (k : NodeKind). names_in k th.node) th.is ∙ used th.node ∙ x.1) (ap (λ (names : List Identifier). slice_get names 0) x.1))
+  meant_at n k least used other is = of_first f parsed.forms (IsMeant f r n) n k least used other is (λ node name rest. meant_so n name node rest)
 
   pub named_said : (n : ℕ) → kind_at nodes n ≡ kind.Name → IsMeant f r n (first_name_at f n)
   named_said n is = meant_at n kind.Name (omega arith) (λ node. refl) refl is

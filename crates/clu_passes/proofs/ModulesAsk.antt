@@ -1,6 +1,6 @@
 -- What the modules ask that are named with actual parameters at a node, as it was found, is what the definitions say.
 use Rattle.std.proofs.Common.{◌≡◌, ◌∙◌, inl, inr, ◌&&◌, ℕ, Bool, true, false, if◌then◌else◌, List, [], ◌∷◌, ◌++◌, length, map, flat_map, is_some, option_map, Option, Some, None, refl, sym, ap, ap₂, subst, append-nil}
-use Rattle.std.proofs.lemmas.Bool.{true≢false}
+use Rattle.std.proofs.lemmas.Bool.{and_parts}
 use Rattle.clu_types.specs.Arena.{Grows, IsArena, types_of}
 use Rattle.clu_types.specs.declared.term.Term.{Term}
 use Rattle.clu_syntax.specs.Syntax.{Constants}
@@ -41,10 +41,6 @@ use Rattle.clu_passes.proofs.TypesNoted.{instance_asks, itself}
 both_same : (a b x y : Bool) → a ≡ b → (b ≡ true → x ≡ y) → (a && x) ≡ (b && y)
 both_same a true x y e same = ap₂ (λ (a x : Bool). a && x) e (same refl)
 both_same a false x y e same = ap (λ (a : Bool). a && x) e
-
-left_true : (a b : Bool) → (a && b) ≡ true → a ≡ true
-left_true true b e = refl
-left_true false b e = absurd (true≢false (sym e))
 
 -- what a module asks by itself
 itself_asks : (f : File) (cs : Constants) (o : Option Specification) → asks_found (option_map (module_found (actuals_settled f.scope cs)) (option_map (λ s. s.form) o)) ≡ invoking.asks_by f cs o
@@ -98,7 +94,7 @@ module _ (h : Headed) (scope : Scope) (library : List Specification) (refused : 
           asking =
               asking_by new (record before { finding = now.finding }) now refl its (itself f x.name (actuals_settled scope x.constants))
               (instance_asks h scope library refused up old new grows arena later tell tells before within now.finding last was x.name (actuals_settled scope x.constants) (actuals_settled_ascend scope x.constants) (type_id (value_in r n))
-              (so.instance (name_same ∙ left_true (is_of_module f x.node x.name) (wants.has_fitting_kinds f x) e)) its (told_as true e));
+              (so.instance (name_same ∙ (and_parts (is_of_module f x.node x.name) (wants.has_fitting_kinds f x) e).0)) its (told_as true e));
           asks =
               itself_asks f x.constants (specification f x.name)
               ∙ sym (append-nil (invoking.asks_by f x.constants (specification f x.name)))

@@ -1,5 +1,5 @@
 -- The name of a Name, or of a type by its name, is that of a module just if the table has one for it.
-use Rattle.std.proofs.Common.{◌≡◌, ◌∙◌, ℕ, suc, ◌-◌, ◌^◌, ◌<◌, ◌≤◌, ◌&&◌, ◌||◌, not, Bool, true, false, cond, if◌then◌else◌, List, [], ◌∷◌, length, map, ◌++◌, Option, Some, None, slice_get, is_some, option_map, refl, ap, sym, subst, arith}
+use Rattle.std.proofs.Common.{◌≡◌, ◌∙◌, ℕ, suc, ◌-◌, ◌^◌, ◌<◌, ◌≤◌, ◌&&◌, ◌||◌, not, Bool, true, false, cond, if◌then◌else◌, List, [], ◌∷◌, length, map, ◌++◌, Option, Some, None, slice_get, is_some, option_map, refl, ap, sym, arith}
 use Rattle.std.specs.Prelude.{bytes_eq}
 use Rattle.clu_tree.specs.declared.node.Node.{Node}
 use Rattle.clu_tree.specs.declared.node.NodeKind.{NodeKind}
@@ -11,19 +11,18 @@ use Rattle.clu_syntax.specs.declared.round.Round.{Round}
 use Rattle.clu_syntax.specs.Enough.{least_names}
 use Rattle.clu_syntax.specs.Rounds.{AreRounds}
 use Rattle.clu_syntax.specs.Kinds.{kind_at}
-use Rattle.clu_syntax.specs.Splits.{is_of, first_name}
+use Rattle.clu_syntax.specs.Splits.{is_of}
 use Rattle.clu_syntax.specs.Syntax.{Identifier}
 use Rattle.clu_syntax.specs.Nodes.{file_of}
-use Rattle.clu_syntax.proofs.Enough.{enough}
 use Rattle.clu_names.specs.Scopes.{is_stream}
 use Rattle.clu_names.specs.Denotes.{names_in}
 use Rattle.clu_checking.specs.Specifications.{Specification, specification_in, specification_told}
-use Rattle.clu_checking.specs.Files.{File, scope_in, node_names, meaning, is_kept, is_own_module, is_of_module}
+use Rattle.clu_checking.specs.Files.{File, scope_in, meaning, is_kept, is_own_module, is_of_module}
 use Rattle.clu_checking.specs.Headings.{own_specifications, or_kept}
 use Rattle.clu_checking.specs.Wanted.{first_name_at}
 use Rattle.clu_settle.specs.Settled.{AreSettled}
 use Rattle.clu_declares.specs.Declares.{IsParsed, AreFew}
-use Rattle.clu_declares.proofs.Facts.{There, there, root_parts, top}
+use Rattle.clu_declares.proofs.Facts.{root_parts, top}
 use Rattle.clu_bindings.specs.declared.file.File.{File as Read}
 use Rattle.clu_bindings.specs.declared.bindings.ModuleKnown.{ModuleKnown}
 use Rattle.clu_bindings.specs.declared.meaning.ModuleId.{ModuleId}
@@ -34,8 +33,8 @@ use Rattle.clu_passes.specs.Bound.{TellModules, TellTypeModules}
 use Rattle.clu_passes.specs.ConstantTables.{file_with}
 use Rattle.clu_passes.specs.Legal.{AreLegalKnown}
 use Rattle.clu_passes.specs.Tables.{AreNames}
-use Rattle.clu_passes.proofs.FileModules.{modules_are, names_there, root}
-use Rattle.clu_passes.proofs.ModuleMeant.{and_on, denotes_same, file_is, module_is, own_found}
+use Rattle.clu_passes.proofs.FileModules.{modules_are, root}
+use Rattle.clu_passes.proofs.ModuleMeant.{and_if, and_on, denotes_same, file_is, module_is, of_first, own_found}
 use Rattle.clu_passes.proofs.ModulesSaid.{AreAlike, all_alike, kept_more}
 use Rattle.clu_passes.proofs.NamesMean.{is_module_meant}
 
@@ -60,10 +59,6 @@ place_alike P k (m ∷ ms) (s ∷ ss) a name =
 or_kept_some : (f : File) (o : Option Specification) (name : Identifier) → is_some (or_kept f o name) ≡ (is_some o || is_kept f name)
 or_kept_some f (Some s) name = refl
 or_kept_some f None name = refl
-
-and_if : (b x y : Bool) → x ≡ y → (if b then x else false) ≡ (b && y)
-and_if true x y e = e
-and_if false x y e = refl
 
 some_if : (b : Bool) (o : Option ModuleId) → is_some (if b then o else None) ≡ (if b then is_some o else false)
 some_if true o = refl
@@ -111,21 +106,15 @@ module _ (t : Text) (r : Read) (library : List Specification) (refused : List �
   told n node name rest at e first =
       ap is_some (module_is t r library refused types arena known parsed are few its_names tables kept there_are few_modules n name node rest at e first)
       ∙ some_if (is_module_meant (meaning f n name)) (of name)
-      ∙ and_if (is_module_meant (meaning f n name)) (is_some (of name)) (not (is_stream name) && (is_own_module f name || is_kept f name)) (named_by name (is_stream name) refl)
+      ∙ sym (and_if (is_module_meant (meaning f n name)) (is_some (of name)))
+      ∙ ap (λ (b : Bool). is_module_meant (meaning f n name) && b) (named_by name (is_stream name) refl)
       ∙ sym (and_on (is_module_meant (meaning f n name)) (not (is_stream name)) (is_own_module f name || is_kept f name))
       ∙ ap (λ (b : Bool). (b && not (is_stream name)) && (is_own_module f name || is_kept f name)) (sym (denotes_same f (meaning f n name)))
 
   -- ---- by kinds of nodes
 
   told_at : (n : ℕ) (k : NodeKind) → 1 ≤ least_names k → ((node : Node) → names_in k node ≡ node.names) → is_of k kind.File ≡ false → kind_at nodes n ≡ k → is_some (module_in r n) ≡ is_of_module f n (first_name_at f n)
-  told_at n k least used other is =
-      let th : There nodes n k = there nodes n k other is in
-      let some : least_names th.node.kind ≤ length th.node.names = (enough nodes parsed.forms n th.node th.at).names in
-      let same : least_names th.node.kind ≡ least_names k = ap least_names th.is in
-      let x = names_there th.node.names (omega (arith, least, some, same)) in
-      let its : first_name_at f n ≡ first_name th.node.names = ap (λ (o : Option Node). first_name (node_names f o)) th.at in
-      subst (λ (name : Identifier). is_some (module_in r n) ≡ is_of_module f n name) (sym its)
-      (told n th.node (first_name th.node.names) x.0 th.at (ap (λ (k : NodeKind). names_in k th.node) th.is ∙ used th.node ∙ x.1) (ap (λ (names : List Identifier). slice_get names 0) x.1))
+  told_at n k least used other is = of_first f parsed.forms (λ (name : Identifier). is_some (module_in r n) ≡ is_of_module f n name) n k least used other is (told n)
 
   pub modules_told : TellModules f r
   modules_told n is = told_at n kind.Name (omega arith) (λ node. refl) refl is

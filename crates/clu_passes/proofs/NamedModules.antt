@@ -3,7 +3,7 @@
 use Rattle.std.proofs.Common.{◌≡◌, ◌∙◌, ◌⊎◌, inl, inr, ℕ, ◌<◌, ◌≤◌, ◌&&◌, ◌||◌, Bool, true, false, if◌then◌else◌, List, [], ◌∷◌, length, drop, Option, Some, None, refl, sym, ap, ap₂, subst, arith}
 use Rattle.std.specs.Prelude.{not}
 use Rattle.std.specs.List.{AllByRecursion}
-use Rattle.std.proofs.lemmas.Bool.{true≢false}
+use Rattle.std.proofs.lemmas.Bool.{true≢false, and_parts}
 use Rattle.clu_types.specs.declared.spec.ParamKind.{ParamKind}
 use Rattle.clu_types.specs.declared.term.TypeId.{TypeId}
 use Rattle.clu_types.specs.declared.term.Term.{Term}
@@ -107,13 +107,9 @@ meant_by f nodes (meant.OwnOfRoutine c) x e is = absurd (true≢false (sym is �
 meant_by f nodes (meant.OwnOfCluster c) x e is = absurd (true≢false (sym is ∙ ap (denotes_module f) e))
 meant_by f nodes meant.RoutineOfCluster x e is = absurd (true≢false (sym is ∙ ap (denotes_module f) e))
 
-and_first : (a b : Bool) → (a && b) ≡ true → a ≡ true
-and_first true b e = refl
-and_first false b e = absurd (true≢false (sym e))
-
 denotes : (f : File) (n : ℕ) (name : Identifier) → is_of_module f n name ≡ true → denotes_module f (meaning f n name) ≡ true
 denotes f n name is =
-    and_first (denotes_module f (meaning f n name)) (not (is_stream name)) (and_first (denotes_module f (meaning f n name) && not (is_stream name)) (is_own_module f name || is_kept f name) is)
+    (and_parts (denotes_module f (meaning f n name)) (not (is_stream name)) (and_parts (denotes_module f (meaning f n name) && not (is_stream name)) (is_own_module f name || is_kept f name) is).0).0
 
 module _ (h : Headed) (its : Tables) (scope : Scope) (library : List Specification) (refused : List ℕ) where
   abbrev r : Read

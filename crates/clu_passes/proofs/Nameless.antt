@@ -1,7 +1,7 @@
 -- Nodes without names: those of kinds of which V4 is not asked.
 use Rattle.std.proofs.Common.{◌≡◌, ◌∙◌, ℕ, ◌&&◌, not, Bool, true, false, List, [], ◌∷◌, ◌++◌, length, Some, inl, inr, refl, sym, ap, subst, arith}
 use Rattle.std.specs.Prelude.{slice_get}
-use Rattle.std.proofs.lemmas.Bool.{true≢false}
+use Rattle.std.proofs.lemmas.Bool.{true≢false, and_parts}
 use Rattle.clu_base.specs.declared.rules.Rule.TheVariants as rule
 use Rattle.clu_tree.specs.declared.node.Node.{Node}
 use Rattle.clu_tree.specs.declared.node.NodeKind.{NodeKind}
@@ -27,14 +27,6 @@ are_nameless : List (List Part) → Bool
 are_nameless [] = true
 are_nameless (form ∷ more) = is_nameless form && are_nameless more
 
-first_of : (a b : Bool) → (a && b) ≡ true → a ≡ true
-first_of true b e = refl
-first_of false b e = e
-
-second_of : (a b : Bool) → (a && b) ≡ true → b ≡ true
-second_of true b e = e
-second_of false b e = absurd (true≢false (sym e))
-
 group_nameless : (g : Group) → not (has_names g) ≡ true → is_nameless (parts_of g) ≡ true
 unfolding has_names is_nameless
 group_nameless more_names e = absurd (true≢false (sym e))
@@ -55,18 +47,18 @@ no_names _ _ (token_is x ps w d) e = no_names ps w d e
 no_names _ _ (name_is ps w d) e = absurd (true≢false (sym e))
 no_names _ _ (value_is xs x ps w h d) e = no_names ps w d e
 no_names _ _ (child_is c k ps w h d) e = no_names ps w d e
-no_names _ _ (no_more g ps w d) e = no_names ps w d (second_of (not (has_names g)) (is_nameless ps) e)
+no_names _ _ (no_more g ps w d) e = no_names ps w d (and_parts (not (has_names g)) (is_nameless ps) e).1
 no_names _ _ (one_more g ps v w u dv dw same) e =
-    ap names_in same ∙ none_in_both v w (no_names (parts_of g) v dv (group_nameless g (first_of (not (has_names g)) (is_nameless ps) e))) (no_names (many g ∷ ps) w dw e)
-no_names _ _ (without g ps w d) e = no_names ps w d (second_of (not (has_names g)) (is_nameless ps) e)
+    ap names_in same ∙ none_in_both v w (no_names (parts_of g) v dv (group_nameless g (and_parts (not (has_names g)) (is_nameless ps) e).0)) (no_names (many g ∷ ps) w dw e)
+no_names _ _ (without g ps w d) e = no_names ps w d (and_parts (not (has_names g)) (is_nameless ps) e).1
 no_names _ _ (with_one g ps v w u dv dw same) e =
-    ap names_in same ∙ none_in_both v w (no_names (parts_of g) v dv (group_nameless g (first_of (not (has_names g)) (is_nameless ps) e))) (no_names ps w dw (second_of (not (has_names g)) (is_nameless ps) e))
+    ap names_in same ∙ none_in_both v w (no_names (parts_of g) v dv (group_nameless g (and_parts (not (has_names g)) (is_nameless ps) e).0)) (no_names ps w dw (and_parts (not (has_names g)) (is_nameless ps) e).1)
 
 form_nameless : (form : List Part) (fs : List (List Part)) → IsFormOf form fs → are_nameless fs ≡ true → is_nameless form ≡ true
 unfolding are_nameless
 form_nameless form [] at e = absurd at
-form_nameless form (it ∷ more) (inl same) e = subst (λ (ps : List Part). is_nameless ps ≡ true) (sym same) (first_of (is_nameless it) (are_nameless more) e)
-form_nameless form (it ∷ more) (inr among) e = form_nameless form more among (second_of (is_nameless it) (are_nameless more) e)
+form_nameless form (it ∷ more) (inl same) e = subst (λ (ps : List Part). is_nameless ps ≡ true) (sym same) (and_parts (is_nameless it) (are_nameless more) e).0
+form_nameless form (it ∷ more) (inr among) e = form_nameless form more among (and_parts (is_nameless it) (are_nameless more) e).1
 
 kind_nameless : (k : NodeKind) → is_asked k rule.LiteralRange ≡ false → are_nameless (forms k) ≡ true
 unfolding has_names is_nameless are_nameless

@@ -1,7 +1,7 @@
 -- At a node before which its walk finds no fault the tags of the type on which the Tagcase round it selects ascend.
-use Rattle.std.proofs.Common.{◌≡◌, ◌∙◌, ℕ, ◌<◌, ◌||◌, if◌then◌else◌, Bool, true, false, List, ◌∷◌, drop, get_or, length, Option, Some, None, inl, inr, refl, sym, ap, subst}
+use Rattle.std.proofs.Common.{◌≡◌, ◌∙◌, ℕ, ◌<◌, if◌then◌else◌, Bool, true, false, List, ◌∷◌, drop, get_or, length, Option, Some, None, inl, inr, refl, sym, ap, subst}
 use Rattle.std.specs.Prelude.{slice_get}
-use Rattle.std.proofs.lemmas.Bool.{true≢false}
+use Rattle.std.proofs.lemmas.Bool.{true≢false, or_left}
 use Rattle.std.proofs.lemmas.Option.{none-some, same_Some}
 use Rattle.clu_tree.specs.declared.node.NodeKind.{NodeKind}
 use Rattle.clu_tree.specs.declared.node.NodeKind.TheVariants as kind
@@ -35,10 +35,6 @@ use Rattle.clu_passes.proofs.OthersRounds.{no_part_bare}
 use Rattle.clu_passes.proofs.OthersSame as so
 use Rattle.clu_passes.proofs.OthersSeen as seen
 use Rattle.clu_passes.proofs.OwnPlaces.{there_is}
-
-or_left : (a b : Bool) → a ≡ true → (a || b) ≡ true
-or_left true b e = refl
-or_left false b e = absurd (true≢false (sym e))
 
 module _ (t : Text) (k : Known) (library : List Specification) (refused : List ℕ) (all : IsWhole t k.tables library refused) (lost : ℕ → Bool)
     (known : AreOthersKnown (file_with k.tables.file (scope_in k.tables.file.syntax.now k.tables.file.rounds.now) library refused) k lost)

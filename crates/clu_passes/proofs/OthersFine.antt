@@ -2,7 +2,7 @@
 use Rattle.std.proofs.Common.{◌≡◌, ◌∙◌, ◌⊎◌, ℕ, zero, suc, ◌+◌, ◌<◌, ◌≤◌, ◌||◌, Bool, true, false, List, [], ◌∷◌, length, is_some, Option, Some, None, inl, inr, refl, sym, ap, subst, arith}
 use Rattle.std.specs.Prelude.{slice_get}
 use Rattle.std.specs.List.{AllByRecursion, list_any, range_with_len}
-use Rattle.std.proofs.lemmas.Bool.{true≢false, cases_lt}
+use Rattle.std.proofs.lemmas.Bool.{true≢false, cases_lt, or_parts}
 use Rattle.std.proofs.lemmas.Option.{none-some, same_Some, slice_get_within}
 use Rattle.clu_base.specs.declared.rules.Rule.{Rule}
 use Rattle.clu_base.specs.declared.rules.Rule.TheVariants as rule
@@ -40,16 +40,8 @@ no_constant kind.Equate e = absurd (true≢false e)
 no_constant kind.File e = e
 no_constant _ e = e
 
-or_first : (a b : Bool) → (a || b) ≡ false → a ≡ false
-or_first true b e = e
-or_first false b e = refl
-
-or_second : (a b : Bool) → (a || b) ≡ false → b ≡ false
-or_second true b e = absurd (true≢false e)
-or_second false b e = e
-
 pub no_type : (k : NodeKind) → is_of_constant k ≡ false → is_type k ≡ false
-no_type k e = or_second (is_expression k) (is_type k) (no_constant k e)
+no_type k e = (or_parts (is_expression k) (is_type k) (no_constant k e)).1
 
 -- ---- the first that is found
 
@@ -129,8 +121,8 @@ module _ (f : File) (of : IsFileOfTree f) (parents : HaveParents f) where
   none_violated : (n : ℕ) (rs : List Rule) → list_any (is_asked (kind_in f n)) rs ≡ false → AllByRecursion (λ (r : Rule). violates f (is_bad_of f (rules_of_types f)) n r ≡ false) rs
   none_violated n [] none = tt
   none_violated n (r ∷ rs) none = (
-    not_elsewhere f of (is_bad_of f (rules_of_types f)) n r (or_first (is_asked (kind_in f n) r) (list_any (is_asked (kind_in f n)) rs) none),
-    none_violated n rs (or_second (is_asked (kind_in f n) r) (list_any (is_asked (kind_in f n)) rs) none),
+    not_elsewhere f of (is_bad_of f (rules_of_types f)) n r (or_parts (is_asked (kind_in f n) r) (list_any (is_asked (kind_in f n)) rs) none).0,
+    none_violated n rs (or_parts (is_asked (kind_in f n) r) (list_any (is_asked (kind_in f n)) rs) none).1,
   )
 
   -- where no name of it is refused

@@ -1,9 +1,9 @@
 -- Types in the heading of the routine round a statement, and in the arm to which an exit goes, as the rules read them.
-use Rattle.std.proofs.Common.{◌≡◌, ◌∙◌, ◌⊎◌, ℕ, zero, suc, ◌<◌, ◌≤◌, ◌||◌, ◌&&◌, if◌then◌else◌, Bool, true, false, List, [], ◌∷◌, cond, drop, find, length, take-append-drop, Option, Some, None, inl, inr, refl, sym, ap, subst, arith}
+use Rattle.std.proofs.Common.{◌≡◌, ◌∙◌, ◌⊎◌, ℕ, zero, suc, ◌<◌, ◌≤◌, ◌||◌, ◌&&◌, if◌then◌else◌, Bool, true, false, List, [], ◌∷◌, cond, find, length, Option, Some, None, inl, inr, refl, sym, ap, subst, arith}
 use Rattle.std.specs.Prelude.{bytes_eq, slice_get}
 use Rattle.std.specs.List.{AllByRecursion, list_any}
 use Rattle.std.specs.Option.{option_or}
-use Rattle.std.proofs.lemmas.Bool.{true≢false}
+use Rattle.std.proofs.lemmas.Bool.{true≢false, and_parts}
 use Rattle.std.proofs.lemmas.Option.{none-some, same_Some, slice_get_within}
 use Rattle.clu_tree.specs.declared.node.Node.{Node}
 use Rattle.clu_tree.specs.declared.node.NodeKind.{NodeKind}
@@ -12,7 +12,7 @@ use Rattle.clu_parser.specs.Shape.{forms}
 use Rattle.clu_syntax.specs.Kinds.{is_of_heading, is_type, kind_at, kind_of}
 use Rattle.clu_syntax.specs.Nodes.{before, item_to}
 use Rattle.clu_syntax.specs.Rounds.{round_at}
-use Rattle.clu_syntax.specs.Splits.{children_of, is_of, leading, run}
+use Rattle.clu_syntax.specs.Splits.{children_of, is_of, run}
 use Rattle.clu_syntax.specs.Syntax.{Identifier}
 use Rattle.clu_meaning.specs.Scoping.{Scope}
 use Rattle.clu_checking.specs.Specifications.{Specification}
@@ -21,7 +21,7 @@ use Rattle.clu_name_rules.specs.declared.repeated.ListKind.TheVariants as list
 use Rattle.clu_name_rules.specs.Words.{words_to}
 use Rattle.clu_declares.proofs.Below.{same_kind}
 use Rattle.clu_declares.proofs.Facts.{There, run_kinds, there}
-use Rattle.clu_declares.proofs.Parents.{IsIn, in_front, kind_of_child, no_form, of_all}
+use Rattle.clu_declares.proofs.Parents.{IsIn, kind_of_child, no_form, of_all}
 use Rattle.clu_parts.proofs.Fitting.{children_before}
 use Rattle.clu_type_rules.specs.declared.known.Known.{Known}
 use Rattle.clu_type_rules.specs.declared.routines.Parts.{Parts}
@@ -39,13 +39,14 @@ use Rattle.clu_passes.specs.Notes.{HaveParents}
 use Rattle.clu_passes.specs.OthersKnown.{AreRepsThere, IsArmDecl, IsArmType, IsBare, IsRepThere, IsTypeSeen, is_in_headings}
 use Rattle.clu_passes.specs.Routines.{AreParts, StandInRoutines}
 use Rattle.clu_passes.specs.Trees.{IsFileOfTree, is_of_constant}
+use Rattle.clu_passes.proofs.ExitTypes.{in_run}
 use Rattle.clu_passes.proofs.FirstItems.{item_is, word_found}
 use Rattle.clu_passes.proofs.Known.{are_known, is_known, nodes_known}
 use Rattle.clu_passes.proofs.Leaving as leaving
 use Rattle.clu_passes.proofs.OfParents.{has_it}
 use Rattle.clu_passes.proofs.OthersRounds.{bare_below, no_part_bare, of_routine, through}
 use Rattle.clu_passes.proofs.OthersRoutines.{HasRoutine, begins_inside, routine_round}
-use Rattle.clu_passes.proofs.RefusedBelow.{IsAlike, alike_to}
+use Rattle.clu_passes.proofs.RefusedBelow.{IsAlike, alike_to, not_definition}
 use Rattle.clu_passes.proofs.StandTwice.{all_names, arms_are, exceptions_are}
 use Rattle.clu_passes.proofs.ValuesKnown.{IsBelow, all_by, child_below}
 
@@ -67,18 +68,6 @@ find_in p (c ∷ cs) s e = by (p c) refl e (find_in p cs s)
     by true is e goes = let same : c ≡ s = same_Some c s e in (inl same, ap p (sym same) ∙ is)
     by false is e goes = let more = goes e in (inr more.0, more.1)
 
-and_first : (a b : Bool) → (a && b) ≡ true → a ≡ true
-and_first true b e = refl
-and_first false b e = absurd (true≢false (sym e))
-
-and_second : (a b : Bool) → (a && b) ≡ true → b ≡ true
-and_second true b e = e
-and_second false b e = absurd (true≢false (sym e))
-
--- the first of some children of a kind stand among all
-run_in : (nodes : List Node) (j : NodeKind) (d : ℕ) (cs : List ℕ) → IsIn d (run nodes j cs) → IsIn d cs
-run_in nodes j d cs i = subst (IsIn d) (take-append-drop (leading nodes j cs) cs) (in_front d (run nodes j cs) (drop (leading nodes j cs) cs) i)
-
 -- ---- kinds
 
 results_types : (k : NodeKind) → (is_type k || no_form (forms kind.Results) k) ≡ true
@@ -90,13 +79,6 @@ exception_types : (k : NodeKind) → (is_type k || no_form (forms kind.Exc) k) �
 unfolding no_form
 exception_types kind.File = refl
 exception_types _ = refl
-
-not_definition : (k : NodeKind) → is_plain k ≡ true → is_definition k ≡ false
-not_definition kind.Module e = absurd (true≢false (sym e))
-not_definition kind.Routine e = absurd (true≢false (sym e))
-not_definition kind.Cluster e = absurd (true≢false (sym e))
-not_definition kind.File e = absurd (true≢false (sym e))
-not_definition _ e = refl
 
 -- ---- of a file
 
@@ -269,7 +251,7 @@ module _ (k : Known) (scope : Scope) (library : List Specification) (refused : L
           (sym (ap (first_named k list.Exceptions (Some s)) (word_found f k.tables firsts all_names kind.Exc list.Exceptions exceptions_are refl refl name numbered)
           ∙ item_is f k.tables firsts all_names kind.Exc list.Exceptions exceptions_are refl refl s name numbered) ∙ its) in
           exception_there f of parents reps n bare r has s (in_node r y.node y.at s it.0) signals z.node z.at c (subst (IsIn c) (ap children_of z.at) got.0)
-          (same_kind kind.Exc (kind_at nodes c) (and_first (is_of kind.Exc (kind_at nodes c)) (list_any (bytes_eq name) (all_names nodes c)) got.1))
+          (same_kind kind.Exc (kind_at nodes c) (and_parts (is_of kind.Exc (kind_at nodes c)) (list_any (bytes_eq name) (all_names nodes c)) got.1).0)
 
       by : (o : Option ℕ) → (round f n).routine ≡ o → first_named k list.Exceptions (signals_in (parts_in table o)) (of_tables.number_of k name) ≡ Some c → Seen (its_known.children k c)
       by None has its = absurd (none-some c its)
@@ -279,7 +261,7 @@ module _ (k : Known) (scope : Scope) (library : List Specification) (refused : L
 
   each_seen : (its : List Identifier) → are_known words its ≡ true → AllByRecursion (λ (name : Identifier). (c : ℕ) → exception_named k n name ≡ Some c → Seen (its_known.children k c)) its
   each_seen [] all = tt
-  each_seen (name ∷ its) all = (exception_seen name (and_first (is_known words name) (are_known words its) all), each_seen its (and_second (is_known words name) (are_known words its) all))
+  each_seen (name ∷ its) all = (exception_seen name (and_parts (is_known words name) (are_known words its) all).0, each_seen its (and_parts (is_known words name) (are_known words its) all).1)
 
   pub exceptions_seen : AllByRecursion (λ (name : Identifier). (c : ℕ) → exception_named k n name ≡ Some c → Seen (its_known.children k c)) (names k n)
   exceptions_seen = each_seen (names k n) (nodes_known nodes (length nodes) n bare.inside)
@@ -298,13 +280,13 @@ module _ (k : Known) (scope : Scope) (library : List Specification) (refused : L
         (let got = find_in (λ (c : ℕ). is_of kind.When (kind_at nodes c) && list_any (bytes_eq name) (all_names nodes c)) (children_of (slice_get nodes e)) c
         (sym (ap (first_named k list.WhenArms (Some e)) (word_found f k.tables firsts all_names kind.When list.WhenArms arms_are refl refl name numbered)
         ∙ item_is f k.tables firsts all_names kind.When list.WhenArms arms_are refl refl e name numbered) ∙ here) in
-        same_kind kind.When (kind_at nodes c) (and_first (is_of kind.When (kind_at nodes c)) (list_any (bytes_eq name) (all_names nodes c)) got.1))
+        same_kind kind.When (kind_at nodes c) (and_parts (is_of kind.When (kind_at nodes c)) (list_any (bytes_eq name) (all_names nodes c)) got.1).0)
     | inr outer ↦ arm_kind name numbered steps (round_at k.tables.file.rounds.now e).guard c outer
   ]
 
   named_kind : (its : List Identifier) → are_known words its ≡ true → (c : ℕ) → of_tables.arm_named k n its ≡ Some c → kind_in f c ≡ kind.When
   named_kind [] all c e = absurd (none-some c e)
-  named_kind (name ∷ its) all c e = arm_kind name (and_first (is_known words name) (are_known words its) all) (length k.tables.file.rounds.now) (round_at k.tables.file.rounds.now n).guard c e
+  named_kind (name ∷ its) all c e = arm_kind name (and_parts (is_known words name) (are_known words its) all).0 (length k.tables.file.rounds.now) (round_at k.tables.file.rounds.now n).guard c e
 
   all_decls : (c : ℕ) → kind_in f c ≡ kind.When → (ds : List ℕ) → ((d : ℕ) → IsIn d ds → IsArmDecl f k d) → AllByRecursion (IsArmDecl f k) ds
   all_decls c is ds each = all_by (IsArmDecl f k) ds each
@@ -314,8 +296,8 @@ module _ (k : Known) (scope : Scope) (library : List Specification) (refused : L
       let is : kind_in f c ≡ kind.When = named_kind (names k n) (nodes_known nodes (length nodes) n bare.inside) c arm in
       let a : There nodes c kind.When = there nodes c kind.When refl is in
       all_decls c is (arm_declarations k c) (λ d i.
-      let in_all : IsIn d (children_of (slice_get nodes c)) = run_in nodes kind.Decl d (children_of (slice_get nodes c)) i in
+      let in_all : IsIn d (children_of (slice_get nodes c)) = in_run nodes kind.Decl d (children_of (slice_get nodes c)) i in
       let kinds = run_kinds nodes kind.Decl c a.node.children (children_before nodes of.tree c a.node a.at) in
-      let in_run : IsIn d (run nodes kind.Decl a.node.children) = subst (λ (o : Option Node). IsIn d (run nodes kind.Decl (children_of o))) a.at i in
-      let decl : kind_in f d ≡ kind.Decl = same_kind kind.Decl (kind_at nodes d) (of_all (λ (x : ℕ). (x < c) × (is_of kind.Decl (kind_at nodes x) ≡ true)) d (run nodes kind.Decl a.node.children) kinds in_run).1 in
+      let among : IsIn d (run nodes kind.Decl a.node.children) = subst (λ (o : Option Node). IsIn d (run nodes kind.Decl (children_of o))) a.at i in
+      let decl : kind_in f d ≡ kind.Decl = same_kind kind.Decl (kind_at nodes d) (of_all (λ (x : ℕ). (x < c) × (is_of kind.Decl (kind_at nodes x) ≡ true)) d (run nodes kind.Decl a.node.children) kinds among).1 in
       record { is = decl; types = arm_there f of parents reps n bare c is d in_all decl })

@@ -1,7 +1,7 @@
 -- All that stands in a routine sees the same `rep`, which stands before the routine.
 use Rattle.std.proofs.Common.{◌≡◌, ◌∙◌, ◌⊎◌, ℕ, zero, suc, ◌+◌, ◌-◌, ◌<◌, ◌≤◌, ◌||◌, if◌then◌else◌, leb-true, nat_le, Bool, true, false, List, [], ◌∷◌, bytes_eq, codes, map, Option, Some, None, inl, inr, refl, sym, ap, subst, arith}
 use Rattle.std.specs.Prelude.{slice_get}
-use Rattle.std.proofs.lemmas.Bool.{true≢false, and_parts, cases_lt}
+use Rattle.std.proofs.lemmas.Bool.{true≢false, and_parts, cases_lt, or_parts}
 use Rattle.std.proofs.lemmas.Option.{none-some, same_Some}
 use Rattle.clu_tree.specs.declared.node.Node.{Node}
 use Rattle.clu_tree.specs.declared.node.NodeKind.{NodeKind}
@@ -204,21 +204,13 @@ module _ (t : Text) (f : File) (parsed : IsParsed t f.nodes) (of : IsFileOfTree 
             cluster_no_module : (k : NodeKind) → k ≡ kind.Cluster → (is_of kind.File k || is_of kind.Module k) ≡ false
             cluster_no_module k is = ap (λ (j : NodeKind). is_of kind.File j || is_of kind.Module j) is
 
-            or_first : (a b : Bool) → (a || b) ≡ false → a ≡ false
-            or_first true b e = e
-            or_first false b e = refl
-
-            or_second : (a b : Bool) → (a || b) ≡ false → b ≡ false
-            or_second true b e = absurd (true≢false e)
-            or_second false b e = e
-
             child_inner : (q : HasParent nodes m) → (is_of kind.File q.node.kind || is_of kind.Module q.node.kind) ≡ false → is_outer (kind_in f m) ≡ false
             child_inner q outside = of_kind (kind_in f m) refl
               where
                 of_kind : (k : NodeKind) → kind_in f m ≡ k → is_outer k ≡ false
                 of_kind kind.File is = absurd (never_file nodes of.tree q.parent q.node q.at (of.shaped q.parent q.node q.at) m q.child is)
-                of_kind kind.Module is = absurd (true≢false (sym (file_of_module nodes of.tree q.parent q.node q.at (of.shaped q.parent q.node q.at) m q.child is) ∙ or_first (is_of kind.File q.node.kind) (is_of kind.Module q.node.kind) outside))
-                of_kind kind.Cluster is = absurd (true≢false (sym (module_of_cluster nodes of.tree q.parent q.node q.at (of.shaped q.parent q.node q.at) m q.child is) ∙ or_second (is_of kind.File q.node.kind) (is_of kind.Module q.node.kind) outside))
+                of_kind kind.Module is = absurd (true≢false (sym (file_of_module nodes of.tree q.parent q.node q.at (of.shaped q.parent q.node q.at) m q.child is) ∙ (or_parts (is_of kind.File q.node.kind) (is_of kind.Module q.node.kind) outside).0))
+                of_kind kind.Cluster is = absurd (true≢false (sym (module_of_cluster nodes of.tree q.parent q.node q.at (of.shaped q.parent q.node q.at) m q.child is) ∙ (or_parts (is_of kind.File q.node.kind) (is_of kind.Module q.node.kind) outside).1))
                 of_kind _ is = refl
 
     -- so the routine is a child of a cluster round it

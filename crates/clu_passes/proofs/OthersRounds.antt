@@ -2,7 +2,7 @@
 use Rattle.std.proofs.Common.{◌≡◌, ◌∙◌, ℕ, zero, suc, ◌+◌, ◌-◌, ◌<◌, ◌≤◌, ◌⊎◌, ◌||◌, ◌&&◌, not, Bool, true, false, List, [], ◌∷◌, get_or, length, map, Option, Some, None, inl, inr, refl, sym, ap, subst, arith}
 use Rattle.std.specs.Prelude.{slice_get}
 use Rattle.std.specs.List.{AllByRecursion}
-use Rattle.std.proofs.lemmas.Bool.{true≢false, cases_lt}
+use Rattle.std.proofs.lemmas.Bool.{true≢false, cases_lt, or_from, and_parts}
 use Rattle.std.proofs.lemmas.Option.{same_Some, slice_get_within}
 use Rattle.clu_tree.specs.declared.node.Node.{Node}
 use Rattle.clu_tree.specs.declared.node.NodeKind.{NodeKind}
@@ -71,10 +71,6 @@ below_headings kind.Decl k e = more_kinds (is_of_constant k) (is_in_headings k) 
 below_headings kind.File k e = absurd (true≢false (sym e))
 below_headings _ k e = absurd (true≢false (sym e))
 
-either_false : (a b : Bool) → a ≡ false → b ≡ false → (a || b) ≡ false
-either_false true b e h = absurd (true≢false e)
-either_false false b e h = h
-
 no_equate : (k : NodeKind) → is_of_constant k ≡ false → is_equate k ≡ false
 no_equate kind.Equate e = absurd (true≢false e)
 no_equate _ e = refl
@@ -142,10 +138,6 @@ one_left : (a b : Bool) → (a || not b) ≡ true → b ≡ true → a ≡ true
 one_left true b e h = refl
 one_left false true e h = absurd (true≢false (sym e))
 one_left false false e h = absurd (true≢false (sym h))
-
-and_both : (a b : Bool) → (a && b) ≡ true → (a ≡ true) × (b ≡ true)
-and_both true b e = (refl, e)
-and_both false b e = absurd (true≢false (sym e))
 
 module _ (f : File) (of : IsFileOfTree f) (parents : HaveParents f) where
   -- ---- what surrounds a child
@@ -221,7 +213,7 @@ module _ (f : File) (of : IsFileOfTree f) (parents : HaveParents f) where
           parent_asks true is =
               absurd (true≢false (sym (kind_of_child f.nodes of.tree q.parent q.node q.at (of.shaped q.parent q.node q.at) n q.child is_either
               (λ j. below_headings q.node.kind j (sym (ap is_in_headings (ap kind_of q.at)) ∙ is)))
-              ∙ either_false (is_of_constant (kind_in f n)) (is_in_headings (kind_in f n)) apart asks))
+              ∙ or_from (is_of_constant (kind_in f n)) (is_in_headings (kind_in f n)) apart asks))
           parent_asks false is = is
 
   pub no_part_bare : (n : ℕ) → is_of_constant (kind_in f n) ≡ false → is_in_headings (kind_in f n) ≡ false → (round f n).heading ≡ false
@@ -271,12 +263,12 @@ module _ (f : File) (of : IsFileOfTree f) (parents : HaveParents f) where
 
   of_kind : (p : ℕ) (k : NodeKind) → is_of_heading k ≡ true → (is_kind f k p && stands_in f kind.Routine p) ≡ true → (round f p).heading ≡ true
   of_kind p k asks hit =
-      let both = and_both (is_kind f k p) (stands_in f kind.Routine p) hit in
+      let both = and_parts (is_kind f k p) (stands_in f kind.Routine p) hit in
       stands_in_routine p (parent f p) refl both.1 (ap is_of_heading (same_kind k (kind_in f p) both.0) ∙ asks)
 
   of_exception : (p : ℕ) → (is_kind f kind.Exc p && is_kind_at f kind.Routine (parent_of f (parent f p))) ≡ true → (round f p).heading ≡ true
   of_exception p hit =
-      let both = and_both (is_kind f kind.Exc p) (is_kind_at f kind.Routine (parent_of f (parent f p))) hit in
+      let both = and_parts (is_kind f kind.Exc p) (is_kind_at f kind.Routine (parent_of f (parent f p))) hit in
       by both.0 (parent f p) refl both.1
     where
       by : is_kind f kind.Exc p ≡ true → (o : Option ℕ) → parent f p ≡ o → is_kind_at f kind.Routine (parent_of f o) ≡ true → (round f p).heading ≡ true
@@ -304,9 +296,9 @@ module _ (f : File) (of : IsFileOfTree f) (parents : HaveParents f) where
       by : (o : Option ℕ) → parent f m ≡ o → rules_of.is_of_heading f o ≡ true → (round f m).heading ≡ true
       by None up e = absurd (true≢false (sym e))
       by (Some p) up e = elim (any_part (is_kind f kind.Decl p && stands_in f kind.Routine p) (is_kind f kind.Results p && stands_in f kind.Routine p) (is_kind f kind.Exc p && is_kind_at f kind.Routine (parent_of f (parent f p))) e) [
-        | inl decl ↦ through m p up (not_definition p kind.Decl refl (and_both (is_kind f kind.Decl p) (stands_in f kind.Routine p) decl).0) (of_kind p kind.Decl refl decl)
+        | inl decl ↦ through m p up (not_definition p kind.Decl refl (and_parts (is_kind f kind.Decl p) (stands_in f kind.Routine p) decl).0) (of_kind p kind.Decl refl decl)
         | inr more ↦ elim more [
-          | inl results ↦ through m p up (not_definition p kind.Results refl (and_both (is_kind f kind.Results p) (stands_in f kind.Routine p) results).0) (of_kind p kind.Results refl results)
-          | inr exception ↦ through m p up (not_definition p kind.Exc refl (and_both (is_kind f kind.Exc p) (is_kind_at f kind.Routine (parent_of f (parent f p))) exception).0) (of_exception p exception)
+          | inl results ↦ through m p up (not_definition p kind.Results refl (and_parts (is_kind f kind.Results p) (stands_in f kind.Routine p) results).0) (of_kind p kind.Results refl results)
+          | inr exception ↦ through m p up (not_definition p kind.Exc refl (and_parts (is_kind f kind.Exc p) (is_kind_at f kind.Routine (parent_of f (parent f p))) exception).0) (of_exception p exception)
         ]
       ]

@@ -27,7 +27,7 @@ use Rattle.clu_name_rules.specs.NameRules as tables
 use Rattle.clu_name_rules.specs.NameRules.{leads_to_mark}
 use Rattle.clu_type_rules.specs.declared.known.Known.{Known}
 use Rattle.clu_type_rules.specs.Rules.{violates}
-use Rattle.clu_passes.specs.ConstantTables.{file_with, AreBracketsKnown, AreTables, IsIndexKnown, IsIndexKnownAt, IsOperatorKnown, IsTypeNameKnown, IsWantedKnown}
+use Rattle.clu_passes.specs.ConstantTables.{file_with, AreBracketsKnown, AreTables, IsIndexKnown, IsIndexKnownAt, IsWantedKnown}
 use Rattle.clu_passes.specs.Clear.{IsClear, IsOutside}
 use Rattle.clu_passes.specs.Firsts.{AreItems}
 use Rattle.clu_passes.specs.Made.{IsWhole}
@@ -59,26 +59,12 @@ use Rattle.clu_passes.proofs.Surrounding.{stand}
 use Rattle.clu_passes.proofs.Tables.{bound_is}
 use Rattle.clu_passes.proofs.TablesMade.{tables_are}
 use Rattle.clu_passes.proofs.TargetsMean as naming
+use Rattle.clu_passes.proofs.TypesAgree.{no_operator, no_type_name}
 use Rattle.clu_passes.proofs.TypesSettled.{types_same}
 use Rattle.clu_passes.proofs.Units.{declare_modules}
 use Rattle.clu_passes.proofs.Unknown.{v5_is}
 use Rattle.clu_passes.proofs.ValuesKnown as at
 use Rattle.clu_passes.proofs.ValuesKnown.{is_over_constants}
-
--- ---- nodes that are no constants
-
-pub no_operator : (r : Read) (k : NodeKind) (n : ℕ) → is_of_constant k ≡ false → IsOperatorKnown r k n
-no_operator r kind.Infix n e = absurd (true≢false e)
-no_operator r kind.Prefix n e = absurd (true≢false e)
-no_operator r kind.Paren n e = absurd (true≢false e)
-no_operator r kind.File n e = tt
-no_operator r _ n e = tt
-
-pub no_type_name : (r : Read) (k : NodeKind) (n : ℕ) → is_of_constant k ≡ false → IsTypeNameKnown r k n
-no_type_name r kind.NameT n e = absurd (true≢false e)
-no_type_name r kind.Simple n e = absurd (true≢false e)
-no_type_name r kind.File n e = tt
-no_type_name r _ n e = tt
 
 module _ (t : Text) (k : Known) (library : List Specification) (refused : List ℕ) (all : IsWhole t k.tables library refused) where
   abbrev pub r : Read
@@ -199,7 +185,7 @@ module _ (t : Text) (k : Known) (library : List Specification) (refused : List �
       pub same_type : (n : ℕ) → is_of_constant (kind_in f n) ≡ false → IsOutside f n → Same n rule.NotType
       same_type n apart outside =
           sym (v9_by k.tables scope library refused all.made.file.parsed.forms all.made.file.parsed.tree are bits (bit bits) (λ e is. refl) items n
-          (no_operator r (kind_in f n) n apart) (no_type_name r (kind_in f n) n apart) (no_brackets n apart outside)
+          (no_operator r (kind_in f n) n (no_constant (kind_in f n) apart)) (no_type_name r (kind_in f n) n (no_constant (kind_in f n) apart)) (no_brackets n apart outside)
           (bad_rep k.tables scope library refused all.made.file.parsed.forms all.made.file.parsed.tree are items n (λ const. absurd (true≢false (sym const ∙ no_constant (kind_in f n) apart))))
           (too_long_type k.tables scope library refused all.made.file.parsed.forms all.made.file.parsed.tree are n (λ const. absurd (true≢false (sym const ∙ no_constant (kind_in f n) apart)))))
           ∙ types_same f (bit bits) (is_bad f) n (named n) rule.NotType

@@ -1,9 +1,9 @@
 -- Of what a rule reads at a statement, or at what else stands in routines and clusters, nothing is lost, if its walk finds no fault
 -- before it.
-use Rattle.std.proofs.Common.{◌≡◌, ◌∙◌, ℕ, ◌<◌, ◌≤◌, ◌&&◌, Bool, true, false, List, [], ◌∷◌, length, Option, Some, inl, inr, refl, sym, ap, subst, arith}
+use Rattle.std.proofs.Common.{◌≡◌, ◌∙◌, ℕ, ◌<◌, ◌≤◌, Bool, true, false, List, [], ◌∷◌, length, Option, Some, inl, inr, refl, sym, ap, subst, arith}
 use Rattle.std.specs.Prelude.{slice_get}
 use Rattle.std.specs.List.{AllByRecursion}
-use Rattle.std.proofs.lemmas.Bool.{true≢false, cases_lt}
+use Rattle.std.proofs.lemmas.Bool.{true≢false, cases_lt, and_parts}
 use Rattle.std.proofs.lemmas.Option.{slice_get_within}
 use Rattle.clu_base.specs.declared.rules.Rule.{Rule}
 use Rattle.clu_base.specs.declared.rules.Rule.TheVariants as rule
@@ -52,10 +52,6 @@ use Rattle.clu_passes.proofs.OthersRounds.{bare_below, headed, in_rest, no_part_
 use Rattle.clu_passes.proofs.Subtrees.{is_subtree}
 use Rattle.clu_passes.proofs.Within.{forest_goes_on}
 
-and_both : (a b : Bool) → (a && b) ≡ true → (a ≡ true) × (b ≡ true)
-and_both true b e = (refl, e)
-and_both false b e = absurd (true≢false (sym e))
-
 module _ (f : File) (of : IsFileOfTree f) (parents : HaveParents f) (k : Known) (lost : ℕ → Bool) (known : AreOthersKnown f k lost) (placed : ArePlaced f k)
     (n : ℕ) (inside : n < length f.nodes) (plain : is_plain (kind_in f n) ≡ true) (apart : is_of_constant (kind_in f n) ≡ false) (first : IsFirst f n) where
   record HasNode : Type 0 where
@@ -86,7 +82,7 @@ module _ (f : File) (of : IsFileOfTree f) (parents : HaveParents f) (k : Known) 
       at_cvt is false none = misplaced_at f m none (record { of_word = same_kind kind.Simple (kind_in f m) is.0; word = is.1; placed = well_placed m good (v31 f m) refl })
 
       by : (b : Bool) → is_cvt_at f m ≡ b → is_cvt_at f m ≡ false
-      by true hit = absurd (at_cvt (and_both (is_kind f kind.Simple m) (is_word simple.Cvt (item f m).type) hit) (is_of_heading f (parent f m)) refl)
+      by true hit = absurd (at_cvt (and_parts (is_kind f kind.Simple m) (is_word simple.Cvt (item f m).type) hit) (is_of_heading f (parent f m)) refl)
       by false miss = miss
 
   -- ---- in no heading

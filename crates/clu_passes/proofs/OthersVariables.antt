@@ -2,7 +2,7 @@
 use Rattle.std.proofs.Common.{◌≡◌, ◌∙◌, ℕ, ◌+◌, ◌-◌, ◌^◌, ◌<◌, ◌≤◌, ◌⊎◌, ◌==◌, ◌&&◌, ◌||◌, if◌then◌else◌, leb-true, nat_le, Bool, true, false, List, [], ◌∷◌, bytes_eq, get_or, length, map, Option, Some, None, inl, inr, refl, sym, ap, subst, arith}
 use Rattle.std.specs.Prelude.{slice_get}
 use Rattle.std.specs.List.{AllByRecursion}
-use Rattle.std.proofs.lemmas.Bool.{true≢false}
+use Rattle.std.proofs.lemmas.Bool.{true≢false, and_parts}
 use Rattle.std.proofs.lemmas.Option.{none-some, same_Some, slice_get_within}
 use Rattle.clu_tree.specs.declared.node.Node.{Node}
 use Rattle.clu_tree.specs.declared.node.NodeKind.{NodeKind}
@@ -57,10 +57,6 @@ used : (node : Node) (k : NodeKind) → is_assigning k ≡ true → names_in k n
 used node kind.Assign is = refl
 used node kind.For is = refl
 used node _ is = absurd (true≢false (sym is))
-
-and_both : (a b : Bool) → (a && b) ≡ true → (a ≡ true) × (b ≡ true)
-and_both true b e = (refl, e)
-and_both false b e = absurd (true≢false (sym e))
 
 any_part : (a b c : Bool) → (a || b || c) ≡ true → (a ≡ true) ⊎ ((b ≡ true) ⊎ (c ≡ true))
 any_part true b c e = inl refl
@@ -129,8 +125,8 @@ module _ (t : Text) (k : Known) (library : List Specification) (refused : List �
   in_scope : (j : ℕ) (d : Declared) → slice_get ds j ≡ Some d → declares_variables (kind_in f d.node) ≡ true → (name : Identifier) → is_open name n d ≡ true → (d.from ≤ n) × (n ≤ d.to)
   in_scope j d there declares name opened =
       let unit = unit_of j d there declares in
-      let scope : (nat_le d.from n && nat_le n d.to) ≡ true = sym (ap (λ (o : Option ℕ). stands_in o d.from d.to n) unit.1) ∙ (and_both (bytes_eq d.name name) (stands_in d.unit d.from d.to n) opened).1 in
-      let both = and_both (nat_le d.from n) (nat_le n d.to) scope in
+      let scope : (nat_le d.from n && nat_le n d.to) ≡ true = sym (ap (λ (o : Option ℕ). stands_in o d.from d.to n) unit.1) ∙ (and_parts (bytes_eq d.name name) (stands_in d.unit d.from d.to n) opened).1 in
+      let both = and_parts (nat_le d.from n) (nat_le n d.to) scope in
       (leb-true d.from n both.0, leb-true n d.to both.1)
 
   -- ---- the type of a variable that is in scope
@@ -174,16 +170,16 @@ module _ (t : Text) (k : Known) (library : List Specification) (refused : List �
       placed : (b : Bool) → is_of_heading f (parent f c) ≡ b → is_of_heading f (parent f c) ≡ true
       placed true is = is
       placed false none =
-          let both = and_both (is_kind f kind.Simple c) (is_word simple.Cvt (item f c).type) cvt in
+          let both = and_parts (is_kind f kind.Simple c) (is_word simple.Cvt (item f c).type) cvt in
           absurd (misplaced_at f c none (record { of_word = same_kind kind.Simple (kind_in f c) both.0; word = both.1; placed = good }))
 
       of_argument : (is_kind f kind.Decl d.node ≡ true) × (files.stands_in f kind.Routine d.node ≡ true)
       of_argument = elim (any_part (is_kind f kind.Decl d.node && files.stands_in f kind.Routine d.node) (is_kind f kind.Results d.node && files.stands_in f kind.Routine d.node) (is_kind f kind.Exc d.node && is_kind_at f kind.Routine (parent_of f (parent f d.node)))
           (sym (ap (is_of_heading f) up) ∙ placed (is_of_heading f (parent f c)) refl)) [
-            | inl decl ↦ and_both (is_kind f kind.Decl d.node) (files.stands_in f kind.Routine d.node) decl
+            | inl decl ↦ and_parts (is_kind f kind.Decl d.node) (files.stands_in f kind.Routine d.node) decl
             | inr more ↦ elim more [
-              | inl results ↦ absurd (true≢false (sym (and_both (is_kind f kind.Results d.node) (files.stands_in f kind.Routine d.node) results).0 ∙ (declares_no_part (kind_in f d.node) declares).0))
-              | inr exception ↦ absurd (true≢false (sym (and_both (is_kind f kind.Exc d.node) (is_kind_at f kind.Routine (parent_of f (parent f d.node))) exception).0 ∙ (declares_no_part (kind_in f d.node) declares).1))
+              | inl results ↦ absurd (true≢false (sym (and_parts (is_kind f kind.Results d.node) (files.stands_in f kind.Routine d.node) results).0 ∙ (declares_no_part (kind_in f d.node) declares).0))
+              | inr exception ↦ absurd (true≢false (sym (and_parts (is_kind f kind.Exc d.node) (is_kind_at f kind.Routine (parent_of f (parent f d.node))) exception).0 ∙ (declares_no_part (kind_in f d.node) declares).1))
             ]
           ]
 

@@ -1,6 +1,7 @@
 -- What is read outside of routines: so each routine of the tree is plain.
 use Rattle.std.proofs.Common.{◌≡◌, ◌∙◌, ◌⊎◌, ℕ, zero, suc, ◌+◌, ◌-◌, ◌<◌, ◌≤◌, ◌&&◌, not, Bool, true, false, if◌then◌else◌, List, [], ◌∷◌, ◌++◌, length, take, drop, Option, Some, None, slice_get, refl, ap, sym, subst, inl, inr, arith, append-nil}
 use Rattle.std.specs.List.{list_all}
+use Rattle.std.proofs.lemmas.Bool.{not-true, not_from_false}
 use Rattle.std.proofs.lemmas.List.{length_push}
 use Rattle.clu_lexer.specs.declared.symbols.Symbol.{Symbol}
 use Rattle.clu_tree.specs.declared.node.Node.{Node}
@@ -57,18 +58,10 @@ outer_rows : (n : Nonterminal) → implies (not (is_head n)) (list_all (λ p. ar
 outer_rows r.File = refl
 outer_rows _ = refl
 
-negated : (b : Bool) → b ≡ false → not b ≡ true
-negated true e = absurd (cc)
-negated false e = refl
-
-not_true : (b : Bool) → not b ≡ true → b ≡ false
-not_true true e = absurd (cc)
-not_true false e = refl
-
 outer_row : (n : Nonterminal) (row : List Item) → is_head n ≡ false → IsOneOf (productions n) row → are_outer false (wants_fresh n) row ≡ true
 outer_row n row other one =
     of_one (are_outer false (wants_fresh n)) (λ x items. refl) (productions n) row
-    (implied (not (is_head n)) (list_all (λ p. are_outer false (wants_fresh n) (items_of p)) (productions n)) (outer_rows n) (negated (is_head n) other)) one
+    (implied (not (is_head n)) (list_all (λ p. are_outer false (wants_fresh n) (items_of p)) (productions n)) (outer_rows n) (not_from_false (is_head n) other)) one
 
 module_end : (a : Action) → ends_module (item.Action a) ≡ true → a ≡ action.Close kind.Module
 module_end (action.Close kind.Module) e = refl
@@ -139,7 +132,7 @@ outer_plain t _ at b to z true fresh (took x items _ _ _ _ is d) outer f plain =
 outer_plain t _ at b to z false fresh (did a items _ _ c _ _ is d) outer f plain =
     outer_plain t items at c to z false (is_fresh_after a fresh) d (and_right (not (closes_routine a)) (are_outer false (is_fresh_after a fresh) items) outer)
     (fresh_after t a (at - 1) b c fresh is f)
-    (acted_plain t a (at - 1) b c is (not_true (closes_routine a) (and_left (not (closes_routine a)) (are_outer false (is_fresh_after a fresh) items) outer)) plain)
+    (acted_plain t a (at - 1) b c is (not-true (closes_routine a) (and_left (not (closes_routine a)) (are_outer false (is_fresh_after a fresh) items) outer)) plain)
 outer_plain t _ at b to z true fresh (did a items _ _ c _ _ is d) outer f plain =
     outer_plain t items at c to z false false d (and_right (ends_module (item.Action a)) (are_outer false false items) outer) (λ e. absurd (cc))
     (module_plain t (at - 1) b c a is (module_end a (and_left (ends_module (item.Action a)) (are_outer false false items) outer)) plain)

@@ -67,12 +67,12 @@ first_from p (suc len) a m l h e = by (p a) refl (λ more. first_from p len (a +
 
 -- ---- what stands below
 
-definition_not : (k : NodeKind) → is_plain k ≡ true → is_definition k ≡ false
-definition_not kind.Module e = absurd (true≢false (sym e))
-definition_not kind.Routine e = absurd (true≢false (sym e))
-definition_not kind.Cluster e = absurd (true≢false (sym e))
-definition_not kind.File e = absurd (true≢false (sym e))
-definition_not _ e = refl
+pub not_definition : (k : NodeKind) → is_plain k ≡ true → is_definition k ≡ false
+not_definition kind.Module e = absurd (true≢false (sym e))
+not_definition kind.Routine e = absurd (true≢false (sym e))
+not_definition kind.Cluster e = absurd (true≢false (sym e))
+not_definition kind.File e = absurd (true≢false (sym e))
+not_definition _ e = refl
 
 heading_plain : (k : NodeKind) (child : Node) (r : Round) → is_plain k ≡ true → heading_in k child r ≡ r.heading
 heading_plain kind.Module child r e = absurd (true≢false (sym e))
@@ -96,8 +96,14 @@ no_unit kind.Cluster e = absurd (true≢false (sym e))
 no_unit kind.File e = refl
 no_unit _ e = refl
 
-module _ (nodes : List Node) (rounds : List Round) (n : ℕ) (node : Node) (plain : IsPlain node.kind) where
-  headed_in : (before : Part) (first : ℕ) (cs : List ℕ) → AreBefore (length nodes) cs → map (round_at rounds) cs ≡ rounds_in nodes n node (round_at rounds n) before first cs → AllByRecursion (λ (c : ℕ). (round_at rounds c).heading ≡ (round_at rounds n).heading) cs
+-- a child, and whether it is in a heading
+module _ (nodes : List Node) (rounds : List Round) (n : ℕ) (node : Node) where
+  pub record IsHeaded (c : ℕ) : Type 0 where
+    pub its : Node
+    pub at : slice_get nodes c ≡ Some its
+    pub heading : (round_at rounds c).heading ≡ heading_in node.kind its (round_at rounds n)
+
+  pub headed_in : (before : Part) (first : ℕ) (cs : List ℕ) → AreBefore (length nodes) cs → map (round_at rounds) cs ≡ rounds_in nodes n node (round_at rounds n) before first cs → AllByRecursion IsHeaded cs
   unfolding rounds_in
   headed_in before first [] l e = tt
   headed_in before first (c ∷ cs) l e =
@@ -105,10 +111,16 @@ module _ (nodes : List Node) (rounds : List Round) (n : ℕ) (node : Node) (plai
       let head : round_at rounds c ≡ child_round nodes n node (slice_get nodes c) (round_at rounds n) first part = cc in
       let tail : map (round_at rounds) cs ≡ rounds_in nodes n node (round_at rounds n) part (c + 1) cs = cc in
       let m = there nodes c l.0 in
-      let its : round_at rounds c ≡ child_round nodes n node (Some m.0) (round_at rounds n) first part = head ∙ ap (λ (o : Option Node). child_round nodes n node o (round_at rounds n) first part) m.1 in
-      (ap (λ (r : Round). r.heading) its ∙ heading_plain node.kind m.0 (round_at rounds n) plain, headed_in part (c + 1) cs l.1 tail)
+      let its_round : round_at rounds c ≡ child_round nodes n node (Some m.0) (round_at rounds n) first part = head ∙ ap (λ (o : Option Node). child_round nodes n node o (round_at rounds n) first part) m.1 in
+      (record { its = m.0; at = m.1; heading = ap (λ (r : Round). r.heading) its_round }, headed_in part (c + 1) cs l.1 tail)
 
 module _ (f : File) (of : IsFileOfTree f) where
+  pub each_headed : (n : ℕ) (node : Node) → slice_get f.nodes n ≡ Some node → AllByRecursion (IsHeaded f.nodes f.rounds n node) node.children
+  each_headed n node at =
+      let inside : n < length f.nodes = slice_get_within f.nodes n node at in
+      headed_in f.nodes f.rounds n node (first_part f.nodes node (round f n).first) (round f n).first node.children
+      (further n (length f.nodes) node.children (omega (arith, inside)) (children_before f.nodes of.tree n node at)) (of.surrounded.children_are n node at)
+
   -- no node begins before the one below which it stands
   pub begins_in : (from to : ℕ) (roots : List ℕ) → IsForest f.nodes from roots to → AreFirst f.rounds from roots → (c : ℕ) → from ≤ c → c < to → from ≤ (round f c).first
   begins_in from to _ (none _) firsts c l m = absurd (omega (arith, l, m))
@@ -137,14 +149,9 @@ module _ (f : File) (of : IsFileOfTree f) where
 
     child_alike : (c : ℕ) (q : HasParent f.nodes c) → IsAlike q.parent → IsAlike c
     child_alike c q up =
-        let inside : q.parent < length f.nodes = slice_get_within f.nodes q.parent q.node q.at in
         let its_plain : IsPlain q.node.kind = subst IsPlain (ap kind_of q.at) up.its_kind in
-        let headed = headed_in f.nodes f.rounds q.parent q.node its_plain (first_part f.nodes q.node (round f q.parent).first) (round f q.parent).first q.node.children
-        (further q.parent (length f.nodes) q.node.children (omega (arith, inside)) (children_before f.nodes of.tree q.parent q.node q.at)) (of.surrounded.children_are q.parent q.node q.at) in
-        record {
-          its_kind = child_plain c q its_plain (kind_in f c) refl;
-          heading = of_all (λ (c : ℕ). (round f c).heading ≡ (round f q.parent).heading) c q.node.children headed q.child ∙ up.heading;
-        }
+        let x : IsHeaded f.nodes f.rounds q.parent q.node c = of_all (IsHeaded f.nodes f.rounds q.parent q.node) c q.node.children (each_headed q.parent q.node q.at) q.child in
+        record { its_kind = child_plain c q its_plain (kind_in f c) refl; heading = x.heading ∙ heading_plain q.node.kind x.its (round f q.parent) its_plain ∙ up.heading }
 
     self_alike : IsAlike n
     self_alike = record { its_kind = subst IsPlain (sym (ap kind_of at)) plain; heading = refl }
@@ -166,9 +173,9 @@ module _ (f : File) (of : IsFileOfTree f) where
     walk_same c l m =
         let x : IsAlike c = alike_to n c l m (omega arith) in
         let mine : IsAlike n = self_alike in
-        ap (λ (b : Bool). walk_by b (round f c).heading) (definition_not (kind_in f c) x.its_kind)
+        ap (λ (b : Bool). walk_by b (round f c).heading) (not_definition (kind_in f c) x.its_kind)
         ∙ ap (walk_by false) x.heading
-        ∙ sym (ap (λ (b : Bool). walk_by b (round f n).heading) (definition_not (kind_in f n) mine.its_kind))
+        ∙ sym (ap (λ (b : Bool). walk_by b (round f n).heading) (not_definition (kind_in f n) mine.its_kind))
 
   lost_at : (n : ℕ) (its : Option Node) → slice_get f.nodes n ≡ its → IsPlain (kind_of its) → (first : ℕ → Option Rule) → ((m : ℕ) → m < length f.nodes → is_no_type_at f m ≡ true → AreNotRefused f m → first m ≡ fault_at f (walk_of f m) m) → HasRefusedBelow f n → AgreeAt first (fault_at f (walk_of f n)) n
   lost_at n None at plain first same r = absurd (true≢false (sym plain))

@@ -2,7 +2,7 @@
 use Rattle.std.proofs.Common.{◌≡◌, ◌∙◌, ℕ, zero, suc, ◌+◌, ◌-◌, ◌<◌, ◌≤◌, ◌&&◌, ◌||◌, not, if◌then◌else◌, Bool, true, false, cond, List, [], ◌∷◌, length, filter, is_some, codes, Option, Some, None, inl, inr, refl, sym, ap, subst, arith}
 use Rattle.std.specs.Prelude.{slice_get}
 use Rattle.std.specs.List.{list_any, range_with_len}
-use Rattle.std.proofs.lemmas.Bool.{true≢false}
+use Rattle.std.proofs.lemmas.Bool.{true≢false, or_right}
 use Rattle.std.proofs.lemmas.Option.{none-some, same_Some}
 use Rattle.clu_base.specs.declared.rules.Rule.{Rule}
 use Rattle.clu_base.specs.declared.rules.Rule.TheVariants as rule
@@ -18,7 +18,7 @@ use Rattle.clu_checking.specs.Rules.{violates, all_rules, least}
 use Rattle.clu_checking.specs.Refusals.{Walk, headings, rest, is_of_names, of_definition, of_part, rules_by, right_side, is_bad_by, is_bad_of, is_bad, rules_of_types, is_no_type_at, rules_asked, fault_at, walk_over}
 use Rattle.clu_passes.specs.Losing.{is_definition, walk_by, walk_of}
 use Rattle.clu_passes.specs.Refusing.{is_of_types}
-use Rattle.clu_passes.proofs.LostRefused.{or_right, some_least}
+use Rattle.clu_passes.proofs.LostRefused.{some_least}
 
 any_more : (p q : ℕ → Bool) → ((n : ℕ) → p n ≡ true → q n ≡ true) → (ns : List ℕ) → list_any p ns ≡ true → list_any q ns ≡ true
 any_more p q more [] e = absurd (true≢false (sym e))

@@ -2,7 +2,7 @@
 use Rattle.std.proofs.Common.{◌≡◌, ◌∙◌, ℕ, zero, suc, ◌-◌, ◌<◌, ◌&&◌, ◌||◌, if◌then◌else◌, Bool, true, false, List, [], ◌∷◌, ◌++◌, drop, take, length, Option, Some, None, inl, inr, refl, sym, ap, arith}
 use Rattle.std.specs.Prelude.{slice_get}
 use Rattle.std.specs.List.{list_any}
-use Rattle.std.proofs.lemmas.Bool.{true≢false, cases_lt}
+use Rattle.std.proofs.lemmas.Bool.{true≢false, cases_lt, or_parts}
 use Rattle.std.proofs.lemmas.Option.{slice_get_within}
 use Rattle.clu_tree.specs.declared.node.Node.{Node}
 use Rattle.clu_tree.specs.declared.node.NodeKind.{NodeKind}
@@ -29,19 +29,15 @@ use Rattle.clu_passes.proofs.Units.{AllOf, all_both, all_here, all_to}
 
 -- ---- names none of which is the word
 
-either_none : (a b : Bool) → (a || b) ≡ false → (a ≡ false) × (b ≡ false)
-either_none true b e = absurd (true≢false e)
-either_none false b e = (refl, e)
-
 none_first : (names : List Identifier) → list_any is_rep names ≡ false → list_any is_rep (take 1 names) ≡ false
 none_first [] e = refl
-none_first (name ∷ names) e = ap (λ (b : Bool). b || false) (either_none (is_rep name) (list_any is_rep names) e).0
+none_first (name ∷ names) e = ap (λ (b : Bool). b || false) (or_parts (is_rep name) (list_any is_rep names) e).0
 
 none_dropped : (n : ℕ) (names : List Identifier) → list_any is_rep names ≡ false → list_any is_rep (drop n names) ≡ false
 none_dropped zero [] e = refl
 none_dropped zero (name ∷ names) e = e
 none_dropped (suc n) [] e = refl
-none_dropped (suc n) (name ∷ names) e = none_dropped n names (either_none (is_rep name) (list_any is_rep names) e).1
+none_dropped (suc n) (name ∷ names) e = none_dropped n names (or_parts (is_rep name) (list_any is_rep names) e).1
 
 none_variables : (k : NodeKind) (names : List Identifier) → list_any is_rep names ≡ false → list_any is_rep (variable_names k names) ≡ false
 none_variables kind.TypeSet names e = none_first names e
@@ -85,7 +81,7 @@ module _ (t : Text) (f : File) (parsed : IsParsed t f.nodes) (of : IsFileOfTree 
   named n unit None names e = tt
   named n unit (Some scope) [] e = tt
   named n unit (Some scope) (name ∷ names) e =
-      let both = either_none (is_rep name) (list_any is_rep names) e in (λ hit. absurd (true≢false (sym hit ∙ both.0)), named n unit (Some scope) names both.1)
+      let both = or_parts (is_rep name) (list_any is_rep names) e in (λ hit. absurd (true≢false (sym hit ∙ both.0)), named n unit (Some scope) names both.1)
 
   of_variable : (n : ℕ) (k : NodeKind) (o : Option ℕ) (outer : Option Node) → node_at nodes o ≡ outer → AllOf IsFine (variable_of n k (round_at rounds n) o outer)
   of_variable n k None outer e = tt
@@ -116,7 +112,7 @@ module _ (t : Text) (f : File) (parsed : IsParsed t f.nodes) (of : IsFileOfTree 
     where
       by : (b : Bool) → AllOf IsFine (if b then [] else record { name = name; node = n; from = 0; to = 4294967295; unit = None } ∷ [])
       by true = tt
-      by false = (λ hit. absurd (true≢false (sym hit ∙ (either_none (is_rep name) (list_any is_rep names) e).0)), tt)
+      by false = (λ hit. absurd (true≢false (sym hit ∙ (or_parts (is_rep name) (list_any is_rep names) e).0)), tt)
 
   of_modules : (n : ℕ) (node : Node) → slice_get nodes n ≡ Some node → (above : NodeKind) → AllOf IsFine (module_at above n node)
   of_modules n node at above = by (is_module above node.kind)

@@ -2,7 +2,7 @@
 use Rattle.std.proofs.Common.{◌≡◌, ◌∙◌, ℕ, zero, suc, ◌+◌, ◌-◌, ◌<◌, ◌≤◌, ◌||◌, if◌then◌else◌, Bool, true, false, List, [], ◌∷◌, ◌++◌, length, drop, take, flat_map, codes, Option, Some, None, inl, inr, refl, sym, ap, ap₂, subst, arith}
 use Rattle.std.specs.Prelude.{bytes_eq, slice_get}
 use Rattle.std.specs.Option.{option_and_then}
-use Rattle.std.proofs.lemmas.Bool.{true≢false}
+use Rattle.std.proofs.lemmas.Bool.{or_parts, true≢false}
 use Rattle.std.proofs.lemmas.Option.{slice_get_within}
 use Rattle.clu_base.specs.declared.constants.Const.{Const}
 use Rattle.clu_base.specs.declared.rules.Rule.TheVariants as rule
@@ -53,7 +53,6 @@ use Rattle.clu_passes.proofs.BadEquates.{none_in}
 use Rattle.clu_passes.proofs.ByNodes.{type_there}
 use Rattle.clu_passes.proofs.ConstantNodes.{is_name, no_name}
 use Rattle.clu_passes.proofs.Constructed.{whole_run}
-use Rattle.clu_passes.proofs.Counting.{either_false}
 use Rattle.clu_passes.proofs.CvtPlaces.{misplaced_at, no_part, parent_told}
 use Rattle.clu_passes.proofs.EachOnce.{IsFresh, some_before, stand_once}
 use Rattle.clu_passes.proofs.FieldsOnce.{names_in, names_in_type, selected, selected_once}
@@ -233,7 +232,7 @@ module _ (f : File) (of : IsFileOfTree f) (parents : HaveParents f) (meant_so : 
       by : (b : Bool) → is_of kind.FieldT (kind_at nodes c) ≡ b → IsFresh picked (children f n) c
       by true e =
           let its : (stands_twice (names f c) || stands_before f kind.FieldT c) ≡ false = ap (λ (k : NodeKind). v17_at f k c) (sym (same_kind kind.FieldT (kind_at nodes c) e)) ∙ fine in
-          let both = either_false (stands_twice (names f c)) (stands_before f kind.FieldT c) its in (
+          let both = or_parts (stands_twice (names f c)) (stands_before f kind.FieldT c) its in (
             ap (λ (b : Bool). stands_twice (if◌then◌else◌ {A = List Identifier} b (names f c) [])) e ∙ both.0,
             ap (λ (b : Bool). some_before (flat_map picked (before_in (children f n) c)) (if◌then◌else◌ {A = List Identifier} b (names f c) [])) e
                 ∙ ap (λ (xs : List Identifier). some_before xs (names f c)) (sym (names_picked (before_in (children f n) c)))

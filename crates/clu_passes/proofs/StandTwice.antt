@@ -1,7 +1,7 @@
 -- Which names stand twice in a list or at a node, by what is noted of all nodes.
 use Rattle.std.proofs.Common.{◌≡◌, ◌∙◌, ◌⊎◌, ℕ, Bool, true, false, not, ◌&&◌, ◌||◌, ◌==◌, if◌then◌else◌, List, [], ◌∷◌, ◌++◌, fold, slice_get, is_some, Option, Some, None, inl, inr, refl, sym, ap, rules}
 use Rattle.std.specs.List.{list_any}
-use Rattle.std.proofs.lemmas.Bool.{true≢false, eq-eqb, eqb-true, ne_eqb, and_parts, not-true, or_left, or_right}
+use Rattle.std.proofs.lemmas.Bool.{true≢false, eq-eqb, eqb-true, ne_eqb, and_parts, not-true, or_left, or_right, or_parts}
 use Rattle.std.proofs.lemmas.List.Folds.{list_any-append}
 use Rattle.std.proofs.lemmas.Option.{same_Some}
 use Rattle.clu_tree.specs.declared.node.Node.{Node}
@@ -19,14 +19,6 @@ use Rattle.clu_name_rules.specs.Repeated.{same, Note, first_in, put_first, list_
 use Rattle.clu_passes.specs.Notes.{has, each_once}
 use Rattle.clu_passes.proofs.Noted.{or_false, any_same, seen, repeats, IsStrict, same_word, stand_twice, are_seen, same_listed, same_kind, seen_names, names_apart, names_strict, is_other, names_loose}
 use denote.Enum.Bare.{same_true}
-
-none_left : (a b : Bool) → (a || b) ≡ false → a ≡ false
-none_left false b h = refl
-none_left true b h = h
-
-none_right : (a b : Bool) → (a || b) ≡ false → b ≡ false
-none_right false b h = h
-none_right true b h = absurd (true≢false h)
 
 pub any_none : {X : Type 0} (p : X → Bool) → ((x : X) → p x ≡ false) → (xs : List X) → list_any p xs ≡ false
 any_none p none [] = refl
@@ -124,7 +116,7 @@ module _ (all : List (List ℕ)) (nodes : List Node) where
   pub items_apart : (top n : ℕ) (cs : List ℕ) → has n cs ≡ false → (before : List Note) → repeats (fold (step top) before cs) n ≡ repeats before n
   items_apart top n [] none before = refl
   items_apart top n (c ∷ cs) none before =
-      items_apart top n cs (none_right (c == n) (has n cs) none) (step top before c) ∙ item_apart top c n (none_left (c == n) (has n cs) none) before
+      items_apart top n cs (or_parts (c == n) (has n cs) none).1 (step top before c) ∙ item_apart top c n (or_parts (c == n) (has n cs) none).0 before
 
   -- of a list that has the node once, what comes before it counts
   at_item : (top n : ℕ) (cs : List ℕ) → has n cs ≡ true → each_once cs ≡ true → (before : List Note) → repeats (fold (step top) before cs) n ≡ repeats (step top (fold (step top) before (before_in cs n)) n) n

@@ -1,8 +1,7 @@
 -- Where a rule that looks for tags is asked of a node, this stands in no heading and in no equate.
-use Rattle.std.proofs.Common.{◌≡◌, ◌∙◌, ◌⊎◌, ℕ, zero, suc, ◌+◌, ◌-◌, ◌<◌, ◌≤◌, ◌||◌, not, Bool, true, false, List, [], ◌∷◌, length, map, Option, Some, None, inl, inr, refl, sym, ap, subst, arith}
+use Rattle.std.proofs.Common.{◌≡◌, ◌∙◌, ◌⊎◌, ℕ, zero, suc, ◌+◌, ◌-◌, ◌<◌, ◌≤◌, ◌||◌, not, Bool, true, false, List, [], length, Some, None, inl, inr, refl, sym, ap, subst, arith}
 use Rattle.std.specs.Prelude.{slice_get}
-use Rattle.std.specs.List.{AllByRecursion}
-use Rattle.std.proofs.lemmas.Bool.{true≢false, cases_Bool}
+use Rattle.std.proofs.lemmas.Bool.{true≢false, cases_Bool, not-true}
 use Rattle.std.proofs.lemmas.Option.{slice_get_within}
 use Rattle.clu_tree.specs.declared.node.Node.{Node}
 use Rattle.clu_tree.specs.declared.node.NodeKind.{NodeKind}
@@ -10,14 +9,13 @@ use Rattle.clu_tree.specs.declared.node.NodeKind.TheVariants as kind
 use Rattle.clu_parser.specs.Shape.{HasForm, forms}
 use Rattle.clu_parser.specs.Trees.{Text}
 use Rattle.clu_tree.specs.Nodes.{IsTree}
-use Rattle.clu_syntax.specs.declared.bodies.Part.{Part}
 use Rattle.clu_syntax.specs.declared.round.Round.{Round}
 use Rattle.clu_syntax.specs.Bodies.{first_part}
 use Rattle.clu_syntax.specs.Kinds.{is_equate, is_of_heading, kind_at, kind_of}
-use Rattle.clu_syntax.specs.Rounds.{AreRounds, child_part, child_round, heading_in, is_of_cluster, round_at, rounds_in}
+use Rattle.clu_syntax.specs.Rounds.{AreRounds, heading_in, is_of_cluster, round_at}
 use Rattle.clu_syntax.specs.Splits.{is_of}
 use Rattle.clu_syntax.specs.Syntax.{Identifier}
-use Rattle.clu_parts.proofs.Fitting.{AreBefore, children_before}
+use Rattle.clu_parts.proofs.Fitting.{children_before}
 use Rattle.clu_declares.specs.Declares.{IsParsed}
 use Rattle.clu_declares.proofs.Around.{there}
 use Rattle.clu_declares.proofs.Below.{same_kind}
@@ -29,6 +27,7 @@ use Rattle.clu_type_rules.specs.Asked.{rules_at}
 use Rattle.clu_passes.specs.Tags.{asks_tags}
 use Rattle.clu_passes.specs.Trees.{is_of_constant}
 use Rattle.clu_passes.proofs.InEquates.{in_constants, in_declarations}
+use Rattle.clu_passes.proofs.RefusedBelow.{IsHeaded, headed_in}
 
 -- ---- kinds
 
@@ -171,10 +170,6 @@ implied : (a b : Bool) → (not a || b) ≡ true → a ≡ true → b ≡ true
 implied true b e is = e
 implied false b e is = absurd (true≢false (sym is))
 
-denied : (b : Bool) → not b ≡ true → b ≡ false
-denied true e = absurd (true≢false (sym e))
-denied false e = refl
-
 either_of_three : (a b c : Bool) → (a || b || c) ≡ true → (a ≡ true) ⊎ ((b ≡ true) ⊎ (c ≡ true))
 either_of_three true b c e = inl refl
 either_of_three false true c e = inr (inl refl)
@@ -193,21 +188,6 @@ round_body nodes tree p node at form c child is =
     each k = by k (is_body k) refl
 
 -- ---- the headings of children
-
-module _ (nodes : List Node) (rounds : List Round) (n : ℕ) (node : Node) where
-  abbrev IsHeaded : ℕ → Type 0
-  IsHeaded c = (m : Node) × (slice_get nodes c ≡ Some m) × ((round_at rounds c).heading ≡ heading_in node.kind m (round_at rounds n))
-
-  headed_in : (before : Part) (first : ℕ) (cs : List ℕ) → AreBefore (length nodes) cs → map (round_at rounds) cs ≡ rounds_in nodes n node (round_at rounds n) before first cs → AllByRecursion IsHeaded cs
-  unfolding rounds_in
-  headed_in before first [] l e = tt
-  headed_in before first (c ∷ cs) l e =
-      let part : Part = child_part nodes node (slice_get nodes c) before first (c ∷ cs) in
-      let head : round_at rounds c ≡ child_round nodes n node (slice_get nodes c) (round_at rounds n) first part = cc in
-      let tail : map (round_at rounds) cs ≡ rounds_in nodes n node (round_at rounds n) part (c + 1) cs = cc in
-      let m = there nodes c l.0 in
-      let its : round_at rounds c ≡ child_round nodes n node (Some m.0) (round_at rounds n) first part = head ∙ ap (λ (o : Option Node). child_round nodes n node o (round_at rounds n) first part) m.1 in
-      ((m.0, m.1, ap (λ (r : Round). r.heading) its), headed_in part (c + 1) cs l.1 tail)
 
 module _ (t : Text) (nodes : List Node) (rounds : List Round) (parsed : IsParsed t nodes) (are : AreRounds nodes rounds) where
   headed : (n : ℕ) (q : HasParent nodes n) → IsHeaded nodes rounds q.parent q.node n
@@ -228,13 +208,13 @@ module _ (t : Text) (nodes : List Node) (rounds : List Round) (parsed : IsParsed
       let q : HasParent nodes n = parent_of t nodes rounds parsed are 0 [] n (kind_at nodes n) refl (no_file (kind_at nodes n) is) in
       let up : n < q.parent = child_before nodes parsed.tree q.parent q.node q.at (parsed.forms q.parent q.node q.at) n q.child in
       let its : IsHeaded nodes rounds q.parent q.node n = headed n q in
-      let its_kind : is_body its.0.kind ≡ true = subst (λ (k : NodeKind). is_body k ≡ true) (ap kind_of its.1) is in
-      its.2 ∙ elim (either_of_three (is_body q.node.kind) (is_of kind.Routine q.node.kind) (is_of kind.Cluster q.node.kind) (round_body nodes parsed.tree q.parent q.node q.at (parsed.forms q.parent q.node q.at) n q.child is)) [
+      let its_kind : is_body its.its.kind ≡ true = subst (λ (k : NodeKind). is_body k ≡ true) (ap kind_of its.at) is in
+      its.heading ∙ elim (either_of_three (is_body q.node.kind) (is_of kind.Routine q.node.kind) (is_of kind.Cluster q.node.kind) (round_body nodes parsed.tree q.parent q.node q.at (parsed.forms q.parent q.node q.at) n q.child is)) [
         | inl body ↦
-            body_heading q.node.kind its.0 (round_at rounds q.parent) body
+            body_heading q.node.kind its.its (round_at rounds q.parent) body
             ∙ body_headed d q.parent (omega (arith, l, up)) (subst (λ (k : NodeKind). is_body k ≡ true) (sym (ap kind_of q.at)) body)
-        | inr (inl routine) ↦ ap (λ (k : NodeKind). heading_in k its.0 (round_at rounds q.parent)) (same_kind kind.Routine q.node.kind routine) ∙ of_no_heading its.0.kind its_kind
-        | inr (inr cluster) ↦ ap (λ (k : NodeKind). heading_in k its.0 (round_at rounds q.parent)) (same_kind kind.Cluster q.node.kind cluster) ∙ of_no_cluster its.0.kind its.0.names its_kind
+        | inr (inl routine) ↦ ap (λ (k : NodeKind). heading_in k its.its (round_at rounds q.parent)) (same_kind kind.Routine q.node.kind routine) ∙ of_no_heading its.its.kind its_kind
+        | inr (inr cluster) ↦ ap (λ (k : NodeKind). heading_in k its.its (round_at rounds q.parent)) (same_kind kind.Cluster q.node.kind cluster) ∙ of_no_cluster its.its.kind its.its.names its_kind
       ]
 
   pub none_in_headings : (n : ℕ) → (round_at rounds n).heading ≡ true → asks_tags (rules_at (kind_at nodes n)) ≡ false
@@ -245,7 +225,7 @@ module _ (t : Text) (nodes : List Node) (rounds : List Round) (parsed : IsParsed
 
   pub none_in_equates : (e : ℕ) → (is_of kind.Equate (kind_at nodes e) || is_of kind.Decl (kind_at nodes e)) ≡ true → (n : ℕ) → (round_at rounds e).first ≤ n → n < e → asks_tags (rules_at (kind_at nodes n)) ≡ false
   none_in_equates e is n from to =
-      denied (asks_tags (rules_at (kind_at nodes n)))
+      not-true (asks_tags (rules_at (kind_at nodes n)))
       (implied (is_of_constant (kind_at nodes n)) (not (asks_tags (rules_at (kind_at nodes n)))) (not_of_constants (kind_at nodes n))
       (elim (cases_Bool (is_of kind.Equate (kind_at nodes e))) [
         | inl equate ↦ of_equate (facts.there nodes e kind.Equate refl (same_kind kind.Equate (kind_at nodes e) equate))

@@ -3,7 +3,7 @@
 use Rattle.std.proofs.Common.{◌≡◌, ◌∙◌, ◌⊎◌, ℕ, suc, ◌<◌, ◌≤◌, ◌&&◌, ◌||◌, not, Bool, true, false, List, [], ◌∷◌, length, drop, codes, Option, Some, None, inl, inr, refl, sym, ap, subst, arith}
 use Rattle.std.specs.Prelude.{slice_get}
 use Rattle.std.specs.List.{AllByRecursion, list_any}
-use Rattle.std.proofs.lemmas.Bool.{true≢false}
+use Rattle.std.proofs.lemmas.Bool.{true≢false, or_right}
 use Rattle.clu_base.specs.declared.rules.Rule.{Rule}
 use Rattle.clu_base.specs.declared.rules.Rule.TheVariants as rule
 use Rattle.clu_tree.specs.declared.node.Node.{Node}
@@ -16,7 +16,7 @@ use Rattle.clu_syntax.specs.declared.words.SimpleType.{SimpleType}
 use Rattle.clu_syntax.specs.declared.words.SimpleType.TheVariants as simple
 use Rattle.clu_syntax.specs.Items.{Item}
 use Rattle.clu_syntax.specs.Kinds.{kind_at, kind_of, is_expression, is_type}
-use Rattle.clu_syntax.specs.Slots.{any, slots}
+use Rattle.clu_syntax.specs.Slots.{any, is_constant as is_constant_kind, slots}
 use Rattle.clu_syntax.specs.Splits.{child, children_of, first_name, is_of}
 use Rattle.clu_syntax.specs.Syntax.{Identifier, Constant, Literal, a_simple_type}
 use Rattle.clu_syntax.specs.Words.{simple_type, symbol_in}
@@ -106,10 +106,7 @@ asked_over kind.Prefix e = refl
 asked_over kind.Paren e = refl
 asked_over _ e = absurd (true≢false (sym e))
 
-abbrev is_constant_kind : NodeKind → Bool
-is_constant_kind k = is_expression k || is_type k
-
-no_operator : (r : Read) (k : NodeKind) (n : ℕ) → is_constant_kind k ≡ false → IsOperatorKnown r k n
+pub no_operator : (r : Read) (k : NodeKind) (n : ℕ) → is_constant_kind k ≡ false → IsOperatorKnown r k n
 no_operator r kind.Infix n e = absurd (true≢false e)
 no_operator r kind.Prefix n e = absurd (true≢false e)
 no_operator r kind.Paren n e = absurd (true≢false e)
@@ -123,7 +120,7 @@ an_operator r kind.Paren n known = known
 an_operator r kind.File n known = tt
 an_operator r _ n known = tt
 
-no_type_name : (r : Read) (k : NodeKind) (n : ℕ) → is_constant_kind k ≡ false → IsTypeNameKnown r k n
+pub no_type_name : (r : Read) (k : NodeKind) (n : ℕ) → is_constant_kind k ≡ false → IsTypeNameKnown r k n
 no_type_name r kind.NameT n e = absurd (true≢false e)
 no_type_name r kind.Simple n e = absurd (true≢false e)
 no_type_name r kind.File n e = tt
@@ -144,10 +141,6 @@ or_fourth false false false d e h = ap (λ (x : Bool). x || e) h
 and_none : (a : Bool) → (a && false) ≡ false
 and_none true = refl
 and_none false = refl
-
-or_type : (a b : Bool) → b ≡ true → (a || b) ≡ true
-or_type true b e = refl
-or_type false b e = e
 
 no_more : {A : Type 0} (name : Identifier) (others : List Identifier) → [] ≡ name ∷ others → A
 no_more name others e = let size : 0 ≡ suc (length others) = ap length e in absurd (omega (arith, size))
@@ -405,7 +398,7 @@ module _ (t : Text) (its : Tables) (library : List Specification) (refused : Lis
               let there_is : c < length nodes = omega (arith, less, inside) in
               let up : parent f c ≡ Some n = parent_told f of_file c (record { parent = n; node = node; at = here; child = i }) in (
                 at.found_known t its library refused all lost c there_is
-                    (at.found_there t its library refused all lost c there_is (or_type (is_expression (kind_at nodes c)) (is_type (kind_at nodes c)) typed)
+                    (at.found_there t its library refused all lost c there_is (or_right (is_expression (kind_at nodes c)) (is_type (kind_at nodes c)) typed)
                     (ap (is_of_heading f) up ∙ no_part f n decl results exception)
                     (λ m low high. below m (omega (arith, low, first)) (omega (arith, high, less)))),
                 once t its library refused all lost c typed (λ m low high. below m (omega (arith, low, first)) (omega (arith, high, less))) (below c least less),

@@ -1,6 +1,6 @@
 -- Where no rule is violated by equates of which those are bad in which a type is refused, no type is refused.
 use Rattle.std.proofs.Common.{◌≡◌, ◌∙◌, ℕ, ◌&&◌, ◌||◌, Bool, true, false, List, [], ◌∷◌, is_some, Option, Some, None, refl, sym, ap}
-use Rattle.std.proofs.lemmas.Bool.{true≢false}
+use Rattle.std.proofs.lemmas.Bool.{true≢false, or_right}
 use Rattle.std.proofs.lemmas.Option.{none-some}
 use Rattle.clu_base.specs.declared.rules.Rule.{Rule}
 use Rattle.clu_tree.specs.declared.node.NodeKind.TheVariants as kind
@@ -16,7 +16,6 @@ use Rattle.clu_passes.specs.Right.{AreTypesBad, IsQuiet}
 use Rattle.clu_passes.specs.Trees.{IsFileOfTree}
 use Rattle.clu_passes.proofs.BadEquates.{names_are}
 use Rattle.clu_passes.proofs.FaultsFound.{least_of_types}
-use Rattle.clu_passes.proofs.LostRefused.{or_right}
 use Rattle.clu_passes.proofs.RefusedFaults.{name_more, violated_more}
 use Rattle.clu_passes.proofs.TypesSettled.{types_same}
 

@@ -1,8 +1,8 @@
 -- Rules over tables that are right at each node agree with the definitions in equates and on both walks, up to the first fault.
-use Rattle.std.proofs.Common.{◌≡◌, ◌∙◌, ℕ, ◌<◌, ◌≤◌, ◌&&◌, Bool, true, false, if◌then◌else◌, List, [], ◌∷◌, length, is_some, Option, Some, None, inl, inr, refl, sym, ap, subst, arith}
+use Rattle.std.proofs.Common.{◌≡◌, ◌∙◌, ℕ, ◌<◌, ◌≤◌, Bool, true, false, if◌then◌else◌, List, [], ◌∷◌, length, is_some, Option, Some, None, inl, inr, refl, sym, ap, subst, arith}
 use Rattle.std.specs.Prelude.{slice_get}
 use Rattle.std.specs.List.{AllByRecursion}
-use Rattle.std.proofs.lemmas.Bool.{true≢false, cases_lt}
+use Rattle.std.proofs.lemmas.Bool.{true≢false, cases_lt, and_from}
 use Rattle.std.proofs.lemmas.Option.{none-some, same_Some, slice_get_within}
 use Rattle.clu_base.specs.declared.rules.Rule.{Rule}
 use Rattle.clu_tree.specs.declared.node.Node.{Node}
@@ -28,7 +28,7 @@ use Rattle.clu_type_rules.specs.Asked.{rules_at, rules_of_headings, rules_of_res
 use Rattle.clu_type_rules.specs.Rules.{violates}
 use Rattle.clu_passes.specs.Bound.{AreBadDecls}
 use Rattle.clu_passes.specs.ConstantTables.{file_with}
-use Rattle.clu_passes.specs.Losing.{is_definition, is_plain, walk_by, walk_of}
+use Rattle.clu_passes.specs.Losing.{is_plain, walk_by, walk_of}
 use Rattle.clu_passes.specs.Notes.{HaveParents, has}
 use Rattle.clu_passes.specs.Refusing.{AgreeInEquates, AgreeInHeadings, AgreeInRest, AgreeOn, IsOrder, bits_in, has_fault}
 use Rattle.clu_passes.specs.Right.{AreRight, AreStraight, AreTypesBad, IsFirst, IsQuiet}
@@ -43,7 +43,7 @@ use Rattle.clu_passes.proofs.InEquates.{in_declarations}
 use Rattle.clu_passes.proofs.OfParents.{is_in}
 use Rattle.clu_passes.proofs.OwnPlaces.{there_is}
 use Rattle.clu_passes.proofs.ReadBits.{faults_alone}
-use Rattle.clu_passes.proofs.RefusedBelow.{IsAlike, alike_to, walk_same}
+use Rattle.clu_passes.proofs.RefusedBelow.{IsAlike, alike_to, not_definition, walk_same}
 use Rattle.clu_passes.proofs.RefusedFaults.{bad_more}
 use Rattle.clu_passes.proofs.RightBits as right_bits
 use Rattle.clu_passes.proofs.StepsEnough.{in_equate}
@@ -51,13 +51,6 @@ use Rattle.clu_passes.proofs.Subtrees.{is_subtree}
 use Rattle.clu_passes.proofs.Within.{forest_goes_on}
 
 -- ---- kinds
-
-not_definition : (k : NodeKind) → is_plain k ≡ true → is_definition k ≡ false
-not_definition kind.Module e = absurd (true≢false (sym e))
-not_definition kind.Routine e = absurd (true≢false (sym e))
-not_definition kind.Cluster e = absurd (true≢false (sym e))
-not_definition kind.File e = absurd (true≢false (sym e))
-not_definition _ e = refl
 
 all_asked : (k : NodeKind) → is_plain k ≡ true → (heading : Bool) → rules_by k (walk_by false heading) heading ≡ all_rules
 all_asked kind.Module e heading = absurd (true≢false (sym e))
@@ -107,10 +100,6 @@ other_walk e = true≢false (ap is_headings e)
 none_found : (o : Option Rule) → is_some o ≡ false → o ≡ None
 none_found None e = refl
 none_found (Some r) e = absurd (true≢false e)
-
-both_hold : (a b : Bool) → a ≡ true → b ≡ true → (a && b) ≡ true
-both_hold true b e h = h
-both_hold false b e h = absurd (true≢false (sym e))
 
 -- ---- what stands before a node on its walk
 
@@ -290,7 +279,7 @@ module _ (k : Known) (scope : Scope) (library : List Specification) (refused : L
       let there_decl : is_there kind.Decl (slice_get f.nodes d) ≡ true = sym (there_is kind.Decl refl (slice_get f.nodes d)) ∙ decl in
       let there_when : bound.stands_in f.nodes f.rounds kind.When d ≡ true = sym (stands_same (parent f d)) ∙ stands in
       let arm : arm_declared f.nodes f.rounds d ≡ Some d =
-      ap (λ (b : Bool). if◌then◌else◌ {A = Option ℕ} b (Some d) None) (both_hold (is_there kind.Decl (slice_get f.nodes d)) (bound.stands_in f.nodes f.rounds kind.When d) there_decl there_when) in
+      ap (λ (b : Bool). if◌then◌else◌ {A = Option ℕ} b (Some d) None) (and_from (is_there kind.Decl (slice_get f.nodes d)) (bound.stands_in f.nodes f.rounds kind.When d) there_decl there_when) in
       arms_by_tables k scope library refused of items order circular its_order bits refl agree_in_equates d arm (λ n low less before.
       right.constants (bit bits) n (omega (arith, less, inside)) (in_declarations f.nodes f.rounds of.shaped of.ordered of.tree of.surrounded d x.node x.at x.is n low less) (all_itself (bit bits) n (names_unfolded f (kind_in f n) n))
       bits_types_bad
