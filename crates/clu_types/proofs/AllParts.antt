@@ -1,5 +1,5 @@
 -- What holds of all parts of a term.
-use Rattle.std.proofs.Common.{◌≡◌, ℕ, ◌<◌, List, [], ◌∷◌}
+use Rattle.std.proofs.Common.{ℕ, ◌<◌, List, [], ◌∷◌}
 use Rattle.clu_types.specs.Arena.{AreBelow, FieldsBelow, SignalsBelow, ActualBelow, ActualsBelow, HeadingBelow, PartsBelow}
 use Rattle.clu_types.specs.Carried.{AreAll, FieldsAll, SignalsAll, HeadingAll, ActualAll, ActualsAll, PartsAll}
 use Rattle.clu_types.specs.declared.term.TypeId.{TypeId}

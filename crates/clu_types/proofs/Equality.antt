@@ -1,5 +1,5 @@
 -- The derived `==` of terms and of their parts says whether they are equal.
-use Rattle.std.proofs.Common.{◌≡◌, ℕ, List, Bool, refl, ap}
+use Rattle.std.proofs.Common.{◌≡◌, ℕ, List, Bool, refl, ap, ap₂}
 use Rattle.std.specs.Bool.{Decides}
 use Rattle.std.proofs.lemmas.Bool.Decides.{Decides-like, Decides-and, Decides-eqb, Decides-int_eq}
 use Rattle.std.specs.Cmp.{booleans_Decides}
@@ -23,9 +23,6 @@ use Rattle.clu_types.specs.contracts.term.HeadingPartialEq.TheImpl as headings
 use Rattle.clu_types.specs.contracts.term.ActualPartialEq.TheImpl as actuals
 use Rattle.clu_types.specs.contracts.term.TermPartialEq.TheImpl as terms
 
-pub join : {A B C : Type 0} (f : A → B → C) {a a' : A} {b b' : B} → a ≡ a' → b ≡ b' → f a b ≡ f a' b'
-join f p q = cc
-
 pub join3 : {A B C D : Type 0} (f : A → B → C → D) {a a' : A} {b b' : B} {c c' : C} → a ≡ a' → b ≡ b' → c ≡ c' → f a b c ≡ f a' b' c'
 join3 f p q r = cc
 
@@ -38,12 +35,12 @@ same_id a b = Decides-like _ (ap (λ (n : ℕ). let id : TypeId = record { 0 = n
 
 pub same_field : (a b : Field) → Decides ((fields.ghosts).eq a b) (a ≡ b)
 same_field a b =
-    Decides-like _ (λ e. join (λ (n : List ℕ) (i : TypeId). let f : Field = record { name = n; of = i } in f) e.0 e.1)
+    Decides-like _ (λ e. ap₂ (λ (n : List ℕ) (i : TypeId). let f : Field = record { name = n; of = i } in f) e.0 e.1)
     (λ e. (ap (λ (f : Field). f.name) e, ap (λ (f : Field). f.of) e)) (Decides-and _ _ (bytes_eq-Decides a.name b.name) (same_id a.of b.of))
 
 pub same_exception : (a b : Exception) → Decides ((exceptions.ghosts).eq a b) (a ≡ b)
 same_exception a b =
-    Decides-like _ (λ e. join (λ (n : List ℕ) (os : List TypeId). let s : Exception = record { name = n; objects = os } in s) e.0 e.1)
+    Decides-like _ (λ e. ap₂ (λ (n : List ℕ) (os : List TypeId). let s : Exception = record { name = n; objects = os } in s) e.0 e.1)
     (λ e. (ap (λ (s : Exception). s.name) e, ap (λ (s : Exception). s.objects) e))
     (Decides-and _ _ (bytes_eq-Decides a.name b.name) (items same_id a.objects b.objects))
 
@@ -85,6 +82,6 @@ same_term (term.Variant a) (term.Variant b) = Decides-like _ (ap term.Variant) (
 same_term (term.Proc a) (term.Proc b) = Decides-like _ (ap term.Proc) (λ e. cc) (same_heading a b)
 same_term (term.Iter a) (term.Iter b) = Decides-like _ (ap term.Iter) (λ e. cc) (same_heading a b)
 same_term (term.Cluster a xs) (term.Cluster b ys) =
-    Decides-like _ (λ e. join term.Cluster e.0 e.1) (λ e. (cc, cc)) (Decides-and _ _ (bytes_eq-Decides a b) (items same_actual xs ys))
+    Decides-like _ (λ e. ap₂ term.Cluster e.0 e.1) (λ e. (cc, cc)) (Decides-and _ _ (bytes_eq-Decides a b) (items same_actual xs ys))
 same_term (term.Param a) (term.Param b) = Decides-like _ (ap term.Param) (λ e. cc) (Decides-eqb a b)
 same_term _ _ = (λ e. cc, λ e. cc)

@@ -1,8 +1,8 @@
 -- Where no actuals are given every parameter stays, so the type does.
-use Rattle.std.proofs.Common.{◌≡◌, ℕ, zero, suc, refl, ap, ◌∙◌}
+use Rattle.std.proofs.Common.{◌≡◌, ℕ, zero, suc, refl, ap, ◌∙◌, ap₂}
 use Rattle.clu_types.specs.CluType.{CluType, null_type, bool_type, int_type, char_type, string_type, any_type, stream_type, array_of, sequence_of, record_of, struct_of, oneof_of, variant_of, proc_of, iter_of, cluster_of, parameter, CluTypes, no_types, type_and, Fields, no_fields, field_and, Signals, no_signals, signal_and, Actuals, no_actuals, actual_type, actual_const, actual_param}
 use Rattle.clu_types.specs.Substituted.{substituted, types_substituted, fields_substituted, signals_substituted, actuals_substituted, constant_put, type_put}
-use Rattle.clu_types.proofs.Equality.{join, join3}
+use Rattle.clu_types.proofs.Equality.{join3}
 
 type_stays : (n : ℕ) → type_put no_actuals n ≡ parameter n
 type_stays zero = refl
@@ -34,18 +34,18 @@ mutual
 
   types-none : (ts : CluTypes) → types_substituted no_actuals ts ≡ ts
   types-none no_types = refl
-  types-none (type_and t ts) = join type_and (substituted-none t) (types-none ts)
+  types-none (type_and t ts) = ap₂ type_and (substituted-none t) (types-none ts)
 
   fields-none : (fs : Fields) → fields_substituted no_actuals fs ≡ fs
   fields-none no_fields = refl
-  fields-none (field_and name t fs) = join (field_and name) (substituted-none t) (fields-none fs)
+  fields-none (field_and name t fs) = ap₂ (field_and name) (substituted-none t) (fields-none fs)
 
   signals-none : (ss : Signals) → signals_substituted no_actuals ss ≡ ss
   signals-none no_signals = refl
-  signals-none (signal_and name ts ss) = join (signal_and name) (types-none ts) (signals-none ss)
+  signals-none (signal_and name ts ss) = ap₂ (signal_and name) (types-none ts) (signals-none ss)
 
   actuals-none : (given : Actuals) → actuals_substituted no_actuals given ≡ given
   actuals-none no_actuals = refl
-  actuals-none (actual_type t rest) = join actual_type (substituted-none t) (actuals-none rest)
+  actuals-none (actual_type t rest) = ap₂ actual_type (substituted-none t) (actuals-none rest)
   actuals-none (actual_const c rest) = ap (actual_const c) (actuals-none rest)
   actuals-none (actual_param p rest) = constant_stays p (actuals_substituted no_actuals rest) ∙ ap (actual_param p) (actuals-none rest)

@@ -5,7 +5,9 @@ pub mod Numbered
 pub mod Arenas
 pub mod PutIn
 pub mod AllParts
-pub mod Marking
+pub mod PartsOf
+pub mod Needing
+pub mod Ends
 pub mod Remaking
 pub mod Copying
 pub mod Carrying

@@ -1,5 +1,5 @@
 -- The type of a term and its parts: it depends on their types alone, and it gives them back.
-use Rattle.std.proofs.Common.{◌≡◌, ℕ, ◌<◌, ◌≤◌, List, [], ◌∷◌, refl, ap, arith}
+use Rattle.std.proofs.Common.{◌≡◌, ℕ, ◌<◌, ◌≤◌, List, [], ◌∷◌, refl, ap, arith, ap₂}
 use Rattle.clu_types.specs.CluType.{CluType, Actuals}
 use Rattle.clu_types.specs.Arena.{type_at, types_at, fields_at, signals_at, actual_at, actuals_at, type_of, AreBelow, FieldsBelow, SignalsBelow, ActualBelow, ActualsBelow, HeadingBelow, PartsBelow}
 use Rattle.clu_types.specs.declared.term.TypeId.{TypeId}
@@ -10,7 +10,7 @@ use Rattle.clu_types.specs.declared.term.Actual.{Actual}
 use Rattle.clu_types.specs.declared.term.Actual.TheVariants as actual
 use Rattle.clu_types.specs.declared.term.Term.{Term}
 use Rattle.clu_types.specs.declared.term.Term.TheVariants as term
-use Rattle.clu_types.proofs.Equality.{join, join3}
+use Rattle.clu_types.proofs.Equality.{join3}
 
 -- what is below m is below a greater n
 module _ (m n : ℕ) (le : m ≤ n) where
@@ -103,26 +103,26 @@ module _ (ks ls : List CluType) (n : ℕ) (same : (id : TypeId) → id.0 < n →
 module _ (ks : List CluType) (n : ℕ) (distinct : (a b : TypeId) → a.0 < n → b.0 < n → type_at ks a ≡ type_at ks b → a ≡ b) where
   pub ids_back : (xs ys : List TypeId) → AreBelow n xs → AreBelow n ys → types_at ks xs ≡ types_at ks ys → xs ≡ ys
   ids_back [] [] p q e = refl
-  ids_back (x ∷ xs) (y ∷ ys) p q e = join (λ (x : TypeId) (xs : List TypeId). x ∷ xs) (distinct x y p.0 q.0 cc) (ids_back xs ys p.1 q.1 cc)
+  ids_back (x ∷ xs) (y ∷ ys) p q e = ap₂ (λ (x : TypeId) (xs : List TypeId). x ∷ xs) (distinct x y p.0 q.0 cc) (ids_back xs ys p.1 q.1 cc)
   ids_back [] (y ∷ ys) p q e = cc
   ids_back (x ∷ xs) [] p q e = cc
 
   field_back : (f g : Field) → f.of.0 < n → g.of.0 < n → f.name ≡ g.name → type_at ks f.of ≡ type_at ks g.of → f ≡ g
-  field_back f g p q e h = join (λ (x : List ℕ) (i : TypeId). let f : Field = record { name = x; of = i } in f) e (distinct f.of g.of p q h)
+  field_back f g p q e h = ap₂ (λ (x : List ℕ) (i : TypeId). let f : Field = record { name = x; of = i } in f) e (distinct f.of g.of p q h)
 
   fields_back : (xs ys : List Field) → FieldsBelow n xs → FieldsBelow n ys → fields_at ks xs ≡ fields_at ks ys → xs ≡ ys
   fields_back [] [] p q e = refl
-  fields_back (x ∷ xs) (y ∷ ys) p q e = join (λ (x : Field) (xs : List Field). x ∷ xs) (field_back x y p.0 q.0 (cc) (cc)) (fields_back xs ys p.1 q.1 cc)
+  fields_back (x ∷ xs) (y ∷ ys) p q e = ap₂ (λ (x : Field) (xs : List Field). x ∷ xs) (field_back x y p.0 q.0 (cc) (cc)) (fields_back xs ys p.1 q.1 cc)
   fields_back [] (y ∷ ys) p q e = cc
   fields_back (x ∷ xs) [] p q e = cc
 
   pub signal_back : (s t : Exception) → AreBelow n s.objects → AreBelow n t.objects → s.name ≡ t.name → types_at ks s.objects ≡ types_at ks t.objects → s ≡ t
   signal_back s t p q e h =
-      join (λ (x : List ℕ) (ids : List TypeId). let s : Exception = record { name = x; objects = ids } in s) e (ids_back s.objects t.objects p q h)
+      ap₂ (λ (x : List ℕ) (ids : List TypeId). let s : Exception = record { name = x; objects = ids } in s) e (ids_back s.objects t.objects p q h)
 
   pub signals_back : (xs ys : List Exception) → SignalsBelow n xs → SignalsBelow n ys → signals_at ks xs ≡ signals_at ks ys → xs ≡ ys
   signals_back [] [] p q e = refl
-  signals_back (x ∷ xs) (y ∷ ys) p q e = join (λ (x : Exception) (xs : List Exception). x ∷ xs) (signal_back x y p.0 q.0 (cc) (cc)) (signals_back xs ys p.1 q.1 cc)
+  signals_back (x ∷ xs) (y ∷ ys) p q e = ap₂ (λ (x : Exception) (xs : List Exception). x ∷ xs) (signal_back x y p.0 q.0 (cc) (cc)) (signals_back xs ys p.1 q.1 cc)
   signals_back [] (y ∷ ys) p q e = cc
   signals_back (x ∷ xs) [] p q e = cc
 
@@ -136,7 +136,7 @@ module _ (ks : List CluType) (n : ℕ) (distinct : (a b : TypeId) → a.0 < n �
   actuals_back [] [] p q e = refl
   actuals_back (x ∷ xs) (y ∷ ys) p q e =
       let h = actual_back x y (actuals_at ks xs) (actuals_at ks ys) p.0 q.0 e in
-      join (λ (x : Actual) (xs : List Actual). x ∷ xs) h.0 (actuals_back xs ys p.1 q.1 h.1)
+      ap₂ (λ (x : Actual) (xs : List Actual). x ∷ xs) h.0 (actuals_back xs ys p.1 q.1 h.1)
   actuals_back [] (actual.Of y ∷ ys) p q e = cc
   actuals_back [] (actual.Const y ∷ ys) p q e = cc
   actuals_back [] (actual.ConstParam y ∷ ys) p q e = cc
@@ -166,6 +166,6 @@ module _ (ks : List CluType) (n : ℕ) (distinct : (a b : TypeId) → a.0 < n �
   term_back (term.Variant a) (term.Variant b) p q e = ap term.Variant (fields_back a b p q cc)
   term_back (term.Proc a) (term.Proc b) p q e = ap term.Proc (heading_back a b p q (cc) (cc) (cc))
   term_back (term.Iter a) (term.Iter b) p q e = ap term.Iter (heading_back a b p q (cc) (cc) (cc))
-  term_back (term.Cluster a xs) (term.Cluster b ys) p q e = let h : a ≡ b = cc in join term.Cluster h (actuals_back xs ys p q cc)
+  term_back (term.Cluster a xs) (term.Cluster b ys) p q e = let h : a ≡ b = cc in ap₂ term.Cluster h (actuals_back xs ys p q cc)
   term_back (term.Param a) (term.Param b) p q e = cc
   term_back _ _ p q e = cc

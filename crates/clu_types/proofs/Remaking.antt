@@ -1,10 +1,10 @@
 -- A term over the numbers of a table, where the parts have numbers there, denotes the type with the actuals put in.
-use Rattle.std.proofs.Common.{◌≡◌, ℕ, List, [], ◌∷◌, map, length, Option, None, Some, refl, sym, ap, ◌∙◌}
-use Rattle.clu_types.specs.CluType.{CluType, array_of, sequence_of, record_of, struct_of, oneof_of, variant_of, proc_of, iter_of, cluster_of, type_and, field_and, signal_and, Actuals, actual_type, actual_const, actual_param}
+use Rattle.std.proofs.Common.{◌≡◌, ℕ, List, [], ◌∷◌, map, length, Option, None, Some, refl, sym, ap, ◌∙◌, ap₂}
+use Rattle.clu_types.specs.CluType.{CluType, array_of, sequence_of, record_of, struct_of, oneof_of, variant_of, proc_of, iter_of, cluster_of, type_and, field_and, signal_and, Actuals, actual_type, actual_const}
 use Rattle.clu_types.specs.Actual.{nth}
-use Rattle.clu_types.specs.Arena.{type_at, types_at, fields_at, signals_at, actual_at, actuals_at, type_of, types_of, AreBelow, FieldsBelow, SignalsBelow, ActualBelow, ActualsBelow, HeadingBelow, PartsBelow}
-use Rattle.clu_types.specs.Substituted.{substituted, types_substituted, fields_substituted, signals_substituted, actuals_substituted, constant_put}
-use Rattle.clu_types.specs.Renumbered.{number_in, field_in, signal_in, heading_in, constant_by, actual_in, term_in}
+use Rattle.clu_types.specs.Arena.{types_at, fields_at, signals_at, actual_at, actuals_at, type_of, types_of, AreBelow, FieldsBelow, SignalsBelow, ActualBelow, ActualsBelow, HeadingBelow, PartsBelow}
+use Rattle.clu_types.specs.Substituted.{substituted, types_substituted, fields_substituted, signals_substituted, actuals_substituted}
+use Rattle.clu_types.specs.Renumbered.{Numbers, number_in, field_in, signal_in, heading_in, constant_by, actual_in, term_in}
 use Rattle.clu_types.specs.Carried.{AreAll, FieldsAll, SignalsAll, HeadingAll, ActualAll, ActualsAll, PartsAll, IsMade, Stays}
 use Rattle.clu_types.specs.declared.term.TypeId.{TypeId}
 use Rattle.clu_types.specs.declared.term.Field.{Field}
@@ -14,7 +14,7 @@ use Rattle.clu_types.specs.declared.term.Actual.{Actual}
 use Rattle.clu_types.specs.declared.term.Actual.TheVariants as actual
 use Rattle.clu_types.specs.declared.term.Term.{Term}
 use Rattle.clu_types.specs.declared.term.Term.TheVariants as term
-use Rattle.clu_types.proofs.Equality.{join, join3}
+use Rattle.clu_types.proofs.Equality.{join3}
 use Rattle.clu_types.proofs.PutIn.{constant_put-nth, constant_put_by}
 
 constant_within : (m : ℕ) (found : Option Actual) (n : ℕ) → ActualBelow m (constant_by found n)
@@ -29,7 +29,7 @@ constant_at types (Some (actual.Of id)) n rest = refl
 constant_at types (Some (actual.Const c)) n rest = refl
 constant_at types (Some (actual.ConstParam p)) n rest = refl
 
-module _ (source : List CluType) (given : List Actual) (terms : List Term) (table : List TypeId) where
+module _ (source : List CluType) (given : List Actual) (terms : List Term) (table : Numbers) where
   abbrev types : List CluType
   types = types_of terms
 
@@ -86,19 +86,19 @@ module _ (source : List CluType) (given : List Actual) (terms : List Term) (tabl
   -- their types are those with the actuals put in
   ids_remade : (ids : List TypeId) → AreAll Made ids → types_at types (map (number_in table) ids) ≡ types_substituted put (types_at source ids)
   ids_remade [] h = refl
-  ids_remade (id ∷ ids) h = join type_and h.0.of_type (ids_remade ids h.1)
+  ids_remade (id ∷ ids) h = ap₂ type_and h.0.of_type (ids_remade ids h.1)
 
   fields_remade : (fs : List Field) → FieldsAll Made fs → fields_at types (map (field_in table) fs) ≡ fields_substituted put (fields_at source fs)
   fields_remade [] h = refl
-  fields_remade (f ∷ fs) h = join (field_and f.name) h.0.of_type (fields_remade fs h.1)
+  fields_remade (f ∷ fs) h = ap₂ (field_and f.name) h.0.of_type (fields_remade fs h.1)
 
   signals_remade : (ss : List Exception) → SignalsAll Made ss → signals_at types (map (signal_in table) ss) ≡ signals_substituted put (signals_at source ss)
   signals_remade [] h = refl
-  signals_remade (s ∷ ss) h = join (signal_and s.name) (ids_remade s.objects h.0) (signals_remade ss h.1)
+  signals_remade (s ∷ ss) h = ap₂ (signal_and s.name) (ids_remade s.objects h.0) (signals_remade ss h.1)
 
   actuals_remade : (inner : List Actual) → ActualsAll Made inner → actuals_at types (map (actual_in table given) inner) ≡ actuals_substituted put (actuals_at source inner)
   actuals_remade [] h = refl
-  actuals_remade (actual.Of id ∷ rest) h = join actual_type h.0.of_type (actuals_remade rest h.1)
+  actuals_remade (actual.Of id ∷ rest) h = ap₂ actual_type h.0.of_type (actuals_remade rest h.1)
   actuals_remade (actual.Const c ∷ rest) h = ap (actual_const c) (actuals_remade rest h.1)
   actuals_remade (actual.ConstParam n ∷ rest) h =
       let behind : Actuals = actuals_substituted put (actuals_at source rest) in

@@ -6,7 +6,8 @@ pub mod Included
 pub mod Substituted
 pub mod Actual
 pub mod Renumbered
-pub mod Marked
+pub mod PartsOf
+pub mod Numbering
 pub mod Carried
 pub mod Narrower
 pub mod Specs

@@ -1,5 +1,5 @@
 -- Terms with the numbers of a table for their parts, and actuals put in for constant parameters.
-use Rattle.std.specs.Prelude.{ℕ, List, map, Option, None, Some, slice_index_or}
+use Rattle.std.specs.Prelude.{ℕ, List, map, Option, None, Some, unwrap_or}
 use Rattle.clu_types.specs.Actual.{nth}
 use Rattle.clu_types.specs.declared.term.TypeId.{TypeId}
 use Rattle.clu_types.specs.declared.term.Field.{Field}
@@ -10,17 +10,21 @@ use Rattle.clu_types.specs.declared.term.Actual.TheVariants as actual
 use Rattle.clu_types.specs.declared.term.Term.{Term}
 use Rattle.clu_types.specs.declared.term.Term.TheVariants as term
 
--- the entry of a number; a number beyond the table stays
-abbrev pub number_in : List TypeId → TypeId → TypeId
-number_in table id = slice_index_or table id.0 id
+-- what a number becomes, by number
+abbrev pub Numbers : Type 0
+Numbers = ℕ → Option TypeId
 
-abbrev pub field_in : List TypeId → Field → Field
+-- the entry of a number; a number that has none stays
+abbrev pub number_in : Numbers → TypeId → TypeId
+number_in table id = unwrap_or (table id.0) id
+
+abbrev pub field_in : Numbers → Field → Field
 field_in table f = record { name = f.name; of = number_in table f.of }
 
-abbrev pub signal_in : List TypeId → Exception → Exception
+abbrev pub signal_in : Numbers → Exception → Exception
 signal_in table s = record { name = s.name; objects = map (number_in table) s.objects }
 
-abbrev pub heading_in : List TypeId → Heading → Heading
+abbrev pub heading_in : Numbers → Heading → Heading
 heading_in table h = record { args = map (number_in table) h.args; results = map (number_in table) h.results; signals = map (signal_in table) h.signals }
 
 -- what the constant parameter n becomes, by the n-th actual
@@ -30,12 +34,12 @@ constant_by (Some (actual.Of id)) n = actual.ConstParam n
 constant_by (Some (actual.Const c)) n = actual.Const c
 constant_by (Some (actual.ConstParam p)) n = actual.ConstParam p
 
-abbrev pub actual_in : List TypeId → List Actual → Actual → Actual
+abbrev pub actual_in : Numbers → List Actual → Actual → Actual
 actual_in table given (actual.Of id) = actual.Of (number_in table id)
 actual_in table given (actual.Const c) = actual.Const c
 actual_in table given (actual.ConstParam n) = constant_by (nth given n) n
 
-abbrev pub term_in : List TypeId → List Actual → Term → Term
+abbrev pub term_in : Numbers → List Actual → Term → Term
 term_in table given term.Null = term.Null
 term_in table given term.Bool = term.Bool
 term_in table given term.Int = term.Int

@@ -169,7 +169,7 @@ fn actuals_below(actuals: &[Actual], n: u64) -> bool
 }
 
 /// Whether the parts of a term are below a number.
-pub fn parts_below(term: &Term, n: u64) -> bool
+fn parts_below(term: &Term, n: u64) -> bool
     ensures { IsTrue result ↔ PartsBelow n term.now }
 {
     match term {

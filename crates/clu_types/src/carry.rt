@@ -1,17 +1,18 @@
 //! Types with actual parameters put in for their parameters, within an arena and from one to another.
-//! Going down from the type, what it is made of is marked; going up, each marked type is made once, over the
-//! numbers of its parts.
+//! Going down from the type, what it is made of gets entries in a table; going up, each of these types is made once, over
+//! the numbers of its parts. So the cost is that of the type, however large the arenas are.
 
-ghost use Rattle.std.specs.Prelude.{◌≡◌, ℕ, ◌<◌, true, false, List, length, replicate, IfOk, IfSome, MatchOption};
+ghost use Rattle.std.specs.Prelude.{◌≡◌, ℕ, ◌<◌, List, length, IfOk, IfSome, MatchOption, OnOk};
 ghost use Rattle.clu_types.specs.CluType.{CluType};
 ghost use Rattle.clu_types.specs.Arena.{type_at, type_of, actuals_at, types_of, ActualsBelow, Grows};
 ghost use Rattle.clu_types.specs.Substituted.{substituted};
+ghost use Rattle.clu_types.specs.Numbering.{numbers_of};
 ghost use Rattle.clu_types.specs.Carried.{AreNeeded, AreSpread, ArePartsMade, Stays};
 
 use crate::TypeArena;
 use crate::actuals::type_actual;
-use crate::arena::parts_below;
-use crate::marks::mark_parts;
+use crate::components::parts_of;
+use crate::numbering::Numbering;
 use crate::renumbered::renumbered;
 use crate::term::{Actual, Term, TypeId};
 use clu_base::Memory;
@@ -47,112 +48,57 @@ impl TypeArena {
         ensures within { IfOk result (λ id. id.0 < length self.new) }
         ensures kept { Grows self.old self.new }
     {
-        let table = self.parts_made(alloc, from, t, actuals)?;
-        self.make(alloc, from, t, table.as_slice(), actuals)
+        let mut table = from.needed(alloc, t)?;
+        self.make_needed(alloc, from, t, &mut table, actuals)?;
+        self.make(alloc, from, t, &table, actuals)
     }
 
-    /// The numbers here, by their numbers in the other arena, of all that `t` is made of. A type without parts needs none.
-    fn parts_made(
-        &mut self,
-        alloc: Global,
-        from: &TypeArena,
-        t: TypeId,
-        actuals: &[Actual],
-    ) -> Result<Vec<TypeId>, Memory>
-        requires t_in { t.0 < length from.now }
-        requires actuals_in { ActualsBelow (length self.old) actuals.now }
-        ensures made { IfOk result (λ table. ArePartsMade from.now actuals.now self.new table.items t.0) }
-        ensures kept { Grows self.old self.new }
-    {
-        if parts_below(from.view(t), 0) {
-            return Ok(Vec::new(alloc));
-        }
-        let needed = from.needed(alloc, t)?;
-        self.make_needed(alloc, from, t, needed.as_slice(), actuals)
-    }
-
-    /// What a type is made of, itself left out, as marks by number.
-    fn needed(&self, alloc: Global, t: TypeId) -> Result<Vec<bool>, Memory>
+    /// A table with an entry for each type of which `t` is made, itself left out.
+    fn needed(&self, alloc: Global, t: TypeId) -> Result<Numbering, Memory>
         requires { t.0 < length self.now }
-        ensures { IfOk result (λ marks. AreNeeded self.now t.0 marks.items) }
+        ensures { IfOk result (λ table. AreNeeded self.now t.0 (numbers_of table)) }
     {
-        let mut marks = vec![in alloc; false; t.0 as usize]?;
-        self.mark_needed(&mut marks, t);
-        Ok(marks)
-    }
-
-    /// Marks what a type is made of, itself left out.
-    fn mark_needed(&self, marks: &mut [bool], t: TypeId)
-        requires t_in { t.0 < length self.now }
-        requires unmarked { marks.old ≡ replicate t.0 false }
-        ensures { AreNeeded self.now t.0 marks.new }
-    {
-        mark_parts(marks, self.view(t));
-        let mut n = t.0;
-        'types: while n > 0 {
-            n -= 1;
-            self.spread(marks, TypeId(n));
+        let mut table = Numbering::new(alloc);
+        self.need_parts(alloc, t, &mut table)?;
+        let mut least = t.0;
+        'types: while let Some(n) = table.last_below(least) {
+            self.need_parts(alloc, TypeId(n), &mut table)?;
+            least = n;
         }
+        Ok(table)
     }
 
-    /// Marks the parts of a type that is marked.
-    fn spread(&self, marks: &mut [bool], n: TypeId)
-        requires n_in { n.0 < length self.now }
-        requires has_mark { n.0 < length marks.old }
-        ensures { AreSpread self.now n.0 marks.old marks.new }
+    /// Gives the parts of a type entries.
+    fn need_parts(&self, alloc: Global, n: TypeId, table: &mut Numbering) -> Result<(), Memory>
+        requires { n.0 < length self.now }
+        ensures { OnOk result (AreSpread self.now n.0 (numbers_of table.old) (numbers_of table.new)) }
     {
-        let term = self.view(n);
-        if marks[n.0 as usize] {
-            mark_parts(marks, term);
-        }
+        let parts = parts_of(alloc, self.view(n))?;
+        table.need(parts.as_slice())
     }
 
-    /// The numbers here of the marked types of the other arena, which `t` is made of.
+    /// Makes each type of the other arena that has an entry, of which `t` is made, and puts its number here.
     fn make_needed(
         &mut self,
         alloc: Global,
         from: &TypeArena,
         t: TypeId,
-        needed: &[bool],
+        table: &mut Numbering,
         actuals: &[Actual],
-    ) -> Result<Vec<TypeId>, Memory>
+    ) -> Result<(), Memory>
         requires t_in { t.0 < length from.now }
-        requires needed { AreNeeded from.now t.0 needed.now }
+        requires needed { AreNeeded from.now t.0 (numbers_of table.old) }
         requires actuals_in { ActualsBelow (length self.old) actuals.now }
-        ensures made { IfOk result (λ table. ArePartsMade from.now actuals.now self.new table.items t.0) }
+        ensures made { OnOk result (ArePartsMade from.now actuals.now self.new (numbers_of table.new) t.0) }
         ensures kept { Grows self.old self.new }
     {
-        let mut table = Vec::new(alloc);
-        for n in 0..t.0 {
-            let wanted = needed[n as usize];
-            let made = self.make_if(alloc, from, TypeId(n), wanted, table.as_slice(), actuals)?;
-            table.push(made)?;
+        let mut next = 0;
+        'types: while let Some(n) = table.first_from(next) {
+            let made = self.make(alloc, from, TypeId(n), table, actuals)?;
+            table.put(n, made)?;
+            next = n + 1;
         }
-        Ok(table)
-    }
-
-    /// The number here of a type of the other arena, if it is wanted.
-    fn make_if(
-        &mut self,
-        alloc: Global,
-        from: &TypeArena,
-        n: TypeId,
-        wanted: bool,
-        table: &[TypeId],
-        actuals: &[Actual],
-    ) -> Result<TypeId, Memory>
-        requires n_in { n.0 < length from.now }
-        requires actuals_in { ActualsBelow (length self.old) actuals.now }
-        requires parts { wanted ≡ true → ArePartsMade from.now actuals.now self.old table.now n.0 }
-        ensures of_type { IfOk result (λ id. wanted ≡ true → type_at (types_of self.new) id ≡ substituted (actuals_at (types_of self.old) actuals.now) (type_at (types_of from.now) n)) }
-        ensures within { IfOk result (λ id. wanted ≡ true → id.0 < length self.new) }
-        ensures kept { Grows self.old self.new }
-    {
-        if wanted {
-            self.make(alloc, from, n, table, actuals)
-        } else {
-            Ok(n)
-        }
+        Ok(())
     }
 
     /// The number here of a type of the other arena, over the numbers of its parts.
@@ -161,12 +107,12 @@ impl TypeArena {
         alloc: Global,
         from: &TypeArena,
         n: TypeId,
-        table: &[TypeId],
+        table: &Numbering,
         actuals: &[Actual],
     ) -> Result<TypeId, Memory>
         requires n_in { n.0 < length from.now }
         requires actuals_in { ActualsBelow (length self.old) actuals.now }
-        requires parts { ArePartsMade from.now actuals.now self.old table.now n.0 }
+        requires parts { ArePartsMade from.now actuals.now self.old (numbers_of table.now) n.0 }
         ensures of_type { IfOk result (λ id. type_at (types_of self.new) id ≡ substituted (actuals_at (types_of self.old) actuals.now) (type_at (types_of from.now) n)) }
         ensures within { IfOk result (λ id. id.0 < length self.new) }
         ensures kept { Grows self.old self.new }

@@ -4,6 +4,7 @@
 ghost use Rattle.std.specs.Prelude.{◌≡◌, IfOk};
 
 use crate::TypeArena;
+use crate::numbering::Numbering;
 use crate::renumbered::{heading, renumbered, signal};
 use crate::spec::{Demand, Form, OpSpec, Spec};
 use crate::term::{Actual, Exception, Field, Heading, Term};
@@ -47,7 +48,7 @@ impl Exception {
     pub fn copy(&self, alloc: Global) -> Result<Exception, Memory>
         ensures { IfOk result (λ copied. copied ≡ self.now) }
     {
-        signal(alloc, &[], self)
+        signal(alloc, &Numbering::new(alloc), self)
     }
 }
 
@@ -56,7 +57,7 @@ impl Heading {
     pub fn copy(&self, alloc: Global) -> Result<Heading, Memory>
         ensures { IfOk result (λ copied. copied ≡ self.now) }
     {
-        heading(alloc, &[], self)
+        heading(alloc, &Numbering::new(alloc), self)
     }
 }
 
@@ -78,7 +79,7 @@ impl Term {
     pub fn copy(&self, alloc: Global) -> Result<Term, Memory>
         ensures { IfOk result (λ copied. copied ≡ self.now) }
     {
-        renumbered(alloc, &[], &[], self)
+        renumbered(alloc, &Numbering::new(alloc), &[], self)
     }
 }
 

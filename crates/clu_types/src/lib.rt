@@ -5,10 +5,11 @@
 mod actuals;
 mod arena;
 mod carry;
+mod components;
 mod copy;
 mod included;
 mod interned;
-mod marks;
+mod numbering;
 mod renumbered;
 mod spec;
 mod specs;

@@ -1,4 +1,3 @@
-use Rattle.std.proofs.Common.{◌≡◌, sym, ◌∙◌}
 use Rattle.clu_types.proofs.Inclusion.{found_first, after_first}
 use Rattle.clu_types.proofs.included.after.Goals as goal
 

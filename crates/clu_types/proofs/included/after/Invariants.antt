@@ -1,4 +1,4 @@
-use Rattle.std.proofs.Common.{◌↔◌, length}
+use Rattle.std.proofs.Common.{length}
 use Rattle.clu_types.specs.Narrower.{HasException, AreAmongThese}
 use Rattle.clu_types.proofs.included.after.Given as goal
 

@@ -1,9 +1,13 @@
-use Rattle.std.proofs.Common.{◌≡◌, length, sym, subst, arith}
-use Rattle.clu_types.specs.Carried.{AreNeeded}
-use Rattle.clu_types.proofs.Marking.{written_over}
+use Rattle.clu_types.specs.Numbering.{numbers_of}
+use Rattle.clu_types.proofs.Needing.{needed_first, needed_step, needed_all}
 use Rattle.clu_types.proofs.arena.TypeArena.needed.Goals as goal
 
+pub types-init : goal.types-init
+types-init c = needed_first c.args.self.now c.args.t.0 (numbers_of c.new-table.result) _ c.new-table.ensures c.in_ok-need_parts.ensures
+
+pub types-preserved : goal.types-preserved
+types-preserved c =
+    needed_step c.args.self.now c.args.t.0 c.types.least c.in-Some.n (numbers_of c.types.table) _ c.in-Some.ensures c.in_ok-need_parts-2.ensures c.types.invariant
+
 pub returns : goal.returns
-returns c =
-    let long : length c.mark_needed.new.marks ≡ c.in_ok-marks.marks.len = omega (arith, c.mark_needed.ensures.count, c.in_ok-marks.ensures.len) in
-    subst (AreNeeded c.args.self.now c.args.t.0) (sym (written_over c.mark_needed.new.marks c.in_ok-marks.marks.items c.in_ok-marks.marks.len long)) c.mark_needed.ensures
+returns c = needed_all c.args.self.now c.args.t.0 c.types.least (numbers_of c.types.table) c.in_default.ensures c.types.invariant
