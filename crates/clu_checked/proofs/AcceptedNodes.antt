@@ -3,7 +3,7 @@
 use Rattle.std.proofs.Common.{◌≡◌, ◌∙◌, ℕ, ◌+◌, ◌++◌, ◌<◌, ◌≤◌, ◌==◌, ◌&&◌, ◌||◌, not, Bool, true, false, List, ◌∷◌, codes, drop, get_or, length, Option, Some, None, inl, inr, refl, sym, ap, subst, arith}
 use Rattle.std.specs.Prelude.{slice_get}
 use Rattle.std.specs.List.{AllByRecursion, list_any}
-use Rattle.std.proofs.lemmas.Bool.{true≢false, and_parts, cases_lt}
+use Rattle.std.proofs.lemmas.Bool.{true≢false, and_parts, cases_lt, or_parts}
 use Rattle.clu_base.specs.declared.rules.Rule.{Rule}
 use Rattle.clu_base.specs.declared.rules.Rule.TheVariants as rule
 use Rattle.clu_tree.specs.declared.node.Node.{Node}
@@ -44,7 +44,6 @@ use Rattle.clu_passes.specs.Losing.{is_definition, walk_by, walk_of}
 use Rattle.clu_passes.specs.Lost.{is_cvt_at, lost}
 use Rattle.clu_passes.specs.Notes.{HaveParents}
 use Rattle.clu_passes.specs.Trees.{IsFileOfTree, is_of_constant}
-use Rattle.clu_passes.proofs.Counting.{either_false}
 use Rattle.clu_passes.proofs.AcceptedFine.{accepted_clear, accepted_kept, faultless}
 use Rattle.clu_passes.proofs.CalleesWanted.{callee_wanted}
 use Rattle.clu_passes.proofs.InsideTold.{fine_kept}
@@ -246,7 +245,7 @@ module _ (f : File) where
 -- ---- of an accepted file
 
 -- a rule that is asked at a node is not violated where none is
-asked_fine : (v : Rule → Bool) (i : ℕ) (r : Rule) → slice_get all_rules i ≡ Some r → (k : NodeKind) (heading : Bool) → is_definition k ≡ false → least v (rules_by k (walk_by (is_definition k) heading) heading) ≡ None → v r ≡ false
+pub asked_fine : (v : Rule → Bool) (i : ℕ) (r : Rule) → slice_get all_rules i ≡ Some r → (k : NodeKind) (heading : Bool) → is_definition k ≡ false → least v (rules_by k (walk_by (is_definition k) heading) heading) ≡ None → v r ≡ false
 asked_fine v i r at kind.Module heading apart e = absurd (true≢false apart)
 asked_fine v i r at kind.Routine heading apart e = absurd (true≢false apart)
 asked_fine v i r at kind.Cluster heading apart e = absurd (true≢false apart)
@@ -271,8 +270,8 @@ module _ (t : Text) (f : File) (of : IsFileOfTree f) (parsed : IsParsed t f.node
   objects_fine n inside expression =
       let none_there : fault_at f (walk_of f n) n ≡ None = faultless f accepted (walk_of f n) n inside in
       let fine : v14 f n ≡ false = asked_fine (violates f (is_bad f) n) 10 rule.ResultCount refl (kind_in f n) (round f n).heading (no_definition (kind_in f n) expression) none_there in
-      (either_false (has_no_one_result f n) (is_no_object f (kind_in f n) n)
-      (either_false (is_not_one_object f n) (list_any (λ (b : Binding). not (length b.variables == length b.objects)) (bindings_at f n)) fine).0).1
+      (or_parts (has_no_one_result f n) (is_no_object f (kind_in f n) n)
+      (or_parts (is_not_one_object f n) (list_any (λ (b : Binding). not (length b.variables == length b.objects)) (bindings_at f n)) fine).0).1
 
   module _ (n : ℕ) (inside : n < length f.nodes) (expression : is_expression (kind_in f n) ≡ true) (used : is_object_wanted (wanted f n) ≡ true) where
     name_fine : kind_in f n ≡ kind.Name → names_other f (item f n).expression ≡ false

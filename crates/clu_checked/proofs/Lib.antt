@@ -20,3 +20,11 @@ pub mod Noted
 pub mod Sources
 pub mod Specified
 pub mod RepsRight
+pub mod NamesInserted
+pub mod NamesAlone
+pub mod NamesKnown
+pub mod NamesDenote
+pub mod ModulesDeclared
+pub mod ModulesPlaced
+pub mod NamedEach
+pub mod ModulesNamed

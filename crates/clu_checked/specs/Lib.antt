@@ -1,4 +1,5 @@
 pub mod Checked
+pub mod Naming
 pub mod Noted
 pub mod Sources
 pub mod Specified

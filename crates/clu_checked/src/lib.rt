@@ -40,6 +40,7 @@ ghost use Rattle.clu_checked.specs.Checked.{IsLibrary, IsOfGrammar, TagsKnown, b
 
 pub use demands::demands_answered;
 pub use handing::handed_on;
+pub use naming::named_of_source;
 pub use of_source::first_of_source;
 pub use specifying::specified_on;
 
@@ -85,6 +86,7 @@ pub fn first_checked()
 {}
 
 mod handing;
+mod naming;
 mod of_source;
 mod specifying;
 mod types;
