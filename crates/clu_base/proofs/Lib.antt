@@ -1,2 +1,5 @@
+pub mod Bools
+pub mod Lists
+pub mod Orders
 pub mod StoredFiles
 pub mod Written

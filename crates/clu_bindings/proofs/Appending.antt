@@ -1,10 +1,12 @@
 -- The modules that are known once one more has come.
-use Rattle.std.proofs.Common.{◌≡◌, ◌∙◌, ℕ, zero, suc, ◌+◌, ◌-◌, ◌^◌, min, ◌<◌, ◌≤◌, not, Bool, true, false, if◌then◌else◌, List, [], ◌∷◌, ◌++◌, length, map, take, get_or, Option, Some, None, slice_get, option_map, refl, ap, sym, subst, arith, append-nil, append_assoc, add-one}
+use Rattle.std.proofs.Common.{◌≡◌, ◌∙◌, ℕ, zero, suc, ◌+◌, ◌-◌, ◌^◌, min, ◌<◌, ◌≤◌, not, Bool, true, false, if◌then◌else◌, List, [], ◌∷◌, ◌++◌, length, take, get_or, Option, Some, None, slice_get, option_map, refl, ap, sym, subst, arith, append-nil, append_assoc, add-one}
 use Rattle.std.specs.Prelude.{bytes_eq}
 use Rattle.std.specs.HashMap.{get}
-use Rattle.std.proofs.lemmas.List.{take_all}
+use Rattle.std.proofs.lemmas.List.{take_all, map_push}
 use Rattle.std.proofs.lemmas.Option.{slice_get-get_or}
 use Rattle.std.proofs.lemmas.Slice.Eq.{bytes_eq-Decides}
+use Rattle.clu_base.proofs.Bools.{same_either}
+use Rattle.clu_base.proofs.Lists.{map_size, take_next}
 use Rattle.clu_tree.specs.declared.node.Node.{Node}
 use Rattle.clu_tree.specs.Nodes.{modules}
 use Rattle.clu_types.specs.declared.spec.Spec.{Spec}
@@ -19,19 +21,6 @@ use Rattle.clu_bindings.specs.Headlines.{Headline, headline_at}
 use Rattle.clu_bindings.specs.Modules.{module_id, place_from, module_named, AreModules, is_new, with_module, kept_known, kept_in, own_known, own_headed, own_in, modules_in}
 
 -- ---- lists
-
-map_last : {X Y : Type 0} (f : X → Y) (xs : List X) (x : X) → map f (xs ++ x ∷ []) ≡ map f xs ++ f x ∷ []
-map_last f [] x = refl
-map_last f (y ∷ xs) x = ap (λ (ys : List _). f y ∷ ys) (map_last f xs x)
-
-map_size : {X Y : Type 0} (f : X → Y) (xs : List X) → length (map f xs) ≡ length xs
-map_size f [] = refl
-map_size f (x ∷ xs) = ap suc (map_size f xs)
-
-take_next : {X : Type 0} (xs : List X) (n : ℕ) (x : X) → slice_get xs n ≡ Some x → take (suc n) xs ≡ take n xs ++ x ∷ []
-take_next [] n x e = absurd (cc)
-take_next (y ∷ xs) zero x e = let same : y ≡ x = cc in ap (λ (y : _). y ∷ []) same
-take_next (y ∷ xs) (suc n) x e = ap (λ (ys : List _). y ∷ ys) (take_next xs n x e)
 
 take_past : {X : Type 0} (xs : List X) (n m : ℕ) → slice_get xs n ≡ None → n ≤ m → take m xs ≡ take n xs
 take_past [] zero zero e l = refl
@@ -62,10 +51,6 @@ place_behind k (x ∷ all) m q = by (bytes_eq x.0 q) (place_behind (suc k) all m
     by false before =
         let same : suc k + length all ≡ k + suc (length all) = omega arith in
         before ∙ ap (λ (x : ℕ). or_else (place_from (suc k) all q) (if bytes_eq m.0 q then Some x else None)) same
-
-same_either : {A : Type 0} (b : Bool) (x : A) → (if b then x else x) ≡ x
-same_either true x = refl
-same_either false x = refl
 
 -- what is found by the name of the new module, where `found` was, at `place`
 at_name : (name : Identifier) (s : Bool) → is_stream name ≡ s → (found : Option ModuleId) (place : Option ℕ) (id : ModuleId) (last : ℕ) → found ≡ (if s then None else option_map module_id place) → id ≡ module_id last
@@ -109,7 +94,7 @@ module _ (old new : Modules) (name : Identifier) (known : ModuleKnown) (k : ℕ)
 
   pub pushed : AreModules new (all ++ (name, known) ∷ [])
   pushed = record {
-    known = more ∙ ap (λ (xs : List ModuleKnown). xs ++ known ∷ []) are.known ∙ sym (map_last (λ m. m.1) all (name, known));
+    known = more ∙ ap (λ (xs : List ModuleKnown). xs ++ known ∷ []) are.known ∙ sym (map_push (λ m. m.1) all (name, known));
     named = named_so;
   }
 
@@ -126,7 +111,7 @@ pub kept_next : (old now new : Modules) (library : List Spec) (n : ℕ) (s : Spe
 kept_next old now new library n s at before step = λ all are.
     let grown : (all ++ kept_in (take n library)) ++ (s.name, kept_known s) ∷ [] ≡ all ++ kept_in (take (n + 1) library) =
     append_assoc all (kept_in (take n library)) ((s.name, kept_known s) ∷ [])
-    ∙ ap (λ (xs : List (Identifier × ModuleKnown)). all ++ xs) (sym (map_last (λ s. (s.name, kept_known s)) (take n library) s) ∙ ap kept_in (sym (take_next library n s at) ∙ ap (λ (k : ℕ). take k library) (sym (add-one n)))) in
+    ∙ ap (λ (xs : List (Identifier × ModuleKnown)). all ++ xs) (sym (map_push (λ s. (s.name, kept_known s)) (take n library) s) ∙ ap kept_in (sym (take_next library n s at) ∙ ap (λ (k : ℕ). take k library) (sym (add-one n)))) in
     subst (AreModules new) grown (step (all ++ kept_in (take n library)) (before all are))
 
 pub kept_whole : (old now : Modules) (library : List Spec) (n : ℕ) → slice_get library n ≡ None → n ≤ 4294967295 → Adds old now (kept_in (take n library)) → Adds old now (kept_in (take 4294967295 library))

@@ -1,5 +1,6 @@
 -- The kind of a constant is known without its text.
 use Rattle.std.proofs.Common.{◌≡◌, ◌∙◌, Option, Some, None, option_map, refl, ap, sym}
+use Rattle.std.proofs.lemmas.Option.{same_Some}
 use Rattle.clu_base.specs.declared.constants.Const.{Const}
 use Rattle.clu_base.specs.declared.constants.Const.TheVariants as constant
 use Rattle.clu_constants.specs.declared.outline.Outline.{Outline}
@@ -14,12 +15,9 @@ kind_told (constant.Int n) = refl
 kind_told (constant.Char b) = refl
 kind_told (constant.Str bytes) = refl
 
-same_outline : (o p : Outline) → Some o ≡ Some p → o ≡ p
-same_outline o p e = cc
-
 pub kind_found : (found : Option Const) (o : Outline) → Some o ≡ option_map outlined found → Some (kind_of_outline o) ≡ kind_of_place found
 kind_found None o e = absurd (cc)
-kind_found (Some c) o e = ap (λ (k : ParamKind). Some k) (ap kind_of_outline (same_outline o (outlined c) e) ∙ kind_told c)
+kind_found (Some c) o e = ap (λ (k : ParamKind). Some k) (ap kind_of_outline (same_Some o (outlined c) e) ∙ kind_told c)
 
 pub kind_missing : (found : Option Const) → None ≡ option_map outlined found → None ≡ kind_of_place found
 kind_missing None e = refl

@@ -3,6 +3,7 @@ use Rattle.std.proofs.Common.{◌≡◌, ◌∙◌, ℕ, zero, suc, ◌+◌, ◌
 use Rattle.std.specs.Prelude.{slice_get}
 use Rattle.std.proofs.lemmas.Bool.{cases_eq}
 use Rattle.std.proofs.lemmas.Option.{none-some, same_Some, slice_get_within}
+use Rattle.clu_base.proofs.Lists.{got_front}
 use Rattle.clu_tree.specs.declared.node.Node.{Node}
 use Rattle.clu_tree.specs.declared.node.NodeKind.TheVariants as kind
 use Rattle.clu_types.specs.declared.spec.ParamKind.{ParamKind}
@@ -16,11 +17,6 @@ use Rattle.clu_settle.specs.declared.value.Value.{Value}
 use Rattle.clu_head.specs.OwnTypes.{number_at, is_type_parameter, IsOwn, IsOwnActual, AreOwn, IsOwnType}
 use Rattle.clu_bindings.specs.Headlines.{Headline, headline_of}
 use Rattle.clu_bindings.specs.Owned.{IsOwned, AreOwned}
-
-got_first : {A : Type 0} (xs ys : List A) (i : ℕ) (x : A) → slice_get xs i ≡ Some x → slice_get (xs ++ ys) i ≡ Some x
-got_first [] ys i x e = absurd (none-some x e)
-got_first (y ∷ xs) ys zero x e = e
-got_first (y ∷ xs) ys (suc i) x e = got_first xs ys i x e
 
 -- an item of a list with one more behind it
 got_before : {A : Type 0} (xs : List A) (y x : A) (i : ℕ) → slice_get (xs ++ y ∷ []) i ≡ Some x → i < length xs → slice_get xs i ≡ Some x
@@ -36,7 +32,7 @@ got_last (z ∷ xs) y x (suc i) e l = got_last xs y x i e (omega (arith, l))
 
 module _ (old new : List Term) (grows : Grows old new) where
   kept_at : (i : ℕ) (t : Term) → slice_get old i ≡ Some t → slice_get new i ≡ Some t
-  kept_at i t is = ap (λ (ts : List Term). slice_get ts i) grows.1 ∙ got_first old grows.0 i t is
+  kept_at i t is = ap (λ (ts : List Term). slice_get ts i) grows.1 ∙ got_front old grows.0 i t is
 
   one_wider : (b : Bool) (n : ℕ) (a : Actual) → IsOwn old b n a → IsOwn new b n a
   one_wider true n (actual.Of id) is = kept_at id.0 (term.Param n) is

@@ -258,7 +258,7 @@ pub fn meanings_of(
 ) -> Result<Vec<Meaning>, Memory>
     ensures { IfOk result (λ all. all.items ≡ meanings_of (named modules.now) declared.now tree.now names.now) }
 {
-    let mut all = Vec::new(alloc);
+    let mut all = Vec::with_capacity(alloc, names.bound.len())?;
     for n in 0..tree.len() {
         let bounds = items_of(names.bound.as_slice(), names.starts.as_slice(), n);
         push_meanings(modules, declared, &mut all, bounds, names_of(tree, n))?;

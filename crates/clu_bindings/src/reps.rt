@@ -144,7 +144,7 @@ fn reached_of(
 ) -> Result<Vec<Option<usize>>, Memory>
     ensures { IfOk result (λ reps. reps.items ≡ reached_of declared.now begun.now nodes) }
 {
-    let mut reps = Vec::new(alloc);
+    let mut reps = Vec::with_capacity(alloc, nodes as usize)?;
     let mut best = None;
     for n in 0..nodes {
         best = outlasting_at(declared, optional_at(begun, n as usize), best);

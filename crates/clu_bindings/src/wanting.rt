@@ -96,7 +96,7 @@ pub fn takers_of(
 ) -> Result<Vec<bool>, Memory>
     ensures { IfOk result (λ all. all.items ≡ takers_of values.now sets.now tree.now names.now meanings.now) }
 {
-    let mut all = Vec::new(alloc);
+    let mut all = Vec::with_capacity(alloc, tree.len() as usize)?;
     for n in 0..tree.len() {
         all.push(is_taker(tree, names, values, meanings, sets, n))?;
     }
@@ -153,7 +153,7 @@ pub fn wanted_of(
 ) -> Result<Vec<Wanted>, Memory>
     ensures { IfOk result (λ all. all.items ≡ wanted_of takers.now tree.now rounds.now) }
 {
-    let mut all = Vec::new(alloc);
+    let mut all = Vec::with_capacity(alloc, tree.len() as usize)?;
     for n in 0..tree.len() {
         all.push(wanted_at(tree, takers, rounds, n))?;
     }

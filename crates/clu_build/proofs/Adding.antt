@@ -1,12 +1,13 @@
 -- What is kept of specifications as they are entered, one after the other.
 use Rattle.std.proofs.Common.{◌≡◌, ◌≢◌, ◌⊎◌, inl, inr, ℕ, ◌+◌, ◌<◌, ◌≤◌, Bool, true, false, List, Contains, length, take, slice_get, Option, Some, None, IsSome, Result, Ok, Err, OnOk, refl, sym, ap, ◌∙◌, subst, true≢false}
 use Rattle.std.specs.Str.{bytes_eq}
+use Rattle.clu_base.proofs.Lists.{same_bytes, as_bytes, place_in, is_there}
 use Rattle.clu_library.specs.Contents.{Contents, KeepsFirst, entered_by, spec_of, with_entered}
 use Rattle.clu_types.specs.declared.spec.Spec.{Spec}
 use Rattle.clu_build.specs.Entering.{AreAdded, AreEntered, AreSame, IsOneEntered, IsOneEnteredIf, IsSameOf}
 use Rattle.clu_build.specs.Numbering.{AreNumbered, number_of}
-use Rattle.clu_build.proofs.Lists.{IsEntry, cases, in_all, is_there, none_some, none_there, place_in, some_same}
-use Rattle.clu_build.proofs.Numbering.{apart_of, entry_of, eq_of, same_of}
+use Rattle.clu_build.proofs.Lists.{IsEntry, cases, in_all, none_some, none_there, some_same}
+use Rattle.clu_build.proofs.Numbering.{apart_of, entry_of}
 
 -- the first n entries were entered
 pub record AreAdding (before library : Contents) (specs : List Spec) (entries : List (List ℕ × ℕ)) (n : ℕ) : Type 0 where
@@ -52,7 +53,7 @@ module _ (before library new : Contents) (specs : List Spec) (entries : List (Li
   there = by (spec_of library name) refl
     where
       by : (o : Option Spec) → spec_of library name ≡ o → IsSome (spec_of new name)
-      by None e = some_of (spec_of new name) s (found_new name e (eq_of s.name name same))
+      by None e = some_of (spec_of new name) s (found_new name e (as_bytes s.name name same))
       by (Some x) e = some_of (spec_of new name) x (found_kept name x e)
 
   is_new : (q : List ℕ) (x : Spec) → spec_of before q ≡ None → spec_of new q ≡ Some x → (j : ℕ) × (number_of entries q ≡ Some j) × (slice_get specs j ≡ Some x)
@@ -61,7 +62,7 @@ module _ (before library new : Contents) (specs : List Spec) (entries : List (Li
       by_name : spec_of library q ≡ None → (b : Bool) → bytes_eq s.name q ≡ b → (j : ℕ) × (number_of entries q ≡ Some j) × (slice_get specs j ≡ Some x)
       by_name empty true this =
           let is : s ≡ x = some_same (sym (found_new q empty this) ∙ e) in
-          (i, ap (number_of entries) (sym (same_of s.name q this) ∙ same) ∙ number, spec ∙ ap Some is)
+          (i, ap (number_of entries) (sym (same_bytes s.name q this) ∙ same) ∙ number, spec ∙ ap Some is)
       by_name empty false other = absurd (none_some (sym (found_none q empty other) ∙ e))
 
       by : (o : Option Spec) → spec_of library q ≡ o → (j : ℕ) × (number_of entries q ≡ Some j) × (slice_get specs j ≡ Some x)

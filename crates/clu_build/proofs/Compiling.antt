@@ -1,6 +1,7 @@
 -- What is kept of bodies as they are entered, one after the other.
 use Rattle.std.proofs.Common.{◌≡◌, ◌⊎◌, inl, inr, ℕ, ◌+◌, ◌≤◌, Bool, true, false, List, [], ◌∷◌, Contains, length, take, slice_get, Option, Some, None, IsSome, refl, sym, ap, ◌∙◌, subst}
 use Rattle.std.specs.Str.{bytes_eq}
+use Rattle.clu_base.proofs.Lists.{same_bytes}
 use Rattle.clu_library.specs.Contents.{Contents, body_of, checked_at, has, with_body}
 use Rattle.clu_library.specs.Replacing.{AreLeft}
 use Rattle.clu_library.specs.Staleness.{AreStale}
@@ -10,7 +11,7 @@ use Rattle.clu_types.specs.declared.spec.Spec.{Spec}
 use Rattle.clu_build.specs.Entering.{AreCompiled, HasModule, IsBodyOf, IsKeptText, IsOutdated, IsSameBody, IsTextEntered, IsTextEnteredIf}
 use Rattle.clu_build.specs.Numbering.{AreNumbered, number_of}
 use Rattle.clu_build.proofs.Lists.{IsEntry, cases, earlier, in_all, last, none_there, some_same}
-use Rattle.clu_build.proofs.Numbering.{entry_of, same_of}
+use Rattle.clu_build.proofs.Numbering.{entry_of}
 use Rattle.clu_build.proofs.Placing.{body_other, body_this, has_listed, left_filtered, left_same, listed_of}
 
 -- another body was entered of a module among the first n entries
@@ -168,14 +169,14 @@ module _ (before library : Contents) (texts : ℕ → Option (List ℕ)) (entrie
         other_name q other (inr new) = inr (new.0, new.1, new.2, now q new.0 new.3, new.4, body_other library name q b other ∙ new.5, new.6, new.7, new.8)
 
         by_name : (q : List ℕ) (t : Bool) → bytes_eq name q ≡ t → (body_of made q ≡ body_of before q) ⊎ IsNew before made texts (take (n + 1) entries) q
-        by_name q true this = inr (subst (IsNew before made texts (take (n + 1) entries)) (same_of name q this) new_here)
+        by_name q true this = inr (subst (IsNew before made texts (take (n + 1) entries)) (same_bytes name q this) new_here)
         by_name q false other = other_name q other (r.each q)
 
         by : (q : List ℕ) (j : ℕ) (t : Bool) → bytes_eq name q ≡ t → Contains (take n entries) (q, j) ⊎ IsEntry (name, i) (q, j) → HasBody before made texts q j
         by q j true this (inl h) =
-            let is : i ≡ j = some_same (sym number ∙ ap (number_of entries) (same_of name q this) ∙ r.of q j h) in
+            let is : i ≡ j = some_same (sym number ∙ ap (number_of entries) (same_bytes name q this) ∙ r.of q j h) in
             let P : List ℕ × ℕ → Type 0 = λ x. HasBody before made texts x.0 x.1 in
-            let pair : IsEntry (name, i) (q, j) = (λ k. (same_of name q this k, is k)) in
+            let pair : IsEntry (name, i) (q, j) = (λ k. (same_bytes name q this k, is k)) in
             subst P pair has_here
         by q j false other (inl h) = has_there q j other (r.done q j h)
         by q j t e (inr same) = let P : List ℕ × ℕ → Type 0 = λ x. HasBody before made texts x.0 x.1 in subst P same has_here

@@ -1,8 +1,8 @@
 -- What a list contains, by the places of its items.
-use Rattle.std.proofs.Common.{◌≡◌, ◌⊎◌, ℕ, ◌+◌, ◌<◌, ◌≤◌, zero, suc, List, [], ◌∷◌, ◌++◌, Contains, length, take, get_or, slice_get, Some, None, sym, ap, ◌∙◌, subst, arith}
+use Rattle.std.proofs.Common.{◌≡◌, ◌⊎◌, ℕ, ◌+◌, ◌≤◌, zero, suc, List, [], ◌∷◌, ◌++◌, Contains, length, take, slice_get, Some, None, sym, ap, ◌∙◌, subst, arith}
 use Rattle.std.proofs.lemmas.List.{take_all, take_more}
 use Rattle.std.proofs.lemmas.List.Elements.{Contains-append_left, Contains-push, Contains-push_cases}
-use Rattle.std.proofs.lemmas.Option.{get_or_from_slice_get, slice_get-get_or, slice_get_within}
+use Rattle.std.proofs.lemmas.Option.{get_or_from_slice_get, slice_get_within}
 
 -- two pairs of a name and a number are the same
 abbrev pub IsEntry : List ℕ × ℕ → List ℕ × ℕ → Type 0
@@ -13,12 +13,6 @@ some_same e = cc
 
 pub none_some : {X : Type 0} {x : X} → None ≡ Some x → ⊥
 none_some e = absurd (cc)
-
-pub place_in : {X : Type 0} (xs : List X) (x : X) → Contains xs x → (n : ℕ) × (n < length xs) × (slice_get xs n ≡ Some x)
-place_in xs x h = (h.0, h.1, slice_get-get_or xs h.0 x h.1 ∙ ap Some h.2)
-
-pub is_there : {X : Type 0} (xs : List X) (n : ℕ) (x : X) → slice_get xs n ≡ Some x → Contains xs x
-is_there xs n x e = (n, slice_get_within xs n x e, get_or_from_slice_get xs n x x e)
 
 pub none_there : {X : Type 0} (x : X) → Contains [] x → ⊥
 none_there x h = omega (arith, h.1)
@@ -43,10 +37,6 @@ in_all {X} xs n le x h = let P : List X → Type 0 = λ ys. Contains ys x in sub
 
 pub of_all : {X : Type 0} (xs : List X) (n : ℕ) → length xs ≤ n → (x : X) → Contains (take n xs) x → Contains xs x
 of_all {X} xs n le x h = let P : List X → Type 0 = λ ys. Contains ys x in subst P (take_all n xs le) h
-
--- the item of a turn
-pub item_at : {X : Type 0} (xs : List X) (n : ℕ) (x : X) → n < length xs → x ≡ get_or xs n x → slice_get xs n ≡ Some x
-item_at xs n x lt is = slice_get-get_or xs n x lt ∙ ap Some (sym is)
 
 -- behind the last item there is none
 pub past : {X : Type 0} (xs : List X) (n : ℕ) → slice_get xs n ≡ None → length xs ≤ n

@@ -4,19 +4,12 @@ use Rattle.std.specs.Str.{bytes_eq}
 use Rattle.std.proofs.Math.Dec.{ltb}
 use Rattle.std.proofs.lemmas.Map.Views.{Contains-from_lookup}
 use Rattle.std.proofs.lemmas.Option.{slice_get_within}
-use Rattle.std.proofs.lemmas.Slice.Eq.{bytes_eq-Decides}
 use borrow.Author.Tests.{ltb-true, ltb-false}
+use Rattle.clu_base.proofs.Lists.{same_bytes, as_bytes}
 use Rattle.clu_types.specs.declared.spec.Spec.{Spec}
 use Rattle.clu_build.specs.Entering.{AreApart}
 use Rattle.clu_build.specs.Numbering.{AreNumbered, IsNumbered, number_of}
 use Rattle.clu_build.proofs.Lists.{none_some, some_same}
-
--- names
-pub same_of : (m n : List ℕ) → bytes_eq m n ≡ true → m ≡ n
-same_of m n = (bytes_eq-Decides m n).0
-
-pub eq_of : (m n : List ℕ) → m ≡ n → bytes_eq m n ≡ true
-eq_of m n = (bytes_eq-Decides m n).1
 
 -- the first n specifications are numbered
 pub record AreNumberedTo (specs : List Spec) (entries : List (List ℕ × ℕ)) (n : ℕ) : Type 0 where
@@ -30,10 +23,10 @@ pub numbered_more : (specs : List Spec) (before after : List (List ℕ × ℕ)) 
 numbered_more specs before after n s r at one = record { all = all; of = of }
   where
     here : number_of after s.name ≡ Some n
-    here = one.others s.name ∙ rw (eq_of s.name s.name refl) refl
+    here = one.others s.name ∙ rw (as_bytes s.name s.name refl) refl
 
     other : (t : Spec) (i : ℕ) (b : Bool) → bytes_eq s.name t.name ≡ b → number_of before t.name ≡ Some i → number_of after t.name ≡ Some i
-    other t i true same e = absurd (none_some (sym one.new ∙ ap (number_of before) (same_of s.name t.name same) ∙ e))
+    other t i true same e = absurd (none_some (sym one.new ∙ ap (number_of before) (same_bytes s.name t.name same) ∙ e))
     other t i false differ e = one.others t.name ∙ rw differ e
 
     all : (i : ℕ) (t : Spec) → i < n + 1 → slice_get specs i ≡ Some t → number_of after t.name ≡ Some i
@@ -53,7 +46,7 @@ numbered_more specs before after n s r at one = record { all = all; of = of }
         by : (b : Bool) → bytes_eq s.name name ≡ b → (t : Spec) × (slice_get specs i ≡ Some t) × (t.name ≡ name)
         by true same =
             let last : n ≡ i = some_same (sym (one.others name ∙ rw same refl) ∙ e) in
-            (s, ap (slice_get specs) (sym last) ∙ at, same_of s.name name same)
+            (s, ap (slice_get specs) (sym last) ∙ at, same_bytes s.name name same)
         by false differ = r.of name i (sym (one.others name ∙ rw differ refl) ∙ e)
 
 pub numbered_all : (specs : List Spec) (entries : List (List ℕ × ℕ)) (n : ℕ) → length specs ≤ n → AreNumberedTo specs entries n → AreNumbered specs entries
@@ -65,7 +58,7 @@ renumbered specs before after same r = record { all = λ n s e. same s.name ∙ 
 
 -- each specification is among the entries
 pub entry_of : (specs : List Spec) (entries : List (List ℕ × ℕ)) → AreNumbered specs entries → (n : ℕ) (s : Spec) → slice_get specs n ≡ Some s → Contains entries (s.name, n)
-entry_of specs entries r n s e = Contains-from_lookup same_of s.name n entries (r.all n s e)
+entry_of specs entries r n s e = Contains-from_lookup same_bytes s.name n entries (r.all n s e)
 
 pub apart_of : (specs : List Spec) (entries : List (List ℕ × ℕ)) → AreNumbered specs entries → AreApart specs
 apart_of specs entries r i j s t at_i at_j same = some_same (sym (r.all i s at_i) ∙ ap (number_of entries) same ∙ r.all j t at_j)

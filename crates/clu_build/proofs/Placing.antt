@@ -7,6 +7,7 @@ use Rattle.std.proofs.lemmas.List.Folds.{list_any_at}
 use Rattle.std.proofs.lemmas.Map.Text.{is_eq-slice_cmp}
 use Rattle.std.specs.declared.cmp.Ordering.{Ordering}
 use Rattle.std.specs.declared.cmp.Ordering.TheVariants.{Less, Equal, Greater}
+use Rattle.clu_base.proofs.Lists.{same_bytes, as_bytes}
 use Rattle.clu_library.specs.ByName.{placed, with_item}
 use Rattle.clu_library.specs.Contents.{Contents, body_of, checked_at, has, with_body}
 use Rattle.clu_library.specs.Replacing.{AreLeft}
@@ -14,14 +15,13 @@ use Rattle.clu_library.specs.declared.body.Body.{Body}
 use Rattle.clu_library.specs.declared.body.ModuleBody.{ModuleBody}
 use Rattle.clu_library.specs.declared.program.Program.{Program}
 use Rattle.clu_types.specs.Specs.{name_order}
-use Rattle.clu_build.proofs.Numbering.{eq_of, same_of}
 
 -- the first item of a name
 abbrev pub named : {X : Type 0} → (X → List ℕ) → List ℕ → List X → Option X
 named name_of name xs = find (λ x. bytes_eq (name_of x) name) xs
 
 same_name : (m n : List ℕ) → name_order m n ≡ Equal → m ≡ n
-same_name m n e = same_of m n (sym (is_eq-slice_cmp m n) ∙ ap is_eq e)
+same_name m n e = same_bytes m n (sym (is_eq-slice_cmp m n) ∙ ap is_eq e)
 
 module _ {X : Type 0} (name_of : X → List ℕ) (name : List ℕ) where
   -- of another name the same is found as before
@@ -42,11 +42,11 @@ module _ {X : Type 0} (name_of : X → List ℕ) (name : List ℕ) where
 
   -- of its own name it is found
   item_this : (xs : List X) (y : X) → name_of y ≡ name → named name_of name (with_item name_of xs y) ≡ Some y
-  item_this [] y this = rw (eq_of (name_of y) name this) refl
+  item_this [] y this = rw (as_bytes (name_of y) name this) refl
   item_this (x ∷ xs) y this = by (name_order (name_of x) (name_of y)) refl (item_this xs y this)
     where
       here : bytes_eq (name_of y) name ≡ true
-      here = eq_of (name_of y) name this
+      here = as_bytes (name_of y) name this
 
       apart : name_order (name_of x) (name_of y) ≡ Less → (b : Bool) → bytes_eq (name_of x) name ≡ b → b ≡ false
       apart e true equal =
@@ -67,14 +67,14 @@ body_other library name q b other = ap (option_map (λ (x : ModuleBody). x.body)
 
 -- whether a program has a module
 pub has_listed : (p : Program) (name : List ℕ) → Contains p.modules name → has p name ≡ true
-has_listed p name h = list_any_at (λ m. bytes_eq m name) p.modules h.0 name h.1 (eq_of _ name h.2)
+has_listed p name h = list_any_at (λ m. bytes_eq m name) p.modules h.0 name h.1 (as_bytes _ name h.2)
 
 listed_in : (names : List (List ℕ)) (name : List ℕ) → list_any (λ m. bytes_eq m name) names ≡ true → Contains names name
 listed_in [] name e = absurd (true≢false (sym e))
 listed_in (x ∷ xs) name e = by (bytes_eq x name) refl (λ rest. listed_in xs name rest)
   where
     by : (b : Bool) → bytes_eq x name ≡ b → (list_any (λ m. bytes_eq m name) xs ≡ true → Contains xs name) → Contains (x ∷ xs) name
-    by true this further = (0, omega arith, same_of x name this)
+    by true this further = (0, omega arith, same_bytes x name this)
     by false other further = let it = further (sym (rw other refl) ∙ e) in (suc it.0, omega (arith, it.1), it.2)
 
 pub listed_of : (p : Program) (name : List ℕ) → has p name ≡ true → Contains p.modules name

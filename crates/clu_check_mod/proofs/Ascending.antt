@@ -1,7 +1,8 @@
 -- What rules look for by its name ascends where all that is asked does.
-use Rattle.std.proofs.Common.{◌≡◌, ◌<◌, ◌≤◌, ◌&&◌, ◌||◌, ℕ, zero, suc, Bool, true, false, List, [], ◌∷◌, get_or, length, arith, refl, ap, subst, sym, ◌∙◌}
+use Rattle.std.proofs.Common.{◌≡◌, ◌<◌, ◌≤◌, ◌&&◌, ℕ, zero, suc, true, List, [], ◌∷◌, get_or, length, arith, subst, sym, ◌∙◌}
 use Rattle.std.specs.List.{AllByRecursion}
 use Rattle.std.specs.Prelude.{slice_get}
+use Rattle.std.proofs.lemmas.Bool.{or_left, or_right}
 use Rattle.clu_base.specs.declared.rules.Rule.{Rule}
 use Rattle.clu_base.specs.declared.rules.Rule.TheVariants as rule
 use Rattle.clu_tree.specs.declared.node.NodeKind.TheVariants as kind
@@ -36,26 +37,19 @@ module _ (k : Known) (n : ℕ) where
 pub ascend_same : (k : Known) (n : ℕ) (rules others : List Rule) → rules ≡ others → RulesAscend k n others → RulesAscend k n rules
 ascend_same k n rules others is up = subst (RulesAscend k n) (sym is) up
 
-first_of : (a b : Bool) → a ≡ true → (a || b) ≡ true
-first_of a b is = ap (λ (a : Bool). a || b) is
-
-second_of : (a b : Bool) → b ≡ true → (a || b) ≡ true
-second_of true b is = refl
-second_of false b is = is
-
 -- in an equate, in the declaration of an arm, and at a node in one
 pub in_equate : (its : By) (n : ℕ) → is_there kind.Equate (slice_get (file_by its).syntax.now n) ≡ true → AscendBy its → AscendIn its n
 in_equate (by.Types t) n is up = up
 in_equate (by.All k) n is up = (
   up.0,
-  up.1 n (first_of (is_there kind.Equate (slice_get (file_by (by.All k)).syntax.now n)) (is_there kind.Decl (slice_get (file_by (by.All k)).syntax.now n) && stands_in (file_by (by.All k)).syntax.now (file_by (by.All k)).rounds.now kind.When n) is),
+  up.1 n (or_left (is_there kind.Equate (slice_get (file_by (by.All k)).syntax.now n)) (is_there kind.Decl (slice_get (file_by (by.All k)).syntax.now n) && stands_in (file_by (by.All k)).syntax.now (file_by (by.All k)).rounds.now kind.When n) is),
 )
 
 pub in_arm : (its : By) (n : ℕ) → (is_there kind.Decl (slice_get (file_by its).syntax.now n) && stands_in (file_by its).syntax.now (file_by its).rounds.now kind.When n) ≡ true → AscendBy its → AscendIn its n
 in_arm (by.Types t) n is up = up
 in_arm (by.All k) n is up = (
   up.0,
-  up.1 n (second_of (is_there kind.Equate (slice_get (file_by (by.All k)).syntax.now n)) (is_there kind.Decl (slice_get (file_by (by.All k)).syntax.now n) && stands_in (file_by (by.All k)).syntax.now (file_by (by.All k)).rounds.now kind.When n) is),
+  up.1 n (or_right (is_there kind.Equate (slice_get (file_by (by.All k)).syntax.now n)) (is_there kind.Decl (slice_get (file_by (by.All k)).syntax.now n) && stands_in (file_by (by.All k)).syntax.now (file_by (by.All k)).rounds.now kind.When n) is),
 )
 
 pub at_inside : (its : By) (n m : ℕ) → (round_at (file_by its).rounds.now n).first ≤ m → m < n → AscendIn its n → AscendsAt its m

@@ -1,6 +1,6 @@
 -- Nodes that are asked one after the other, and what is left of their numbers.
-use Rattle.std.proofs.Common.{◌≡◌, ◌∙◌, ℕ, zero, suc, ◌+◌, ◌-◌, ◌<◌, ◌≤◌, ◌||◌, Bool, true, false, List, [], ◌∷◌, ◌++◌, fold, get_or, length, map, Option, None, refl, sym, ap, arith, append_assoc}
-use Rattle.std.proofs.lemmas.Option.{slice_get_read}
+use Rattle.std.proofs.Common.{◌≡◌, ◌∙◌, ℕ, suc, ◌+◌, ◌-◌, ◌<◌, ◌≤◌, ◌||◌, Bool, true, false, List, [], ◌∷◌, ◌++◌, fold, get_or, length, map, Option, refl, sym, ap, arith, append_assoc}
+use Rattle.std.proofs.lemmas.Option.{slice_get_read, slice_get_past}
 use Rattle.std.specs.Prelude.{slice_get}
 use Rattle.std.specs.List.{range_with_len}
 use Rattle.clu_tree.specs.declared.node.Node.{Node}
@@ -39,11 +39,6 @@ looked_next fault bad its faulty new before found now n size whole less same say
 
 -- ---- the declaration of this place
 
-past_get : {X : Type 0} (xs : List X) (i : ℕ) → length xs ≤ i → slice_get xs i ≡ None
-past_get [] i past = refl
-past_get (x ∷ xs) zero past = absurd (omega (arith, past))
-past_get (x ∷ xs) (suc i) past = past_get xs i (omega (arith, past))
-
 module _ (nodes : List Node) (rounds : List Round) (fault : List Bool → ℕ → Bool) (declared : List Declared) (a : Asked) (place : ℕ) where
   -- is an equate
   pub equate_here : (one : Declared) → place < length declared → one ≡ get_or declared place one → is_there kind.Equate (slice_get nodes one.node) ≡ true → asked_equate nodes rounds fault declared a place ≡ asked_in rounds fault a one.node
@@ -55,4 +50,4 @@ module _ (nodes : List Node) (rounds : List Round) (fault : List Bool → ℕ �
 
   -- or there is none
   pub equate_past : length declared ≤ place → asked_equate nodes rounds fault declared a place ≡ a
-  equate_past past = ap (asked_of nodes rounds fault a) (past_get declared place past)
+  equate_past past = ap (asked_of nodes rounds fault a) (slice_get_past declared place past)

@@ -1,7 +1,7 @@
 -- What an accepted file is handed on with is what the definitions say of it: nothing is lost at its nodes, but at `cvt`.
-use Rattle.std.proofs.Common.{◌≡◌, ◌∙◌, ◌+◌, ◌-◌, ◌^◌, ◌<◌, ◌≤◌, ◌||◌, ◌⊎◌, if◌then◌else◌, ℕ, Bool, true, false, List, length, map, Option, Some, None, inl, inr, refl, sym, ap, ap₂, subst, arith}
+use Rattle.std.proofs.Common.{◌≡◌, ◌∙◌, ◌+◌, ◌-◌, ◌^◌, ◌<◌, ◌≤◌, ◌||◌, if◌then◌else◌, ℕ, Bool, true, false, List, length, map, Option, Some, None, inl, inr, refl, sym, ap, ap₂, subst, arith}
 use Rattle.std.specs.Prelude.{slice_get}
-use Rattle.std.proofs.lemmas.Bool.{true≢false, cases_lt}
+use Rattle.std.proofs.lemmas.Bool.{true≢false, cases_lt, or_cases}
 use Rattle.std.proofs.lemmas.Option.{slice_get_past}
 use Rattle.clu_base.specs.declared.constants.Const.{Const}
 use Rattle.clu_tree.specs.declared.node.Node.{Node}
@@ -93,10 +93,6 @@ name_expression : (k : NodeKind) → is_of kind.Name k ≡ true → is_expressio
 name_expression kind.Name e = refl
 name_expression kind.File e = absurd (true≢false (sym e))
 name_expression _ e = absurd (true≢false (sym e))
-
-either : (a b : Bool) → (a || b) ≡ true → (a ≡ true) ⊎ (b ≡ true)
-either true b e = inl refl
-either false b e = inr e
 
 module _ (t : Text) (nodes : List Node) (parsed : IsParsed t nodes) (library : List Spec) (checked : Checked) (noted : IsNoted nodes library checked)
     (few : AreFew nodes noted.is.rounds) (few_modules : length (modules nodes) + length library < 2 ^ 32 - 1) (grammar : IsOfGrammar nodes noted.is.rounds) (kept : IsLibrary library) where
@@ -226,7 +222,7 @@ module _ (t : Text) (nodes : List Node) (parsed : IsParsed t nodes) (library : L
   constants_are = ap (λ (g : Read). g.constants.now) file_are ∙ noted.is.is.constants ∙ sym noted.constants
 
   value_known : (n : ℕ) → is_constant f.nodes n ≡ true → is_cvt_at f n ≡ false → value_of r.values.now n ≡ value.Lost → ⊥
-  value_known n here apart gone_there = elim (either (is_expression (kind_in f n)) (is_type (kind_in f n)) here) [
+  value_known n here apart gone_there = elim (or_cases (is_expression (kind_in f n)) (is_type (kind_in f n)) here) [
     | inl expression ↦ expression_value t k.tables specs gone whole_there n (fine n here apart) expression (value_same r.values.now n ∙ gone_there)
     | inr type ↦ type_value t k.tables specs gone whole_there n (fine n here apart) type (value_same r.values.now n ∙ gone_there)
   ]

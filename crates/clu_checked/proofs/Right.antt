@@ -2,6 +2,7 @@
 use Rattle.std.proofs.Common.{◌≡◌, ◌+◌, ◌-◌, ◌^◌, ◌<◌, ◌||◌, not, ℕ, Bool, true, false, List, length, map, Option, refl, sym}
 use Rattle.std.proofs.lemmas.Bool.{true≢false}
 use Rattle.clu_base.specs.declared.rules.Refused.{Refused}
+use Rattle.clu_base.proofs.Bools.{implied}
 use Rattle.clu_tree.specs.declared.node.Node.{Node}
 use Rattle.clu_tree.specs.declared.node.NodeKind.{NodeKind}
 use Rattle.clu_tree.specs.declared.node.NodeKind.TheVariants as kind
@@ -54,10 +55,6 @@ asked_apart _ = refl
 asked_bare : (k : NodeKind) → if_asked k (not (is_in_headings k)) ≡ true
 asked_bare kind.File = refl
 asked_bare _ = refl
-
-implied : (a b : Bool) → (not a || b) ≡ true → a ≡ true → b ≡ true
-implied true b e is = e
-implied false b e is = absurd (true≢false (sym is))
 
 denied : (a b : Bool) → (not a || not b) ≡ true → a ≡ true → b ≡ false
 denied true true e is = absurd (true≢false (sym e))

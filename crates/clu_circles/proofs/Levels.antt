@@ -3,7 +3,7 @@ use Rattle.std.proofs.Common.{◌≡◌, ◌∙◌, ◌↔◌, ℕ, zero, suc, �
 use Rattle.std.specs.Prelude.{slice_get}
 use Rattle.std.specs.List.{IsDistinct, AllByRecursion, list_any}
 use Rattle.std.proofs.lemmas.Option.{slice_get_within}
-use Rattle.std.proofs.lemmas.Bool.{cases_Bool, or_cases, true≢false}
+use Rattle.std.proofs.lemmas.Bool.{or_cases, true≢false, ne_eqb}
 use Rattle.std.proofs.lemmas.Map.Steps.{length-le_from_distinct_below}
 use Rattle.clu_circles.specs.declared.states.Span.{Span}
 use Rattle.clu_circles.specs.Circles.{LeadsFor, AreCircles}
@@ -15,14 +15,11 @@ all_by : (P : ℕ → Type 0) (xs : List ℕ) → ((i y : ℕ) → slice_get xs 
 all_by P [] each = tt
 all_by P (x ∷ xs) each = (each 0 x refl, all_by P xs (λ i y e. each (suc i) y e))
 
-differ : (a b : ℕ) → (a ≡ b → ⊥) → eqb a b ≡ false
-differ a b other = elim (cases_Bool (eqb a b)) [ inl e ↦ absurd (other (eqb-true a b e)) | inr e ↦ e ]
-
 pub distinct : (xs : List ℕ) → ((p q k : ℕ) → slice_get xs p ≡ Some k → slice_get xs q ≡ Some k → p ≡ q) → IsDistinct eqb xs
 unfolding IsDistinct
 distinct [] once = tt
 distinct (x ∷ xs) once = (
-  all_by (λ y. eqb x y ≡ false) xs (λ i y e. differ x y (λ same. let h : 0 ≡ suc i = once 0 (suc i) x refl (e ∙ ap (λ (z : ℕ). Some z) (sym same)) in omega (arith, h))),
+  all_by (λ y. eqb x y ≡ false) xs (λ i y e. ne_eqb x y (λ same. let h : 0 ≡ suc i = once 0 (suc i) x refl (e ∙ ap (λ (z : ℕ). Some z) (sym same)) in omega (arith, h))),
   distinct xs (λ p q k e f. let h : suc p ≡ suc q = once (suc p) (suc q) k e f in omega (arith, h)),
 )
 

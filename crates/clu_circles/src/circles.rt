@@ -30,7 +30,7 @@ fn is_circular(state: State) -> bool
 fn circular_of(alloc: Global, states: &[State]) -> Result<Vec<bool>, Memory>
     ensures { IfOk result (λ circular. circular.items ≡ map is_circular states.now) }
 {
-    let mut circular = Vec::new(alloc);
+    let mut circular = Vec::with_capacity(alloc, states.len())?;
     for state in states {
         circular.push(is_circular(*state))?;
     }

@@ -1,7 +1,8 @@
 -- How many of the first declarations of a file are parameters of a module, node by node.
-use Rattle.std.proofs.Common.{◌≡◌, ◌∙◌, ◌⊎◌, ℕ, zero, suc, ◌+◌, ◌-◌, ◌^◌, ◌<◌, ◌≤◌, ◌&&◌, Bool, true, false, if◌then◌else◌, List, [], ◌∷◌, ◌++◌, length, take, Option, Some, None, slice_get, refl, ap, sym, inl, inr, arith, append_assoc, append-nil}
-use Rattle.std.proofs.lemmas.Bool.{true≢false}
-use Rattle.std.proofs.lemmas.Option.{same_Some}
+use Rattle.std.proofs.Common.{◌≡◌, ◌∙◌, ℕ, zero, suc, ◌+◌, ◌-◌, ◌^◌, ◌<◌, ◌≤◌, ◌&&◌, Bool, true, false, if◌then◌else◌, List, [], ◌∷◌, ◌++◌, length, take, Option, Some, None, slice_get, refl, ap, sym, inl, inr, arith, append_assoc, append-nil}
+use Rattle.std.proofs.Math.Bool.{and-false}
+use Rattle.std.proofs.lemmas.Bool.{true≢false, and_left as and_first}
+use Rattle.clu_base.proofs.Lists.{some_at, take_next, split}
 use Rattle.clu_tree.specs.declared.node.Node.{Node}
 use Rattle.clu_tree.specs.declared.node.NodeKind.{NodeKind}
 use Rattle.clu_tree.specs.declared.node.NodeKind.TheVariants as kind
@@ -16,16 +17,6 @@ use Rattle.clu_settle.specs.Parameters.{parent_round, is_of_module, is_parameter
 
 -- ---- lists
 
-pub there_at : {X : Type 0} (xs : List X) (p : ℕ) → p < length xs → (x : X) × (slice_get xs p ≡ Some x)
-there_at [] p l = absurd (omega (arith, l))
-there_at (x ∷ xs) zero l = (x, refl)
-there_at (x ∷ xs) (suc p) l = there_at xs p (omega (arith, l))
-
-pub take_next : {X : Type 0} (xs : List X) (p : ℕ) (x : X) → slice_get xs p ≡ Some x → take (suc p) xs ≡ take p xs ++ x ∷ []
-take_next [] p x e = absurd (cc)
-take_next (y ∷ xs) zero x e = ap (λ (z : _). z ∷ []) (same_Some y x e)
-take_next (y ∷ xs) (suc p) x e = ap (λ (zs : List _). y ∷ zs) (take_next xs p x e)
-
 take_front : {X : Type 0} (ys zs : List X) (i : ℕ) → i ≤ length ys → take i (ys ++ zs) ≡ take i ys
 take_front ys zs zero l = refl
 take_front [] zs (suc i) l = absurd (omega (arith, l))
@@ -37,14 +28,6 @@ take_within (x ∷ xs) ys zs i l =
     let same : suc (length xs) + i ≡ suc (length xs + i) = omega arith in
     ap (λ (k : ℕ). take k (x ∷ ((xs ++ ys) ++ zs))) same ∙ ap (λ (r : List _). x ∷ r) (take_within xs ys zs i l)
 
-pub either : {X : Type 0} (xs ys : List X) (p : ℕ) (d : X) → slice_get (xs ++ ys) p ≡ Some d → (slice_get xs p ≡ Some d) ⊎ ((i : ℕ) × (p ≡ length xs + i) × (slice_get ys i ≡ Some d))
-either [] ys p d e = inr (p, omega arith, e)
-either (x ∷ xs) ys zero d e = inl e
-either (x ∷ xs) ys (suc p) d e = elim (either xs ys p d e) [
-  | inl f ↦ inl f
-  | inr r ↦ inr (r.0, omega (arith, r.1), r.2)
-]
-
 next_of : (b : Bool) (k c p : ℕ) → k ≡ c → c ≤ p → p + 1 < 2 ^ 32 → (if b then next k else k) ≡ c + ((if b then 1 else 0) + 0)
 next_of true k c p e l m = omega (arith, e, l, m)
 next_of false k c p e l m = omega (arith, e)
@@ -55,13 +38,6 @@ at_most_one false = omega arith
 
 behind_sum : (a b c d : ℕ) → b ≡ c + d → a + b ≡ (a + c) + d
 behind_sum a b c d e = omega (arith, e)
-
-and_none : (b : Bool) → (b && false) ≡ false
-and_none true = refl
-and_none false = refl
-
-and_first : (a b : Bool) → a ≡ false → (a && b) ≡ false
-and_first a b e = ap (λ (a : Bool). a && b) e
 
 pub and_left : (a b : Bool) → (a && b) ≡ true → a ≡ true
 and_left true b e = refl
@@ -112,7 +88,7 @@ module _ (nodes : List Node) (rounds : List Round) where
   unfolding counted
   counted_is ds few u zero l = (refl, omega arith)
   counted_is ds few u (suc p) l =
-      let d = there_at ds p (omega (arith, l)) in
+      let d = some_at ds p (omega (arith, l)) in
       counted_step ds few u p d.0 (omega (arith, l)) d.1 (counted_is ds few u p (omega (arith, l)))
 
   -- ---- where declarations stand
@@ -137,7 +113,7 @@ module _ (nodes : List Node) (rounds : List Round) where
   pub placed : (n p : ℕ) (d : Declared) → slice_get (up_to n) p ≡ Some d → IsPlaced n p d
   unfolding declared_to
   placed zero p d e = absurd (cc)
-  placed (suc n) p d e = elim (either (up_to n) (at_node n) p d e) [
+  placed (suc n) p d e = elim (split (up_to n) (at_node n) p d e) [
     | inl front ↦ (let q : IsPlaced n p d = placed n p d front in
         let l : q.m < n = q.before in
         record { m = q.m; i = q.i; before = omega (arith, l); place = q.place; at = q.at })
@@ -201,7 +177,7 @@ module _ (nodes : List Node) (rounds : List Round) where
     where
       by : (b : Bool) → amount u (if b then [] else record { name = name; node = n; from = 0; to = 4294967295; unit = None } ∷ []) ≡ 0
       by true = refl
-      by false = ap (λ (b : Bool). (if b then 1 else 0) + 0) (and_none (is_parameter nodes rounds n)) ∙ omega arith
+      by false = ap (λ (b : Bool). (if b then 1 else 0) + 0) (and-false (is_parameter nodes rounds n)) ∙ omega arith
 
   no_module : (u : ℕ) (outer : NodeKind) (n : ℕ) (node : Node) → amount u (module_at outer n node) ≡ 0
   no_module u outer n node = by (is_module outer node.kind)

@@ -3,6 +3,7 @@ use Rattle.std.proofs.Common.{◌≡◌, ◌∙◌, ℕ, zero, suc, ◌+◌, ◌
 use Rattle.std.specs.Prelude.{bytes_eq}
 use Rattle.std.specs.List.{AllByRecursion}
 use Rattle.std.proofs.lemmas.Bool.{true≢false, cases_Bool}
+use Rattle.clu_base.proofs.Bools.{second_true}
 use Rattle.clu_tree.specs.declared.node.Node.{Node}
 use Rattle.clu_tree.specs.declared.node.NodeKind.{NodeKind}
 use Rattle.clu_tree.specs.declared.node.NodeKind.TheVariants as kind
@@ -32,10 +33,6 @@ use Rattle.clu_declares.proofs.Haves.{IsBound, InFile, form_at, module_up, paren
 names_same : (p : ℕ) (name : Identifier) (n : ℕ) (t u : Option TypeExpression) (k j : ℕ) (names : List Identifier) → has (of_names n t k names) p name ≡ has (of_names n u j names) p name
 names_same p name n t u k j [] = refl
 names_same p name n t u k j (x ∷ names) = ap (λ (b : Bool). (n == p && bytes_eq x name) || b) (names_same p name n t u (suc k) (suc j) names)
-
-second_true : (a b : Bool) → (a || b) ≡ true → a ≡ false → b ≡ true
-second_true true b e f = absurd (true≢false f)
-second_true false b e f = e
 
 -- what declares a name of its own
 abbrev is_named : NodeKind → Bool

@@ -4,6 +4,7 @@ use Rattle.std.specs.Prelude.{bytes_eq}
 use Rattle.std.proofs.lemmas.Bool.{true≢false, cases_Bool, cases_lt}
 use Rattle.std.proofs.lemmas.Option.{same_Some, slice_get_within}
 use Rattle.std.proofs.lemmas.Slice.Eq.{bytes_eq-Decides}
+use Rattle.clu_base.proofs.Lists.{some_at, got_front, split, get_before, get_last}
 use Rattle.clu_tree.specs.declared.node.Node.{Node}
 use Rattle.clu_tree.specs.declared.node.NodeKind.{NodeKind}
 use Rattle.clu_tree.specs.declared.node.NodeKind.TheVariants as kind
@@ -36,7 +37,7 @@ use Rattle.clu_declares.proofs.Below.{same_kind}
 use Rattle.clu_declares.proofs.Parents.{IsIn, HasParent, module_of_cluster}
 use Rattle.clu_declares.proofs.RepWords.{rep_told}
 use Rattle.clu_declares.proofs.Haves.{form_at, parent_of}
-use Rattle.clu_declares.proofs.Amounts.{there_at, either, and_left, and_right, parm_in_module, amount, at_node, up_to, IsPlaced, placed, whole_is, counted_is}
+use Rattle.clu_declares.proofs.Amounts.{and_left, and_right, parm_in_module, amount, at_node, up_to, IsPlaced, placed, whole_is, counted_is}
 use Rattle.clu_declares.proofs.Modules.{OfModule, of_module, around_parent, unit_is}
 use Rattle.clu_declares.proofs.Numbered.{IsOf, count_is, number_is}
 use Rattle.clu_declares.proofs.Meant.{IsNamed, named, bound_is, Good, decl_good, init_good, own_good, equate_good, other_parm, parm_good, set_variable_good, arm_good, others_good, inner_good, module_routine_good, module_cluster_good}
@@ -48,13 +49,8 @@ named_at n unit scope [] j name e = absurd (cc)
 named_at n unit scope (x ∷ names) zero name e = ap (λ (x : Identifier). Some (record { name = x; node = n; from = scope.0; to = scope.1; unit = unit })) (same_Some x name e)
 named_at n unit scope (x ∷ names) (suc j) name e = named_at n unit scope names j name e
 
-in_front : {X : Type 0} (ys zs : List X) (j : ℕ) (d : X) → slice_get ys j ≡ Some d → slice_get (ys ++ zs) j ≡ Some d
-in_front [] zs j d e = absurd (cc)
-in_front (y ∷ ys) zs zero d e = e
-in_front (y ∷ ys) zs (suc j) d e = in_front ys zs j d e
-
 in_middle : {X : Type 0} (xs ys zs : List X) (j : ℕ) (d : X) → slice_get ys j ≡ Some d → slice_get ((xs ++ ys) ++ zs) (length xs + j) ≡ Some d
-in_middle [] ys zs j d e = let same : 0 + j ≡ j = omega arith in ap (slice_get (ys ++ zs)) same ∙ in_front ys zs j d e
+in_middle [] ys zs j d e = let same : 0 + j ≡ j = omega arith in ap (slice_get (ys ++ zs)) same ∙ got_front ys zs j d e
 in_middle (x ∷ xs) ys zs j d e =
     let same : suc (length xs) + j ≡ suc (length xs + j) = omega arith in ap (slice_get (x ∷ ((xs ++ ys) ++ zs))) same ∙ in_middle xs ys zs j d e
 
@@ -64,21 +60,12 @@ pub grown_size : {X : Type 0} (g : ℕ → List X) (f : ℕ → X) → g 0 ≡ [
 grown_size g f e h zero = ap length e
 grown_size g f e h (suc m) = let before : length (g m) ≡ m = grown_size g f e h m in ap length (h m) ∙ length-append (g m) (f m ∷ []) ∙ omega (arith, before)
 
-get_front : {X : Type 0} (xs : List X) (x : X) (k : ℕ) → k < length xs → slice_get (xs ++ x ∷ []) k ≡ slice_get xs k
-get_front [] x k l = absurd (omega (arith, l))
-get_front (y ∷ ys) x zero l = refl
-get_front (y ∷ ys) x (suc k) l = get_front ys x k (omega (arith, l))
-
-get_last : {X : Type 0} (xs : List X) (x : X) → slice_get (xs ++ x ∷ []) (length xs) ≡ Some x
-get_last [] x = refl
-get_last (y ∷ ys) x = get_last ys x
-
 pub grown : {X : Type 0} (g : ℕ → List X) (f : ℕ → X) → g 0 ≡ [] → ((n : ℕ) → g (suc n) ≡ g n ++ f n ∷ []) → (m n : ℕ) → n < m → slice_get (g m) n ≡ Some (f n)
 grown g f e h zero n l = absurd (omega (arith, l))
 grown g f e h (suc m) n l =
     let size : length (g m) ≡ m = grown_size g f e h m in
     ap (λ (xs : List _). slice_get xs n) (h m) ∙ elim (cases_lt n m) [
-      | inl less ↦ get_front (g m) (f m) n (omega (arith, less, size)) ∙ grown g f e h m n less
+      | inl less ↦ get_before (g m) (f m) n (omega (arith, less, size)) ∙ grown g f e h m n less
       | inr more ↦
           (let same : n ≡ m = omega (arith, l, more) in
           ap (slice_get (g m ++ f m ∷ [])) (same ∙ sym size) ∙ get_last (g m) (f m) ∙ ap (λ (k : ℕ). Some (f k)) (sym same))
@@ -318,8 +305,8 @@ module _ (t : Text) (nodes : List Node) (rounds : List Round) (parsed : IsParsed
         let a : List Declared = variable_of m node.kind (round_at rounds m) (round_at rounds m).parent (node_at nodes (round_at rounds m).parent) in
         let b : List Declared = own_at (outer_kind nodes rounds m) m node (round_at rounds m) in
         let c : List Declared = module_at (outer_kind nodes rounds m) m node in
-        elim (either (a ++ b) c i d e) [
-          | inl y ↦ elim (either a b i d y) [
+        elim (split (a ++ b) c i d e) [
+          | inl y ↦ elim (split a b i d y) [
             | inl x ↦ variable_meant p m i d node at (round_at rounds m).parent (node_at nodes (round_at rounds m).parent) refl x
             | inr x ↦ own_meant p m x.0 d node at other node.kind refl x.2
           ]
@@ -393,7 +380,7 @@ module _ (t : Text) (nodes : List Node) (rounds : List Round) (parsed : IsParsed
               first (length (up_to nodes rounds m) + j) (record { name = d.name; node = m; from = scope.0; to = scope.1; unit = Some u }) (omega (arith, less, place)) at_place refl (sym x.unit_is) (sym x.from) (sym x.to)
 
     each_placed : (p : ℕ) (d : Declared) → slice_get ds p ≡ Some d → IsFirst p d → IsPlaced nodes rounds (length nodes) p d → IsMeant p d
-    each_placed p d there first x = by (there_at nodes x.m x.before)
+    each_placed p d there first x = by (some_at nodes x.m x.before)
       where
         by : (node : Node) × (slice_get nodes x.m ≡ Some node) → IsMeant p d
         by (node, at) = elim (cases_Bool (is_parameter nodes rounds x.m)) [

@@ -19,6 +19,7 @@ use Rattle.clu_names.specs.Scopes.{node_at, kind_at_parent, scope_of, equate_nam
 use Rattle.clu_settle.specs.Names.{names_of}
 use Rattle.clu_declares.specs.Declares.{IsParsed, AreFew}
 use denote.Enum.Bare.{same_true}
+use Rattle.clu_base.proofs.Bools.{second_true}
 
 -- ---- letters
 
@@ -127,15 +128,11 @@ good_form k form [] at h = absurd at
 good_form k form (f ∷ fs) (inl e) h = ap (λ (f : List Part). has_own f || nat_le (1 + slack k) (least_slack f)) e ∙ (and_parts (has_own f || nat_le (1 + slack k) (least_slack f)) (are_good k fs) h).0
 good_form k form (f ∷ fs) (inr more) h = good_form k form fs more (and_parts (has_own f || nat_le (1 + slack k) (least_slack f)) (are_good k fs) h).1
 
-or_right : (a b : Bool) → (a || b) ≡ true → a ≡ false → b ≡ true
-or_right true b e f = absurd (true≢false f)
-or_right false b e f = e
-
 room : (k : NodeKind) (form : List Part) (w : List Letter) → IsFormOf form (forms k) → IsWord form w → 1 + slack k ≤ slack_in (kinds_in w) + 4 * own w
 room k form w at d = elim (cases_Bool (has_own form)) [
   | inl has ↦ (let some : 1 ≤ own w = own_there form w d has in let small : slack k ≤ 3 = slack_small k in omega (arith, some, small))
   | inr bare ↦
-      (let less : 1 + slack k ≤ least_slack form = leb-true (1 + slack k) (least_slack form) (or_right (has_own form) (nat_le (1 + slack k) (least_slack form)) (good_form k form (forms k) at (all_good k)) bare) in
+      (let less : 1 + slack k ≤ least_slack form = leb-true (1 + slack k) (least_slack form) (second_true (has_own form) (nat_le (1 + slack k) (least_slack form)) (good_form k form (forms k) at (all_good k)) bare) in
       let there : least_slack form ≤ slack_in (kinds_in w) = slack_there form w d in
       omega (arith, less, there))
 ]

@@ -2,7 +2,8 @@
 use Rattle.std.proofs.Common.{◌≡◌, ◌∙◌, ℕ, ◌&&◌, ◌||◌, ◌==◌, Bool, true, false, if◌then◌else◌, [], ◌∷◌, ◌++◌, refl, ap, sym, inl, inr, eqb-true}
 use Rattle.std.specs.Prelude.{bytes_eq}
 use Rattle.std.specs.List.{AllByRecursion}
-use Rattle.std.proofs.lemmas.Bool.{true≢false, cases_Bool}
+use Rattle.std.proofs.lemmas.Bool.{true≢false, cases_Bool, or_left, or_right}
+use Rattle.clu_base.proofs.Bools.{second_true}
 use Rattle.clu_syntax.specs.Syntax.{Identifier}
 use Rattle.clu_meaning.specs.Scoping.{Meaning, Binding, Bindings, bound_at}
 use Rattle.clu_declares.specs.Declares.{has}
@@ -34,23 +35,11 @@ pub bound_second : (xs ys : Bindings) (n : ℕ) (name : Identifier) → has xs n
 bound_second [] ys n name h = refl
 bound_second (b ∷ xs) ys n name h = second_there (is_it b n name) (has xs n name) b.meaning (bound_at (xs ++ ys) n name) (bound_at ys n name) h (bound_second xs ys n name)
 
-true_left : (a b : Bool) → a ≡ true → (a || b) ≡ true
-true_left true b e = refl
-true_left false b e = absurd (true≢false (sym e))
-
-true_right : (a b : Bool) → b ≡ true → (a || b) ≡ true
-true_right true b e = refl
-true_right false b e = e
-
-right_of : (a b : Bool) → (a || b) ≡ true → a ≡ false → b ≡ true
-right_of true b e f = absurd (true≢false f)
-right_of false b e f = e
-
 pub has_left : (xs ys : Bindings) (n : ℕ) (name : Identifier) → has xs n name ≡ true → has (xs ++ ys) n name ≡ true
-has_left xs ys n name h = has_append xs ys n name ∙ true_left (has xs n name) (has ys n name) h
+has_left xs ys n name h = has_append xs ys n name ∙ or_left (has xs n name) (has ys n name) h
 
 pub has_right : (xs ys : Bindings) (n : ℕ) (name : Identifier) → has ys n name ≡ true → has (xs ++ ys) n name ≡ true
-has_right xs ys n name h = has_append xs ys n name ∙ true_right (has xs n name) (has ys n name) h
+has_right xs ys n name h = has_append xs ys n name ∙ or_right (has xs n name) (has ys n name) h
 
 -- ---- all of one node
 
@@ -85,7 +74,7 @@ module _ (said : ℕ → Bindings) where
   pub right_both : (xs ys : Bindings) → IsRight xs → IsRight ys → IsRight (xs ++ ys)
   right_both xs ys f g p name h = elim (cases_Bool (has xs p name)) [
     | inl first ↦ bound_first xs ys p name first ∙ f p name first
-    | inr not_there ↦ bound_second xs ys p name not_there ∙ g p name (right_of (has xs p name) (has ys p name) (sym (has_append xs ys p name) ∙ h) not_there)
+    | inr not_there ↦ bound_second xs ys p name not_there ∙ g p name (second_true (has xs p name) (has ys p name) (sym (has_append xs ys p name) ∙ h) not_there)
   ]
 
   pub right_own : (n : ℕ) (bs : Bindings) → AreAt n bs → bs ≡ said n → IsRight bs

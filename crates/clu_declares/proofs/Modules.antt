@@ -1,9 +1,10 @@
 -- In which module a node stands, and which nodes are the parameters of a module.
-use Rattle.std.proofs.Common.{◌≡◌, ◌∙◌, ◌⊎◌, ℕ, zero, suc, ◌+◌, ◌-◌, ◌<◌, ◌≤◌, ◌||◌, Bool, true, false, List, [], ◌∷◌, length, take, Option, Some, None, slice_get, refl, ap, sym, subst, inl, inr, arith}
+use Rattle.std.proofs.Common.{◌≡◌, ◌∙◌, ◌⊎◌, ℕ, zero, suc, ◌+◌, ◌-◌, ◌<◌, ◌≤◌, ◌||◌, true, false, List, [], ◌∷◌, length, take, Option, Some, None, slice_get, refl, ap, sym, subst, inl, inr, arith}
 use Rattle.std.specs.List.{AllByRecursion}
 use Rattle.std.proofs.lemmas.Bool.{true≢false, cases_Bool, cases_lt}
 use Rattle.std.proofs.lemmas.Option.{same_Some, slice_get_within}
 use Rattle.std.proofs.lemmas.List.{get_or_past}
+use Rattle.clu_base.proofs.Bools.{second_true}
 use Rattle.clu_tree.specs.declared.node.Node.{Node}
 use Rattle.clu_tree.specs.declared.node.NodeKind.{NodeKind}
 use Rattle.clu_tree.specs.declared.node.NodeKind.TheVariants as kind
@@ -81,10 +82,6 @@ unit_of : (k : NodeKind) → (k ≡ kind.Module) ⊎ ((n : ℕ) (r : Round) → 
 unit_of kind.Module = inl refl
 unit_of _ = inr (λ n r. refl)
 
-or_right : (a b : Bool) → (a || b) ≡ true → a ≡ false → b ≡ true
-or_right true b e f = absurd (true≢false f)
-or_right false b e f = e
-
 among : (nodes : List Node) (k : NodeKind) (c : ℕ) (cs : List ℕ) → is_of k (kind_at nodes c) ≡ true → AllByRecursion (λ (c : ℕ). is_of k (kind_at nodes c) ≡ false) (after_run nodes k cs) → IsIn c cs → IsIn c (run nodes k cs)
 among nodes k c cs e others i = elim (in_split c (leading nodes k cs) cs i) [
   | inl front ↦ front
@@ -160,7 +157,7 @@ module _ (t : Text) (nodes : List Node) (rounds : List Round) (parsed : IsParsed
           let either : (is_of kind.Routine q.node.kind || is_of kind.Cluster q.node.kind) ≡ true = round_parm nodes parsed.tree q.parent q.node q.at (form_at t nodes rounds parsed are 0 [] q.parent q.node q.at) n q.child its.0 in
           elim (cases_Bool (is_of kind.Routine q.node.kind)) [
             | inl r ↦ inl (same_kind kind.Routine q.node.kind r)
-            | inr other ↦ inr (same_kind kind.Cluster q.node.kind (or_right (is_of kind.Routine q.node.kind) (is_of kind.Cluster q.node.kind) either other))
+            | inr other ↦ inr (same_kind kind.Cluster q.node.kind (second_true (is_of kind.Routine q.node.kind) (is_of kind.Cluster q.node.kind) either other))
           ]
 
       made : (q : HasParent nodes n) (r : HasParent nodes q.parent) → (q.node.kind ≡ kind.Routine) ⊎ (q.node.kind ≡ kind.Cluster) → OfModule n

@@ -1,6 +1,7 @@
 -- The numbers of parameters are those of their places among the parameters of their module.
 use Rattle.std.proofs.Common.{◌≡◌, ◌∙◌, ℕ, zero, suc, ◌+◌, ◌-◌, ◌^◌, ◌<◌, ◌≤◌, ◌&&◌, ◌==◌, Bool, true, false, if◌then◌else◌, nat_lt, List, [], ◌∷◌, length, take, Option, Some, None, slice_get, refl, ap, ap₂, sym, inl, inr, arith, add-one, eq-eqb, eqb-true, lt-ltb}
 use Rattle.std.specs.List.{AllByRecursion}
+use Rattle.std.proofs.Math.Seq.{take-length}
 use Rattle.std.proofs.lemmas.Bool.{true≢false, cases_Bool, cases_lt}
 use Rattle.std.proofs.lemmas.Option.{slice_get_within}
 use Rattle.clu_tree.specs.declared.node.Node.{Node}
@@ -28,10 +29,6 @@ use Rattle.clu_declares.proofs.Owned.{numbered_first, numbered_later, parameter_
 use Rattle.clu_declares.proofs.Parents.{IsIn}
 use Rattle.clu_declares.proofs.Amounts.{and_left, and_right, amount, amount_at, at_node, up_to, weight, weights, amounts, counted_is, all_counted}
 use Rattle.clu_declares.proofs.Modules.{Ascends, above, HasParameters, has_parameters}
-
-take_all : {X : Type 0} (xs : List X) → take (length xs) xs ≡ xs
-take_all [] = refl
-take_all (x ∷ xs) = ap (λ (ys : List _). x ∷ ys) (take_all xs)
 
 take_size : {X : Type 0} (xs : List X) (k : ℕ) → k ≤ length xs → length (take k xs) ≡ k
 take_size xs zero l = refl
@@ -165,7 +162,7 @@ module _ (t : Text) (nodes : List Node) (rounds : List Round) (parsed : IsParsed
         let l : u < length nodes = slice_get_within nodes u node at in
         let sum : parameter_number (params h.d h.cs) + ws u 0 ≡ ws u (length nodes) = total_in u h.d (length nodes) l h.cs 0 (omega arith) h.ascend (parts_inside h.d h.cs h.parts) h.parts h.each (λ x low g. weight_none u x (λ o. g (h.only x o.0 o.1))) in
         let number : parameter_number (parameters_in (item_at nodes u).module_) ≡ parameter_number (params h.d h.cs) = ap parameter_number h.parameters in
-        (counted_is nodes rounds ds few u (length ds) (omega arith)).0 ∙ ap (amount nodes rounds u) (take_all ds) ∙ amounts nodes rounds u (length nodes) ∙ omega (arith, sum, number)
+        (counted_is nodes rounds ds few u (length ds) (omega arith)).0 ∙ ap (amount nodes rounds u) (take-length ds) ∙ amounts nodes rounds u (length nodes) ∙ omega (arith, sum, number)
 
     -- the number of the parameter at the place i among the names of the Parm m
     pub number_is : (m i p u : ℕ) (node module_node : Node) (scope : ℕ × ℕ) → slice_get nodes m ≡ Some node → slice_get nodes u ≡ Some module_node → module_node.kind ≡ kind.Module → IsOf u m → at_node nodes rounds m ≡ declared_as m (Some u) (Some scope) node.names →

@@ -3,6 +3,7 @@ use Rattle.std.proofs.Common.{◌≡◌, ◌∙◌, ◌⊎◌, ℕ, ◌+◌, ◌
 use Rattle.std.specs.List.{AllByRecursion}
 use Rattle.std.proofs.lemmas.Bool.{true≢false, cases_lt}
 use Rattle.std.proofs.lemmas.List.{take-append-drop}
+use Rattle.clu_base.proofs.Bools.{first_true}
 use Rattle.clu_tree.specs.declared.node.Node.{Node}
 use Rattle.clu_tree.specs.declared.node.NodeKind.{NodeKind}
 use Rattle.clu_tree.specs.declared.node.NodeKind.TheVariants as kind
@@ -118,10 +119,6 @@ not_in_form form [] k at n m = at
 not_in_form form (f ∷ fs) k (inl e) n m = not_false (may_stand 3 f k) (and_first (not (may_stand 3 f k)) (no_form fs k) n) (subst (λ (g : List Part). may_stand 3 g k ≡ true) e m)
 not_in_form form (f ∷ fs) k (inr more) n m = not_in_form form fs k more (and_second (not (may_stand 3 f k)) (no_form fs k) n) m
 
-first_or : (a b : Bool) → (a || b) ≡ true → (b ≡ true → ⊥) → a ≡ true
-first_or true b e f = refl
-first_or false b e f = absurd (f e)
-
 module _ (nodes : List Node) (tree_is : IsTree nodes) (n : ℕ) (node : Node) (at : slice_get nodes n ≡ Some node) (f : HasForm nodes node) (c : ℕ) (child : IsIn c node.children) where
   may_be : may_stand 3 f.form (kind_at nodes c) ≡ true
   may_be = (of_all (λ (c : ℕ). (c < n) × (may_stand 3 f.form (kind_at nodes c) ≡ true)) c node.children (children_stand nodes tree_is n node at f) child).1
@@ -136,21 +133,21 @@ module _ (nodes : List Node) (tree_is : IsTree nodes) (n : ℕ) (node : Node) (a
   never_file e = cannot kind.File e (no_file_below node.kind)
 
   pub file_of_module : kind_at nodes c ≡ kind.Module → is_of kind.File node.kind ≡ true
-  file_of_module e = first_or (is_of kind.File node.kind) (no_form (forms node.kind) kind.Module) (file_above node.kind) (cannot kind.Module e)
+  file_of_module e = first_true (is_of kind.File node.kind) (no_form (forms node.kind) kind.Module) (file_above node.kind) (cannot kind.Module e)
 
   -- what holds of all kinds that may stand in such a node holds of the child
   pub kind_of_child : (test : NodeKind → Bool) → ((k : NodeKind) → (test k || no_form (forms node.kind) k) ≡ true) → test (kind_at nodes c) ≡ true
-  kind_of_child test each = first_or (test (kind_at nodes c)) (no_form (forms node.kind) (kind_at nodes c)) (each (kind_at nodes c)) (cannot (kind_at nodes c) refl)
+  kind_of_child test each = first_true (test (kind_at nodes c)) (no_form (forms node.kind) (kind_at nodes c)) (each (kind_at nodes c)) (cannot (kind_at nodes c) refl)
 
   pub module_of_file : node.kind ≡ kind.File → is_of kind.Module (kind_at nodes c) ≡ true
   module_of_file is =
       kind_of_child (is_of kind.Module) (λ k. ap (λ (j : NodeKind). is_of kind.Module k || no_form (forms j) k) is ∙ module_below_file k)
 
   pub module_of_cluster : kind_at nodes c ≡ kind.Cluster → is_of kind.Module node.kind ≡ true
-  module_of_cluster e = first_or (is_of kind.Module node.kind) (no_form (forms node.kind) kind.Cluster) (module_above_cluster node.kind) (cannot kind.Cluster e)
+  module_of_cluster e = first_true (is_of kind.Module node.kind) (no_form (forms node.kind) kind.Cluster) (module_above_cluster node.kind) (cannot kind.Cluster e)
 
   pub round_routine : kind_at nodes c ≡ kind.Routine → (is_of kind.Module node.kind || is_of kind.Cluster node.kind) ≡ true
-  round_routine e = first_or (is_of kind.Module node.kind || is_of kind.Cluster node.kind) (no_form (forms node.kind) kind.Routine) (above_routine node.kind) (cannot kind.Routine e)
+  round_routine e = first_true (is_of kind.Module node.kind || is_of kind.Cluster node.kind) (no_form (forms node.kind) kind.Routine) (above_routine node.kind) (cannot kind.Routine e)
 
   pub round_parm : kind_at nodes c ≡ kind.Parm → (is_of kind.Routine node.kind || is_of kind.Cluster node.kind) ≡ true
-  round_parm e = first_or (is_of kind.Routine node.kind || is_of kind.Cluster node.kind) (no_form (forms node.kind) kind.Parm) (above_parm node.kind) (cannot kind.Parm e)
+  round_parm e = first_true (is_of kind.Routine node.kind || is_of kind.Cluster node.kind) (no_form (forms node.kind) kind.Parm) (above_parm node.kind) (cannot kind.Parm e)

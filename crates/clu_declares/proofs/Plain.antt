@@ -1,7 +1,7 @@
 -- Below which nodes nothing is bound: those whose children are neither declarations, arms nor statements.
 use Rattle.std.proofs.Common.{◌≡◌, ◌∙◌, ℕ, ◌&&◌, ◌||◌, not, rules, Bool, true, false, List, [], ◌∷◌, Some, slice_get, refl, ap, sym, subst, inl, inr}
 use Rattle.std.specs.List.{AllByRecursion}
-use Rattle.std.proofs.lemmas.Bool.{true≢false, cases_Bool}
+use Rattle.std.proofs.lemmas.Bool.{true≢false, cases_Bool, not-true}
 use Rattle.clu_tree.specs.declared.node.Node.{Node}
 use Rattle.clu_tree.specs.declared.node.NodeKind.{NodeKind}
 use Rattle.clu_tree.specs.declared.node.NodeKind.TheVariants as kind
@@ -13,6 +13,7 @@ use Rattle.clu_syntax.specs.Splits.{is_of}
 use Rattle.clu_parts.proofs.Fitting.{may_stand, AreParts, children_stand}
 use Rattle.clu_declares.proofs.Below.{binds, all_at, all_in, plain_part, plain_parts}
 use denote.Enum.Bare.{same_true}
+use Rattle.clu_base.proofs.Bools.{implied}
 
 abbrev pub is_plain : NodeKind → Bool
 is_plain kind.Module = false
@@ -61,10 +62,6 @@ unfolding among binders
 each_binder kind.File = refl
 each_binder _ = refl
 
-one_side : (a b : Bool) → (not a || b) ≡ true → a ≡ true → b ≡ true
-one_side true b e h = e
-one_side false b e h = absurd (true≢false (sym h))
-
 and_first : (a b : Bool) → (a && b) ≡ true → a ≡ true
 and_first true b e = refl
 and_first false b e = absurd (true≢false (sym e))
@@ -72,10 +69,6 @@ and_first false b e = absurd (true≢false (sym e))
 and_second : (a b : Bool) → (a && b) ≡ true → b ≡ true
 and_second true b e = e
 and_second false b e = absurd (true≢false (sym e))
-
-not_true : (a : Bool) → not a ≡ true → a ≡ false
-not_true true e = absurd (true≢false (sym e))
-not_true false e = refl
 
 form_none : (form : List Part) (fs : List (List Part)) → IsFormOf form fs → none_in fs ≡ true → has_none_of form binders ≡ true
 unfolding none_in
@@ -90,7 +83,7 @@ kind_none : (form : List Part) (js : List NodeKind) (k : NodeKind) → has_none_
 unfolding has_none_of among
 kind_none form [] k h a = absurd (true≢false (sym a))
 kind_none form (j ∷ js) k h a = elim (cases_Bool (is_of j k)) [
-  | inl e ↦ ap (may_stand 3 form) (is_same j k e) ∙ not_true (may_stand 3 form j) (and_first (not (may_stand 3 form j)) (has_none_of form js) h)
+  | inl e ↦ ap (may_stand 3 form) (is_same j k e) ∙ not-true (may_stand 3 form j) (and_first (not (may_stand 3 form j)) (has_none_of form js) h)
   | inr e ↦ kind_none form js k (and_second (not (may_stand 3 form j)) (has_none_of form js) h) (sym (ap (λ (b : Bool). b || among js k) e) ∙ a)
 ]
 
@@ -102,7 +95,7 @@ neither false b f = refl
 module _ (nodes : List Node) (rounds : List Round) (tree : IsTree nodes) (n : ℕ) (node : Node) (at : slice_get nodes n ≡ Some node) (f : HasForm nodes node) (plain : is_plain node.kind ≡ true) where
   apart : (k : NodeKind) → (may_stand 3 f.form k && binds k) ≡ false
   apart k = neither (may_stand 3 f.form k) (binds k)
-      (λ b. kind_none f.form binders k (form_none f.form (forms node.kind) f.of_kind (one_side (is_plain node.kind) (none_in (forms node.kind)) (tested node.kind) plain)) (one_side (binds k) (among binders k) (each_binder k) b))
+      (λ b. kind_none f.form binders k (form_none f.form (forms node.kind) f.of_kind (implied (is_plain node.kind) (none_in (forms node.kind)) (tested node.kind) plain)) (implied (binds k) (among binders k) (each_binder k) b))
 
   each_none : (cs : List ℕ) → AreParts nodes (may_stand 3 f.form) n cs → AllByRecursion (λ (c : ℕ). all_at nodes rounds c ≡ []) cs
   each_none [] ps = tt

@@ -3,7 +3,9 @@ use Rattle.std.proofs.Common.{◌≡◌, ℕ, ◌<◌, ◌≤◌, ◌==◌, ◌&
 use Rattle.std.specs.Option.{option_map}
 use Rattle.std.specs.Str.{bytes_eq}
 use Rattle.std.specs.Prelude.{◌↔◌}
+use Rattle.std.proofs.lemmas.Option.{same_Some}
 use Rattle.clu_base.specs.declared.errors.Memory.{Memory}
+use Rattle.clu_base.proofs.Lists.{none_is_not}
 use Rattle.clu_types.specs.CluType.{CluType, cluster_of, parameter, Actuals}
 use Rattle.clu_types.specs.Arena.{type_at, types_at, signals_at, actuals_at, type_of, types_of, ActualsBelow, PartsBelow, Grows}
 use Rattle.clu_types.specs.Included.{Included}
@@ -14,7 +16,7 @@ use Rattle.clu_types.specs.declared.term.TypeId.{TypeId}
 use Rattle.clu_types.specs.declared.term.Term.{Term}
 use Rattle.clu_types.specs.declared.term.Term.TheVariants as term
 use Rattle.clu_types.proofs.Arenas.{types_grown}
-use Rattle.clu_types.proofs.Equality.{join, join3}
+use Rattle.clu_types.proofs.Equality.{join3}
 use Rattle.clu_types.proofs.Parts.{actuals_more}
 use Rattle.clu_builtin.specs.Operation.{Needed, Operation}
 use Rattle.clu_builtin.specs.Table.{operation}
@@ -27,7 +29,6 @@ use Rattle.clu_demands.specs.declared.needs.Asked.{Asked}
 use Rattle.clu_demands.specs.declared.needs.Instance.{Instance}
 use Rattle.clu_demands.specs.Asking.{asked_seen, all_seen, AreBelowAll, IsBelow, as_asked, Answers, parameter_of, instance_with, instance_of, HasNone}
 use Rattle.clu_demands.specs.Meeting.{AsksOf, AsksOfBuiltin, AsksOfOperation, AsksOfParameter, routine_type}
-use Rattle.clu_demands.proofs.Lists.{none_is_not, same_item}
 
 -- ---- answers to the same question, told otherwise
 
@@ -47,7 +48,7 @@ answers_at given specs op wanted types r t u e h = subst (λ (x : CluType). IfOk
 -- ---- by the term
 
 pub parameter_type : (types : List CluType) (t : Term) (n : ℕ) → Some n ≡ parameter_of t → type_of types t ≡ parameter n
-parameter_type types (term.Param m) n e = ap parameter (same_item m n (sym e))
+parameter_type types (term.Param m) n e = ap parameter (same_Some m n (sym e))
 parameter_type types term.Null n e = none_is_not n (sym e)
 parameter_type types term.Bool n e = none_is_not n (sym e)
 parameter_type types term.Int n e = none_is_not n (sym e)
@@ -70,7 +71,7 @@ type_of_instance types i = cluster_of i.name (actuals_at types i.actuals)
 
 pub instance_type : (types : List CluType) (t : Term) (i : Instance) → Some i ≡ instance_of t → type_of types t ≡ cluster_of i.name (actuals_at types i.actuals)
 instance_type types (term.Cluster name actuals) i e =
-    ap (type_of_instance types) (same_item (instance_with name actuals) i (sym e))
+    ap (type_of_instance types) (same_Some (instance_with name actuals) i (sym e))
 instance_type types term.Null i e = none_is_not i (sym e)
 instance_type types term.Bool i e = none_is_not i (sym e)
 instance_type types term.Int i e = none_is_not i (sym e)
@@ -90,7 +91,7 @@ instance_type types (term.Param n) i e = none_is_not i (sym e)
 
 pub instance_in : (n m : ℕ) → n ≤ m → (t : Term) (i : Instance) → Some i ≡ instance_of t → PartsBelow n t → ActualsBelow m i.actuals
 instance_in n m le (term.Cluster name actuals) i e b =
-    subst (λ (x : Instance). ActualsBelow m x.actuals) (same_item (instance_with name actuals) i (sym e)) (actuals_more n m le actuals b)
+    subst (λ (x : Instance). ActualsBelow m x.actuals) (same_Some (instance_with name actuals) i (sym e)) (actuals_more n m le actuals b)
 instance_in n m le term.Null i e b = none_is_not i (sym e)
 instance_in n m le term.Bool i e b = none_is_not i (sym e)
 instance_in n m le term.Int i e b = none_is_not i (sym e)
@@ -140,7 +141,7 @@ builtin_answers given specs source t u op wanted is p c types r =
     (λ asks h. (other_asks given specs source op wanted asks t p c).0 h) (λ asks h. (other_asks given specs source op wanted asks t p c).1 h) types r)
 
 pub has_none : {X : Type 0} (f : Term → Option X) (terms : List Term) (id : TypeId) (v : Term) → slice_get terms id.0 ≡ Some v → None ≡ f v → HasNone f terms id
-has_none f terms id v at none t e = ap f (sym (same_item v t (sym at ∙ e))) ∙ sym none
+has_none f terms id v at none t e = ap f (sym (same_Some v t (sym at ∙ e))) ∙ sym none
 
 -- ---- type parameters
 
@@ -160,7 +161,7 @@ found_below m n op [] d b e = none_is_not d (sym e)
 found_below m n op (x ∷ ds) d b e = by ((x.param == n) && bytes_eq x.op op) e (found_below m n op ds d b.1)
   where
     by : (t : Bool) → Some d ≡ cond t (Some x) (find (λ (d : Demand). (d.param == n) && bytes_eq d.op op) ds) → (Some d ≡ find (λ (d : Demand). (d.param == n) && bytes_eq d.op op) ds → d.wanted.0 < m) → d.wanted.0 < m
-    by true e later = subst (λ (y : Demand). y.wanted.0 < m) (same_item x d (sym e)) b.0
+    by true e later = subst (λ (y : Demand). y.wanted.0 < m) (same_Some x d (sym e)) b.0
     by false e later = later e
 
 module _ (types : List CluType) (given : List Demand) (n : ℕ) (op : List ℕ) (wanted : CluType) where
@@ -169,7 +170,7 @@ module _ (types : List CluType) (given : List Demand) (n : ℕ) (op : List ℕ) 
   gives_some d r is h =
       let found : find (λ (d : Demanded). (d.param == n) && bytes_eq d.op op) (map (demand_seen types) given) ≡ Some (demand_seen types d) =
       find_seen types n op given ∙ ap (option_map (demand_seen types)) (sym is) in
-      (λ t. (demand_seen types d, found, h.0 t, refl), λ a. h.1 (subst (λ (x : Demanded). Included x.wanted wanted) (same_item a.0 (demand_seen types d) (sym a.1 ∙ found)) a.2))
+      (λ t. (demand_seen types d, found, h.0 t, refl), λ a. h.1 (subst (λ (x : Demanded). Included x.wanted wanted) (same_Some a.0 (demand_seen types d) (sym a.1 ∙ found)) a.2))
 
   pub gives_none : None ≡ find (λ (d : Demand). (d.param == n) && bytes_eq d.op op) given → AsksOfParameter (map (demand_seen types) given) n op wanted [] → ⊥
   gives_none is a = none_is_not a.0 (ap (option_map (demand_seen types)) is ∙ sym (find_seen types n op given) ∙ a.1)
@@ -213,7 +214,7 @@ module _ (old new : List Term) (g : Grows old new) (of wanted : TypeId) (op : Li
       answers_ok (AsksOfOperation (operation_at (types_of new) b) (type_at (types_of new) wanted)) (AsksOfBuiltin (type_at (types_of old) of) op (type_at (types_of old) wanted))
       (λ asks h. (operation_at (types_of new) b, has, subst (λ (w : CluType). AsksOfOperation (operation_at (types_of new) b) w asks) same h))
       (λ asks q.
-      let this : q.0 ≡ operation_at (types_of new) b = same_item q.0 (operation_at (types_of new) b) (sym q.1 ∙ has) in
+      let this : q.0 ≡ operation_at (types_of new) b = same_Some q.0 (operation_at (types_of new) b) (sym q.1 ∙ has) in
       subst (λ (w : CluType). AsksOfOperation (operation_at (types_of new) b) w asks) (sym same) (subst (λ (o : Operation). AsksOfOperation o (type_at (types_of old) wanted) asks) this q.2))
       types r
 

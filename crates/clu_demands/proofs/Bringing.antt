@@ -1,5 +1,5 @@
 -- Types that are brought into an arena, one after the other while it grows.
-use Rattle.std.proofs.Common.{◌≡◌, ℕ, ◌+◌, ◌<◌, ◌≤◌, zero, suc, Bool, true, false, List, [], ◌∷◌, ◌++◌, length, take, get_or, Result, IfOk, refl, sym, ap, ◌∙◌, subst, arith}
+use Rattle.std.proofs.Common.{◌≡◌, ℕ, ◌+◌, ◌<◌, ◌≤◌, zero, suc, Bool, true, false, List, [], ◌∷◌, ◌++◌, length, take, get_or, Result, IfOk, refl, sym, ap, ◌∙◌, subst, arith, ap₂}
 use Rattle.std.proofs.lemmas.List.{take_more, take_all, append-nil}
 use Rattle.clu_base.specs.declared.errors.Memory.{Memory}
 use Rattle.clu_types.specs.CluType.{CluType, proc_of, iter_of, CluTypes, no_types, type_and, Signals, no_signals, signal_and, Actuals}
@@ -15,7 +15,7 @@ use Rattle.clu_types.specs.declared.term.Term.TheVariants as term
 use Rattle.clu_types.proofs.Arenas.{types_grown}
 use Rattle.clu_types.proofs.Carrying.{grows_on, length_grows, given_grown, given_more, ids_grown, id_below, signal_below}
 use Rattle.clu_demands.specs.Meeting.{op_type, routine_type}
-use Rattle.clu_types.proofs.Equality.{join, join3}
+use Rattle.clu_types.proofs.Equality.{join3}
 use Rattle.clu_types.proofs.Parts.{ids_more, signals_more, types_same, signals_same}
 
 -- ---- lists that get one item more at their end
@@ -79,7 +79,7 @@ module _ (from : List Term) (actuals : List Actual) (old : List Term) where
         within = below-push (length newer) made new (ids_more (length now) (length newer) longer made so_far.within) within;
         types =
             types_at-push (types_of newer) made new
-            ∙ join snoc (kept ∙ so_far.types) this
+            ∙ ap₂ snoc (kept ∙ so_far.types) this
             ∙ sym (types_put-push given (types_at (types_of from) (take i ids)) (type_at (types_of from) id))
             ∙ ap (types_substituted given) (sym (ap (types_at (types_of from)) whole ∙ types_at-push (types_of from) (take i ids) id));
       }

@@ -1,11 +1,13 @@
 -- Needs that are asked one after the other, each of which adds what it asks.
 use Rattle.std.proofs.Common.{◌≡◌, ◌⊎◌, inl, inr, ℕ, ◌+◌, ◌<◌, ◌≤◌, Bool, true, false, List, [], ◌∷◌, ◌++◌, Contains, length, map, take, slice_get, Option, Some, None, Result, Ok, Err, IfOk, refl, sym, ap, ◌∙◌, subst, append_assoc, arith, length-append}
 use Rattle.std.proofs.Math.Dec.{ltb}
+use Rattle.std.proofs.Math.Seq.{take-append_seam}
 use borrow.Author.Tests.{ltb-true, ltb-false}
 use Rattle.std.proofs.lemmas.List.{append-nil}
 use Rattle.std.proofs.lemmas.List.Elements.{Contains-append_left}
-use Rattle.std.proofs.lemmas.Option.{slice_get_within}
+use Rattle.std.proofs.lemmas.Option.{slice_get_within, same_Some}
 use Rattle.clu_base.specs.declared.errors.Memory.{Memory}
+use Rattle.clu_base.proofs.Lists.{none_is_not, some_at, front_of, in_none, place_in, is_there}
 use Rattle.clu_types.specs.CluType.{CluType}
 use Rattle.clu_types.specs.Arena.{types_of, Grows}
 use Rattle.clu_types.specs.declared.spec.Demand.{Demand}
@@ -18,7 +20,7 @@ use Rattle.clu_specs.specs.Specifications.{DemandsBelow}
 use Rattle.clu_demands.specs.declared.needs.Asked.{Asked}
 use Rattle.clu_demands.specs.Asking.{asked_seen, all_seen, IsBelow, AreBelowAll, AreAnswered, AreNotMet, HasFrom, IsFrontOf, HasAdded, HasFound, HasAsked, AsksNone, Answers, AreBelowIf}
 use Rattle.clu_demands.specs.Meeting.{Asks, IsAnswered, IsClosed, Meets}
-use Rattle.clu_demands.proofs.Lists.{none_is_not, same_item, in_none, front_of, some_at, place_in, is_there, take_front, with_one, one_front, one_here, one_from}
+use Rattle.clu_demands.proofs.Lists.{with_one, one_front, one_here, one_from}
 use Rattle.clu_demands.proofs.Seen.{one_same, all_same, more_below, one_more_below, below_at, below_in, below_each, demands_more, demands_same, seen_in, seen_from, seen_grown}
 use Rattle.clu_demands.proofs.Once.{asks_once}
 
@@ -99,7 +101,7 @@ module _ (given : List Demanded) (specs : List Spec) (start : List Term) (first 
         answered k a less e false last =
             let here : k ≡ n = omega (arith, ltb-false) in
             let at : slice_get found k ≡ Some a = at_front found new h.added.front k a (omega arith) e in
-            let same : h.need ≡ a = same_item h.need a (sym h.at ∙ ap (slice_get found) (sym here) ∙ at) in
+            let same : h.need ≡ a = same_Some h.need a (sym h.at ∙ ap (slice_get found) (sym here) ∙ at) in
             let of_need : asked_seen (types_of now) h.need ≡ asked_seen (types_of newer) a = ap (asked_seen (types_of now)) same ∙ sym (seen_now k a (omega arith) e) in
             let that : IsAnswered given specs (all_seen (types_of newer) new) (asked_seen (types_of now) h.need) = (all_seen (types_of newer) h.asked, h.asks, added) in
             subst (IsAnswered given specs (all_seen (types_of newer) new)) of_need that
@@ -166,7 +168,7 @@ module _ (given : List Demanded) (specs : List Spec) (start : List Term) (met : 
   met_left first is before many found front =
       let f = begun first is in
       ap (λ (n : ℕ). take n found) many
-      ∙ ap (take (length met)) (front.1 ∙ ap (λ (l : List Asked). l ++ front.0) f.1 ∙ append_assoc met f.0 front.0) ∙ take_front met (f.0 ++ front.0)
+      ∙ ap (take (length met)) (front.1 ∙ ap (λ (l : List Asked). l ++ front.0) f.1 ∙ append_assoc met f.0 front.0) ∙ take-append_seam met (f.0 ++ front.0)
 
   pub left_closed : (now : List Term) → Grows start now → (left : List Asked) → left ≡ met → IsClosed given specs (all_seen (types_of now) left)
   left_closed now g left is = subst (λ (ns : List Needed). IsClosed given specs ns) (sym (ap (all_seen (types_of now)) is ∙ all_same start now g met met_in)) closed
@@ -191,7 +193,7 @@ module _ (given : List Demanded) (specs : List Spec) (old new : List Term) (keys
   pub none_found : (found : Option (List Asked)) → Answers (Asks given specs (asked_seen (types_of old) need)) (types_of new) found → found ≡ None → AsksNone given specs (types_of old) keys n
   none_found (Some asked) a none other there = none_is_not asked (sym none)
   none_found None a none other there =
-      subst (λ (x : Asked). (asks : List Needed) → Asks given specs (asked_seen (types_of old) x) asks → ⊥) (same_item need other (sym at ∙ there)) a
+      subst (λ (x : Asked). (asks : List Needed) → Asks given specs (asked_seen (types_of old) x) asks → ⊥) (same_Some need other (sym at ∙ there)) a
 
   pub asked_if_ok : (found : Option (List Asked)) → Answers (Asks given specs (asked_seen (types_of old) need)) (types_of new) found → AreBelowIf (length new) found → (r : Result Bool Memory)
       → IfOk r (λ b. b ≡ true → HasFound found keys newer) → IfOk r (λ b. b ≡ true → HasAsked given specs old new keys newer n)

@@ -1,8 +1,11 @@
 -- What an exported operation of a cluster asks, step by step.
 use Rattle.std.proofs.Common.{◌≡◌, ℕ, ◌+◌, ◌<◌, ◌≤◌, zero, suc, List, [], ◌∷◌, ◌++◌, length, find, drop, get_or, Option, Some, None, Result, Ok, Err, IfOk, refl, sym, ap, ◌∙◌, subst, append_assoc, arith}
 use Rattle.std.specs.Str.{bytes_eq}
+use Rattle.std.proofs.Math.Seq.{drop-cons}
 use Rattle.std.proofs.lemmas.List.{append-nil, drop_all}
+use Rattle.std.proofs.lemmas.Option.{same_Some}
 use Rattle.clu_base.specs.declared.errors.Memory.{Memory}
+use Rattle.clu_base.proofs.Lists.{none_is_not}
 use Rattle.clu_types.specs.CluType.{CluType, Actuals}
 use Rattle.clu_types.specs.Arena.{type_at, types_of, actuals_at, ActualsBelow, Grows}
 use Rattle.clu_types.specs.Included.{Included}
@@ -22,7 +25,6 @@ use Rattle.clu_demands.specs.declared.needs.Asked.{Asked}
 use Rattle.clu_demands.specs.Kinds.{MayBeOf}
 use Rattle.clu_demands.specs.Asking.{need_seen, asked_seen, all_seen, AreBelowAll, IsBelow, Answers, seen_if, asked_if}
 use Rattle.clu_demands.specs.Meeting.{AsksOfCluster, AsksOfSpec, AsksOfNamed, AsksOfRoutine, op_named, op_type, all_demanded, demanded, demanded_of, with_first}
-use Rattle.clu_demands.proofs.Lists.{none_is_not, same_item}
 use Rattle.clu_demands.proofs.Seen.{more_below, all_same}
 use Rattle.clu_demands.proofs.Answering.{answers_ok}
 
@@ -32,7 +34,7 @@ pub of_cluster : (specs : List Spec) (name : List ℕ) (given : Actuals) (op : L
     → IfOk r (Answers (AsksOfSpec s given op wanted) types) → IfOk r (Answers (AsksOfCluster specs name given op wanted) types)
 of_cluster specs name given op wanted s is types r =
     answers_ok (AsksOfSpec s given op wanted) (AsksOfCluster specs name given op wanted) (λ asks h. (s, sym is, h))
-    (λ asks q. subst (λ (x : Spec). AsksOfSpec x given op wanted asks) (same_item q.0 s (sym q.1 ∙ sym is)) q.2) types r
+    (λ asks q. subst (λ (x : Spec). AsksOfSpec x given op wanted asks) (same_Some q.0 s (sym q.1 ∙ sym is)) q.2) types r
 
 pub no_cluster : (specs : List Spec) (name : List ℕ) (given : Actuals) (op : List ℕ) (wanted : CluType) → None ≡ find (λ (s : Spec). bytes_eq s.name name) specs → (asks : List Needed) → AsksOfCluster specs name given op wanted asks → ⊥
 no_cluster specs name given op wanted is asks q = none_is_not q.0 (is ∙ q.1)
@@ -45,7 +47,7 @@ pub of_named : (s : Spec) (given : Actuals) (op : List ℕ) (wanted : CluType) (
     → IfOk r (Answers (AsksOfRoutine s given o wanted) types) → IfOk r (Answers (AsksOfNamed s given op wanted) types)
 of_named s given op wanted o is types r =
     answers_ok (AsksOfRoutine s given o wanted) (AsksOfNamed s given op wanted) (λ asks h. (o, sym is, h))
-    (λ asks q. subst (λ (x : OpSpec). AsksOfRoutine s given x wanted asks) (same_item q.0 o (sym q.1 ∙ sym is)) q.2) types r
+    (λ asks q. subst (λ (x : OpSpec). AsksOfRoutine s given x wanted asks) (same_Some q.0 o (sym q.1 ∙ sym is)) q.2) types r
 
 pub no_named : (s : Spec) (given : Actuals) (op : List ℕ) (wanted : CluType) → None ≡ op_named s.form op → (asks : List Needed) → AsksOfNamed s given op wanted asks → ⊥
 no_named s given op wanted is asks q = none_is_not q.0 (is ∙ q.1)
@@ -97,11 +99,6 @@ behind_one : (before : List Needed) (n : Needed) (more : Option (List Needed)) �
 behind_one before n None = refl
 behind_one before n (Some more) = ap (λ (l : List Needed). Some l) (append_assoc before (n ∷ []) more)
 
-left_here : {X : Type 0} (xs : List X) (i : ℕ) (d : X) → i < length xs → drop i xs ≡ get_or xs i d ∷ drop (suc i) xs
-left_here [] i d lt = absurd (omega arith)
-left_here (x ∷ xs) zero d lt = refl
-left_here (x ∷ xs) (suc i) d lt = left_here xs i d (omega arith)
-
 demand_below : (n : ℕ) (ds : List Demand) (i : ℕ) (d : Demand) → DemandsBelow n ds → i < length ds → (get_or ds i d).wanted.0 < n
 demand_below n [] i d b lt = absurd (omega arith)
 demand_below n (x ∷ xs) zero d b lt = b.0
@@ -142,7 +139,7 @@ module _ (from : List Term) (actuals : List Actual) (old : List Term) where
     this found is =
         let same : found ≡ demanded (types_of from) put (get_or all i d) = is ∙ ap (λ (a : Actuals). demanded (types_of from) a d) (given_grown old now so_far.grows actuals actuals_in) ∙ ap (demanded (types_of from) put) here in
         ap (λ (o : Option Needed). behind (all_seen (types_of now) made) (with_first o (all_demanded (types_of from) put (drop (suc i) all)))) same
-        ∙ ap (λ (l : List Demand). behind (all_seen (types_of now) made) (all_demanded (types_of from) put l)) (sym (left_here all i d lt))
+        ∙ ap (λ (l : List Demand). behind (all_seen (types_of now) made) (all_demanded (types_of from) put l)) (sym (drop-cons all i d lt))
         ∙ so_far.rest_is
 
     pub demanded_more : (a : Asked) → IsBelow (length newer) a → Some (asked_seen (types_of newer) a) ≡ demanded (types_of from) (actuals_at (types_of now) actuals) d

@@ -1,77 +1,24 @@
--- Lists of needs: items at places, and items that are added unless they are there.
-use Rattle.std.proofs.Common.{◌≡◌, ◌⊎◌, inl, inr, ℕ, ◌+◌, ◌<◌, ◌≤◌, zero, suc, Bool, true, false, List, [], ◌∷◌, ◌++◌, Contains, length, take, get_or, slice_get, Option, Some, None, is_some, unwrap_or, refl, sym, ap, ◌∙◌, subst, append_assoc, arith}
+-- Lists of needs: items that are added unless they are there.
+use Rattle.std.proofs.Common.{◌≡◌, ◌⊎◌, inl, inr, ℕ, ◌+◌, ◌≤◌, Bool, true, false, List, [], ◌∷◌, ◌++◌, Contains, length, slice_get, Option, Some, None, refl, sym, ap, ◌∙◌, subst, append_assoc, arith}
 use Rattle.std.specs.Bool.{Decides}
 use Rattle.std.specs.List.{list_any}
 use Rattle.std.specs.Vec.Iter.{into_iter_items, into_iter_steps}
 use Rattle.std.specs.declared.vec.IntoIter.{IntoIter}
 use Rattle.std.proofs.Math.Dec.{ltb}
 use borrow.Author.Tests.{ltb-true, ltb-false}
-use Rattle.std.proofs.lemmas.Bool.{false≢true}
 use Rattle.std.proofs.lemmas.Bool.Decides.{Decides-like, Decides-and}
-use Rattle.std.proofs.lemmas.List.{append-nil}
-use Rattle.std.proofs.lemmas.List.Elements.{Contains-append_left, Contains-append_right}
-use Rattle.std.proofs.lemmas.Option.{get_or_from_slice_get, slice_get-get_or, slice_get_within}
+use Rattle.std.proofs.lemmas.List.{append-nil, nil_from_length}
+use Rattle.std.proofs.lemmas.List.Elements.{Contains-append_left}
+use Rattle.std.proofs.lemmas.Option.{slice_get_within}
 use Rattle.std.proofs.lemmas.Slice.Eq.{bytes_eq-Decides}
 use Rattle.indexmap.specs.IndexSet.{insert_key}
 use Rattle.indexmap.proofs.CallerLemmas.{Contains-insert_key}
+use Rattle.clu_base.proofs.Lists.{front_of, at_seam, head_or_tail, in_head, in_tail, in_none}
 use Rattle.clu_types.specs.declared.term.TypeId.{TypeId}
 use Rattle.clu_types.proofs.Equality.{join3, same_id}
 use Rattle.clu_demands.specs.declared.needs.Asked.{Asked}
 use Rattle.clu_demands.specs.contracts.needs.AskedPartialEq.TheImpl as needs
 use Rattle.clu_demands.specs.Asking.{IsFrontOf, HasAdded}
-
-pub none_is_not : {X A : Type 0} (x : X) → None ≡ Some x → A
-none_is_not x e = absurd (false≢true (ap is_some e))
-
-pub same_item : {X : Type 0} (x y : X) → Some x ≡ Some y → x ≡ y
-same_item x y e = ap (λ o. unwrap_or o x) e
-
--- ---- items at places
-
--- a list with items has the first or one of the others
-pub head_or_tail : {X : Type 0} (x : X) (xs : List X) (m : X) → Contains (x ∷ xs) m → (x ≡ m) ⊎ Contains xs m
-head_or_tail x xs m h = by h.0 h.1 h.2
-  where
-    by : (k : ℕ) → k < length (x ∷ xs) → get_or (x ∷ xs) k m ≡ m → (x ≡ m) ⊎ Contains xs m
-    by zero lt is = inl is
-    by (suc k) lt is = inr (k, omega arith, is)
-
-pub in_head : {X : Type 0} (x : X) (xs : List X) (m : X) → x ≡ m → Contains (x ∷ xs) m
-in_head x xs m is = (0, omega arith, is)
-
-pub in_tail : {X : Type 0} (x : X) (xs : List X) (m : X) → Contains xs m → Contains (x ∷ xs) m
-in_tail x xs m h = Contains-append_right (x ∷ []) xs m h
-
-pub in_none : {X A : Type 0} (m : X) → Contains [] m → A
-in_none m h = absurd (omega (arith, h.1))
-
-pub front_of : {X : Type 0} (xs ys : List X) (k : ℕ) (x : X) → k < length xs → slice_get (xs ++ ys) k ≡ Some x → slice_get xs k ≡ Some x
-front_of [] ys k x lt e = absurd (omega arith)
-front_of (y ∷ xs) ys zero x lt e = e
-front_of (y ∷ xs) ys (suc k) x lt e = front_of xs ys k x (omega arith) e
-
-pub some_at : {X : Type 0} (xs : List X) (n : ℕ) → n < length xs → (x : X) × (slice_get xs n ≡ Some x)
-some_at [] n lt = absurd (omega arith)
-some_at (x ∷ xs) zero lt = (x, refl)
-some_at (x ∷ xs) (suc n) lt = some_at xs n (omega arith)
-
--- the place of what a list has
-pub place_in : {X : Type 0} (xs : List X) (m : X) → Contains xs m → (k : ℕ) × (k < length xs) × (slice_get xs k ≡ Some m)
-place_in xs m h = (h.0, h.1, slice_get-get_or xs h.0 m h.1 ∙ ap Some h.2)
-
-pub is_there : {X : Type 0} (xs : List X) (k : ℕ) (m : X) → slice_get xs k ≡ Some m → Contains xs m
-is_there xs k m e = (k, slice_get_within xs k m e, get_or_from_slice_get xs k m m e)
-
-pub take_front : {X : Type 0} (xs ys : List X) → take (length xs) (xs ++ ys) ≡ xs
-take_front [] ys = refl
-take_front (x ∷ xs) ys = ap (λ l. x ∷ l) (take_front xs ys)
-
--- what comes after a list
-at_seam : {X : Type 0} (xs : List X) (y x : X) (j : ℕ) → length xs ≤ j → slice_get (xs ++ y ∷ []) j ≡ Some x → y ≡ x
-at_seam [] y x zero le e = same_item y x e
-at_seam [] y x (suc j) le e = none_is_not x e
-at_seam (z ∷ xs) y x zero le e = absurd (omega arith)
-at_seam (z ∷ xs) y x (suc j) le e = at_seam xs y x j (omega arith) e
 
 -- ---- one more
 
@@ -163,12 +110,5 @@ adding_all old all left now none h = record {
     here a (inr later) = in_none a (subst (λ (l : List Asked). Contains l a) none later)
 
 -- what the iterator of a vector gives
-pub next_item : {A Z : Type 0} (s t : IntoIter A Z) (r : Option A) (x : A) → r ≡ Some x → into_iter_steps s r t → into_iter_items s ≡ x ∷ into_iter_items t
-next_item {A} {Z} s t r x is steps = (subst (λ (o : Option A). into_iter_steps s o t) is steps).0
-
-no_items : {A : Type 0} (xs : List A) → length xs ≡ 0 → xs ≡ []
-no_items [] e = refl
-no_items (x ∷ xs) e = absurd (omega arith)
-
 pub none_left : {A Z : Type 0} (s t : IntoIter A Z) (r : Option A) → r ≡ None → into_iter_steps s r t → into_iter_items s ≡ []
-none_left {A} {Z} s t r is steps = no_items (into_iter_items s) (sym s.rest.ok.0 ∙ (subst (λ (o : Option A). into_iter_steps s o t) is steps).0)
+none_left {A} {Z} s t r is steps = nil_from_length (into_iter_items s) (sym s.rest.ok.0 ∙ (subst (λ (o : Option A). into_iter_steps s o t) is steps).0)

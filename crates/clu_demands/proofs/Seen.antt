@@ -1,18 +1,19 @@
 -- Needs by number while the arena grows.
-use Rattle.std.proofs.Common.{◌≡◌, ◌⊎◌, inl, inr, ℕ, ◌<◌, ◌≤◌, zero, suc, List, [], ◌∷◌, ◌++◌, Contains, length, map, get_or, slice_get, Option, Some, None, refl, sym, ap, ◌∙◌, subst, arith}
+use Rattle.std.proofs.Common.{◌≡◌, ◌⊎◌, inl, inr, ℕ, ◌<◌, ◌≤◌, zero, suc, List, [], ◌∷◌, ◌++◌, Contains, length, map, get_or, slice_get, Option, Some, None, refl, sym, ap, ◌∙◌, subst, arith, ap₂}
+use Rattle.std.proofs.lemmas.Option.{same_Some}
+use Rattle.clu_base.proofs.Lists.{none_is_not, head_or_tail, in_head, in_tail, in_none}
 use Rattle.clu_types.specs.CluType.{CluType}
 use Rattle.clu_types.specs.Arena.{type_at, types_of, Grows}
 use Rattle.clu_types.specs.declared.spec.Demand.{Demand}
 use Rattle.clu_types.specs.declared.term.Term.{Term}
 use Rattle.clu_types.proofs.Arenas.{types_grown}
 use Rattle.clu_types.proofs.Carrying.{length_grows}
-use Rattle.clu_types.proofs.Equality.{join, join3}
+use Rattle.clu_types.proofs.Equality.{join3}
 use Rattle.clu_builtin.specs.Operation.{Needed}
 use Rattle.clu_specs.specs.Seen.{Demanded, demand_seen}
 use Rattle.clu_specs.specs.Specifications.{DemandsBelow}
 use Rattle.clu_demands.specs.declared.needs.Asked.{Asked}
 use Rattle.clu_demands.specs.Asking.{asked_seen, all_seen, IsBelow, AreBelowAll}
-use Rattle.clu_demands.proofs.Lists.{none_is_not, same_item, head_or_tail, in_head, in_tail, in_none}
 
 -- ---- below
 
@@ -25,7 +26,7 @@ more_below m n le (a ∷ xs) b = (one_more_below m n le a b.0, more_below m n le
 
 pub below_at : (n : ℕ) (xs : List Asked) (k : ℕ) (a : Asked) → AreBelowAll n xs → slice_get xs k ≡ Some a → IsBelow n a
 below_at n [] k a b e = none_is_not a e
-below_at n (x ∷ xs) zero a b e = subst (IsBelow n) (same_item x a e) b.0
+below_at n (x ∷ xs) zero a b e = subst (IsBelow n) (same_Some x a e) b.0
 below_at n (x ∷ xs) (suc k) a b e = below_at n xs k a b.1 e
 
 pub below_in : (n : ℕ) (xs : List Asked) (a : Asked) → AreBelowAll n xs → Contains xs a → IsBelow n a
@@ -44,11 +45,11 @@ below_each n (a ∷ xs) h = (h 0 a refl, below_each n xs (λ k x e. h (suc k) x 
 
 pub one_same : (old new : List Term) → Grows old new → (a : Asked) → IsBelow (length old) a → asked_seen (types_of new) a ≡ asked_seen (types_of old) a
 one_same old new g a b =
-    join (λ (x y : CluType). let n : Needed = record { of = x; op = a.op; wanted = y } in n) (types_grown old new g a.of b.0) (types_grown old new g a.wanted b.1)
+    ap₂ (λ (x y : CluType). let n : Needed = record { of = x; op = a.op; wanted = y } in n) (types_grown old new g a.of b.0) (types_grown old new g a.wanted b.1)
 
 pub all_same : (old new : List Term) → Grows old new → (xs : List Asked) → AreBelowAll (length old) xs → all_seen (types_of new) xs ≡ all_seen (types_of old) xs
 all_same old new g [] b = refl
-all_same old new g (a ∷ xs) b = join (λ (n : Needed) (ns : List Needed). n ∷ ns) (one_same old new g a b.0) (all_same old new g xs b.1)
+all_same old new g (a ∷ xs) b = ap₂ (λ (n : Needed) (ns : List Needed). n ∷ ns) (one_same old new g a b.0) (all_same old new g xs b.1)
 
 pub demands_more : (m n : ℕ) → m ≤ n → (ds : List Demand) → DemandsBelow m ds → DemandsBelow n ds
 demands_more m n le [] b = tt
@@ -57,7 +58,7 @@ demands_more m n le (d ∷ ds) b = (omega (arith, b.0), demands_more m n le ds b
 pub demands_same : (old new : List Term) → Grows old new → (ds : List Demand) → DemandsBelow (length old) ds → map (demand_seen (types_of new)) ds ≡ map (demand_seen (types_of old)) ds
 demands_same old new g [] b = refl
 demands_same old new g (d ∷ ds) b =
-    join (λ (t : CluType) (rest : List Demanded). (let x : Demanded = record { param = d.param; op = d.op; wanted = t } in x) ∷ rest) (types_grown old new g d.wanted b.0) (demands_same old new g ds b.1)
+    ap₂ (λ (t : CluType) (rest : List Demanded). (let x : Demanded = record { param = d.param; op = d.op; wanted = t } in x) ∷ rest) (types_grown old new g d.wanted b.0) (demands_same old new g ds b.1)
 
 -- ---- which they are
 

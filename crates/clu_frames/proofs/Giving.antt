@@ -1,6 +1,7 @@
 -- Regions that are given to a builder, one after the other.
-use Rattle.std.proofs.Common.{◌≡◌, ◌∙◌, ℕ, ◌+◌, ◌^◌, ◌<◌, List, [], ◌∷◌, ◌++◌, length, map, true, Option, Some, None, refl, sym, ap, subst, arith, append_assoc, append-nil, length-append}
+use Rattle.std.proofs.Common.{◌≡◌, ◌∙◌, ℕ, ◌+◌, ◌^◌, ◌<◌, List, [], ◌∷◌, ◌++◌, length, map, true, Option, Some, None, sym, ap, subst, arith, append_assoc, append-nil, length-append}
 use Rattle.std.proofs.lemmas.Bool.{and_parts}
+use Rattle.std.proofs.lemmas.List.{nil_from_length}
 use Rattle.std.specs.Vec.Iter.{into_iter_items, into_iter_steps}
 use Rattle.std.specs.declared.vec.IntoIter.{IntoIter}
 use Rattle.clu_wir.specs.Adding.{Added, can_add, nests_behind}
@@ -34,12 +35,8 @@ next_given {Z} {all} {so_far} s t r p is steps g =
     let gives = (subst (λ (o : Option Planned). into_iter_steps s o t) is steps).0 in
     subst (λ (l : List Planned). Given all so_far (map added_of l)) gives g
 
-no_items : {A : Type 0} (xs : List A) → length xs ≡ 0 → xs ≡ []
-no_items [] e = refl
-no_items (x ∷ xs) e = absurd (omega arith)
-
 pub all_given : {Z : Type 0} {all so_far : List Added} (s t : IntoIter Planned Z) (r : Option Planned) → r ≡ None → into_iter_steps s r t
     → Given all so_far (map added_of (into_iter_items s)) → so_far ≡ all
 all_given {Z} {all} {so_far} s t r is steps g =
-    let none = no_items (into_iter_items s) (sym s.rest.ok.0 ∙ (subst (λ (o : Option Planned). into_iter_steps s o t) is steps).0) in
+    let none = nil_from_length (into_iter_items s) (sym s.rest.ok.0 ∙ (subst (λ (o : Option Planned). into_iter_steps s o t) is steps).0) in
     sym (append-nil so_far) ∙ sym (ap (λ (l : List Planned). so_far ++ map added_of l) none) ∙ g.whole

@@ -1,8 +1,10 @@
 -- What each statement adds to the steps.
 use Rattle.std.proofs.Common.{◌≡◌, inl, inr, pos, ℕ, ◌+◌, ◌≤◌, ◌==◌, ◌&&◌, List, [], ◌∷◌, ◌++◌, length, map, Bool, true, false, Option, Some, None, refl, sym, ◌∙◌, ap, subst, arith, eq-eqb}
 use Rattle.std.specs.Prelude.{if◌then◌else◌}
-use Rattle.std.proofs.lemmas.Bool.{and_from}
+use Rattle.std.proofs.lemmas.Bool.{and_from, or_left}
 use Rattle.std.proofs.lemmas.List.{length-map}
+use Rattle.std.proofs.lemmas.Option.{same_Some}
+use Rattle.clu_base.proofs.Lists.{none_is_not}
 use Rattle.clu_wir.specs.declared.expression.WExpr.{WExpr}
 use Rattle.clu_wir.specs.declared.statement.WStmt.{WStmt, WStmt-F, fold-roll-WStmt, ind-WStmt, map-WStmt}
 use Rattle.clu_wir.specs.declared.statement.WArm.{WArm, WArm-F, fold-roll-WArm}
@@ -11,9 +13,9 @@ use Rattle.clu_frames.specs.declared.flat.Flat.TheVariants as flat
 use Rattle.clu_frames.specs.declared.surroundings.Turns.{Turns}
 use Rattle.clu_frames.specs.Flattening.{ArmPart, Guarding, Made, Onto, Part, Round, all_onto, arm_begun, arm_of, arm_step, arms_onto, choice_onto, closed, end_of, end_of_turns, end_uncut, exit_of, guard_at, guard_onto, if_onto, in_guard, in_loop, in_region, in_turns, is_none, is_only_break, iterate_onto, labelled, named_onto, none, opened, other_onto, part_of, part_step, pushed, resignal_onto, results_onto, row_at, row_onto, turns_at, turns_onto, unless_from}
 use Rattle.clu_frames.specs.Labels.{has_loop}
-use Rattle.clu_frames.proofs.Loops.{has_left, has_right, or_first}
+use Rattle.clu_frames.proofs.Loops.{has_left, has_right}
 use Rattle.clu_frames.proofs.Placing.{Adds, Coded, Grown, Still, adds_label, adds_more, adds_on, adds_resume, adds_step, below, below_next, grown_more, grown_on, grown_still, hit, no_label, still_none, still_step}
-use Rattle.clu_frames.proofs.Pieces.{InTurns, Known, known_in_guard, known_in_loop, known_wider, none_is_not, same_item, coded_begun, coded_named, still_break, still_call, still_continue, still_exit, still_leave, still_primitive, still_raise, still_results, still_row, still_signal, still_yield}
+use Rattle.clu_frames.proofs.Pieces.{InTurns, Known, known_in_guard, known_in_loop, known_wider, coded_begun, coded_named, still_break, still_call, still_continue, still_exit, still_leave, still_primitive, still_raise, still_results, still_row, still_signal, still_yield}
 
 abbrev pub LawAt : Onto → Round → Made → Type 0
 LawAt onto round m = Grown (Known round m.labels (onto round m).labels) m (onto round m)
@@ -44,7 +46,7 @@ all_lawful (part ∷ parts) ok round m =
 -- Choices.
 
 uncut_in : (c : Option ℕ) (end t : ℕ) → end_uncut c end ≡ Some t → t ≡ end
-uncut_in None end t e = sym (same_item end t e)
+uncut_in None end t e = sym (same_Some end t e)
 uncut_in (Some mark) end t e = none_is_not t e
 
 end_in : (o : Option Turns) (t : ℕ) → end_of_turns o ≡ Some t → InTurns o t
@@ -175,7 +177,7 @@ call_block P slot end first x known =
 
 block_begins : (slot end first : ℕ) → has_loop slot end (flat.Invoke none first ∷ flat.Jump end ∷ flat.Take slot ∷ []) ≡ true
 block_begins slot end first =
-    or_first ((end == end) && (slot == slot)) false (and_from (end == end) (slot == slot) (eq-eqb end end refl) (eq-eqb slot slot refl))
+    or_left ((end == end) && (slot == slot)) false (and_from (end == end) (slot == slot) (eq-eqb end end refl) (eq-eqb slot slot refl))
 
 -- A loop over an iterator: what comes before its body has its beginning.
 record Begun (P : ℕ → Type 0) (slot end : ℕ) (x y : List Flat) : Type 0 where

@@ -1,16 +1,8 @@
 -- Loops over iterators, in code that is put together.
-use Rattle.std.proofs.Common.{◌≡◌, ℕ, List, [], ◌∷◌, ◌++◌, Bool, true, false, ◌||◌, Option, Some, None, refl, ⊎_elim}
-use Rattle.std.proofs.lemmas.Bool.{and_from, and_parts, false≢true, or_cases}
+use Rattle.std.proofs.Common.{◌≡◌, ℕ, List, [], ◌∷◌, ◌++◌, true, Option, Some, None, refl, ⊎_elim}
+use Rattle.std.proofs.lemmas.Bool.{and_from, and_parts, false≢true, or_cases, or_left, or_right}
 use Rattle.clu_frames.specs.declared.flat.Flat.{Flat}
 use Rattle.clu_frames.specs.Labels.{are_loops, begins_loop, ends_loop, has_loop, label_of, loop_before, loop_to, resumed_slot}
-
-pub or_first : (x y : Bool) → x ≡ true → (x || y) ≡ true
-or_first true y e = refl
-or_first false y e = absurd (false≢true e)
-
-pub or_second : (x y : Bool) → y ≡ true → (x || y) ≡ true
-or_second true y e = refl
-or_second false y e = e
 
 -- Where a loop begins.
 
@@ -23,13 +15,13 @@ begins_left slot end (x ∷ y ∷ z ∷ rest) b e = e
 pub has_left : (slot end : ℕ) (a b : List Flat) → has_loop slot end a ≡ true → has_loop slot end (a ++ b) ≡ true
 has_left slot end [] b e = absurd (false≢true e)
 has_left slot end (x ∷ a) b e = ⊎_elim
-    (λ here. or_first (begins_loop slot end (x ∷ (a ++ b))) (has_loop slot end (a ++ b)) (begins_left slot end (x ∷ a) b here))
-    (λ later. or_second (begins_loop slot end (x ∷ (a ++ b))) (has_loop slot end (a ++ b)) (has_left slot end a b later))
+    (λ here. or_left (begins_loop slot end (x ∷ (a ++ b))) (has_loop slot end (a ++ b)) (begins_left slot end (x ∷ a) b here))
+    (λ later. or_right (begins_loop slot end (x ∷ (a ++ b))) (has_loop slot end (a ++ b)) (has_left slot end a b later))
     (or_cases (begins_loop slot end (x ∷ a)) (has_loop slot end a) e)
 
 pub has_right : (slot end : ℕ) (a b : List Flat) → has_loop slot end b ≡ true → has_loop slot end (a ++ b) ≡ true
 has_right slot end [] b e = e
-has_right slot end (x ∷ a) b e = or_second (begins_loop slot end (x ∷ (a ++ b))) (has_loop slot end (a ++ b)) (has_right slot end a b e)
+has_right slot end (x ∷ a) b e = or_right (begins_loop slot end (x ∷ (a ++ b))) (has_loop slot end (a ++ b)) (has_right slot end a b e)
 
 -- What resumes in code with more loops.
 

@@ -1,19 +1,13 @@
 -- Lists of regions that nest, one after the other and one inside the other.
 use Rattle.std.proofs.Common.{◌≡◌, ℕ, zero, suc, ◌+◌, ◌<◌, ◌≤◌, List, [], ◌∷◌, ◌++◌, length, drop, true, ◌&&◌, Option, Some, None, nat_lt, nat_le, slice_get, refl, sym, ◌∙◌, ap, subst, arith, lt-ltb, le-leb, append_assoc, append-nil, length-append}
 use Rattle.std.specs.List.{list_all}
-use Rattle.std.proofs.lemmas.Bool.{and_from, and_parts}
+use Rattle.std.proofs.lemmas.Bool.{and_from, and_parts, or_left}
+use Rattle.clu_base.proofs.Lists.{none_is_not, got_front}
 use Rattle.clu_wir.specs.declared.region.Arm.{Arm}
 use Rattle.clu_wir.specs.Adding.{Added, can_add, is_apart, is_in, is_placed, nests_behind}
 use Rattle.clu_frames.specs.Regions.{changed}
-use Rattle.clu_frames.proofs.Loops.{or_first}
-use Rattle.clu_frames.proofs.Pieces.{none_is_not}
 
 -- Items of lists.
-
-pub get_left : {X : Type 0} (xs ys : List X) (i : ℕ) (x : X) → slice_get xs i ≡ Some x → slice_get (xs ++ ys) i ≡ Some x
-get_left [] ys i x e = none_is_not x e
-get_left (y ∷ xs) ys zero x e = e
-get_left (y ∷ xs) ys (suc i) x e = get_left xs ys i x e
 
 pub get_behind : {X : Type 0} (xs ys : List X) (y : X) → slice_get (xs ++ y ∷ ys) (length xs) ≡ Some y
 get_behind [] ys y = refl
@@ -50,7 +44,7 @@ apart_all : (first last : ℕ) (rs : List Added) → AllEnded first rs → list_
 apart_all first last [] x = refl
 apart_all first last (r ∷ rs) x =
     and_from (is_apart first last r) (list_all (is_apart first last) rs)
-    (or_first (nat_lt r.last first) (nat_lt last r.first) (lt-ltb r.last first x.0)) (apart_all first last rs x.1)
+    (or_left (nat_lt r.last first) (nat_lt last r.first) (lt-ltb r.last first x.0)) (apart_all first last rs x.1)
 
 -- Room for regions from one place up to another: the region round them holds these places, and all after it have ended.
 
@@ -76,7 +70,7 @@ holds_on : (before more : List Added) (parent : Option ℕ) (low high low' high'
 holds_on before more None low high low' high' l h x = tt
 holds_on before more (Some p) low high low' high' l h x = record {
   region = x.region;
-  there = get_left before more p x.region x.there;
+  there = got_front before more p x.region x.there;
   first = omega (arith, l, x.first);
   last = omega (arith, h, x.last);
 }

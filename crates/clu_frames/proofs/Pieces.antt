@@ -1,7 +1,8 @@
 -- What each statement adds that has none inside, and which labels are known in a statement.
-use Rattle.std.proofs.Common.{◌≡◌, ◌⊎◌, inl, inr, ℕ, zero, suc, ◌+◌, ◌<◌, ◌≤◌, ◌==◌, List, [], ◌∷◌, length, Bool, true, false, Option, Some, None, is_some, unwrap_or, slice_get, refl, sym, ap, subst, ⊎_elim, arith}
+use Rattle.std.proofs.Common.{◌≡◌, ◌⊎◌, inl, inr, ℕ, zero, suc, ◌+◌, ◌<◌, ◌≤◌, ◌==◌, List, [], ◌∷◌, length, Bool, true, false, Option, Some, None, slice_get, refl, sym, subst, ⊎_elim, arith}
 use Rattle.std.specs.Prelude.{if◌then◌else◌}
-use Rattle.std.proofs.lemmas.Bool.{false≢true}
+use Rattle.std.proofs.lemmas.Option.{same_Some, slice_get_within}
+use Rattle.clu_base.proofs.Lists.{none_is_not}
 use Rattle.clu_wir.specs.declared.expression.WExpr.{WExpr}
 use Rattle.clu_frames.specs.declared.flat.Flat.TheVariants as flat
 use Rattle.clu_frames.specs.declared.surroundings.Turns.{Turns}
@@ -74,20 +75,9 @@ known_in_guard g outer gs low high low' high' l h gl gh t k = ⊎_elim
 
 -- Items of lists.
 
-pub none_is_not : {X A : Type 0} (x : X) → None ≡ Some x → A
-none_is_not x e = absurd (false≢true (ap is_some e))
-
-pub same_item : {X : Type 0} (x y : X) → Some x ≡ Some y → x ≡ y
-same_item x y e = ap (λ o. unwrap_or o x) e
-
-pub get_within : {X : Type 0} (xs : List X) (i : ℕ) (x : X) → slice_get xs i ≡ Some x → i < length xs
-get_within [] i x e = none_is_not x e
-get_within (y ∷ xs) zero x e = omega arith
-get_within (y ∷ xs) (suc i) x e = let lt = get_within xs i x e in omega (arith, lt)
-
 in_guards : (gs : List Guarding) (i : ℕ) (g : Guarding) (t : ℕ) → slice_get gs i ≡ Some g → InGuard g t → InGuards gs t
 in_guards [] i g t e h = none_is_not g e
-in_guards (x ∷ gs) zero g t e h = inl (subst (λ (y : Guarding). InGuard y t) (sym (same_item x g e)) h)
+in_guards (x ∷ gs) zero g t e h = inl (subst (λ (y : Guarding). InGuard y t) (sym (same_Some x g e)) h)
 in_guards (x ∷ gs) (suc i) g t e h = inr (in_guards gs i g t e h)
 
 -- Words in slots.
@@ -196,7 +186,7 @@ still_arm : (P : ℕ → Type 0) (g : Guarding) (arm : ℕ) (words : List WExpr)
     → slice_get g.slots arm ≡ o → ((t : ℕ) → InGuard g t → P t) → Still P m (arm_onto g arm words round o m)
 still_arm P g arm words round None m e known = still_none P m
 still_arm P g arm words round (Some slots) m e known =
-    let within = get_within g.slots arm slots e in
+    let within = slice_get_within g.slots arm slots e in
     let set = sets_onto round.work words m in
     let cut = recut_onto round.mark g.mark set in
     let moved = moves_onto slots cut in

@@ -2,14 +2,13 @@
 use Rattle.std.proofs.Common.{◌≡◌, ◌⊎◌, ℕ, ◌+◌, ◌<◌, ◌≤◌, ◌^◌, ◌==◌, ◌&&◌, ◌||◌, List, [], ◌∷◌, ◌++◌, length, map, Bool, true, false, not, Option, Some, None, refl, sym, ◌∙◌, ap, subst, ⊎_elim, arith}
 use Rattle.std.specs.List.{list_all}
 use Rattle.std.specs.Option.{option_to_list}
-use Rattle.std.proofs.lemmas.Bool.{and_from, not_from_false, or_from}
+use Rattle.std.proofs.lemmas.Bool.{and_from, not_from_false, or_from, or_left, or_right}
 use Rattle.clu_wir.specs.declared.routine.WRoutine.{WRoutine}
 use Rattle.clu_frames.specs.declared.flat.Flat.{Flat}
 use Rattle.clu_frames.specs.declared.flat.Flat.TheVariants as flat
 use Rattle.clu_frames.specs.Flattening.{Made, Part, all_onto, bare, bare_code, begun, outermost, part_of, routine_onto, steps_of}
 use Rattle.clu_frames.specs.Labels.{IsFlat, are_loops, are_numbered, at_last, begins_loop, differ, ends_loop, goes_on, has_loop, is_among, is_invoke, is_known, jump_of, label_of, labels_of, loop_before, loop_to, names_one, resumed_slot, same, taken_slot, target_of}
 use Rattle.clu_frames.proofs.Laws.{AllLawful, LawAt, all_lawful, body_lawful}
-use Rattle.clu_frames.proofs.Loops.{or_first, or_second}
 use Rattle.clu_frames.proofs.Placing.{Adds, AllNamed, Names, adds_on, adds_step, below, below_is, below_none, below_within, hit, hit_not, hit_same, hits, no_label, not_hit, times}
 use Rattle.clu_frames.proofs.Numbering.{labels_cons, numbered_of}
 use Rattle.clu_frames.proofs.Pieces.{InGuards, InRange, InTurns, Known}
@@ -37,8 +36,8 @@ differ_of (step ∷ code) once =
     ap differ (labels_cons step code) ∙ differ_at (label_of step) code once (differ_of code (λ n. omega (arith, once n)))
 
 among_test : (label n : ℕ) (test : Bool) (rest : Bool) (k : ℕ) → (label == n) ≡ test → 1 ≤ hit label n + k → (1 ≤ k → rest ≡ true) → ((label == n) || rest) ≡ true
-among_test label n true rest k e more later = or_first (label == n) rest e
-among_test label n false rest k e more later = or_second (label == n) rest (later (omega (arith, more, hit_not label n e)))
+among_test label n true rest k e more later = or_left (label == n) rest e
+among_test label n false rest k e more later = or_right (label == n) rest (later (omega (arith, more, hit_not label n e)))
 
 among_at : (o : Option ℕ) (code : List Flat) (n : ℕ) → 1 ≤ hits n o + times n code → (1 ≤ times n code → is_among n (labels_of code) ≡ true) → is_among n (option_to_list o ++ labels_of code) ≡ true
 among_at None code n more later = later (omega (arith, more))

@@ -1,6 +1,7 @@
 -- Reading by the choice of one symbol of lookahead, and that it reads whatever free choice derives.
 use Rattle.std.proofs.Common.{◌≡◌, ℕ, zero, suc, ◌+◌, Bool, true, false, not, ◌&&◌, ◌||◌, List, [], ◌∷◌, ◌++◌, length, Option, Some, None, slice_get, refl, sym, ap, ◌∙◌, subst, inl, inr, ◌⊎◌, arith, rules}
 use Rattle.std.specs.List.{list_all}
+use Rattle.std.proofs.lemmas.Bool.{or_left, or_right, or_cases, and_from, cases_Bool}
 use Rattle.std.proofs.lemmas.Option.{slice_get_past}
 use Rattle.clu_lexer.specs.declared.symbols.Symbol.{Symbol}
 use Rattle.clu_lexer.specs.contracts.symbols.Symbol.{the_type}
@@ -12,7 +13,7 @@ use Rattle.clu_grammar.specs.Choice.{Take, Go, has, is_among, step}
 use Rattle.clu_grammar.specs.Grammar.{productions}
 use Rattle.clu_grammar.specs.Language.{IsAlternative, IsOneOf, Derives, done, symbol, action, choice}
 use Rattle.clu_grammar.specs.Rows.{Production, take, peek, otherwise}
-use Rattle.clu_grammar.proofs.Flags.{and_left, and_right, and_both, or_cases, or_left, or_right, implied, denied, true_or_false, true_is_false}
+use Rattle.clu_grammar.proofs.Flags.{and_left, and_right, implied, denied, true_is_false}
 use Rattle.clu_grammar.proofs.Lookahead.{starts, after, nothing}
 use Rattle.clu_grammar.proofs.Tests.{code, in_set, begins, starts_hold_for, starts_hold, after_holds, items_of, may_begin, suits, choice_holds, sound_at, symbols, place_of, sound}
 use denote.Enum.Bare.{true_same, same_true}
@@ -53,7 +54,7 @@ through (item.Nonterminal n ∷ items) rest wider t f h =
     elim (or_cases (in_set (starts n) t) (nothing n && begins items rest t) h) [
       | inl in_it ↦ or_left (in_set (starts n) t) (nothing n && begins items wider t) in_it
       | inr behind ↦ or_right (in_set (starts n) t) (nothing n && begins items wider t)
-          (and_both (nothing n) (begins items wider t) (and_left (nothing n) (begins items rest t) behind) (through items rest wider t f (and_right (nothing n) (begins items rest t) behind)))
+          (and_from (nothing n) (begins items wider t) (and_left (nothing n) (begins items rest t) behind) (through items rest wider t f (and_right (nothing n) (begins items rest t) behind)))
     ]
 
 pub begins-append : (xs items : List Item) (rest : Option Symbol → Bool) (t : Option Symbol) → begins (xs ++ items) rest t ≡ begins xs (begins items rest) t
@@ -70,10 +71,10 @@ at_end (Some s) = false
 
 -- what comes first in an alternative may come first for its nonterminal
 starts_for : (n : Nonterminal) (t : Option Symbol) (items : List Item) (rest : Option Symbol → Bool) → starts_hold_for n t items ≡ true → begins items rest t ≡ true → (in_set (starts n) t || (nothing n && rest t)) ≡ true
-starts_for n t items rest test h = elim (true_or_false (rest t)) [
+starts_for n t items rest test h = elim (cases_Bool (rest t)) [
   | inl holds ↦ elim (or_cases (in_set (starts n) t) (nothing n) (implied _ _ (and_right _ _ test) (through items rest (λ _. true) t (λ _. refl) h))) [
     | inl in_it ↦ or_left (in_set (starts n) t) (nothing n && rest t) in_it
-    | inr may ↦ or_right (in_set (starts n) t) (nothing n && rest t) (and_both (nothing n) (rest t) may holds)
+    | inr may ↦ or_right (in_set (starts n) t) (nothing n && rest t) (and_from (nothing n) (rest t) may holds)
   ]
   | inr fails ↦ or_left (in_set (starts n) t) (nothing n && rest t) (implied _ _ (and_left _ _ test) (through items rest (λ _. false) t (λ holds. absurd (cc)) h))
 ]
@@ -146,7 +147,7 @@ IsChosen ps t alternative = ((row : List Item) × (s : Symbol) × (step ps t ≡
 
 pub chosen : (set : ℕ) (t : Option Symbol) (ps : List Production) (alternative : List Item) → choice_holds set t ps ≡ true → IsOneOf ps alternative → begins alternative (in_set set) t ≡ true → IsChosen ps t alternative
 chosen set t [] alternative test one h = absurd one
-chosen set t (take heads row ∷ ps) alternative test one h = elim (true_or_false (is_among t heads)) [
+chosen set t (take heads row ∷ ps) alternative test one h = elim (cases_Bool (is_among t heads)) [
   | inl suits ↦ (let only = rw suits at test in elim one [
     | inl is ↦ inl (row, is.0, rw suits refl, is.2)
     | inr other ↦ absurd (none_may set t ps alternative only other h)
@@ -156,7 +157,7 @@ chosen set t (take heads row ∷ ps) alternative test one h = elim (true_or_fals
     | inr other ↦ rw passes (chosen set t ps alternative rest other h)
   ])
 ]
-chosen set t (peek heads row ∷ ps) alternative test one h = elim (true_or_false (is_among t heads)) [
+chosen set t (peek heads row ∷ ps) alternative test one h = elim (cases_Bool (is_among t heads)) [
   | inl suits ↦ (let only = rw suits at test in elim one [
     | inl is ↦ inr (rw (suits, is) refl)
     | inr other ↦ absurd (none_may set t ps alternative only other h)

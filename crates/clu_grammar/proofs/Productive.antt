@@ -1,5 +1,6 @@
 -- Every list of items stands for some symbols.
 use Rattle.std.proofs.Common.{◌≡◌, ℕ, zero, suc, ◌+◌, ◌<◌, ◌≤◌, Bool, true, ◌&&◌, cond, List, [], ◌∷◌, ◌++◌, length, Option, Some, None, is_some, slice_get, refl, sym, subst, inl, inr, arith, append_assoc, nat_lt, ltb-true, lt-ltb}
+use Rattle.std.proofs.lemmas.Bool.{and_from, cases_Bool}
 use Rattle.std.proofs.lemmas.List.{length_push, length-append}
 use Rattle.clu_lexer.specs.declared.symbols.Symbol.{Symbol}
 use Rattle.clu_grammar.specs.declared.items.Item.{Item}
@@ -10,7 +11,7 @@ use Rattle.clu_grammar.specs.Choice.{has}
 use Rattle.clu_grammar.specs.Grammar.{productions}
 use Rattle.clu_grammar.specs.Language.{IsOneOf, Derives, done, symbol, action, choice}
 use Rattle.clu_grammar.specs.Rows.{Production, take, peek, otherwise}
-use Rattle.clu_grammar.proofs.Flags.{and_left, and_right, and_both, true_or_false}
+use Rattle.clu_grammar.proofs.Flags.{and_left, and_right}
 use Rattle.clu_grammar.proofs.Lookahead.{rank}
 use Rattle.clu_lexer.specs.contracts.symbols.Symbol.{the_type}
 use denote.Enum.Bare.{true_same}
@@ -44,15 +45,15 @@ IsLow k ps alternative = IsOneOf ps alternative × (ranks_below k alternative �
 low_is : (k : ℕ) (ps : List Production) (alternative : List Item) → low k ps ≡ Some alternative → IsLow k ps alternative
 low_is k [] alternative is = absurd (cc)
 low_is k (take [] row ∷ ps) alternative is = let found = low_is k ps alternative is in (inr found.0, found.1)
-low_is k (take (s ∷ heads) row ∷ ps) alternative is = elim (true_or_false (ranks_below k row)) [
+low_is k (take (s ∷ heads) row ∷ ps) alternative is = elim (cases_Bool (ranks_below k row)) [
   | inl ok ↦ (let same : item.Terminal s ∷ row ≡ alternative = (let h = rw ok at is in cc) in (inl (s, has_first s heads, sym same), subst (λ (x : List Item). ranks_below k x ≡ true) same ok))
   | inr bad ↦ (let found = low_is k ps alternative (rw bad at is) in (inr found.0, found.1))
 ]
-low_is k (peek heads row ∷ ps) alternative is = elim (true_or_false (ranks_below k row)) [
+low_is k (peek heads row ∷ ps) alternative is = elim (cases_Bool (ranks_below k row)) [
   | inl ok ↦ (let same : row ≡ alternative = (let h = rw ok at is in cc) in (inl (sym same), subst (λ (x : List Item). ranks_below k x ≡ true) same ok))
   | inr bad ↦ (let found = low_is k ps alternative (rw bad at is) in (inr found.0, found.1))
 ]
-low_is k (otherwise row ∷ ps) alternative is = elim (true_or_false (ranks_below k row)) [
+low_is k (otherwise row ∷ ps) alternative is = elim (cases_Bool (ranks_below k row)) [
   | inl ok ↦ (let same : row ≡ alternative = (let h = rw ok at is in cc) in (inl (sym same), subst (λ (x : List Item). ranks_below k x ≡ true) same ok))
   | inr bad ↦ (let found = low_is k ps alternative (rw bad at is) in (inr found.0, found.1))
 ]
@@ -111,7 +112,7 @@ ranks_more j k (item.Terminal s ∷ items) le h = ranks_more j k items le h
 ranks_more j k (item.Action a ∷ items) le h = ranks_more j k items le h
 ranks_more j k (item.Nonterminal n ∷ items) le h =
     let less : rank n < j = ltb-true (rank n) j (and_left (nat_lt (rank n) j) (ranks_below j items) h) in
-    and_both (nat_lt (rank n) k) (ranks_below k items) (lt-ltb (rank n) k (omega arith)) (ranks_more j k items le (and_right (nat_lt (rank n) j) (ranks_below j items) h))
+    and_from (nat_lt (rank n) k) (ranks_below k items) (lt-ltb (rank n) k (omega arith)) (ranks_more j k items le (and_right (nat_lt (rank n) j) (ranks_below j items) h))
 
 below_more : (k : ℕ) → Below k → Below (suc k)
 below_more k known [] h = ([], stands_none)
@@ -139,7 +140,7 @@ ranks_small : (items : List Item) → ranks_below 8 items ≡ true
 ranks_small [] = refl
 ranks_small (item.Terminal s ∷ items) = ranks_small items
 ranks_small (item.Action a ∷ items) = ranks_small items
-ranks_small (item.Nonterminal n ∷ items) = and_both (nat_lt (rank n) 8) (ranks_below 8 items) (rank_small n) (ranks_small items)
+ranks_small (item.Nonterminal n ∷ items) = and_from (nat_lt (rank n) 8) (ranks_below 8 items) (rank_small n) (ranks_small items)
 
 -- the items stand for some symbols
 pub stands : (items : List Item) → (w : List Symbol) × StandsFor items w

@@ -1,5 +1,6 @@
 -- A parser on its way: which files can still be read, and what a fault shows.
 use Rattle.std.proofs.Common.{◌≡◌, ℕ, zero, suc, ◌+◌, ◌<◌, ◌≤◌, true, List, [], ◌∷◌, ◌++◌, length, Option, Some, None, slice_get, take, refl, sym, ap, ◌∙◌, subst, inl, inr, arith, append-nil}
+use Rattle.std.proofs.lemmas.Bool.{cases_Bool}
 use Rattle.std.proofs.lemmas.Option.{slice_get_past, slice_get_within}
 use Rattle.std.proofs.lemmas.List.{length-append, length-take-le}
 use Rattle.clu_lexer.specs.declared.symbols.Symbol.{Symbol}
@@ -13,7 +14,6 @@ use Rattle.clu_grammar.specs.Grammar.{productions}
 use Rattle.clu_grammar.specs.Language.{IsOneOf, Derives, done, symbol, action, choice, whole, IsFile, SameBefore, SameUpTo, FailsAt}
 use Rattle.clu_grammar.specs.Rows.{Production, take as takes, peek, otherwise}
 use Rattle.clu_grammar.proofs.Deterministic.{Reads, taken, gone, inv_terminal, inv_act, inv_finished, reads, at_end, Followed}
-use Rattle.clu_grammar.proofs.Flags.{true_or_false}
 use Rattle.clu_grammar.proofs.Lookahead.{after}
 use Rattle.clu_grammar.proofs.Productive.{stands}
 use Rattle.clu_grammar.proofs.Tests.{in_set}
@@ -51,12 +51,12 @@ go_take xs ys h = cc
 -- the production that is chosen is one of them
 pub take_in : (ps : List Production) (t : Option Symbol) (row : List Item) → step ps t ≡ Take row → (s : Symbol) × (t ≡ Some s) × IsOneOf ps (item.Terminal s ∷ row)
 take_in [] t row is = absurd (cc)
-take_in (takes heads items ∷ ps) t row is = elim (true_or_false (is_among t heads)) [
+take_in (takes heads items ∷ ps) t row is = elim (cases_Bool (is_among t heads)) [
   | inl suits ↦ (let same : items ≡ row = (let h = rw suits at is in cc) in
       let found = among_some t heads suits in (found.0, found.1, inl (found.0, found.2, ap (λ (x : List Item). item.Terminal found.0 ∷ x) (sym same))))
   | inr passes ↦ (let found = take_in ps t row (rw passes at is) in (found.0, found.1, inr found.2))
 ]
-take_in (peek heads items ∷ ps) t row is = elim (true_or_false (is_among t heads)) [
+take_in (peek heads items ∷ ps) t row is = elim (cases_Bool (is_among t heads)) [
   | inl suits ↦ absurd (go_take items row (rw suits at is))
   | inr passes ↦ (let found = take_in ps t row (rw passes at is) in (found.0, found.1, inr found.2))
 ]
@@ -64,11 +64,11 @@ take_in (otherwise items ∷ ps) t row is = absurd (go_take items row is)
 
 pub go_in : (ps : List Production) (t : Option Symbol) (row : List Item) → step ps t ≡ Go row → IsOneOf ps row
 go_in [] t row is = absurd (cc)
-go_in (takes heads items ∷ ps) t row is = elim (true_or_false (is_among t heads)) [
+go_in (takes heads items ∷ ps) t row is = elim (cases_Bool (is_among t heads)) [
   | inl suits ↦ absurd (go_take row items (sym (rw suits at is)))
   | inr passes ↦ inr (go_in ps t row (rw passes at is))
 ]
-go_in (peek heads items ∷ ps) t row is = elim (true_or_false (is_among t heads)) [
+go_in (peek heads items ∷ ps) t row is = elim (cases_Bool (is_among t heads)) [
   | inl suits ↦ (let same : items ≡ row = (let h = rw suits at is in cc) in inl (sym same))
   | inr passes ↦ inr (go_in ps t row (rw passes at is))
 ]

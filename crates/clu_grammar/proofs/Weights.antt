@@ -1,6 +1,7 @@
 -- A measure that falls with every step of the parser.
 use Rattle.std.proofs.Common.{◌≡◌, ℕ, ◌+◌, ◌*◌, ◌-◌, ◌<◌, Bool, true, List, [], ◌∷◌, ◌++◌, length, Option, Some, refl, subst, inl, inr, arith, nat_lt, ltb-true, slice_get}
 use Rattle.std.specs.List.{list_all}
+use Rattle.std.proofs.lemmas.Bool.{cases_Bool}
 use Rattle.std.proofs.lemmas.Option.{slice_get_within}
 use Rattle.clu_lexer.specs.declared.symbols.Symbol.{Symbol}
 use Rattle.clu_grammar.specs.declared.items.Action.{Action}
@@ -11,7 +12,7 @@ use Rattle.clu_grammar.specs.declared.items.Nonterminal.TheVariants as r
 use Rattle.clu_grammar.specs.Choice.{Step, Take, Go, No, is_among, step}
 use Rattle.clu_grammar.specs.Grammar.{productions}
 use Rattle.clu_grammar.specs.Rows.{Production, take, peek, otherwise}
-use Rattle.clu_grammar.proofs.Flags.{and_left, and_right, true_or_false}
+use Rattle.clu_grammar.proofs.Flags.{and_left, and_right}
 use Rattle.clu_grammar.proofs.Lookahead.{weight}
 
 abbrev pub weights : List Item → ℕ
@@ -44,11 +45,11 @@ IsLight w No = Unit {0}
 
 light : (w : ℕ) (ps : List Production) (t : Option Symbol) → list_all (weight_holds w) ps ≡ true → IsLight w (step ps t)
 light w [] t test = tt
-light w (take heads row ∷ ps) t test = elim (true_or_false (is_among t heads)) [
+light w (take heads row ∷ ps) t test = elim (cases_Bool (is_among t heads)) [
   | inl suits ↦ rw suits (ltb-true (weights row) 32 (and_left (nat_lt (weights row) 32) (list_all (weight_holds w) ps) test))
   | inr passes ↦ rw passes (light w ps t (and_right (nat_lt (weights row) 32) (list_all (weight_holds w) ps) test))
 ]
-light w (peek heads row ∷ ps) t test = elim (true_or_false (is_among t heads)) [
+light w (peek heads row ∷ ps) t test = elim (cases_Bool (is_among t heads)) [
   | inl suits ↦ rw suits (ltb-true (weights row) w (and_left (nat_lt (weights row) w) (list_all (weight_holds w) ps) test))
   | inr passes ↦ rw passes (light w ps t (and_right (nat_lt (weights row) w) (list_all (weight_holds w) ps) test))
 ]

@@ -1,29 +1,15 @@
 -- Regions that nest: the last one round a place that has an arm is the innermost.
-use Rattle.std.proofs.Common.{◌≡◌, ℕ, zero, suc, ◌+◌, ◌<◌, ◌≤◌, List, [], ◌∷◌, ◌++◌, length, take, drop, Bool, true, false, ◌&&◌, ◌||◌, Option, Some, None, is_some, unwrap_or, slice_get, refl, sym, ◌∙◌, ap, subst, cond, ⊎_elim, arith, le-leb, leb-true, ltb-true, append_assoc, append-nil, add-one, nat_le, IfSome, IfNone}
+use Rattle.std.proofs.Common.{◌≡◌, ℕ, zero, suc, ◌+◌, ◌<◌, ◌≤◌, List, [], ◌∷◌, ◌++◌, length, take, drop, Bool, true, false, ◌&&◌, ◌||◌, Option, Some, None, slice_get, refl, sym, ◌∙◌, ap, subst, cond, ⊎_elim, arith, le-leb, leb-true, ltb-true, append_assoc, append-nil, add-one, nat_le, IfSome, IfNone}
 use Rattle.std.specs.List.{list_all}
 use Rattle.std.proofs.lemmas.Bool.{and_from, and_parts, and_right, or_cases, cases_lt, false≢true}
-use Rattle.std.proofs.lemmas.Option.{slice_get_past}
+use Rattle.std.proofs.lemmas.Option.{slice_get_past, same_Some}
+use Rattle.clu_base.proofs.Lists.{none_is_not, get_before, get_last}
 use Rattle.clu_handlers.specs.declared.region.Region.{Region}
 use Rattle.clu_handlers.specs.declared.region.Found.{Found}
 use Rattle.clu_handlers.specs.Arms.{arm_for}
 use Rattle.clu_handlers.specs.Regions.{is_round, is_apart, is_in, can_add, nests_behind, are_nested, arm_at, arm_of, arm_in, Holds, IsInnermost, found_next, found_behind}
 
 -- Items of lists.
-
-pub none_is_not : {X A : Type 0} (x : X) → None ≡ Some x → A
-none_is_not x e = absurd (false≢true (ap is_some e))
-
-pub same_item : {X : Type 0} (x y : X) → Some x ≡ Some y → x ≡ y
-same_item x y e = ap (λ o. unwrap_or o x) e
-
-pub get_before : {X : Type 0} (xs : List X) (y : X) (n : ℕ) → n < length xs → slice_get (xs ++ y ∷ []) n ≡ slice_get xs n
-get_before [] y n lt = absurd (omega (arith, lt))
-get_before (x ∷ xs) y zero lt = refl
-get_before (x ∷ xs) y (suc n) lt = get_before xs y n (omega (arith, lt))
-
-pub get_here : {X : Type 0} (xs : List X) (y : X) → slice_get (xs ++ y ∷ []) (length xs) ≡ Some y
-get_here [] y = refl
-get_here (x ∷ xs) y = get_here xs y
 
 pub length_with : {X : Type 0} (xs : List X) (y : X) → length (xs ++ y ∷ []) ≡ suc (length xs)
 length_with [] y = refl
@@ -34,7 +20,7 @@ get_past xs y n lt = slice_get_past (xs ++ y ∷ []) n (omega (arith, length_wit
 
 all_from : {X : Type 0} (p : X → Bool) (xs : List X) (k n : ℕ) (a : X) → list_all p (drop k xs) ≡ true → k ≤ n → slice_get xs n ≡ Some a → p a ≡ true
 all_from p [] k n a all le e = none_is_not a e
-all_from p (x ∷ xs) zero zero a all le e = ap p (sym (same_item x a e)) ∙ (and_parts (p x) (list_all p xs) all).0
+all_from p (x ∷ xs) zero zero a all le e = ap p (sym (same_Some x a e)) ∙ (and_parts (p x) (list_all p xs) all).0
 all_from p (x ∷ xs) zero (suc n) a all le e = all_from p xs 0 n a (and_parts (p x) (list_all p xs) all).1 (omega arith) e
 all_from p (x ∷ xs) (suc k) zero a all le e = absurd (omega (arith, le))
 all_from p (x ∷ xs) (suc k) (suc n) a all le e = all_from p xs k n a all (omega (arith, le)) e
@@ -73,7 +59,7 @@ nested_behind : (rs front : List Region) (j : ℕ) (b : Region) → nests_behind
 nested_behind [] front j b h e = none_is_not b e
 nested_behind (r ∷ rs) front zero b h e =
     let here : can_add front r.first r.last r.parent ≡ true = (and_parts _ _ h).0 in
-    subst (λ (x : Region). can_add (front ++ []) x.first x.last x.parent ≡ true) (same_item r b e)
+    subst (λ (x : Region). can_add (front ++ []) x.first x.last x.parent ≡ true) (same_Some r b e)
     (subst (λ (l : List Region). can_add l r.first r.last r.parent ≡ true) (sym (append-nil front)) here)
 nested_behind (r ∷ rs) front (suc j) b h e =
     subst (λ (l : List Region). can_add l b.first b.last b.parent ≡ true) (append_assoc front (r ∷ []) (take j rs))
@@ -114,7 +100,7 @@ module _ (rs : List Region) (nested : are_nested rs ≡ true) (pc : ℕ) where
 
   same_within : (i j : ℕ) (a b : Region) → i ≡ j → slice_get rs i ≡ Some a → slice_get rs j ≡ Some b → Within a b
   same_within i j a b ij ea eb =
-      let ab : a ≡ b = same_item a b (sym ea ∙ ap (slice_get rs) ij ∙ eb) in
+      let ab : a ≡ b = same_Some a b (sym ea ∙ ap (slice_get rs) ij ∙ eb) in
       (omega (arith, ap (λ (r : Region). r.first) ab), omega (arith, ap (λ (r : Region). r.last) ab))
 
   holds_step : (k : ℕ) → HoldBelow k → HoldBelow (suc k)
@@ -141,7 +127,7 @@ arm_before : (rs : List Region) (r : Region) (pc : ℕ) (name : List ℕ) (n : �
 arm_before rs r pc name n lt = ap (λ o. arm_of o pc name) (get_before rs r n lt)
 
 arm_here : (rs : List Region) (r : Region) (pc : ℕ) (name : List ℕ) → arm_in (rs ++ r ∷ []) pc name (length rs) ≡ arm_at r pc name
-arm_here rs r pc name = ap (λ o. arm_of o pc name) (get_here rs r)
+arm_here rs r pc name = ap (λ o. arm_of o pc name) (get_last rs r)
 
 none_past : (rs : List Region) (r : Region) (pc : ℕ) (name : List ℕ) → NoneFrom (rs ++ r ∷ []) pc name (suc (length rs))
 none_past rs r pc name n le = ap (λ o. arm_of o pc name) (get_past rs r n (omega (arith, le)))

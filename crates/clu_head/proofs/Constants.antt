@@ -1,5 +1,5 @@
 -- Actual parameters that change nothing, of which one is a type for a while: then only the parameter of its number is changed.
-use Rattle.std.proofs.Common.{◌≡◌, ◌∙◌, ℕ, zero, suc, ◌+◌, ◌-◌, ◌<◌, ◌≤◌, Bool, true, if◌then◌else◌, List, [], ◌∷◌, ◌++◌, length, set, refl, sym, ap, subst, arith, add-one}
+use Rattle.std.proofs.Common.{◌≡◌, ◌∙◌, ℕ, zero, suc, ◌+◌, ◌-◌, ◌<◌, ◌≤◌, Bool, true, if◌then◌else◌, List, [], ◌∷◌, ◌++◌, length, set, refl, sym, ap, subst, arith, add-one, ap₂}
 use Rattle.std.proofs.lemmas.Bool.{lt-ltb}
 use Rattle.clu_types.specs.CluType.{CluType, null_type, bool_type, int_type, char_type, string_type, any_type, stream_type, array_of, sequence_of, record_of, struct_of, oneof_of, variant_of, proc_of, iter_of, cluster_of, parameter, CluTypes, no_types, type_and, Fields, no_fields, field_and, Signals, no_signals, signal_and, Actuals, no_actuals, actual_type, actual_const, actual_param}
 use Rattle.clu_types.specs.Arena.{ActualBelow, ActualsBelow, Grows, type_at, types_of, actuals_at}
@@ -10,7 +10,7 @@ use Rattle.clu_types.specs.declared.term.Actual.TheVariants as actual
 use Rattle.clu_types.specs.declared.term.Term.{Term}
 use Rattle.clu_types.proofs.Arenas.{types_grown}
 use Rattle.clu_types.proofs.Carrying.{grows_on, length_grows}
-use Rattle.clu_types.proofs.Equality.{join, join3}
+use Rattle.clu_types.proofs.Equality.{join3}
 use Rattle.clu_head.specs.OwnTypes.{number_at}
 use Rattle.clu_head.specs.Unchanged.{IsUnchanged, AreUnchanged, behind_unchanged, only}
 use Rattle.clu_head.specs.Wanted.{IsPutIn}
@@ -127,19 +127,19 @@ module _ (types : List CluType) where
 
         types_same : (ts : CluTypes) → types_substituted some ts ≡ types_substituted one ts
         types_same no_types = refl
-        types_same (type_and x ts) = join type_and (put_same x) (types_same ts)
+        types_same (type_and x ts) = ap₂ type_and (put_same x) (types_same ts)
 
         fields_same : (fs : Fields) → fields_substituted some fs ≡ fields_substituted one fs
         fields_same no_fields = refl
-        fields_same (field_and name x fs) = join (field_and name) (put_same x) (fields_same fs)
+        fields_same (field_and name x fs) = ap₂ (field_and name) (put_same x) (fields_same fs)
 
         signals_same : (ss : Signals) → signals_substituted some ss ≡ signals_substituted one ss
         signals_same no_signals = refl
-        signals_same (signal_and name ts ss) = join (signal_and name) (types_same ts) (signals_same ss)
+        signals_same (signal_and name ts ss) = ap₂ (signal_and name) (types_same ts) (signals_same ss)
 
         actuals_same : (inner : Actuals) → actuals_substituted some inner ≡ actuals_substituted one inner
         actuals_same no_actuals = refl
-        actuals_same (actual_type x rest) = join actual_type (put_same x) (actuals_same rest)
+        actuals_same (actual_type x rest) = ap₂ actual_type (put_same x) (actuals_same rest)
         actuals_same (actual_const c rest) = ap (actual_const c) (actuals_same rest)
         actuals_same (actual_param p rest) = constant_same p (actuals_substituted some rest) ∙ ap (constant_put one p) (actuals_same rest)
 

@@ -3,8 +3,9 @@
 use Rattle.std.proofs.Common.{◌≡◌, ◌∙◌, ◌↔◌, ◌⊎◌, inl, inr, ℕ, zero, suc, ◌+◌, ◌<◌, ◌≤◌, nat_lt, Bool, true, false, if◌then◌else◌, List, [], ◌∷◌, ◌++◌, map, set, fold, length, drop, replicate, Option, Some, None, refl, ap, sym, subst, arith, length-set}
 use Rattle.std.proofs.lemmas.List.{length-replicate}
 use Rattle.std.specs.Prelude.{slice_get}
-use Rattle.std.proofs.lemmas.Bool.{cases_lt, lt-ltb, true≢false}
+use Rattle.std.proofs.lemmas.Bool.{cases_lt, lt-ltb, true≢false, cases_Bool, cases_eq}
 use Rattle.std.proofs.lemmas.Option.{none-some, same_Some, slice_get_past, slice_get_within}
+use Rattle.clu_base.proofs.Lists.{some_at, mapped_at}
 use Rattle.clu_circles.specs.declared.states.Span.{Span}
 use Rattle.clu_circles.specs.Circles.{Leads, LeadsFor, AreCircles}
 use Rattle.clu_head.specs.declared.sets.Said.{Said}
@@ -12,11 +13,6 @@ use Rattle.clu_head.specs.declared.sets.Said.TheVariants as said
 use Rattle.clu_head.specs.Sets.{target_of, AreOne, kept, kept_at, led_by, led, set_led, with_set}
 
 -- ---- tables
-
-there : {X : Type 0} (xs : List X) (k : ℕ) → k < length xs → (x : X) × (slice_get xs k ≡ Some x)
-there [] k less = absurd (omega (arith, less))
-there (x ∷ xs) zero less = (x, refl)
-there (x ∷ xs) (suc k) less = there xs k (omega (arith, less))
 
 set_here : {X : Type 0} (xs : List X) (k : ℕ) (y : X) → k < length xs → slice_get (set xs k y) k ≡ Some y
 set_here [] k y less = absurd (omega (arith, less))
@@ -30,24 +26,10 @@ set_there (x ∷ xs) zero (suc k) y apart = refl
 set_there (x ∷ xs) (suc j) zero y apart = refl
 set_there (x ∷ xs) (suc j) (suc k) y apart = set_there xs j k y (λ e. apart (ap suc e))
 
-mapped_there : {X Y : Type 0} (f : X → Y) (xs : List X) (k : ℕ) (x : X) → slice_get xs k ≡ Some x → slice_get (map f xs) k ≡ Some (f x)
-mapped_there f [] k x e = absurd (none-some x e)
-mapped_there f (y ∷ xs) zero x e = ap Some (ap f (same_Some y x e))
-mapped_there f (y ∷ xs) (suc k) x e = mapped_there f xs k x e
-
 mapped_from : {X Y : Type 0} (f : X → Y) (xs : List X) (k : ℕ) (y : Y) → slice_get (map f xs) k ≡ Some y → (x : X) × (slice_get xs k ≡ Some x) × (f x ≡ y)
 mapped_from f [] k y e = absurd (none-some y e)
 mapped_from f (x ∷ xs) zero y e = (x, refl, same_Some (f x) y e)
 mapped_from f (x ∷ xs) (suc k) y e = mapped_from f xs k y e
-
-same_or_not : (j k : ℕ) → (j ≡ k) ⊎ (j ≡ k → ⊥)
-same_or_not zero zero = inl refl
-same_or_not zero (suc k) = inr (λ e. omega (arith, e))
-same_or_not (suc j) zero = inr (λ e. omega (arith, e))
-same_or_not (suc j) (suc k) = elim (same_or_not j k) [
-  | inl e ↦ inl (ap suc e)
-  | inr f ↦ inr (λ e. f (omega (arith, e)))
-]
 
 first_left : (xs : List ℕ) (i x : ℕ) (rest : List ℕ) → drop i xs ≡ x ∷ rest → slice_get xs i ≡ Some x
 first_left [] zero x rest e = absurd (cc)
@@ -65,10 +47,6 @@ none_left : (xs : List ℕ) (i : ℕ) → drop i xs ≡ [] → length xs ≤ i
 none_left [] i e = omega arith
 none_left (x ∷ xs) zero e = absurd (cc)
 none_left (x ∷ xs) (suc i) e = let less : length xs ≤ i = none_left xs i e in omega (arith, less)
-
-true_or_false : (b : Bool) → (b ≡ true) ⊎ (b ≡ false)
-true_or_false true = inl refl
-true_or_false false = inr refl
 
 -- ---- one target for each
 
@@ -95,7 +73,7 @@ module _ (all : List Said) (spans : List Span) (one : AreOne spans (length all))
     its = one k (slice_get_within all k (said.Same t) at);
     onward = omega arith;
     before = omega arith;
-    there = mapped_there (target_of (length all)) all k (said.Same t) at ∙ ap Some (target_same (length all) t less);
+    there = mapped_at (target_of (length all)) all k (said.Same t) at ∙ ap Some (target_same (length all) t less);
   }
 
   same_leads : (k t : ℕ) → Leads targets spans k t → slice_get all k ≡ Some (said.Same t)
@@ -187,7 +165,7 @@ module _ (all : List Said) (spans : List Span) (one : AreOne spans (length all))
     next i k sets at so_far long j =
         let less : k < length all = inside_order i k at in
         let value : Option ℕ = led_by (kept_at sets) (slice_get all k) in
-        subst (λ (s : List (Option ℕ)). IsSoFar (suc i) s j) (sym (written sets k long less)) (elim (same_or_not k j) [
+        subst (λ (s : List (Option ℕ)). IsSoFar (suc i) s j) (sym (written sets k long less)) (elim (cases_eq k j) [
           | inl same ↦ inl (subst (λ (m : ℕ). kept_at (set sets k value) m ≡ set_led all m) same
               (ap kept (set_here sets k value (omega (arith, long, less))) ∙ found (length all) i k sets refl less at so_far long))
           | inr apart ↦
@@ -213,8 +191,8 @@ module _ (all : List Said) (spans : List Span) (one : AreOne spans (length all))
       | inr left ↦ elim (cases_lt k (length all)) [
         | inr outside ↦ left.0 ∙ sym (past_none (length all) k outside)
         | inl less ↦
-            let bit = there circular k (omega (arith, less, circles.size, many)) in
-            elim (true_or_false bit.0) [
+            let bit = some_at circular k (omega (arith, less, circles.size, many)) in
+            elim (cases_Bool bit.0) [
               | inl is ↦
                   let far : LeadsFor targets spans (length spans) k = (exactly k (omega (arith, less, many))).0 (bit.1 ∙ ap Some is) in
                   left.0 ∙ sym (ap (λ (n : ℕ). led all n k) (sym many) ∙ circular_none (length spans) k far)

@@ -1,8 +1,8 @@
 -- What the parts of a Routine are, and heads while the arena grows.
-use Rattle.std.proofs.Common.{◌≡◌, ◌∙◌, ℕ, zero, suc, ◌+◌, ◌<◌, ◌≤◌, Bool, true, false, List, [], ◌∷◌, ◌++◌, length, take, get_or, map, Option, Some, None, refl, ap, sym, subst, append_assoc, take_all}
+use Rattle.std.proofs.Common.{◌≡◌, ◌∙◌, ℕ, ◌+◌, ◌<◌, ◌≤◌, Bool, true, false, List, [], ◌∷◌, ◌++◌, length, take, get_or, map, Option, Some, None, refl, ap, sym, subst, append_assoc, take_all}
 use Rattle.std.proofs.lemmas.List.{append-nil, take_more}
-use Rattle.std.proofs.lemmas.Option.{none-some}
 use Rattle.std.specs.Prelude.{slice_get}
+use Rattle.clu_base.proofs.Lists.{got_front}
 use Rattle.clu_tree.specs.declared.node.Node.{Node}
 use Rattle.clu_tree.specs.declared.node.NodeKind.TheVariants as kind
 use Rattle.clu_syntax.specs.declared.words.RoutineKind.{RoutineKind}
@@ -101,13 +101,8 @@ name_viewed nodes n v (Some node) is e = ap (λ (r : Routine). r.name) (e ∙ ap
 
 -- ---- heads while the arena grows
 
-got_first : (xs ys : List Term) (i : ℕ) (x : Term) → slice_get xs i ≡ Some x → slice_get (xs ++ ys) i ≡ Some x
-got_first [] ys i x e = absurd (none-some x e)
-got_first (y ∷ xs) ys zero x e = e
-got_first (y ∷ xs) ys (suc i) x e = got_first xs ys i x e
-
 numbered_later : (old new later : List Term) → Grows new later → (t : Option Term) (id : Option TypeId) → IsNumbered old new t id → IsNumbered old later t id
-numbered_later old new later grows (Some t) (Some id) is = ap (λ (ts : List Term). slice_get ts id.0) grows.1 ∙ got_first new grows.0 id.0 t is
+numbered_later old new later grows (Some t) (Some id) is = ap (λ (ts : List Term). slice_get ts id.0) grows.1 ∙ got_front new grows.0 id.0 t is
 numbered_later old new later grows (Some t) None is = is
 numbered_later old new later grows None (Some id) is = is
 numbered_later old new later grows None None is = is

@@ -1,8 +1,9 @@
 -- Parameters as actuals for themselves, while the arena grows.
-use Rattle.std.proofs.Common.{◌≡◌, ◌∙◌, ℕ, zero, suc, ◌+◌, ◌<◌, Bool, true, false, List, [], ◌∷◌, ◌++◌, length, take, get_or, Option, Some, None, refl, ap, sym, subst, arith}
+use Rattle.std.proofs.Common.{◌≡◌, ◌∙◌, ℕ, suc, ◌+◌, ◌<◌, Bool, true, false, List, [], ◌∷◌, ◌++◌, length, take, get_or, Option, Some, None, refl, ap, sym, subst, arith}
 use Rattle.std.specs.Prelude.{slice_get}
 use Rattle.std.proofs.lemmas.List.{take_more}
-use Rattle.std.proofs.lemmas.Option.{none-some, slice_get_within}
+use Rattle.std.proofs.lemmas.Option.{slice_get_within}
+use Rattle.clu_base.proofs.Lists.{got_front}
 use Rattle.clu_types.specs.declared.spec.ParamKind.{ParamKind}
 use Rattle.clu_types.specs.declared.term.TypeId.{TypeId}
 use Rattle.clu_types.specs.declared.term.Actual.{Actual}
@@ -13,11 +14,6 @@ use Rattle.clu_types.specs.Arena.{ActualBelow, ActualsBelow, Grows}
 use Rattle.clu_head.specs.Terms.{IsNumbered}
 use Rattle.clu_head.specs.OwnTypes.{number_at, is_type_parameter, IsOwn, IsOwnActual, AreOwn, IsOwnType}
 
-got_first : (xs ys : List Term) (i : ℕ) (x : Term) → slice_get xs i ≡ Some x → slice_get (xs ++ ys) i ≡ Some x
-got_first [] ys i x e = absurd (none-some x e)
-got_first (y ∷ xs) ys zero x e = e
-got_first (y ∷ xs) ys (suc i) x e = got_first xs ys i x e
-
 pub own_type_parameter : (types : List Term) (kind : Option ParamKind) (n : ℕ) (id : TypeId) → is_type_parameter kind ≡ true → slice_get types id.0 ≡ Some (term.Param n) → IsOwnActual types kind n (actual.Of id)
 unfolding IsOwnActual
 own_type_parameter types kind n id is at = subst (λ (b : Bool). IsOwn types b n (actual.Of id)) (sym is) at
@@ -27,7 +23,7 @@ unfolding IsOwnActual
 own_constant types kind n is = subst (λ (b : Bool). IsOwn types b n (actual.ConstParam n)) (sym is) refl
 
 one_wider : (old new : List Term) → Grows old new → (b : Bool) (n : ℕ) (a : Actual) → IsOwn old b n a → IsOwn new b n a
-one_wider old new grows true n (actual.Of id) is = ap (λ (ts : List Term). slice_get ts id.0) grows.1 ∙ got_first old grows.0 id.0 (term.Param n) is
+one_wider old new grows true n (actual.Of id) is = ap (λ (ts : List Term). slice_get ts id.0) grows.1 ∙ got_front old grows.0 id.0 (term.Param n) is
 one_wider old new grows true n (actual.Const c) is = absurd is
 one_wider old new grows true n (actual.ConstParam p) is = absurd is
 one_wider old new grows false n (actual.Of id) is = absurd is
@@ -90,5 +86,5 @@ own_found old new grows kinds name word xs None same are is = is (own_below old 
 
 pub own_type_wider : (old new : List Term) → Grows old new → (name : List ℕ) (kinds : List (Option ParamKind)) (found : Option TypeId) → IsOwnType old name kinds found → IsOwnType new name kinds found
 unfolding IsOwnType
-own_type_wider old new grows name kinds (Some id) is = (is.0, ap (λ (ts : List Term). slice_get ts id.0) grows.1 ∙ got_first old grows.0 id.0 (term.Cluster name is.0) is.1, own_wider old new grows 0 kinds is.0 is.2)
+own_type_wider old new grows name kinds (Some id) is = (is.0, ap (λ (ts : List Term). slice_get ts id.0) grows.1 ∙ got_front old grows.0 id.0 (term.Cluster name is.0) is.1, own_wider old new grows 0 kinds is.0 is.2)
 own_type_wider old new grows name kinds None is = is

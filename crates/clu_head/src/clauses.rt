@@ -367,7 +367,7 @@ pub fn asked_of(known: Known<'_>, types: &mut TypeArena) -> Result<Asked, Memory
     ensures asked { IfOk result (λ asked. AreAsked known.entry types.old types.new (asked_to known.entry (length known.entry.syntax.now)) asked.demands.items) }
     ensures kept { Grows types.old types.new }
 {
-    let mut starts = Vec::new(known.alloc);
+    let mut starts = Vec::with_capacity(known.alloc, known.syntax.tree().len() as usize)?;
     let mut demands = Vec::new(known.alloc);
     let mut unchanged = Unchanged::new(known.alloc);
     push_all(known, types, &mut unchanged, &mut starts, &mut demands)?;

@@ -1,12 +1,14 @@
 -- The test on two types holds just of the same ones, and the test of inclusion holds where the relation of clu_types does.
 use Rattle.std.proofs.Common.{◌≡◌, refl, ap, subst, inl, inr}
-use Rattle.std.proofs.lemmas.Bool.{false≢true, and_parts, and_from, or_cases, eqb-true, eq-eqb}
+use Rattle.std.proofs.lemmas.Bool.{false≢true, and_parts, and_from, or_cases, eqb-true, eq-eqb, or_left, or_right}
 use Rattle.std.proofs.lemmas.Bool.Decides.{Decides-int_eq}
 use Rattle.std.proofs.lemmas.Slice.Eq.{bytes_eq-Decides}
 use Rattle.std.specs.Prelude.{ℕ, Bool, true, false, ◌&&◌, ◌||◌, ◌==◌, List, bytes_eq}
 use Rattle.std.specs.Bool.{beq}
 use Rattle.clu_base.specs.declared.constants.Const.{Const}
 use Rattle.clu_base.specs.declared.constants.Const.TheVariants as constant
+use Rattle.clu_base.proofs.Bools.{of_three}
+use Rattle.clu_base.proofs.Lists.{same_bytes}
 use Rattle.clu_types.specs.CluType.{CluType, null_type, bool_type, int_type, char_type, string_type, any_type, stream_type, array_of, sequence_of, record_of, struct_of, oneof_of, variant_of, proc_of, iter_of, cluster_of, parameter, CluTypes, no_types, type_and, Fields, no_fields, field_and, Signals, no_signals, signal_and, Actuals, no_actuals, actual_type, actual_const, actual_param}
 use Rattle.clu_types.specs.Included.{Included, IsNarrower, HasSignal, AreAmong}
 use Rattle.clu_layout.specs.SameType.{same_const, same_type, same_types, same_fields, same_signals, same_actuals, has_signal, are_among, has_more_signals, is_any, fits}
@@ -17,10 +19,6 @@ left x y h = (and_parts x y h).0
 
 right : (x y : Bool) → (x && y) ≡ true → y ≡ true
 right x y h = (and_parts x y h).1
-
--- the parts of three tests that hold
-of_three : (x y z : Bool) → (x && y && z) ≡ true → (x ≡ true) × (y ≡ true) × (z ≡ true)
-of_three x y z h = (left x y (left (x && y) z h), right x y (left (x && y) z h), right (x && y) z h)
 
 no : {A : Type 0} → false ≡ true → A
 no h = absurd (false≢true h)
@@ -33,15 +31,12 @@ bools_are false false h = refl
 bools_are true false h = no h
 bools_are false true h = no h
 
-bytes_are : (a b : List ℕ) → bytes_eq a b ≡ true → a ≡ b
-bytes_are a b h = (bytes_eq-Decides a b).0 h
-
 consts_are : (a b : Const) → same_const a b ≡ true → a ≡ b
 consts_are constant.Null constant.Null h = refl
 consts_are (constant.Bool a) (constant.Bool b) h = ap constant.Bool (bools_are a b h)
 consts_are (constant.Int a) (constant.Int b) h = ap constant.Int ((Decides-int_eq a b).0 h)
 consts_are (constant.Char a) (constant.Char b) h = ap constant.Char (eqb-true a b h)
-consts_are (constant.Str a) (constant.Str b) h = ap constant.Str (bytes_are a b h)
+consts_are (constant.Str a) (constant.Str b) h = ap constant.Str (same_bytes a b h)
 consts_are _ _ h = no h
 
 mutual
@@ -68,7 +63,7 @@ mutual
       (lists_are rs rs' (of_three (same_types ts ts') (same_types rs rs') (same_signals ss ss') h).1 i)
       (signals_are ss ss' (of_three (same_types ts ts') (same_types rs rs') (same_signals ss ss') h).2 i)
   types_are (cluster_of c xs) (cluster_of d ys) h = λ i. cluster_of
-      (bytes_are c d (left (bytes_eq c d) (same_actuals xs ys) h) i) (actuals_are xs ys (right (bytes_eq c d) (same_actuals xs ys) h) i)
+      (same_bytes c d (left (bytes_eq c d) (same_actuals xs ys) h) i) (actuals_are xs ys (right (bytes_eq c d) (same_actuals xs ys) h) i)
   types_are (parameter m) (parameter n) h = ap parameter (eqb-true m n h)
   types_are _ _ h = no h
 
@@ -82,7 +77,7 @@ mutual
   fields_are : (a b : Fields) → same_fields a b ≡ true → a ≡ b
   fields_are no_fields no_fields h = refl
   fields_are (field_and s t fs) (field_and s' t' gs) h = λ i. field_and
-      (bytes_are s s' (of_three (bytes_eq s s') (same_type t t') (same_fields fs gs) h).0 i)
+      (same_bytes s s' (of_three (bytes_eq s s') (same_type t t') (same_fields fs gs) h).0 i)
       (types_are t t' (of_three (bytes_eq s s') (same_type t t') (same_fields fs gs) h).1 i)
       (fields_are fs gs (of_three (bytes_eq s s') (same_type t t') (same_fields fs gs) h).2 i)
   fields_are no_fields (field_and s' t' gs) h = no h
@@ -91,7 +86,7 @@ mutual
   signals_are : (a b : Signals) → same_signals a b ≡ true → a ≡ b
   signals_are no_signals no_signals h = refl
   signals_are (signal_and s ts ss) (signal_and s' ts' ss') h = λ i. signal_and
-      (bytes_are s s' (of_three (bytes_eq s s') (same_types ts ts') (same_signals ss ss') h).0 i)
+      (same_bytes s s' (of_three (bytes_eq s s') (same_types ts ts') (same_signals ss ss') h).0 i)
       (lists_are ts ts' (of_three (bytes_eq s s') (same_types ts ts') (same_signals ss ss') h).1 i)
       (signals_are ss ss' (of_three (bytes_eq s s') (same_types ts ts') (same_signals ss ss') h).2 i)
   signals_are no_signals (signal_and s' ts' ss') h = no h
@@ -120,11 +115,8 @@ consts_same (constant.Int a) = (Decides-int_eq a a).1 refl
 consts_same (constant.Char a) = eq-eqb a a refl
 consts_same (constant.Str a) = bytes_same a
 
-both : (x y : Bool) → x ≡ true → y ≡ true → (x && y) ≡ true
-both = and_from
-
 all_three : (x y z : Bool) → x ≡ true → y ≡ true → z ≡ true → (x && y && z) ≡ true
-all_three x y z f g h = both (x && y) z (both x y f g) h
+all_three x y z f g h = and_from (x && y) z (and_from x y f g) h
 
 mutual
   pub type_same : (a : CluType) → same_type a a ≡ true
@@ -143,12 +135,12 @@ mutual
   type_same (variant_of fs) = fields_same fs
   type_same (proc_of ts rs ss) = all_three _ _ _ (types_same ts) (types_same rs) (signals_same ss)
   type_same (iter_of ts rs ss) = all_three _ _ _ (types_same ts) (types_same rs) (signals_same ss)
-  type_same (cluster_of c xs) = both _ _ (bytes_same c) (actuals_same xs)
+  type_same (cluster_of c xs) = and_from _ _ (bytes_same c) (actuals_same xs)
   type_same (parameter n) = eq-eqb n n refl
 
   pub types_same : (a : CluTypes) → same_types a a ≡ true
   types_same no_types = refl
-  types_same (type_and t ts) = both _ _ (type_same t) (types_same ts)
+  types_same (type_and t ts) = and_from _ _ (type_same t) (types_same ts)
 
   fields_same : (a : Fields) → same_fields a a ≡ true
   fields_same no_fields = refl
@@ -160,9 +152,9 @@ mutual
 
   actuals_same : (a : Actuals) → same_actuals a a ≡ true
   actuals_same no_actuals = refl
-  actuals_same (actual_type t xs) = both _ _ (type_same t) (actuals_same xs)
-  actuals_same (actual_const c xs) = both _ _ (consts_same c) (actuals_same xs)
-  actuals_same (actual_param m xs) = both _ _ (eq-eqb m m refl) (actuals_same xs)
+  actuals_same (actual_type t xs) = and_from _ _ (type_same t) (actuals_same xs)
+  actuals_same (actual_const c xs) = and_from _ _ (consts_same c) (actuals_same xs)
+  actuals_same (actual_param m xs) = and_from _ _ (eq-eqb m m refl) (actuals_same xs)
 
 types_same_at : (a b : CluTypes) → a ≡ b → same_types a b ≡ true
 types_same_at a b e = subst (λ c. same_types a c ≡ true) e (types_same a)
@@ -172,7 +164,7 @@ types_same_at a b e = subst (λ c. same_types a c ≡ true) e (types_same a)
 signal_is : (name : List ℕ) (os : CluTypes) (many : Signals) → has_signal name os many ≡ true → HasSignal name os many
 signal_is name os no_signals h = no h
 signal_is name os (signal_and n os' rest) h = elim (or_cases (bytes_eq n name && same_types os' os) (has_signal name os rest) h) as (λ _. HasSignal name os (signal_and n os' rest)) [
-  | inl found ↦ inl (bytes_are n name (left (bytes_eq n name) (same_types os' os) found), lists_are os' os (right (bytes_eq n name) (same_types os' os) found))
+  | inl found ↦ inl (same_bytes n name (left (bytes_eq n name) (same_types os' os) found), lists_are os' os (right (bytes_eq n name) (same_types os' os) found))
   | inr later ↦ inr (signal_is name os rest later)
 ]
 
@@ -205,21 +197,14 @@ fits_included a b h = elim (or_cases (same_type a b || is_any b) (has_more_signa
   | inr narrower ↦ inr (narrower_is a b narrower)
 ]
 
-or_left : (x y : Bool) → x ≡ true → (x || y) ≡ true
-or_left x y h = ap (λ z. z || y) h
-
-or_right : (x y : Bool) → y ≡ true → (x || y) ≡ true
-or_right true y h = refl
-or_right false y h = h
-
 signal_tests : (name : List ℕ) (os : CluTypes) (many : Signals) → HasSignal name os many → has_signal name os many ≡ true
 signal_tests name os no_signals h = elim h [ ]
-signal_tests name os (signal_and n os' rest) (inl (same, objects)) = or_left _ _ (both _ _ ((bytes_eq-Decides n name).1 same) (types_same_at os' os objects))
+signal_tests name os (signal_and n os' rest) (inl (same, objects)) = or_left _ _ (and_from _ _ ((bytes_eq-Decides n name).1 same) (types_same_at os' os objects))
 signal_tests name os (signal_and n os' rest) (inr later) = or_right _ _ (signal_tests name os rest later)
 
 among_test : (few many : Signals) → AreAmong few many → are_among few many ≡ true
 among_test no_signals many h = refl
-among_test (signal_and n os rest) many h = both _ _ (signal_tests n os many h.0) (among_test rest many h.1)
+among_test (signal_and n os rest) many h = and_from _ _ (signal_tests n os many h.0) (among_test rest many h.1)
 
 any_fits : (a b : CluType) → is_any b ≡ true → fits a b ≡ true
 any_fits a b h = or_left _ _ (or_right _ _ h)

@@ -7,7 +7,7 @@ use Rattle.std.specs.Ordering.{ordering_reverse, is_lt}
 use Rattle.std.specs.Str.{bytes_eq}
 use Rattle.std.specs.List.{list_any}
 use Rattle.std.proofs.lemmas.Cmp.{nat_list_cmp_total}
-use Rattle.std.proofs.lemmas.Option.{none-some, slice_get_within}
+use Rattle.std.proofs.lemmas.Option.{none-some, slice_get_within, same_Some}
 use Rattle.std.proofs.lemmas.Slice.Eq.{bytes_eq-Decides}
 use Rattle.std.specs.declared.cmp.Ordering.TheVariants.{Less}
 use Rattle.indexmap.proofs.CallerLemmas.{Contains-list_any}
@@ -18,7 +18,7 @@ use Rattle.clu_sound.specs.Sound.{IsSound}
 use Rattle.clu_library.specs.Contents.{Contents, spec_of}
 use Rattle.clu_library.specs.Unmet.{IsUnmet, IsLeastUnmet, TellsUnmet, IsAmiss}
 use Rattle.clu_library.proofs.Closing.{listed}
-use Rattle.clu_library.proofs.Firsts.{some_same, found_passes, apart}
+use Rattle.clu_library.proofs.Firsts.{found_passes, apart}
 
 -- ---- lists
 
@@ -32,19 +32,19 @@ find_place {X} p (x ∷ xs) y e = by (p x) e (find_place p xs y)
 
 after_at : (name : List ℕ) (xs : List Spec) (k : ℕ) (y : Spec) → ComeAfter name xs → slice_get xs k ≡ Some y → name_order name y.name ≡ Less
 after_at name [] k y a e = absurd (none-some y e)
-after_at name (x ∷ xs) zero y a e = ap (λ (s : Spec). name_order name s.name) (sym (some_same x y e)) ∙ a.0
+after_at name (x ∷ xs) zero y a e = ap (λ (s : Spec). name_order name s.name) (sym (same_Some x y e)) ∙ a.0
 after_at name (x ∷ xs) (suc k) y a e = after_at name xs k y a.1 e
 
 ascending_at : (xs : List Spec) (i k : ℕ) (x y : Spec) → AreAscending xs → i < k → slice_get xs i ≡ Some x → slice_get xs k ≡ Some y → name_order x.name y.name ≡ Less
 ascending_at [] i k x y a lt e f = absurd (none-some x e)
 ascending_at (z ∷ xs) zero zero x y a lt e f = absurd (omega (arith, lt))
 ascending_at (z ∷ xs) (suc i) zero x y a lt e f = absurd (omega (arith, lt))
-ascending_at (z ∷ xs) zero (suc k) x y a lt e f = subst (λ (s : Spec). name_order s.name y.name ≡ Less) (some_same z x e) (after_at z.name xs k y a.0 f)
+ascending_at (z ∷ xs) zero (suc k) x y a lt e f = subst (λ (s : Spec). name_order s.name y.name ≡ Less) (same_Some z x e) (after_at z.name xs k y a.0 f)
 ascending_at (z ∷ xs) (suc i) (suc k) x y a lt e f = ascending_at xs i k x y a.1 (omega (arith, lt)) e f
 
 found_at : (xs : List Spec) (i : ℕ) (x : Spec) → AreAscending xs → slice_get xs i ≡ Some x → find (λ (s : Spec). bytes_eq s.name x.name) xs ≡ Some x
 found_at [] i x a e = absurd (none-some x e)
-found_at (z ∷ xs) zero x a e = let same : bytes_eq z.name x.name ≡ true = (bytes_eq-Decides z.name x.name).1 (ap (λ (s : Spec). s.name) (some_same z x e)) in rw same e
+found_at (z ∷ xs) zero x a e = let same : bytes_eq z.name x.name ≡ true = (bytes_eq-Decides z.name x.name).1 (ap (λ (s : Spec). s.name) (same_Some z x e)) in rw same e
 found_at (z ∷ xs) (suc i) x a e = let other : bytes_eq z.name x.name ≡ false = apart z.name x.name (after_at z.name xs i x a.0 e) in rw other (found_at xs i x a.1 e)
 
 greater : (m n : List ℕ) → name_order m n ≡ Less → name_order n m ≡ Less → ⊥
@@ -73,7 +73,7 @@ module _ (library : Contents) (besides : List (List ℕ)) where
       by true less = before k t (omega (arith, ltb-true)) e
       by false last =
           let here : k ≡ n = omega (arith, ltb-false, lt) in
-          subst (λ (x : Spec). IsAmiss library.specs besides x → ⊥) (some_same s t (at ∙ ap (slice_get library.specs) (sym here) ∙ e)) this
+          subst (λ (x : Spec). IsAmiss library.specs besides x → ⊥) (same_Some s t (at ∙ ap (slice_get library.specs) (sym here) ∙ e)) this
 
   past : (xs : List Spec) (n : ℕ) → None ≡ slice_get xs n → (k : ℕ) (s : Spec) → slice_get xs k ≡ Some s → k < n
   past [] n e k s f = absurd (none-some s f)
@@ -101,7 +101,7 @@ module _ (library : Contents) (besides : List (List ℕ)) where
           by false e true later = greater s.name p.0.name (ascending_at library.specs n p.3.0 s p.0 ascending (omega (arith, ltb-true)) (sym at) p.3.1) lower
           by false e false f =
               let here : n ≡ p.3.0 = omega (arith, ltb-false) in
-              let same : s ≡ p.0 = some_same s p.0 (at ∙ ap (slice_get library.specs) here ∙ p.3.1) in
+              let same : s ≡ p.0 = same_Some s p.0 (at ∙ ap (slice_get library.specs) here ∙ p.3.1) in
               let itself : name_order s.name s.name ≡ Less = subst (λ (t : Spec). name_order t.name s.name ≡ Less) (sym same) lower in
               greater s.name s.name itself itself
 

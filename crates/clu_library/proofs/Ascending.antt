@@ -11,6 +11,7 @@ use Rattle.std.proofs.lemmas.Cmp.{nat_list_cmp_total, alike_right}
 use Rattle.std.proofs.lemmas.Map.Text.{is_eq-slice_cmp}
 use Rattle.std.specs.declared.cmp.Ordering.{Ordering}
 use Rattle.std.specs.declared.cmp.Ordering.TheVariants.{Less, Equal, Greater}
+use Rattle.clu_base.proofs.Orders.{most_index}
 use Rattle.clu_types.specs.Specs.{name_order, further, place_by}
 use Rattle.clu_library.specs.ByName.{ComeAfter, AreAscending, placed, with_item, place_of}
 
@@ -109,11 +110,6 @@ before f (x ∷ xs) a zero zero d lt le = absurd (omega arith)
 before f (x ∷ xs) a zero (suc j) d lt le = after_at f (f x) xs j d a.0 (omega arith)
 before f (x ∷ xs) a (suc i) zero d lt le = absurd (omega arith)
 before f (x ∷ xs) a (suc i) (suc j) d lt le = before f xs a.1 i j d (omega arith) (omega arith)
-
-most_index : (o : Ordering) → ordering_index o ≤ 2
-most_index Less = omega arith
-most_index Equal = omega arith
-most_index Greater = omega arith
 
 rises : (m k n : List ℕ) → name_order m k ≡ Less → (o : Ordering) → name_order k n ≡ o → ordering_index (name_order m n) ≤ ordering_index o
 rises m k n less Less e = rw (trans m k n less e) (omega arith)

@@ -1,10 +1,11 @@
 -- Where the revisions of a table are bounds, no body is stale whose names have lower ones.
-use Rattle.std.proofs.Common.{◌≡◌, ◌≤◌, ◌<◌, ◌&&◌, ℕ, suc, zero, List, [], ◌∷◌, Bool, true, false, cond, Contains, length, get_or, Option, Some, None, find, refl, sym, ap, subst, ◌∙◌, true≢false, arith}
+use Rattle.std.proofs.Common.{◌≡◌, ◌≤◌, ◌<◌, ℕ, suc, zero, List, [], ◌∷◌, Bool, true, false, cond, Contains, length, get_or, Option, Some, None, find, refl, sym, ap, subst, ◌∙◌, arith}
 use borrow.Author.Tests.{leb-true}
 use Rattle.std.proofs.Math.Dec.{leb}
+use Rattle.std.proofs.lemmas.Bool.{and_parts}
 use Rattle.std.specs.List.{list_all}
 use Rattle.std.specs.Str.{bytes_eq}
-use Rattle.std.proofs.lemmas.Option.{none-some}
+use Rattle.std.proofs.lemmas.Option.{none-some, same_Some}
 use Rattle.std.proofs.lemmas.Slice.Eq.{bytes_eq-Decides}
 use Rattle.clu_types.specs.declared.spec.Spec.{Spec}
 use Rattle.clu_library.specs.Bounds.{AreBounds, bounds_spec, bounds_change, passes_if, at_most}
@@ -13,28 +14,24 @@ use Rattle.clu_library.specs.Resting.{names, names_of, IsWay, RestsOn, with_chan
 use Rattle.clu_library.specs.Staleness.{changed_in, IsStaleBody}
 use Rattle.clu_library.specs.declared.body.Body.{Body}
 use Rattle.clu_library.specs.declared.body.Change.{Change}
-use Rattle.clu_library.proofs.Firsts.{some_same, found_passes}
+use Rattle.clu_library.proofs.Firsts.{found_passes}
 use Rattle.clu_library.proofs.Placed.{named, found_other, found_this}
-
-pub both : (a b : Bool) → (a && b) ≡ true → (a ≡ true) × (b ≡ true)
-both true b e = (refl, e)
-both false b e = absurd (true≢false (sym e))
 
 -- what all pass, each passes
 pub all_found : {X : Type 0} (t p : X → Bool) (xs : List X) (y : X) → list_all t xs ≡ true → find p xs ≡ Some y → t y ≡ true
 all_found t p [] y all e = absurd (none-some y e)
-all_found {X} t p (x ∷ xs) y all e = by (p x) e (all_found t p xs y (both (t x) (list_all t xs) all).1)
+all_found {X} t p (x ∷ xs) y all e = by (p x) e (all_found t p xs y (and_parts (t x) (list_all t xs) all).1)
   where
     by : (b : Bool) → cond b (Some x) (find p xs) ≡ Some y → (find p xs ≡ Some y → t y ≡ true) → t y ≡ true
-    by true e further = ap t (sym (some_same x y e)) ∙ (both (t x) (list_all t xs) all).0
+    by true e further = ap t (sym (same_Some x y e)) ∙ (and_parts (t x) (list_all t xs) all).0
     by false e further = further e
 
 all_listed : {X : Type 0} (t : X → Bool) (xs : List X) (y : X) → list_all t xs ≡ true → Contains xs y → t y ≡ true
 all_listed t [] y all h = absurd (omega (arith, h.1))
-all_listed {X} t (x ∷ xs) y all h = by h.0 h.1 h.2 (all_listed t xs y (both (t x) (list_all t xs) all).1)
+all_listed {X} t (x ∷ xs) y all h = by h.0 h.1 h.2 (all_listed t xs y (and_parts (t x) (list_all t xs) all).1)
   where
     by : (k : ℕ) → k < length (x ∷ xs) → get_or (x ∷ xs) k y ≡ y → (Contains xs y → t y ≡ true) → t y ≡ true
-    by zero lt is further = ap t (sym is) ∙ (both (t x) (list_all t xs) all).0
+    by zero lt is further = ap t (sym is) ∙ (and_parts (t x) (list_all t xs) all).0
     by (suc k) lt is further = further (k, omega arith, is)
 
 -- a test that all specifications pass, with one in the place of that of its module
@@ -49,7 +46,7 @@ each_passes test specs o this all name s found = (by o this found, (bytes_eq-Dec
     by (Some x) this found = at (bytes_eq x.name name) refl
       where
         at : (b : Bool) → bytes_eq x.name name ≡ b → test s ≡ true
-        at true e = ap test (sym (some_same x s (sym (found_this name specs x e) ∙ found))) ∙ this
+        at true e = ap test (sym (same_Some x s (sym (found_this name specs x e) ∙ found))) ∙ this
         at false e = kept (sym (found_other name specs x e) ∙ found)
 
 -- the bounds, by the tests

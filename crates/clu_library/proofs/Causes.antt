@@ -2,6 +2,7 @@
 use Rattle.std.proofs.Common.{◌≡◌, ◌≢◌, ◌<◌, ◌&&◌, ℕ, List, [], ◌∷◌, Bool, true, false, not, Contains, Option, Some, None, Result, Ok, Err, IfOk, find, is_some, IsSome, refl, sym, ap, subst, ◌∙◌, true≢false, arith}
 use borrow.Author.Tests.{ltb-true, ltb-false}
 use Rattle.std.proofs.Math.Dec.{ltb}
+use Rattle.std.proofs.lemmas.Bool.{and_from, and_parts}
 use Rattle.std.specs.List.{list_any}
 use Rattle.std.specs.Str.{bytes_eq}
 use Rattle.std.specs.declared.cmp.Ordering.{Ordering}
@@ -19,15 +20,8 @@ use Rattle.clu_library.specs.Staleness.{changed_in, MakesStale, IsStaleBody, IsC
 use Rattle.clu_library.specs.declared.body.Body.{Body}
 use Rattle.clu_library.specs.declared.body.Change.{Change}
 use Rattle.clu_library.specs.declared.staleness.StaleBy.{StaleBy}
-use Rattle.clu_library.proofs.Firsts.{some_same, found_passes, some_found, found_by_name, found_least}
+use Rattle.clu_library.proofs.Firsts.{found_passes, some_found, found_by_name, found_least}
 use Rattle.clu_library.proofs.Closing.{listed}
-
-both : (a b : Bool) → (a && b) ≡ true → (a ≡ true) × (b ≡ true)
-both true b e = (refl, e)
-both false b e = absurd (true≢false (sym e))
-
-together : (a b : Bool) → a ≡ true → b ≡ true → (a && b) ≡ true
-together a b p q = rw p q
 
 module _ (specs : List Spec) (revision : ℕ) (c : Change) where
   abbrev IsLate : Type 0
@@ -35,7 +29,7 @@ module _ (specs : List Spec) (revision : ℕ) (c : Change) where
 
   late : comes_after specs revision c ≡ true → IsLate
   late e =
-      let parts = both (ltb revision c.revision) (is_some (find (λ s. bytes_eq s.name c.name) specs)) e in
+      let parts = and_parts (ltb revision c.revision) (is_some (find (λ s. bytes_eq s.name c.name) specs)) e in
       (parts.1, ltb-true revision c.revision parts.0)
 
   comes : IsLate → comes_after specs revision c ≡ true
@@ -103,12 +97,12 @@ module _ (specs : List Spec) (changes : List Change) (own : List ℕ) (body : Bo
     where
       sound : (c : Change) → (comes_after specs body.checked c && not (bytes_eq c.name own)) ≡ true → RestsOn specs own body.names c.name × (comes_after specs body.checked c ≡ true)
       sound c e =
-          let parts = both (comes_after specs body.checked c) (not (bytes_eq c.name own)) e in
+          let parts = and_parts (comes_after specs body.checked c) (not (bytes_eq c.name own)) e in
           let P : Option (List (List ℕ)) → Type 0 = λ names. RestsOn specs own names c.name in
           (subst P (sym all) (not_own c.name own parts.1), parts.0)
 
       complete : (c : Change) → RestsOn specs own body.names c.name → comes_after specs body.checked c ≡ true → (comes_after specs body.checked c && not (bytes_eq c.name own)) ≡ true
-      complete c rests e = together (comes_after specs body.checked c) (not (bytes_eq c.name own)) e (is_other c.name own (rests_other specs own body.names c.name rests))
+      complete c rests e = and_from (comes_after specs body.checked c) (not (bytes_eq c.name own)) e (is_other c.name own (rests_other specs own body.names c.name rests))
 
   -- where they are listed, the first of a module that was reached
   pub reached_first : AreAscending (λ (c : Change). c.name) changes → (names : List (List ℕ)) → body.names ≡ Some names → IsFirstReached specs changes own names body.checked o → IsChangeOf specs changes own body o
@@ -116,14 +110,14 @@ module _ (specs : List Spec) (changes : List Change) (own : List ℕ) (body : Bo
     where
       sound : (c : Change) → (comes_after specs body.checked c && list_any (bytes_eq c.name) reached.0) ≡ true → RestsOn specs own body.names c.name × (comes_after specs body.checked c ≡ true)
       sound c e =
-          let parts = both (comes_after specs body.checked c) (list_any (bytes_eq c.name) reached.0) e in
+          let parts = and_parts (comes_after specs body.checked c) (list_any (bytes_eq c.name) reached.0) e in
           let P : Option (List (List ℕ)) → Type 0 = λ names. RestsOn specs own names c.name in
           (subst P (sym listing) (reached.1.rests c.name (Contains-list_any bytes_eq (λ m n. (bytes_eq-Decides m n).0) reached.0 c.name parts.1)), parts.0)
 
       complete : (c : Change) → RestsOn specs own body.names c.name → comes_after specs body.checked c ≡ true → (comes_after specs body.checked c && list_any (bytes_eq c.name) reached.0) ≡ true
       complete c rests e =
           let P : Option (List (List ℕ)) → Type 0 = λ names. RestsOn specs own names c.name in
-          together (comes_after specs body.checked c) (list_any (bytes_eq c.name) reached.0) e (listed reached.0 c.name (reached.1.all c.name (subst P listing rests)))
+          and_from (comes_after specs body.checked c) (list_any (bytes_eq c.name) reached.0) e (listed reached.0 c.name (reached.1.all c.name (subst P listing rests)))
 
 -- where no other module changed later, none on which the body rests did
 pub none_other : (specs : List Spec) (changes : List Change) (own : List ℕ) (body : Body) → None ≡ first_other specs changes own body.checked → IsChangeOf specs changes own body None
@@ -137,7 +131,7 @@ none_other specs changes own body none stale = by (find (λ c. bytes_eq c.name s
         let late : body.checked < c.revision = omega (arith, stale.1.1.1, ap revision_of e) in
         let other : c.name ≢ own = λ is. rests_other specs own body.names stale.0 stale.1.0 (sym named ∙ is) in
         some_found (λ c. bytes_eq c.name stale.0) (λ c. comes_after specs body.checked c && not (bytes_eq c.name own)) changes c e
-        (together (comes_after specs body.checked c) (not (bytes_eq c.name own)) (comes specs body.checked c (subst Kept (sym named) stale.1.1.0, late)) (is_other c.name own other)) (sym none)
+        (and_from (comes_after specs body.checked c) (not (bytes_eq c.name own)) (comes specs body.checked c (subst Kept (sym named) stale.1.1.0, late)) (is_other c.name own other)) (sym none)
 
 pub ruleset causes = (other_first, reached_first, none_other)
 

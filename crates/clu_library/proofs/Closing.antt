@@ -10,12 +10,10 @@ use Rattle.std.proofs.lemmas.Slice.Eq.{bytes_eq-Decides}
 use borrow.Author.Tests.{ltb-true, ltb-false}
 use Rattle.std.proofs.Math.Dec.{ltb}
 use Rattle.indexmap.proofs.CallerLemmas.{Contains-list_any}
+use Rattle.clu_base.proofs.Lists.{same_bytes, front_of}
 use Rattle.clu_types.specs.declared.spec.Spec.{Spec}
 use Rattle.clu_library.specs.Growing.{with_name, named_at}
 use Rattle.clu_library.specs.Resting.{named_by, IsWay, RestsOn, IsClosure}
-
-same : (m n : List ℕ) → bytes_eq m n ≡ true → m ≡ n
-same m n = (bytes_eq-Decides m n).0
 
 -- how a list changes with one name
 module _ (own : List ℕ) (found : List (List ℕ)) (name : List ℕ) where
@@ -32,8 +30,8 @@ module _ (own : List ℕ) (found : List (List ℕ)) (name : List ℕ) where
   with_here other = by (bytes_eq name own) refl (list_any (bytes_eq name) found) refl
     where
       by : (a : Bool) → bytes_eq name own ≡ a → (b : Bool) → list_any (bytes_eq name) found ≡ b → Contains (cond (a || b) found (found ++ name ∷ [])) name
-      by true e b f = absurd (other (same name own e))
-      by false e true f = Contains-list_any bytes_eq same found name f
+      by true e b f = absurd (other (same_bytes name own e))
+      by false e true f = Contains-list_any bytes_eq same_bytes found name f
       by false e false f = Contains-push found name
 
   -- and no other than before
@@ -114,11 +112,6 @@ reaching_first specs own start others = record {
   rests = λ m h. ([], (others m h, h));
   closed = λ k before lt. absurd (omega arith);
 }
-
-front_of : {X : Type 0} (xs ys : List X) (k : ℕ) (x : X) → k < length xs → slice_get (xs ++ ys) k ≡ Some x → slice_get xs k ≡ Some x
-front_of [] ys k x lt e = absurd (omega arith)
-front_of (y ∷ xs) ys zero x lt e = e
-front_of (y ∷ xs) ys (suc k) x lt e = front_of xs ys k x (omega arith) e
 
 -- the place of what a list has
 place_in : (xs : List (List ℕ)) (m : List ℕ) → Contains xs m → (k : ℕ) × (k < length xs) × (slice_get xs k ≡ Some m)

@@ -5,14 +5,11 @@ use Rattle.std.specs.Ordering.{ordering_reverse, is_eq, is_lt}
 use Rattle.std.specs.Str.{bytes_eq}
 use Rattle.std.proofs.lemmas.Cmp.{nat_list_cmp_total}
 use Rattle.std.proofs.lemmas.Map.Text.{is_eq-slice_cmp}
-use Rattle.std.proofs.lemmas.Option.{none-some}
+use Rattle.std.proofs.lemmas.Option.{none-some, same_Some}
 use Rattle.std.proofs.lemmas.Slice.Eq.{bytes_eq-Decides}
 use Rattle.std.specs.declared.cmp.Ordering.TheVariants.{Less}
 use Rattle.clu_types.specs.Specs.{name_order}
 use Rattle.clu_library.specs.ByName.{ComeAfter, AreAscending}
-
-pub some_same : {X : Type 0} (x y : X) → Some x ≡ Some y → x ≡ y
-some_same x y e = cc
 
 -- what is found passes
 pub found_passes : {X : Type 0} (p : X → Bool) (xs : List X) (y : X) → find p xs ≡ Some y → p y ≡ true
@@ -20,7 +17,7 @@ found_passes p [] y e = absurd (none-some y e)
 found_passes {X} p (x ∷ xs) y e = by (p x) refl e (found_passes p xs y)
   where
     by : (b : Bool) → p x ≡ b → cond b (Some x) (find p xs) ≡ Some y → (find p xs ≡ Some y → p y ≡ true) → p y ≡ true
-    by true is e further = ap p (sym (some_same x y e)) ∙ is
+    by true is e further = ap p (sym (same_Some x y e)) ∙ is
     by false is e further = further e
 
 -- what passes, and is found by another test, is found by one that it passes
@@ -30,7 +27,7 @@ some_found {X} p test (x ∷ xs) y e passes never = by (test x) refl (p x) e nev
   where
     by : (a : Bool) → test x ≡ a → (b : Bool) → cond b (Some x) (find p xs) ≡ Some y → cond a (Some x) (find test xs) ≡ None → (find p xs ≡ Some y → find test xs ≡ None → ⊥) → ⊥
     by true is b e never further = none-some x (sym never)
-    by false is true e never further = true≢false (sym passes ∙ ap test (sym (some_same x y e)) ∙ is)
+    by false is true e never further = true≢false (sym passes ∙ ap test (sym (same_Some x y e)) ∙ is)
     by false is false e never further = further e never
 
 -- names in order differ
@@ -49,7 +46,7 @@ after_found f p n [] y h e = absurd (none-some y e)
 after_found {X} f p n (x ∷ xs) y h e = by (p x) e (after_found f p n xs y h.1)
   where
     by : (b : Bool) → cond b (Some x) (find p xs) ≡ Some y → (find p xs ≡ Some y → name_order n (f y) ≡ Less) → name_order n (f y) ≡ Less
-    by true e further = ap (λ z. name_order n (f z)) (sym (some_same x y e)) ∙ h.0
+    by true e further = ap (λ z. name_order n (f z)) (sym (same_Some x y e)) ∙ h.0
     by false e further = further e
 
 -- it is the one of its name
@@ -59,7 +56,7 @@ found_by_name {X} f p (x ∷ xs) y a e = by (p x) e (found_by_name f p xs y a.1)
   where
     by : (b : Bool) → cond b (Some x) (find p xs) ≡ Some y → (find p xs ≡ Some y → find (λ (x : X). bytes_eq (f x) (f y)) xs ≡ Some y) → find (λ (x : X). bytes_eq (f x) (f y)) (x ∷ xs) ≡ Some y
     by true e further =
-        let same : bytes_eq (f x) (f y) ≡ true = (bytes_eq-Decides (f x) (f y)).1 (ap f (some_same x y e)) in
+        let same : bytes_eq (f x) (f y) ≡ true = (bytes_eq-Decides (f x) (f y)).1 (ap f (same_Some x y e)) in
         rw same e
     by false e further =
         let other : bytes_eq (f x) (f y) ≡ false = apart (f x) (f y) (after_found f p (f x) xs y a.0 e) in
@@ -77,11 +74,11 @@ found_least {X} f test m (x ∷ xs) y z a e g passes = by (test x) refl (bytes_e
         ap (name_order (f x)) (sym named) ∙ after_found f (λ (x : X). bytes_eq (f x) m) (f x) xs z a.0 g
 
     this : Some x ≡ Some y → (name_order m (f x) ≡ Less → ⊥) → name_order m (f y) ≡ Less → ⊥
-    this e never h = never (ap (λ z. name_order m (f z)) (some_same x y e) ∙ h)
+    this e never h = never (ap (λ z. name_order m (f z)) (same_Some x y e) ∙ h)
 
     by : (a : Bool) → test x ≡ a → (b : Bool) → bytes_eq (f x) m ≡ b → cond a (Some x) (find test xs) ≡ Some y → cond b (Some x) (find (λ (x : X). bytes_eq (f x) m) xs) ≡ Some z
         → (find test xs ≡ Some y → find (λ (x : X). bytes_eq (f x) m) xs ≡ Some z → name_order m (f y) ≡ Less → ⊥) → name_order m (f y) ≡ Less → ⊥
     by true is true also e g further = this e (not_less (f x) m also)
     by true is false also e g further = this e (greater (f x) m (less g))
-    by false is true also e g further = absurd (true≢false (sym passes ∙ ap test (sym (some_same x z g)) ∙ is))
+    by false is true also e g further = absurd (true≢false (sym passes ∙ ap test (sym (same_Some x z g)) ∙ is))
     by false is false also e g further = further e g

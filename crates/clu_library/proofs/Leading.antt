@@ -1,6 +1,6 @@
 -- Where the revisions of a table are reached, a body is stale one of whose names leads to a later one than that at which it was checked.
 use Rattle.std.proofs.Common.{◌≡◌, ◌≢◌, ◌≤◌, ◌<◌, ◌+◌, ◌⊎◌, inl, inr, ◌&&◌, ◌||◌, ℕ, suc, zero, List, [], ◌∷◌, Bool, true, false, Contains, Option, Some, None, IsTrue, IsSome, find, is_some, refl, sym, ap, subst, true≢false, arith}
-use Rattle.std.proofs.lemmas.Bool.{leb-true, ltb-true, or_cases}
+use Rattle.std.proofs.lemmas.Bool.{leb-true, ltb-true, or_cases, and_parts}
 use Rattle.std.proofs.Math.Dec.{leb, ltb}
 use Rattle.std.specs.List.{list_all, list_any}
 use Rattle.std.specs.Str.{bytes_eq}
@@ -11,7 +11,7 @@ use Rattle.clu_library.specs.Resting.{names, names_of, named_by, IsWay, RestsOn,
 use Rattle.clu_library.specs.Staleness.{changed_in, IsStaleBody}
 use Rattle.clu_library.specs.declared.body.Body.{Body}
 use Rattle.clu_library.specs.declared.body.Change.{Change}
-use Rattle.clu_library.proofs.Bounding.{both, each_passes}
+use Rattle.clu_library.proofs.Bounding.{each_passes}
 use Rattle.clu_library.proofs.Placed.{named}
 
 -- what one of a list passes
@@ -33,8 +33,8 @@ module _ (specs : List Spec) (changes : List Change) (bound rank : List ℕ → 
 
   leading : (own : List ℕ) (least : ℕ) (m : List ℕ) → leads specs bound rank own least m ≡ true → Leads own least m
   leading own least m e =
-      let outer = both (leb least (bound m) && ltb (rank m) (rank own)) (is_some (find (λ s. bytes_eq s.name m) specs)) e in
-      let inner = both (leb least (bound m)) (ltb (rank m) (rank own)) outer.0 in
+      let outer = and_parts (leb least (bound m) && ltb (rank m) (rank own)) (is_some (find (λ s. bytes_eq s.name m) specs)) e in
+      let inner = and_parts (leb least (bound m)) (ltb (rank m) (rank own)) outer.0 in
       (leb-true least (bound m) inner.0, ltb-true (rank m) (rank own) inner.1, outer.1)
 
   -- of a module that leads on, by the test of its specification

@@ -1,7 +1,7 @@
 -- A library that was written is read as it is.
-use Rattle.std.proofs.Common.{◌≡◌, ℕ, ◌-◌, ◌≤◌, ◌&&◌, inl, min, nat_le, Bool, true, List, [], ◌∷◌, ◌++◌, map, length, take, codes, Result, Ok, Err, if◌then◌else◌, refl, sym, ap, ◌∙◌, append_assoc, arith}
+use Rattle.std.proofs.Common.{◌≡◌, ℕ, ◌-◌, ◌≤◌, ◌&&◌, inl, min, nat_le, true, List, [], ◌∷◌, ◌++◌, map, length, take, codes, Result, Ok, Err, if◌then◌else◌, refl, sym, ap, ◌∙◌, append_assoc, arith}
 use Rattle.std.specs.List.{flat_map}
-use Rattle.std.proofs.lemmas.Bool.{leb-true, and_parts}
+use Rattle.std.proofs.lemmas.Bool.{leb-true, and_parts, and_from}
 use Rattle.std.proofs.lemmas.List.{append-nil, take_all, length-map}
 use Rattle.std.proofs.lemmas.Cmp.{nat_list_cmp_total}
 use Rattle.std.specs.declared.cmp.Ordering.TheVariants.{Less}
@@ -37,9 +37,6 @@ use Rattle.clu_library.proofs.ModulesAgain.{four_parts, up_to_again, if_so, name
 program_name_short : (name : List ℕ) → is_program_name name ≡ true → length name ≤ 0xffff
 program_name_short name h = omega (arith, leb-true (length name) 200 (and_parts (nat_le 1 (length name)) (nat_le (length name) 200) h).1)
 
-both_hold : (a b : Bool) → a ≡ true → b ≡ true → (a && b) ≡ true
-both_hold a b p q = rw p q
-
 image_again_kept : (p : Program) (made : List Program) (rest : List ℕ) → IsImage p.image → is_content (image_bytes p.image) ≡ true → AllBefore (λ (p : Program). p.name) made p.name
     → image_kept p.name p.start p.modules made (text64_bytes (image_bytes p.image) ++ rest) ≡ Ok (made ++ p ∷ [], rest)
 unfolding image_kept
@@ -64,7 +61,7 @@ one_program previous made p rest good before =
     let bytes : List ℕ = text16_bytes p.name ++ from_start in
     let name : program_name_read previous bytes ≡ Ok (p.name, from_start) =
     then_ok (text_read 2 bytes) (λ x. if is_program_name x.0 && is_after previous x.0 then Ok x else Err (length bytes)) (p.name, from_start) (Ok (p.name, from_start)) (text16_again p.name from_start (program_name_short p.name good.named))
-    (if_so (is_program_name p.name && is_after previous p.name) (length bytes) (Ok (p.name, from_start)) (both_hold (is_program_name p.name) (is_after previous p.name) good.named good.in_order)) in
+    (if_so (is_program_name p.name && is_after previous p.name) (length bytes) (Ok (p.name, from_start)) (and_from (is_program_name p.name) (is_after previous p.name) good.named good.in_order)) in
     let whole : Read (List Program) = Ok (made ++ p ∷ [], rest) in
     let image : image_kept p.name p.start p.modules made from_image ≡ whole = image_again_kept p made rest good.image (image_small p.image good.image) before in
     let program : program_kept p.name made from_start ≡ whole =

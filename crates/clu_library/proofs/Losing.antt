@@ -5,12 +5,13 @@ use Rattle.std.specs.Str.{bytes_eq}
 use Rattle.std.proofs.lemmas.List.{take_more, take_all, nil_from_length}
 use Rattle.std.proofs.lemmas.List.Elements.{Contains-append_left, Contains-append_right, Contains-push, Contains-push_cases}
 use Rattle.std.proofs.lemmas.List.Folds.{list_any_at}
-use Rattle.std.proofs.lemmas.Option.{none-some}
+use Rattle.std.proofs.lemmas.Option.{none-some, same_Some}
 use Rattle.std.proofs.lemmas.Slice.Eq.{bytes_eq-Decides}
 use Rattle.std.specs.declared.cmp.Ordering.{Ordering}
 use Rattle.std.specs.declared.cmp.Ordering.TheVariants.{Less}
 use Rattle.indexmap.specs.IndexSet.{insert_key}
 use Rattle.indexmap.proofs.CallerLemmas.{Contains-list_any, Contains-insert_key}
+use Rattle.clu_base.proofs.Lists.{same_bytes}
 use Rattle.clu_types.specs.Specs.{name_order, with_spec}
 use Rattle.clu_types.specs.declared.spec.Spec.{Spec}
 use Rattle.clu_library.specs.Bounds.{AreBounds, AreReached, at_most, leads}
@@ -24,11 +25,8 @@ use Rattle.clu_library.specs.declared.body.ModuleBody.{ModuleBody}
 use Rattle.clu_library.specs.declared.program.Program.{Program}
 use Rattle.clu_library.proofs.Bounding.{not_stale}
 use Rattle.clu_library.proofs.Closing.{listed}
-use Rattle.clu_library.proofs.Firsts.{some_same, found_passes, apart}
+use Rattle.clu_library.proofs.Firsts.{found_passes, apart}
 use Rattle.clu_library.proofs.Leading.{any_listed, stale_by_rank}
-
-same : (m n : List ℕ) → bytes_eq m n ≡ true → m ≡ n
-same m n = (bytes_eq-Decides m n).0
 
 -- whether one body is stale
 pub is_stale_by : (specs : List Spec) (changes : List Change) (own : List ℕ) (body : Body) (change : Change) → IsFirstChange specs changes own body change → IsTrue true ↔ IsStaleBody specs changes own body
@@ -116,7 +114,7 @@ module _ (specs : List Spec) (changes : List Change) (bodies : List ModuleBody) 
           by x s (inl at) = more x.name (before.all x at s)
           by x s (inr e) =
               let Q : ModuleBody → Type 0 = λ y. Contains (insert_key bytes_eq names b.name) y.name in
-              subst Q e (Contains-insert_key bytes_eq same names b.name)
+              subst Q e (Contains-insert_key bytes_eq same_bytes names b.name)
 
 pub none_yet : (specs : List Spec) (changes : List Change) (start : List (List ℕ)) → AreStaleOf specs changes [] start start
 none_yet specs changes start = record { kept = λ name h. h; stale = λ name h. inl h; all = λ b at. absurd (omega (arith, at.1)) }
@@ -164,7 +162,7 @@ in_kept p q [] y e = absurd (none-some y e)
 in_kept {X} p q (x ∷ xs) y e = by (q x) e (λ e. Contains-append_right (x ∷ []) xs y (in_kept p q xs y e))
   where
     first : (b : Bool) → cond b (Some x) (find p (filter q xs)) ≡ Some y → (find p (filter q xs) ≡ Some y → Contains (x ∷ xs) y) → Contains (x ∷ xs) y
-    first true e further = (0, omega arith, some_same x y e)
+    first true e further = (0, omega arith, same_Some x y e)
     first false e further = further e
 
     by : (a : Bool) → find p (cond a (x ∷ filter q xs) (filter q xs)) ≡ Some y → (find p (filter q xs) ≡ Some y → Contains (x ∷ xs) y) → Contains (x ∷ xs) y
@@ -190,14 +188,14 @@ module _ (library : Contents) (s : Spec) (names : List (List ℕ)) (ascending : 
       ∙ subst P is (found_listed (λ (b : ModuleBody). b.name) library.bodies b ascending at)
     where
       passes : (x : ModuleBody) → bytes_eq x.name name ≡ true → not (bytes_eq x.name s.name) ≡ true
-      passes x e = ap not (ap (λ n. bytes_eq n s.name) (same x.name name e) ∙ other)
+      passes x e = ap not (ap (λ n. bytes_eq n s.name) (same_bytes x.name name e) ∙ other)
 
   pub lost_modules : AreStaleOf (with_spec library.specs s) (with_change library.changes s.name library.revision) library.bodies (s.name ∷ []) names → AreLost (with_replaced library s) s.name names
   lost_modules stale = record { lost = λ name h. by name (stale.stale name h); all = back }
     where
       of_body : (b : ModuleBody) (name : List ℕ) → Contains library.bodies b → b.name ≡ name → IsStaleBody (with_spec library.specs s) (with_change library.changes s.name library.revision) b.name b.body
           → (t : Bool) → bytes_eq name s.name ≡ t → IsLost (with_replaced library s) s.name name
-      of_body b name at is h true e = inl (same name s.name e)
+      of_body b name at is h true e = inl (same_bytes name s.name e)
       of_body b name at is h false e =
           let P : Option Body → Type 0 = λ o. IsStaleIf (with_replaced library s) name o in
           let Q : List ℕ → Type 0 = λ n. IsStaleBody (with_spec library.specs s) (with_change library.changes s.name library.revision) n b.body in
@@ -211,7 +209,7 @@ module _ (library : Contents) (s : Spec) (names : List (List ℕ)) (ascending : 
       of_found : (name : List ℕ) (o : Option ModuleBody) → find (λ (b : ModuleBody). bytes_eq b.name name) bodies_left ≡ o → IsStaleIf (with_replaced library s) name (option_map (λ (b : ModuleBody). b.body) o) → Contains names name
       of_found name None e h = absurd h
       of_found name (Some b) e h =
-          let named : b.name ≡ name = same b.name name (found_passes (λ (b : ModuleBody). bytes_eq b.name name) bodies_left b e) in
+          let named : b.name ≡ name = same_bytes b.name name (found_passes (λ (b : ModuleBody). bytes_eq b.name name) bodies_left b e) in
           let P : List ℕ → Type 0 = λ n. Contains names n in
           let Q : List ℕ → Type 0 = λ n. IsStaleBody (with_spec library.specs s) (with_change library.changes s.name library.revision) n b.body in
           subst P named (stale.all b (in_kept (λ (b : ModuleBody). bytes_eq b.name name) (λ (b : ModuleBody). not (bytes_eq b.name s.name)) library.bodies b e) (subst Q (sym named) h))
@@ -226,7 +224,7 @@ in_list p [] y e = absurd (none-some y e)
 in_list {X} p (x ∷ xs) y e = by (p x) e (λ e. Contains-append_right (x ∷ []) xs y (in_list p xs y e))
   where
     by : (b : Bool) → cond b (Some x) (find p xs) ≡ Some y → (find p xs ≡ Some y → Contains (x ∷ xs) y) → Contains (x ∷ xs) y
-    by true e further = (0, omega arith, some_same x y e)
+    by true e further = (0, omega arith, same_Some x y e)
     by false e further = further e
 
 module _ (library : Contents) (names : List (List ℕ)) (ascending : AreAscending (λ (b : ModuleBody). b.name) library.bodies)
@@ -242,7 +240,7 @@ module _ (library : Contents) (names : List (List ℕ)) (ascending : AreAscendin
   is_listed : (name : List ℕ) (o : Option ModuleBody) → find (λ (b : ModuleBody). bytes_eq b.name name) library.bodies ≡ o → IsStaleIf library name (option_map (λ (b : ModuleBody). b.body) o) → Contains names name
   is_listed name None e h = absurd h
   is_listed name (Some b) e h =
-      let named : b.name ≡ name = same b.name name (found_passes (λ (b : ModuleBody). bytes_eq b.name name) library.bodies b e) in
+      let named : b.name ≡ name = same_bytes b.name name (found_passes (λ (b : ModuleBody). bytes_eq b.name name) library.bodies b e) in
       let P : List ℕ → Type 0 = λ n. Contains names n in
       let Q : List ℕ → Type 0 = λ n. IsStaleBody library.specs library.changes n b.body in
       subst P named (stale.all b (in_list (λ (b : ModuleBody). bytes_eq b.name name) library.bodies b e) (subst Q (sym named) h))
@@ -279,7 +277,7 @@ module _ (library : Contents) (replaced : List ℕ) (names : List (List ℕ)) (l
   broken : (p : Program) → has_any names p ≡ true → IsBroken library replaced p
   broken p e =
       let found = any_listed (λ name. list_any (bytes_eq name) names) p.modules e in
-      (found.0, found.1, lost.lost found.0 (Contains-list_any bytes_eq same names found.0 found.2))
+      (found.0, found.1, lost.lost found.0 (Contains-list_any bytes_eq same_bytes names found.0 found.2))
 
   sound : (p : Program) → has_any names p ≡ false → IsBroken library replaced p → ⊥
   sound p e h =

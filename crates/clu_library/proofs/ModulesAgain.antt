@@ -2,7 +2,7 @@
 use Rattle.std.proofs.Common.{◌≡◌, ℕ, ◌≤◌, not, ◌&&◌, nat_lt, nat_le, Bool, true, false, List, [], ◌∷◌, ◌++◌, map, length, Option, Some, None, IfSome, Result, Ok, Err, if◌then◌else◌, refl, sym, ap, subst, ◌∙◌, append_assoc, arith}
 use Rattle.std.specs.List.{flat_map, cons_option}
 use Rattle.std.specs.Str.{bytes_eq}
-use Rattle.std.proofs.lemmas.Bool.{leb-true, ltb-true, le-ltb, and_parts, not-true}
+use Rattle.std.proofs.lemmas.Bool.{leb-true, ltb-true, le-ltb, and_parts, not-true, and_from}
 use Rattle.std.proofs.lemmas.Cmp.{nat_list_cmp_total}
 use Rattle.std.proofs.lemmas.List.{append-nil}
 use Rattle.std.proofs.lemmas.Slice.Eq.{bytes_eq-Decides}
@@ -50,14 +50,11 @@ pub if_so : {A : Type 0} (c : Bool) (left : ℕ) (r : Result A ℕ) → c ≡ tr
 if_so true left r e = refl
 if_so false left r e = absurd (cc)
 
-both_hold : (a b : Bool) → a ≡ true → b ≡ true → (a && b) ≡ true
-both_hold a b p q = rw p q
-
 pub module_name_again : (previous name rest : List ℕ) → is_module_name name ≡ true → is_after previous name ≡ true → module_read previous (text16_bytes name ++ rest) ≡ Ok (name, rest)
 module_name_again previous name rest named in_order =
     let bytes : List ℕ = text16_bytes name ++ rest in
     then_ok (text_read 2 bytes) (λ x. if is_module_name x.0 && is_after previous x.0 then Ok x else Err (length bytes)) (name, rest) (Ok (name, rest)) (text16_again name rest (module_name_short name named))
-    (if_so (is_module_name name && is_after previous name) (length bytes) (Ok (name, rest)) (both_hold (is_module_name name) (is_after previous name) named in_order))
+    (if_so (is_module_name name && is_after previous name) (length bytes) (Ok (name, rest)) (and_from (is_module_name name) (is_after previous name) named in_order))
 
 abbrev pub NameGood : List ℕ → List (List ℕ) → List ℕ → Type 0
 NameGood own made name = (is_module_name name ≡ true) × (is_after (behind_names [] made) name ≡ true) × (bytes_eq name own ≡ false)

@@ -2,7 +2,7 @@
 use Rattle.std.proofs.Common.{◌≡◌, ℕ, zero, suc, ◌<◌, ◌≤◌, ◌^◌, ◌⊎◌, inl, inr, not, ◌&&◌, ◌==◌, nat_lt, nat_le, Bool, true, false, List, [], ◌∷◌, ◌++◌, map, length, get_or, Option, Some, None, Result, Ok, Err, if◌then◌else◌, refl, sym, ap, subst, ◌∙◌, append_assoc, arith}
 use Rattle.std.specs.List.{flat_map, cons_option, filter_map}
 use Rattle.std.specs.Str.{bytes_eq}
-use Rattle.std.proofs.lemmas.Bool.{eqb-true, le-leb, ltb-false, lt-ltb, and_parts, not_from_false}
+use Rattle.std.proofs.lemmas.Bool.{eqb-true, le-leb, ltb-false, lt-ltb, and_parts, not_from_false, and_from}
 use Rattle.std.proofs.lemmas.Cmp.{nat_list_cmp_total}
 use Rattle.std.proofs.lemmas.List.{append-nil, length-map}
 use Rattle.std.proofs.lemmas.Slice.Eq.{bytes_eq-Decides}
@@ -120,13 +120,10 @@ names_good own made (name ∷ names) h =
     let others : are_names own name names ≡ true = subst P (behind_pushed [] name made) (names_good own (made ++ name ∷ []) names h.1) in
     all_hold (is_module_name name) (is_after (behind_names [] made) name) (not (bytes_eq name own)) (are_names own name names) h.0.0 h.0.1 (not_from_false (bytes_eq name own) h.0.2) others
 
-both_hold : (a b : Bool) → a ≡ true → b ≡ true → (a && b) ≡ true
-both_hold a b p q = rw p q
-
 pub names_spelled : (own bytes : List ℕ) (names : List (List ℕ)) (rest : List ℕ) → AreBytes bytes → names_but own bytes ≡ Ok (names, rest) → (is_list_of_names own names ≡ true) × AreBytes rest × (bytes ≡ list_of_names names ++ rest)
 names_spelled own bytes names rest are e =
     let l = list_spelled (next_name_read own) text16_bytes (NameGood own) (name_spelled own) bytes names rest are e in
-    (both_hold (is_number (length names)) (are_names own [] names) l.1 (names_good own [] names l.2), l.3, l.0)
+    (and_from (is_number (length names)) (are_names own [] names) l.1 (names_good own [] names l.2), l.3, l.0)
 
 -- names of a body, and what follows them
 abbrev AreRead : List ℕ → List ℕ → Option (List (List ℕ)) → List ℕ → Type 0

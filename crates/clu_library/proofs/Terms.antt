@@ -3,14 +3,14 @@ use Rattle.std.proofs.Common.{◌≡◌, ◌&&◌, ◌||◌, ◌+◌, ◌≤◌,
 use Rattle.std.proofs.Math.Dec.{leb}
 use Rattle.std.specs.List.{cons_option, filter_map, list_all, list_any}
 use Rattle.std.proofs.lemmas.List.{drop_all}
+use Rattle.clu_base.proofs.Lists.{dropped}
 use Rattle.clu_types.specs.declared.term.Term.{Term}
 use Rattle.clu_library.specs.Bounds.{at_most}
 use Rattle.clu_library.specs.Growing.{with_name}
 use Rattle.clu_library.specs.Resting.{cluster_name}
-use Rattle.clu_library.proofs.Walking.{term_left}
 
 named_left : (types : List Term) (n : ℕ) (t : Term) → slice_get types n ≡ Some t → filter_map cluster_name (drop n types) ≡ cons_option (cluster_name t) (filter_map cluster_name (drop (n + 1) types))
-named_left types n t at = ap (filter_map cluster_name) (term_left types n t at)
+named_left types n t at = ap (filter_map cluster_name) (dropped types n t at)
 
 -- one more is added to a list
 pub term_added : (own : List ℕ) (types : List Term) (n : ℕ) (t : Term) (found new start : List (List ℕ)) → slice_get types n ≡ Some t → new ≡ fold (with_name own) found (cons_option (cluster_name t) [])

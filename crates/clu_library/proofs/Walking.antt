@@ -4,6 +4,7 @@ use Rattle.std.specs.List.{flat_map, list_all}
 use Rattle.std.proofs.lemmas.Option.{none-some}
 use Rattle.std.proofs.lemmas.List.{take_all, append-nil}
 use Rattle.std.proofs.lemmas.Grind.{flat_map-append}
+use Rattle.clu_base.proofs.Lists.{dropped}
 
 -- where there is no item, the list has ended
 pub ends : {X : Type 0} (xs : List X) (n : ℕ) → None ≡ slice_get xs n → length xs ≤ n
@@ -45,9 +46,6 @@ next_left (y ∷ xs) (suc n) x e = next_left xs n x e
 pub one_left : {X : Type 0} (xs : List X) (n : ℕ) (x : X) → Some x ≡ slice_get xs n → drop n xs ≡ x ∷ drop (n + 1) xs
 one_left xs n x e = let next : n + 1 ≡ suc n = omega arith in rw next (next_left xs n x e)
 
-pub term_left : {X : Type 0} (xs : List X) (n : ℕ) (x : X) → slice_get xs n ≡ Some x → drop n xs ≡ x ∷ drop (n + 1) xs
-term_left xs n x e = one_left xs n x (sym e)
-
 -- of what is left, all pass a test where one more passes it
 pub all_more : {X : Type 0} (t : X → Bool) (xs : List X) (n : ℕ) (x : X) (start : Bool) → Some x ≡ slice_get xs n → t x ≡ true → list_all t (drop n xs) ≡ start → list_all t (drop (n + 1) xs) ≡ start
 all_more t xs n x start e passes whole =
@@ -55,4 +53,4 @@ all_more t xs n x start e passes whole =
     let one : (t x && rest) ≡ rest = ap (λ (b : Bool). b && rest) passes in
     sym one ∙ sym (ap (list_all t) (one_left xs n x e)) ∙ whole
 
-pub ruleset walks = (none_left, one_left, term_left)
+pub ruleset walks = (none_left, one_left, dropped)

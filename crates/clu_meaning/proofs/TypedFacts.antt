@@ -1,8 +1,8 @@
 -- What fits goes on to fit while cells are only added and keep their types, and while variables name objects that fit.
 use Rattle.std.proofs.Common.{◌≡◌, ℕ, Bool, true, false, cond, List, [], ◌∷◌, Option, None, Some, refl, sym, ap, ap₂, subst}
 use Rattle.std.proofs.lemmas.Bool.{false≢true, and_parts, eqb-true}
-use Rattle.std.proofs.lemmas.Slice.Eq.{bytes_eq-Decides}
 use Rattle.std.specs.Prelude.{◌==◌, bytes_eq}
+use Rattle.clu_base.proofs.Lists.{same_bytes}
 use Rattle.clu_types.specs.CluType.{CluType}
 use Rattle.clu_layout.specs.Objects.{Routine, module_routine, operation_of, force_of, Object, sequence_object, struct_object, oneof_object, routine_object, reference, sealed, Objects, no_objects, object_and, Cell, array_cell, record_cell, variant_cell}
 use Rattle.clu_layout.specs.SameType.{same_type, same_actuals, same_routine}
@@ -17,21 +17,18 @@ use Rattle.clu_meaning.specs.Typed.{local_type, own_type_of, IsTyped, AreTyped, 
 
 -- ---- the same instance by the test
 
-bytes_are : (a b : List ℕ) → bytes_eq a b ≡ true → a ≡ b
-bytes_are a b h = (bytes_eq-Decides a b).0 h
-
 routine_is : (r s : Routine) → same_routine r s ≡ true → r ≡ s
 routine_is (module_routine m xs) (module_routine n ys) h =
-    let parts = and_parts (bytes_eq m n) (same_actuals xs ys) h in ap₂ module_routine (bytes_are m n parts.0) (actuals_are xs ys parts.1)
+    let parts = and_parts (bytes_eq m n) (same_actuals xs ys) h in ap₂ module_routine (same_bytes m n parts.0) (actuals_are xs ys parts.1)
 routine_is (operation_of t f) (operation_of u g) h =
-    let parts = and_parts (same_type t u) (bytes_eq f g) h in ap₂ operation_of (types_are t u parts.0) (bytes_are f g parts.1)
+    let parts = and_parts (same_type t u) (bytes_eq f g) h in ap₂ operation_of (types_are t u parts.0) (same_bytes f g parts.1)
 routine_is (force_of t) (force_of u) h = ap force_of (types_are t u h)
 routine_is _ _ h = absurd (false≢true h)
 
 instance_is : (i j : Instance) → same_instance i j ≡ true → i ≡ j
 instance_is (of_routine r) (of_routine s) h = ap of_routine (routine_is r s h)
 instance_is (own_set_up c xs) (own_set_up d ys) h =
-    let parts = and_parts (bytes_eq c d) (same_actuals xs ys) h in ap₂ own_set_up (bytes_are c d parts.0) (actuals_are xs ys parts.1)
+    let parts = and_parts (bytes_eq c d) (same_actuals xs ys) h in ap₂ own_set_up (same_bytes c d parts.0) (actuals_are xs ys parts.1)
 instance_is _ _ h = absurd (false≢true h)
 
 module _ (program : Program) where

@@ -11,6 +11,7 @@ use Rattle.std.proofs.lemmas.Cmp.{nat_list_cmp_total}
 use Rattle.std.proofs.lemmas.List.Sorted.{searchable_from_sorted}
 use Rattle.std.proofs.lemmas.Map.Text.{is_eq-slice_cmp}
 use Rattle.std.proofs.lemmas.Option.{none-some, same_Some}
+use Rattle.clu_base.proofs.Orders.{stays_less, most_is_other}
 use Rattle.clu_types.specs.declared.term.Field.{Field}
 use Rattle.clu_types.specs.declared.term.Term.{Term}
 use Rattle.clu_types.specs.declared.term.Term.TheVariants as term
@@ -23,15 +24,6 @@ rank name field = slice_cmp nat_cmp field.name name
 rises : (fields : List Field) (name : List ℕ) → AreAscending fields → IsNonDecreasingBy (λ (f : Field). ordering_index (rank name f)) fields
 rises fields name up = searchable_from_sorted nat_list_cmp_total (λ (f : Field). f.name) fields name up
 
-stays_less : (o p : Ordering) → ordering_index o ≤ ordering_index p → is_lt p ≡ true → is_lt o ≡ true
-stays_less Less p le e = refl
-stays_less Equal Less le e = absurd (omega (arith, le))
-stays_less Greater Less le e = absurd (omega (arith, le))
-stays_less Equal Equal le e = absurd (true≢false (sym e))
-stays_less Equal Greater le e = absurd (true≢false (sym e))
-stays_less Greater Equal le e = absurd (true≢false (sym e))
-stays_less Greater Greater le e = absurd (true≢false (sym e))
-
 pub parted : (fields : List Field) (name : List ℕ) → AreAscending fields → IsPartitionedBy (is_below name) fields
 parted fields name up i j d le lt e = stays_less _ _ (rises fields name up i j d le lt) e
 
@@ -39,11 +31,6 @@ parted fields name up i j d le lt e = stays_less _ _ (rises fields name up i j d
 
 same_name : (m n : List ℕ) → bytes_eq m n ≡ is_eq (slice_cmp nat_cmp m n)
 same_name m n = sym (is_eq-slice_cmp m n)
-
-most_is_other : (o : Ordering) → 2 ≤ ordering_index o → is_eq o ≡ false
-most_is_other Less le = absurd (omega (arith, le))
-most_is_other Equal le = absurd (omega (arith, le))
-most_is_other Greater le = refl
 
 none_greater : (fields : List Field) (name : List ℕ) → ((k : ℕ) (d : Field) → k < length fields → 2 ≤ ordering_index (rank name (get_or fields k d))) → component_type fields name ≡ None
 none_greater [] name above = refl

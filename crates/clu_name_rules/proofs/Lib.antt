@@ -2,3 +2,4 @@ pub mod Found
 pub mod Noting
 pub mod Reckoned
 pub mod Outlined
+pub mod Literals

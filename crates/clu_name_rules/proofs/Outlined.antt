@@ -1,6 +1,7 @@
 -- How long the text of a constant is, is known without that of a string.
 use Rattle.std.proofs.Common.{◌≡◌, ◌∙◌, ◌<◌, ◌*◌, ◌+◌, ◌-◌, ◌^◌, min, ℕ, zero, suc, Bool, false, List, [], ◌∷◌, ◌++◌, length, map, take, slice_get, Option, Some, None, option_map, refl, ap, sym, arith}
 use Rattle.std.specs.Prelude.{nat_lt}
+use Rattle.std.proofs.lemmas.Option.{same_Some}
 use Rattle.clu_base.specs.declared.constants.Const.{Const}
 use Rattle.clu_base.specs.declared.constants.Const.TheVariants as constant
 use Rattle.clu_constants.specs.declared.outline.Outline.{Outline}
@@ -15,12 +16,9 @@ length_told (constant.Int n) = refl
 length_told (constant.Char b) = refl
 length_told (constant.Str bytes) = omega arith
 
-same_outline : (o p : Outline) → Some o ≡ Some p → o ≡ p
-same_outline o p e = cc
-
 pub long_found : (found : Option Const) (o : Outline) → Some o ≡ option_map outlined found → nat_lt 65536 (outline_length o) ≡ is_long_at found
 long_found None o e = absurd (cc)
-long_found (Some c) o e = ap (nat_lt 65536) (ap outline_length (same_outline o (outlined c) e) ∙ length_told c)
+long_found (Some c) o e = ap (nat_lt 65536) (ap outline_length (same_Some o (outlined c) e) ∙ length_told c)
 
 pub long_missing : (found : Option Const) → None ≡ option_map outlined found → false ≡ is_long_at found
 long_missing None e = refl

@@ -1,6 +1,5 @@
 -- Digits one after the other from the last on, and types one after the other.
-use Rattle.std.proofs.Common.{◌≡◌, ◌∙◌, ℕ, zero, suc, ◌+◌, ◌-◌, ◌/◌, ◌<◌, ◌≤◌, ◌==◌, Bool, if◌then◌else◌, List, [], ◌∷◌, drop, slice_get, Some, sym, ap, arith, add-one, eq-eqb, ne_eqb}
-use Rattle.std.proofs.lemmas.Option.{none-some, same_Some}
+use Rattle.std.proofs.Common.{◌≡◌, ◌∙◌, ℕ, suc, ◌+◌, ◌-◌, ◌/◌, ◌<◌, ◌≤◌, ◌==◌, Bool, if◌then◌else◌, ap, arith, eq-eqb, ne_eqb}
 use Rattle.clu_name_rules.specs.Lengths.{digits_in}
 
 next : (before n : ℕ) → before < 64 → digits_in (64 - before) n ≡ (if n / 10 == 0 then 1 else suc (digits_in (64 - (before + 1)) (n / 10)))
@@ -22,11 +21,3 @@ unfolding digits_in
 no_digits before n all least most is =
     let none : digits_in (64 - before) n ≡ 0 = let left : 64 - before ≡ 0 = omega (arith, least) in ap (λ (k : ℕ). digits_in k n) left in
     omega (arith, least, most, is, none)
-
-pub dropped : {X : Type 0} (xs : List X) (i : ℕ) (x : X) → slice_get xs i ≡ Some x → drop i xs ≡ x ∷ drop (i + 1) xs
-dropped {X} xs i x at = from xs i at ∙ ap (λ (k : ℕ). x ∷ drop k xs) (sym (add-one i))
-  where
-    from : (xs : List X) (i : ℕ) → slice_get xs i ≡ Some x → drop i xs ≡ x ∷ drop (suc i) xs
-    from [] i at = absurd (none-some x at)
-    from (y ∷ xs) zero at = ap (λ (z : X). z ∷ xs) (same_Some y x at)
-    from (y ∷ xs) (suc i) at = from xs i at

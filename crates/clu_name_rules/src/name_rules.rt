@@ -89,13 +89,22 @@ fn is_literal_out_of_range(expression: Expression<'_>, value: Value) -> bool
     }
 }
 
-fn has_bad_literal(f: File<'_>, n: u32) -> bool
+/// Whether the expression at the node n is such a literal.
+fn is_bad_literal(f: File<'_>, n: u32) -> bool
     ensures { (items : ℕ → Item) → result ≡ is_literal_out_of_range (item_with items f.entry.syntax.now n (slice_get f.entry.syntax.now n)).expression (get_or f.entry.values.now n value.Lost) }
 {
     match f.expression(n) {
         Some(expression) => is_literal_out_of_range(expression, f.value(n)),
         None => false,
     }
+}
+
+/// The same; only the node of a literal is looked into.
+#[tactic(auto, using(crate::proofs::Literals::no_literal))]
+fn has_bad_literal(f: File<'_>, n: u32) -> bool
+    ensures { (items : ℕ → Item) → result ≡ is_literal_out_of_range (item_with items f.entry.syntax.now n (slice_get f.entry.syntax.now n)).expression (get_or f.entry.values.now n value.Lost) }
+{
+    is_kind(f, NodeKind::Literal, n) && is_bad_literal(f, n)
 }
 
 /// V4: an integer literal above 9223372036854775807, an octal code above 377, an identifier of more than 200 bytes (CLU

@@ -4,18 +4,12 @@ use Rattle.std.specs.Prelude.{◌&&◌, ◌||◌, ◌==◌, nat_lt, nat_le, not,
 use Rattle.std.specs.Str.{bytes_eq}
 use Rattle.std.proofs.lemmas.Option.{same_Some, slice_get_within, slice_get_cases}
 use Rattle.std.proofs.lemmas.Bool.{cases_lt, cases_eq, and_parts, and_from, and_cases, or_cases, or_parts, ltb-true, ltb-false, leb-true, leb-false, le-leb, eqb-true, eqb-false, true≢false}
-use Rattle.std.proofs.lemmas.Slice.Eq.{bytes_eq-Decides}
+use Rattle.clu_base.proofs.Lists.{same_bytes, as_bytes}
 use Rattle.clu_names.specs.declared.scopes.Declared.{Declared}
 use Rattle.clu_names.specs.Denotes.{rank, rank_of, is_open, stands_in, found}
 use Rattle.clu_names.specs.Latest.{IsUnder, IsBestAt, IsBest, is_local, is_none, IsModuleSoFar, IsLocalSoFar, AreModules, AreLocals, outlasts, at, with_local, local_at, with_module, denoted}
 use Rattle.clu_names.specs.Order.{IsNext, AreChains}
 use Rattle.clu_names.proofs.Best.{same_best, is_found}
-
-same_name : (a b : List ℕ) → bytes_eq a b ≡ true → a ≡ b
-same_name a b e = (bytes_eq-Decides a b).0 e
-
-as_bytes : (a b : List ℕ) → a ≡ b → bytes_eq a b ≡ true
-as_bytes a b e = (bytes_eq-Decides a b).1 e
 
 local_rank : (unit : Option ℕ) (to : ℕ) → is_local unit ≡ true → rank_of unit to ≡ to + 1
 local_rank (Some u) to e = refl
@@ -126,7 +120,7 @@ entered ds n i d before after here from is are = record { each = λ name. rw (is
     of_text name false e same = others ds n i d name (before name) here (λ x u. true≢false (sym u ∙ e)) (are.each name)
 
     one : (name : List ℕ) (t : Bool) → bytes_eq d.name name ≡ t → IsBest (IsLocalSoFar name n (suc i)) ds (if t && (is_local d.unit && outlasts d i (at ds (before d.name)) (before d.name)) then Some i else before name)
-    one name true e = of_text name (is_local d.unit) refl (same_name d.name name e)
+    one name true e = of_text name (is_local d.unit) refl (same_bytes d.name name e)
     one name false e = others ds n i d name (before name) here (λ x u. true≢false (sym (as_bytes d.name name x) ∙ e)) (are.each name)
 
 pub moved : (ds : List Declared) (n i k : ℕ) (latest : List ℕ → Option ℕ) → IsNext ds n i k → AreLocals ds n i latest → AreLocals ds n k latest
@@ -205,7 +199,7 @@ added ds k d before after here is are = record { each = λ name. rw (is name) (o
     of_none name false e same = subst (λ (x : List ℕ). IsBest (IsModuleSoFar x (suc k)) ds (if is_none (before d.name) then Some k else before x)) same (new_module ds k d (before d.name) here e (are.each d.name))
 
     one : (name : List ℕ) (t : Bool) → bytes_eq d.name name ≡ t → IsBest (IsModuleSoFar name (suc k)) ds (if t && (not (is_local d.unit) && is_none (before d.name)) then Some k else before name)
-    one name true e = of_none name (is_local d.unit) refl (same_name d.name name e)
+    one name true e = of_none name (is_local d.unit) refl (same_bytes d.name name e)
     one name false e = other_modules ds k d name (before name) here (λ x u. true≢false (sym (as_bytes d.name name x) ∙ e)) (are.each name)
 
 -- ---- both together
@@ -233,9 +227,9 @@ opened ds name n k j e l there open_here =
     let parts = and_parts (bytes_eq e.name name) (stands_in e.unit e.from e.to n) open_here in
     let inside : j < length ds = slice_get_within ds j e there in
     record {
-      named = same_name e.name name parts.0;
-      of_unit = λ u. let ends = in_text e.unit e.from e.to n u parts.1 in (record { named = same_name e.name name parts.0; of_unit = u; begun = ends.0; before = λ f. omega arith }, ends.1);
-      of_none = λ u. record { named = same_name e.name name parts.0; of_none = u; before = omega arith };
+      named = same_bytes e.name name parts.0;
+      of_unit = λ u. let ends = in_text e.unit e.from e.to n u parts.1 in (record { named = same_bytes e.name name parts.0; of_unit = u; begun = ends.0; before = λ f. omega arith }, ends.1);
+      of_none = λ u. record { named = same_bytes e.name name parts.0; of_none = u; before = omega arith };
     }
 
 -- the declaration of the text that counts reaches the node

@@ -1,9 +1,11 @@
 -- The names of one node stand together in the list of all.
 use Rattle.std.proofs.Common.{◌≡◌, ◌∙◌, ◌++◌, ◌⊎◌, ℕ, zero, suc, ◌+◌, ◌-◌, ◌<◌, ◌≤◌, List, [], ◌∷◌, length, take, drop, get_or, Option, Some, refl, ap, sym, inl, inr, arith, add-one, append_assoc, length-append}
 use Rattle.std.specs.Prelude.{slice_get}
+use Rattle.std.proofs.Math.Seq.{take-append_seam, drop-append_seam}
 use Rattle.std.proofs.lemmas.List.{append-nil}
 use Rattle.std.proofs.lemmas.Option.{slice_get_past, get_or_from_slice_get}
 use Rattle.std.proofs.lemmas.Bool.{cases_lt}
+use Rattle.clu_base.proofs.Lists.{get_before, get_last}
 use Rattle.clu_tree.specs.declared.node.Node.{Node}
 use Rattle.clu_names.specs.declared.scopes.Declared.{Declared}
 use Rattle.clu_names.specs.Denotes.{bound_at, bound_to, starts_to, end_of, end_in}
@@ -21,15 +23,6 @@ unfolding starts_to
 starts_size nodes ds zero = refl
 starts_size nodes ds (suc n) = length-append (starts_to nodes ds n) (length (bound_to nodes ds n) ∷ []) ∙ omega (arith, starts_size nodes ds n)
 
-get_front : (xs : List ℕ) (x : ℕ) (k : ℕ) → k < length xs → slice_get (xs ++ x ∷ []) k ≡ slice_get xs k
-get_front [] x k l = absurd (omega (arith, l))
-get_front (y ∷ ys) x zero l = refl
-get_front (y ∷ ys) x (suc k) l = get_front ys x k (omega arith)
-
-get_last : (xs : List ℕ) (x : ℕ) → slice_get (xs ++ x ∷ []) (length xs) ≡ Some x
-get_last [] x = refl
-get_last (y ∷ ys) x = get_last ys x
-
 pub start_at : (nodes : List Node) (ds : List Declared) (n k : ℕ) → k < n → slice_get (starts_to nodes ds n) k ≡ Some (length (bound_to nodes ds k))
 start_at nodes ds zero k l = absurd (omega arith)
 start_at nodes ds (suc n) k l = by (cases_lt k n) (λ less. start_at nodes ds n k less)
@@ -39,7 +32,7 @@ start_at nodes ds (suc n) k l = by (cases_lt k n) (λ less. start_at nodes ds n 
 
     by : (k < n) ⊎ (n ≤ k) → (k < n → slice_get (starts_to nodes ds n) k ≡ Some (length (bound_to nodes ds k))) → slice_get (starts_to nodes ds (suc n)) k ≡ Some (length (bound_to nodes ds k))
     by (inl less) before =
-        ap (λ (xs : List ℕ). slice_get xs k) (starts_suc nodes ds n) ∙ get_front (starts_to nodes ds n) (length (bound_to nodes ds n)) k (omega (arith, size)) ∙ before less
+        ap (λ (xs : List ℕ). slice_get xs k) (starts_suc nodes ds n) ∙ get_before (starts_to nodes ds n) (length (bound_to nodes ds n)) k (omega (arith, size)) ∙ before less
     by (inr more) before =
         let same : k ≡ n = omega arith in
         ap (λ (xs : List ℕ). slice_get xs k) (starts_suc nodes ds n)
@@ -56,14 +49,6 @@ begins_with nodes ds n (suc k) =
       ap (bound_to nodes ds) (omega arith) ∙ bound_suc nodes ds (n + k) ∙ ap (λ (xs : List (Option ℕ)). xs ++ bound_at ds (n + k) (slice_get nodes (n + k))) before.1
           ∙ append_assoc (bound_to nodes ds n) before.0 (bound_at ds (n + k) (slice_get nodes (n + k))),
     )
-
-drop_front : {A : Type 0} (xs ys : List A) → drop (length xs) (xs ++ ys) ≡ ys
-drop_front [] ys = refl
-drop_front (x ∷ xs) ys = drop_front xs ys
-
-take_front : {A : Type 0} (xs ys : List A) → take (length xs) (xs ++ ys) ≡ xs
-take_front [] ys = refl
-take_front (x ∷ xs) ys = ap (λ (zs : List _). x ∷ zs) (take_front xs ys)
 
 pub end_at : (nodes : List Node) (ds : List Declared) (n m all : ℕ) → n < m → all ≡ length (bound_to nodes ds m) → end_of (starts_to nodes ds m) all n ≡ length (bound_to nodes ds (suc n))
 end_at nodes ds n m all l is = by (cases_lt (suc n) m)
@@ -93,9 +78,9 @@ piece nodes ds n m l =
     ap (bound_to nodes ds) (omega arith) ∙ rest.1 ∙ ap (λ (xs : List (Option ℕ)). xs ++ rest.0) (bound_suc nodes ds n) ∙ append_assoc front own rest.0 in
     let size : length (bound_to nodes ds (suc n)) - length front ≡ length own = let more : length (bound_to nodes ds (suc n)) ≡ length front + length own = ap length (bound_suc nodes ds n) ∙ length-append front own in omega (arith, more) in
     ap (λ (xs : List (Option ℕ)). take (length (bound_to nodes ds (suc n)) - length front) (drop (length front) xs)) whole
-    ∙ ap (take (length (bound_to nodes ds (suc n)) - length front)) (drop_front front (own ++ rest.0))
+    ∙ ap (take (length (bound_to nodes ds (suc n)) - length front)) (drop-append_seam front (own ++ rest.0))
     ∙ ap (λ (k : ℕ). take k (own ++ rest.0)) size
-    ∙ take_front own rest.0
+    ∙ take-append_seam own rest.0
 
 from_at : (nodes : List Node) (ds : List Declared) (n m : ℕ) (starts : List ℕ) → n < m → starts ≡ starts_to nodes ds m → get_or starts n 0 ≡ length (bound_to nodes ds n)
 from_at nodes ds n m starts l e = ap (λ (xs : List ℕ). get_or xs n 0) e ∙ get_or_from_slice_get (starts_to nodes ds m) n (length (bound_to nodes ds n)) 0 (start_at nodes ds m n l)

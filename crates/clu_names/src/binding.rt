@@ -236,7 +236,7 @@ pub fn names_of(alloc: Global, tree: &Tree, rounds: &[Round]) -> Result<Names, M
 {
     let declared = declarations(alloc, tree, rounds)?;
     let mut bound = Vec::new(alloc);
-    let mut starts = Vec::new(alloc);
+    let mut starts = Vec::with_capacity(alloc, tree.len() as usize)?;
     bind(alloc, tree, declared.as_slice(), &mut bound, &mut starts)?;
     Ok(Names {
         declared,

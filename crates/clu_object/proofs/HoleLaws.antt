@@ -2,7 +2,7 @@
 use Rattle.std.proofs.Common.{◌≡◌, ℕ, ◌+◌, ◌*◌, ◌^◌, ◌<◌, ◌≤◌, ◌&&◌, ◌||◌, ◌==◌, not, min, nat_lt, nat_le, Bool, true, false, List, [], ◌∷◌, ◌++◌, length, Option, Some, None, Ok, if◌then◌else◌, refl, sym, ap, subst, ◌∙◌, append_assoc, arith}
 use Rattle.std.specs.Prelude.{slice_get}
 use Rattle.std.specs.List.{flat_map, list_all}
-use Rattle.std.proofs.lemmas.Bool.{leb-true, le-leb, ltb-true, ltb-false, lt-ltb, le-ltb, eqb-true, eqb-false, and_parts, and_from, not-false}
+use Rattle.std.proofs.lemmas.Bool.{leb-true, le-leb, ltb-true, ltb-false, lt-ltb, le-ltb, eqb-true, eqb-false, and_parts, and_from, not-false, or_parts}
 use Rattle.std.proofs.lemmas.List.{length-append, drop_at}
 use Rattle.std.proofs.lemmas.Option.{slice_get_within}
 use Rattle.byteorder.specs.Endian.{little_bytes}
@@ -97,13 +97,6 @@ pub record HoleGood (code : List ℕ) (ahead : CountsAhead) (made : List Hole) (
   pub allowed : allows ahead h.kind h.number (length code) ≡ true
   pub number : h.number < 2 ^ 32
 
-or_none : (x y : Bool) → x ≡ false → y ≡ false → (x || y) ≡ false
-or_none x y e f = rw (e, f) refl
-
-none_or : (x y : Bool) → (x || y) ≡ false → (x ≡ false) × (y ≡ false)
-none_or true y e = absurd (cc)
-none_or false y e = (refl, e)
-
 pub hole_again : (code : List ℕ) (ahead : CountsAhead) (made : List Hole) (h : Hole) (rest : List ℕ) → HoleGood code ahead made h → next_hole_read code ahead made (hole_bytes h ++ rest) ≡ Ok (h, rest)
 unfolding hole_read
 hole_again code ahead made h rest good =
@@ -125,7 +118,7 @@ hole_spelled code ahead made bytes h rest are e =
     let n = and_then (hole_number_read ahead k.0.0 (length code) k.0.1) (λ (number : ℕ × List ℕ). Ok (record { at = p.0.0; kind = k.0.0; number = number.0 }, number.1)) (h, rest) k.2 in
     let place = but_ok (λ at. nat_lt at least || not (is_pair_at code at)) (length bytes) (number_read 4 bytes) p.0 p.1 in
     let at = number_spelled 4 bytes p.0.0 p.0.1 are place.0 in
-    let tests = none_or (nat_lt p.0.0 least) (not (is_pair_at code p.0.0)) place.1 in
+    let tests = or_parts (nat_lt p.0.0 least) (not (is_pair_at code p.0.0)) place.1 in
     let kind = but_ok (nat_lt 8) (length p.0.1) (byte_read p.0.1) k.0 k.1 in
     let byte = byte_spelled p.0.1 k.0.0 k.0.1 at.are_bytes kind.0 in
     let allowed = but_ok (λ number. not (allows ahead k.0.0 number (length code))) (length k.0.1) (number_read 4 k.0.1) n.0 n.1 in

@@ -10,24 +10,11 @@ use Rattle.std.proofs.lemmas.Bool.{true≢false}
 use Rattle.std.proofs.lemmas.Cmp.{nat_list_cmp_total}
 use Rattle.std.proofs.lemmas.List.Sorted.{searchable_from_sorted}
 use Rattle.std.proofs.lemmas.Map.Text.{is_eq-slice_cmp}
+use Rattle.clu_base.proofs.Orders.{stays_less, most_is_other}
 use Rattle.clu_operations.specs.ByName.{AreAscending, is_below, if_named, first_named}
-
-stays_less : (o p : Ordering) → ordering_index o ≤ ordering_index p → is_lt p ≡ true → is_lt o ≡ true
-stays_less Less p le e = refl
-stays_less Equal Less le e = absurd (omega (arith, le))
-stays_less Greater Less le e = absurd (omega (arith, le))
-stays_less Equal Equal le e = absurd (true≢false (sym e))
-stays_less Equal Greater le e = absurd (true≢false (sym e))
-stays_less Greater Equal le e = absurd (true≢false (sym e))
-stays_less Greater Greater le e = absurd (true≢false (sym e))
 
 same_name : (m n : List ℕ) → bytes_eq m n ≡ is_eq (slice_cmp nat_cmp m n)
 same_name m n = sym (is_eq-slice_cmp m n)
-
-most_is_other : (o : Ordering) → 2 ≤ ordering_index o → is_eq o ≡ false
-most_is_other Less le = absurd (omega (arith, le))
-most_is_other Equal le = absurd (omega (arith, le))
-most_is_other Greater le = refl
 
 module _ {A : Type 0} (name_of : A → List ℕ) where
   -- how the name of an item stands to this one

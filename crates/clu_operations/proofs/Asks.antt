@@ -1,5 +1,5 @@
 -- What is asked one behind the other, while types, names and what is asked grow.
-use Rattle.std.proofs.Common.{◌≡◌, ◌∙◌, ℕ, ◌+◌, ◌<◌, ◌≤◌, Bool, List, [], ◌∷◌, ◌++◌, length, map, take, get_or, flat_map, OnOk, Result, Ok, Err, Some, refl, sym, ap, subst, arith, append_assoc, append-nil}
+use Rattle.std.proofs.Common.{◌≡◌, ◌∙◌, ℕ, ◌+◌, ◌<◌, ◌≤◌, Bool, List, [], ◌∷◌, ◌++◌, length, map, take, get_or, flat_map, OnOk, Result, Ok, Err, Some, refl, sym, ap, subst, arith, append_assoc, append-nil, ap₂}
 use Rattle.std.proofs.lemmas.List.{map-append, take_more, flat_map_more}
 use Rattle.clu_types.specs.CluType.{CluType, Actuals}
 use Rattle.clu_types.specs.Arena.{type_at, types_of, Grows}
@@ -8,7 +8,7 @@ use Rattle.clu_types.specs.declared.term.Term.{Term}
 use Rattle.clu_types.specs.declared.term.TypeId.{TypeId}
 use Rattle.clu_types.proofs.Arenas.{types_grown}
 use Rattle.clu_types.proofs.Carrying.{length_grows}
-use Rattle.clu_types.proofs.Equality.{join, join3}
+use Rattle.clu_types.proofs.Equality.{join3}
 use Rattle.clu_operations.specs.declared.finding.Finding.{Finding}
 use Rattle.clu_operations.specs.declared.found.Asked.{Asked}
 use Rattle.clu_operations.specs.Asked.{AsksMore}
@@ -41,7 +41,7 @@ module _ (old new : List Term) (g : Grows old new) (names newer : List (List ℕ
 
   pub asks_stay : (asked : List Asked) → AreAskedBelow (length old) (length names) asked → map (ask_told (types_of new) newer) asked ≡ map (ask_told (types_of old) names) asked
   asks_stay [] b = refl
-  asks_stay (a ∷ asked) b = join (λ (x : Ask) (xs : List Ask). x ∷ xs) (one_stays a b.0) (asks_stay asked b.1)
+  asks_stay (a ∷ asked) b = ap₂ (λ (x : Ask) (xs : List Ask). x ∷ xs) (one_stays a b.0) (asks_stay asked b.1)
 
 -- ---- none, one, and one behind the other
 
@@ -91,7 +91,7 @@ asks_on a b f g h xs ys grows m n =
       once = λ once. n.once (m.once once);
       more = m.more ++ n.more;
       asked = n.asked ∙ ap (λ (l : List Asked). l ++ n.more) m.asked ∙ append_assoc f.asked.items m.more n.more;
-      told = map-append (ask_told (types_of b) h.words) m.more n.more ∙ join (λ (p q : List Ask). p ++ q) kept n.told;
+      told = map-append (ask_told (types_of b) h.words) m.more n.more ∙ ap₂ (λ (p q : List Ask). p ++ q) kept n.told;
       below = asked_behind (length b) (length h.words) m.more n.more before n.below;
       founds = n.founds ∙ m.founds;
       wished = n.wished ∙ m.wished;

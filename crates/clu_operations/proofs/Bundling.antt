@@ -1,7 +1,9 @@
 -- Types that are put together in one, and found there again by their places.
-use Rattle.std.proofs.Common.{◌≡◌, ◌∙◌, ℕ, zero, suc, ◌+◌, ◌<◌, ◌≤◌, List, [], ◌∷◌, ◌++◌, length, take, get_or, slice_get, unwrap_or, option_map, true≢false, Option, Some, None, Result, Ok, Err, IfOk, IfSome, IsSome, refl, sym, ap, subst, arith}
+use Rattle.std.proofs.Common.{◌≡◌, ◌∙◌, ℕ, zero, suc, ◌+◌, ◌<◌, ◌≤◌, List, [], ◌∷◌, ◌++◌, length, take, get_or, slice_get, unwrap_or, option_map, true≢false, Option, Some, None, Result, Ok, Err, IfOk, IfSome, IsSome, refl, sym, ap, subst, arith, ap₂}
 use Rattle.std.proofs.lemmas.List.{take_more, take_all, append-nil}
+use Rattle.std.proofs.lemmas.Option.{same_Some}
 use Rattle.clu_base.specs.declared.errors.Memory.{Memory}
+use Rattle.clu_base.proofs.Lists.{none_is_not}
 use Rattle.clu_types.specs.CluType.{CluType, null_type, proc_of, CluTypes, no_types, type_and, no_actuals}
 use Rattle.clu_types.specs.Arena.{type_at, types_at, types_of, type_of, AreBelow, PartsBelow, Grows}
 use Rattle.clu_types.specs.Substituted.{substituted}
@@ -10,14 +12,12 @@ use Rattle.clu_types.specs.declared.term.Term.{Term}
 use Rattle.clu_types.specs.declared.term.Term.TheVariants as term
 use Rattle.clu_types.proofs.Arenas.{types_grown}
 use Rattle.clu_types.proofs.Carrying.{grows_on, length_grows}
-use Rattle.clu_types.proofs.Equality.{join}
 use Rattle.clu_types.proofs.Identity.{substituted-none}
 use Rattle.clu_types.proofs.Parts.{ids_more, types_same}
 use Rattle.clu_head.specs.declared.head.Demanded.{Demanded}
 use Rattle.clu_head.specs.declared.head.RoutineHead.{RoutineHead}
 use Rattle.clu_head.specs.declared.head.HeadForm.{HeadForm}
 use Rattle.clu_demands.proofs.Bringing.{typed_as, snoc, types_at-push, below-push}
-use Rattle.clu_demands.proofs.Lists.{none_is_not, same_item}
 use Rattle.clu_operations.specs.declared.bundles.Shown.{Shown}
 use Rattle.clu_operations.specs.Finding.{IsBelowIf}
 use Rattle.clu_operations.specs.Modules.{Shows, of_routine, whole, routines_in}
@@ -30,7 +30,7 @@ args_of (proc_of args results _) = Some args
 args_of _ = None
 
 args_there : (types : List CluType) (t : Term) (all : CluTypes) → args_of (type_of types t) ≡ Some all → types_at types (in_bundle t) ≡ all
-args_there types (term.Proc h) all e = same_item _ _ e
+args_there types (term.Proc h) all e = same_Some _ _ e
 args_there types _ all e = none_is_not all e
 
 nth_at : (types : List CluType) (ids : List TypeId) (at : ℕ) → option_map (type_at types) (slice_get ids at) ≡ nth_type (types_at types ids) at
@@ -82,18 +82,18 @@ module _ (old new : List Term) (g : Grows old new) where
 
   wanted_same : (demands : List Demanded) (a b : CluTypes) → WantedBelow (length old) demands → a ≡ b → wanted_types (types_of new) demands a ≡ wanted_types (types_of old) demands b
   wanted_same [] a b below e = e
-  wanted_same (d ∷ demands) a b below e = join type_and (option_same d.wanted below.0) (wanted_same demands a b below.1 e)
+  wanted_same (d ∷ demands) a b below e = ap₂ type_and (option_same d.wanted below.0) (wanted_same demands a b below.1 e)
 
   pub part_same : (shows : Shows) → PartBelow (length old) shows → part_type (types_of new) shows ≡ part_type (types_of old) shows
   part_same shows b = ap bundle_type (wanted_same shows.demands _ _ b.0 (ap (λ (t : CluType). type_and t no_types) (option_same shows.of b.1)))
 
   routines_same : (routines : List RoutineHead) → RoutinesBelow (length old) routines → routine_types (types_of new) routines ≡ routine_types (types_of old) routines
   routines_same [] b = refl
-  routines_same (r ∷ routines) b = join type_and (part_same (of_routine r) b.0) (routines_same routines b.1)
+  routines_same (r ∷ routines) b = ap₂ type_and (part_same (of_routine r) b.0) (routines_same routines b.1)
 
   pub form_same : (form : HeadForm) → FormBelow (length old) form → form_type (types_of new) form ≡ form_type (types_of old) form
   form_same form b =
-      ap bundle_type (join type_and (part_same (whole form) b.0) (ap (λ (t : CluTypes). type_and (bundle_type t) no_types) (routines_same (routines_in form) b.1)))
+      ap bundle_type (ap₂ type_and (part_same (whole form) b.0) (ap (λ (t : CluTypes). type_and (bundle_type t) no_types) (routines_same (routines_in form) b.1)))
 
 -- ---- the bundle of a part
 
@@ -113,7 +113,7 @@ module _ (old now : List Term) (g : Grows old now) (null : TypeId) (null_in : nu
   ids_type : (demands : List Demanded) (of : Option TypeId) → WantedBelow (length old) demands → IsBelowIf (length old) of
       → types_at (types_of now) (wanted_or null demands ++ unwrap_or of null ∷ []) ≡ wanted_types (types_of old) demands (type_and (type_or_null (types_of old) of) no_types)
   ids_type [] of b lt = ap (λ (t : CluType). type_and t no_types) (or_type of lt)
-  ids_type (d ∷ demands) of b lt = join type_and (or_type d.wanted b.0) (ids_type demands of b.1 lt)
+  ids_type (d ∷ demands) of b lt = ap₂ type_and (or_type d.wanted b.0) (ids_type demands of b.1 lt)
 
 pub part_bundled : (r : Result TypeId Memory) (old mid new : List Term) (ids : List TypeId) (null : TypeId) (shows : Shows) → Grows old mid → null.0 < length mid → type_at (types_of mid) null ≡ null_type → ids ≡ part_ids null shows
     → (AreBelow (length mid) ids → IfOk r (λ id. type_at (types_of new) id ≡ bundle_type (types_at (types_of mid) ids))) → PartBelow (length old) shows → IfOk r (λ id. type_at (types_of new) id ≡ part_type (types_of old) shows)
@@ -159,7 +159,7 @@ bundled_more old now newer all made i r seen id lt is seen_is so_far g within of
         let typed : type_at (types_of newer) id ≡ part_type (types_of old) (of_routine r) = of_type now_in ∙ part_same old now so_far.grows seen this ∙ ap (part_type (types_of old)) seen_is in
         let kept : types_at (types_of newer) made ≡ types_at (types_of now) made = types_same (types_of newer) (types_of now) (length now) (types_grown now newer g) made so_far.within in
         let longer : take (i + 1) all ≡ take i all ++ r ∷ [] = take_more all i r lt ∙ ap (λ (x : RoutineHead). take i all ++ x ∷ []) (sym is) in
-        types_at-push (types_of newer) made id ∙ join snoc (kept ∙ so_far.types b) typed ∙ sym (ap (routine_types (types_of old)) longer ∙ routines-push (types_of old) (take i all) r)
+        types_at-push (types_of newer) made id ∙ ap₂ snoc (kept ∙ so_far.types b) typed ∙ sym (ap (routine_types (types_of old)) longer ∙ routines-push (types_of old) (take i all) r)
 
 pub bundled_all : (old now : List Term) (all : List RoutineHead) (made : List TypeId) (i : ℕ) → length all ≤ i → AreBundled old all now (take i all) made → AreBundled old all now all made
 bundled_all old now all made i le h = subst (λ (rs : List RoutineHead). AreBundled old all now rs made) (take_all i all le) h
@@ -179,7 +179,7 @@ parts_bundled r old a b new form seen all own routines ids ga gb seen_is all_is 
     routines_type all_now ∙ ap bundle_type (routines_same old a ga all all_here ∙ ap (routine_types (types_of old)) all_is) in
     let ids_in : AreBelow (length b) ids = subst (AreBelow (length b)) (sym ids_is) (omega (arith, own_in, length_grows a b gb), (routines_in_b, tt)) in
     let typed : types_at (types_of b) ids ≡ type_and (part_type (types_of old) (whole form)) (type_and (bundle_type (routine_types (types_of old) (routines_in form))) no_types) =
-    ap (types_at (types_of b)) ids_is ∙ join type_and typed_own (ap (λ (t : CluType). type_and t no_types) typed_all) in
+    ap (types_at (types_of b)) ids_is ∙ ap₂ type_and typed_own (ap (λ (t : CluType). type_and t no_types) typed_all) in
     typed_as r (types_of new) _ _ (ap bundle_type typed) (made ids_in)
 
 -- ---- in an arena of their own
@@ -189,10 +189,10 @@ has_all terms (Some p) t some typed within = record { all = p; parts = refl; wit
 has_all terms None t some typed within = absurd (true≢false (sym some))
 
 pub all_within : (shown : Shown) (parts : TypeId) (t : CluType) → shown.parts ≡ Some parts → HasAll t shown → parts.0 < length shown.types
-all_within shown parts t is h = subst (λ (p : TypeId). p.0 < length shown.types) (same_item _ _ (sym h.parts ∙ is)) h.within
+all_within shown parts t is h = subst (λ (p : TypeId). p.0 < length shown.types) (same_Some _ _ (sym h.parts ∙ is)) h.within
 
 pub all_type : (shown : Shown) (parts : TypeId) (t : CluType) → shown.parts ≡ Some parts → HasAll t shown → type_at (types_of shown.types) parts ≡ t
-all_type shown parts t is h = subst (λ (p : TypeId). type_at (types_of shown.types) p ≡ t) (same_item _ _ (sym h.parts ∙ is)) h.type
+all_type shown parts t is h = subst (λ (p : TypeId). type_at (types_of shown.types) p ≡ t) (same_Some _ _ (sym h.parts ∙ is)) h.type
 
 -- what is put in has the type that is told of it
 pub put_typed : (r : Result (Option TypeId) Memory) (types : List CluType) (f : CluType → CluType) (t : CluType) (o : Option CluType) → Some t ≡ o → IfOk r IsSome → IfOk r (λ put. IfSome put (λ p. type_at types p ≡ f t))

@@ -1,20 +1,21 @@
 -- What nodes ask, entered one demand behind the other.
-use Rattle.std.proofs.Common.{◌≡◌, ◌∙◌, ℕ, zero, suc, ◌+◌, ◌<◌, ◌≤◌, ◌&&◌, ◌==◌, cond, ltb, Bool, true, false, true≢false, if◌then◌else◌, is_some, List, [], ◌∷◌, ◌++◌, length, map, take, get_or, slice_get, bytes_eq, option_map, option_and_then, vec_items, Option, Some, None, IfSome, Result, Ok, Err, OnOk, refl, sym, ap, subst, arith, append-nil, append_assoc, length-append, ltb-true, ltb-false, lt-ltb, le-ltb}
+use Rattle.std.proofs.Common.{◌≡◌, ◌∙◌, ℕ, zero, suc, ◌+◌, ◌<◌, ◌≤◌, ◌&&◌, ◌==◌, cond, ltb, Bool, true, false, true≢false, if◌then◌else◌, is_some, List, [], ◌∷◌, ◌++◌, length, map, take, get_or, slice_get, bytes_eq, option_map, option_and_then, vec_items, Option, Some, None, IfSome, refl, sym, ap, subst, arith, append-nil, append_assoc, length-append, ltb-true, ltb-false, lt-ltb, le-ltb, ap₂}
 use Rattle.std.specs.HashMap.{get, Updates}
 use Rattle.std.specs.Option.{option_or}
+use Rattle.std.proofs.lemmas.Bool.{and_parts}
 use Rattle.std.proofs.lemmas.Bool.Decides.{Decides-eqb}
 use Rattle.std.proofs.lemmas.List.{take_more, take_all}
+use Rattle.std.proofs.lemmas.Option.{same_Some}
 use Rattle.std.proofs.lemmas.Slice.Eq.{bytes_eq-Decides}
+use Rattle.clu_base.proofs.Lists.{none_is_not}
 use Rattle.clu_types.specs.CluType.{CluType}
 use Rattle.clu_types.specs.Arena.{type_at, types_of}
 use Rattle.clu_types.specs.declared.term.Term.{Term}
 use Rattle.clu_types.specs.declared.term.TypeId.{TypeId}
-use Rattle.clu_types.proofs.Equality.{join}
 use Rattle.clu_head.specs.declared.head.Demanded.{Demanded}
 use Rattle.clu_bindings.specs.Tables.{between}
 use Rattle.clu_bindings.specs.declared.file.Headed.{Headed}
 use Rattle.clu_bindings.specs.declared.meaning.ModuleId.{ModuleId}
-use Rattle.clu_demands.proofs.Lists.{none_is_not, same_item}
 use Rattle.clu_operations.specs.declared.finding.Finding.{Finding}
 use Rattle.clu_operations.specs.declared.found.Asked.{Asked}
 use Rattle.clu_operations.specs.declared.found.Found.{Found}
@@ -49,13 +50,9 @@ first_behind parameter name (x ∷ demands) d = by (is_asked parameter name x) (
     by true rest = refl
     by false rest = rest
 
-both_true : (a b : Bool) → (a && b) ≡ true → (a ≡ true) × (b ≡ true)
-both_true true b e = (refl, e)
-both_true false b e = absurd (true≢false (sym e))
-
 asked_same : (parameter : ℕ) (name : List ℕ) (d : Demanded) → is_asked parameter name d ≡ true → (d.parameter ≡ parameter) × (name ≡ d.operation)
 asked_same parameter name d e =
-    let both = both_true (d.parameter == parameter) (bytes_eq name d.operation) e in
+    let both = and_parts (d.parameter == parameter) (bytes_eq name d.operation) e in
     ((Decides-eqb d.parameter parameter).0 both.0, (bytes_eq-Decides name d.operation).0 both.1)
 
 -- nothing is asked first where nothing is told
@@ -214,7 +211,7 @@ module _ (asked : ℕ → List Demanded) (terms : List Term) where
         told_put =
             let found : found_at g.founds.items put.id ≡ one = ap (λ (l : List Found). found_at l put.id) put.founds ∙ last_found f.founds.items one put.id put.number in
             let asks : asked_by g put.id ≡ [] = ap (λ (x : Found). between g.asked.items x.from x.to) found ∙ nothing_between g.asked.items (length f.asked.items) in
-            join (λ (t : Option CluType) (a : List Ask). let it : Told = record { type = t; asks = a } in it) (ap (λ (x : Found). option_map (type_at (types_of terms)) x.of) found) (ap (λ (l : List Asked). map (ask_told (types_of terms) g.words) l) asks)
+            ap₂ (λ (t : Option CluType) (a : List Ask). let it : Told = record { type = t; asks = a } in it) (ap (λ (x : Found). option_map (type_at (types_of terms)) x.of) found) (ap (λ (l : List Asked). map (ask_told (types_of terms) g.words) l) asks)
 
         there : (its : Given) (o : Option FoundId) → get same f.given its ≡ o → IfSome o (λ other. other.0 < length f.founds.items)
         there its (Some other) e = (was.given.below its other e).1
@@ -224,7 +221,7 @@ module _ (asked : ℕ → List Demanded) (terms : List Term) where
         all_below its other true t e =
             let at : id.0 ≡ its.operation.0 = ap (λ (k : Given). k.operation.0) ((same_given this its).0 t) in
             let name : id.0 < length f.words = named_within f.words d.operation id number in
-            let place : put.id.0 ≡ other.0 = ap (λ (o : FoundId). o.0) (same_item put.id other e) in
+            let place : put.id.0 ≡ other.0 = ap (λ (o : FoundId). o.0) (same_Some put.id other e) in
             (omega (arith, at, name, words), omega (arith, place, put.number, longer))
         all_below its other false t e =
             let name : its.operation.0 < length f.words = (was.given.below its other e).0 in
@@ -244,7 +241,7 @@ module _ (asked : ℕ → List Demanded) (terms : List Term) where
             differs false t = t
             differs true t =
                 let is = (same_given this (key_of m parameter k)).0 t in
-                let name_is : name ≡ d.operation = same_item name d.operation (sym (named_item f.words name k e) ∙ ap (λ (i : ℕ). slice_get f.words i) (sym (ap (λ (x : Given). x.operation.0) is)) ∙ named_item f.words d.operation id number) in
+                let name_is : name ≡ d.operation = same_Some name d.operation (sym (named_item f.words name k e) ∙ ap (λ (i : ℕ). slice_get f.words i) (sym (ap (λ (x : Given). x.operation.0) is)) ∙ named_item f.words d.operation id number) in
                 let parameter_is : (d.parameter == parameter) ≡ true = (Decides-eqb d.parameter parameter).1 (ap (λ (x : Given). x.parameter) is) in
                 absurd (other (sym (ap (λ (x : Given). x.node) is)) (ap (λ (b : Bool). b && bytes_eq name d.operation) parameter_is ∙ (bytes_eq-Decides name d.operation).1 name_is))
 
@@ -290,10 +287,6 @@ module _ (asked : ℕ → List Demanded) (terms : List Term) where
 pub none_there : {A : Type 0} (o : Option A) → is_some o ≡ false → o ≡ None
 none_there (Some x) e = absurd (true≢false e)
 none_there None e = refl
-
-pub then_ok : {X E : Type 0} (r : Result X E) (P Q : Type 0) → (P → Q) → OnOk r P → OnOk r Q
-then_ok (Ok x) P Q f h = f h
-then_ok (Err m) P Q f h = tt
 
 pub number_found : (f g : Finding) (name : List ℕ) (id : NameId) → AreOnce f.words → g.words ≡ with_name f.words name → id ≡ number_with f.words name → named g.words name ≡ Some id
 number_found f g name id once words is = ap (λ (ws : List (List ℕ)). named ws name) words ∙ number_of_name f.words name once ∙ ap Some (sym is)

@@ -1,11 +1,12 @@
 -- One more that was found, and what the list of those that were found has then.
-use Rattle.std.proofs.Common.{◌≡◌, ◌∙◌, ℕ, ◌+◌, ◌-◌, ◌≤◌, ◌&&◌, nat_le, Bool, true, false, true≢false, if◌then◌else◌, List, [], ◌∷◌, ◌++◌, length, map, take, drop, slice_get, option_map, vec_items, Option, Some, None, Result, Ok, Err, IfOk, OnOk, refl, sym, ap, subst, arith, le-leb, length-append, take_all, drop_at}
+use Rattle.std.proofs.Common.{◌≡◌, ◌∙◌, ℕ, ◌+◌, ◌-◌, ◌≤◌, ◌&&◌, nat_le, Bool, true, false, true≢false, if◌then◌else◌, List, [], ◌∷◌, ◌++◌, length, map, take, drop, slice_get, option_map, vec_items, Option, Some, None, Result, Ok, Err, IfOk, OnOk, refl, sym, ap, subst, arith, le-leb, length-append, take_all, drop_at, ap₂}
+use Rattle.std.proofs.lemmas.Bool.{and_from}
+use Rattle.clu_base.proofs.Lists.{get_last}
 use Rattle.clu_types.specs.CluType.{CluType}
 use Rattle.clu_types.specs.Arena.{type_at, types_of, Grows}
 use Rattle.clu_types.specs.declared.term.Term.{Term}
 use Rattle.clu_types.specs.declared.term.TypeId.{TypeId}
 use Rattle.clu_types.proofs.Carrying.{length_grows}
-use Rattle.clu_types.proofs.Equality.{join}
 use Rattle.clu_bindings.specs.Tables.{between}
 use Rattle.clu_operations.specs.declared.finding.Finding.{Finding}
 use Rattle.clu_operations.specs.declared.found.Asked.{Asked}
@@ -26,13 +27,8 @@ if_true : {A : Type 0} (b : Bool) (x y : A) → b ≡ true → (if b then x else
 if_true true x y e = refl
 if_true false x y e = absurd (true≢false (sym e))
 
-both_true : (a b : Bool) → a ≡ true → b ≡ true → (a && b) ≡ true
-both_true true true p q = refl
-both_true true false p q = q
-both_true false b p q = p
-
 pub between_there : {A : Type 0} (items : List A) (from to : ℕ) → from ≤ to → to ≤ length items → between items from to ≡ take (to - from) (drop from items)
-between_there items from to le in_it = if_true (nat_le from to && nat_le to (length items)) _ _ (both_true _ _ (le-leb from to le) (le-leb to (length items) in_it))
+between_there items from to le in_it = if_true (nat_le from to && nat_le to (length items)) _ _ (and_from _ _ (le-leb from to le) (le-leb to (length items) in_it))
 
 -- what stands behind the first items
 between_behind : {A : Type 0} (xs ys : List A) (from to : ℕ) → from ≡ length xs → to ≡ length (xs ++ ys) → between (xs ++ ys) from to ≡ ys
@@ -47,12 +43,8 @@ nothing_between {A} items at = by (nat_le at at && nat_le at (length items))
     by true = let none : at - at ≡ 0 = omega arith in ap (λ (n : ℕ). take n (drop at items)) none
     by false = refl
 
-last_of : {A : Type 0} (xs : List A) (x : A) → slice_get (xs ++ x ∷ []) (length xs) ≡ Some x
-last_of [] x = refl
-last_of (y ∷ xs) x = last_of xs x
-
 pub last_found : (founds : List Found) (one : Found) (id : FoundId) → id.0 ≡ length founds → found_at (founds ++ one ∷ []) id ≡ one
-last_found founds one id e = ap (λ (n : ℕ). found_or_none (slice_get (founds ++ one ∷ []) n)) e ∙ ap found_or_none (last_of founds one)
+last_found founds one id e = ap (λ (n : ℕ). found_or_none (slice_get (founds ++ one ∷ []) n)) e ∙ ap found_or_none (get_last founds one)
 
 -- ---- what is there
 
@@ -87,7 +79,7 @@ module _ (before terms : List Term) (grows : Grows before terms) (f g h : Findin
 
   told_is : (type : Option CluType) → option_map (type_at (types_of terms)) of ≡ type → told (types_of terms) h id ≡ record { type = type; asks = asks }
   told_is type of_type =
-      join (λ (t : Option CluType) (a : List Ask). let n : Told = record { type = t; asks = a } in n) (ap (λ (x : Found). option_map (type_at (types_of terms)) x.of) found_is ∙ of_type)
+      ap₂ (λ (t : Option CluType) (a : List Ask). let n : Told = record { type = t; asks = a } in n) (ap (λ (x : Found). option_map (type_at (types_of terms)) x.of) found_is ∙ of_type)
       (ap (λ (l : List Asked). map (ask_told (types_of terms) h.words) l) asked_is ∙ ap (λ (ws : List (List ℕ)). map (ask_told (types_of terms) ws) more.more) one.words ∙ more.told)
 
   follows : Follows f h

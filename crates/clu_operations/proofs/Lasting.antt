@@ -1,5 +1,5 @@
 -- What was found, and what is told of it, stays while types, names and what was found grow.
-use Rattle.std.proofs.Common.{◌≡◌, ◌∙◌, ℕ, zero, suc, ◌+◌, ◌-◌, ◌<◌, ◌≤◌, ◌&&◌, ◌||◌, nat_le, Bool, true, false, if◌then◌else◌, List, [], ◌∷◌, ◌++◌, length, map, take, drop, flat_map, slice_get, option_map, option_and_then, Option, Some, None, IfSome, refl, sym, ap, arith, leb-true, le-leb, length-append, length-drop}
+use Rattle.std.proofs.Common.{◌≡◌, ◌∙◌, ℕ, zero, suc, ◌+◌, ◌-◌, ◌<◌, ◌≤◌, ◌&&◌, ◌||◌, nat_le, Bool, true, false, if◌then◌else◌, List, [], ◌∷◌, ◌++◌, length, map, take, drop, flat_map, slice_get, option_map, option_and_then, Option, Some, None, IfSome, refl, sym, ap, arith, leb-true, le-leb, length-append, length-drop, ap₂}
 use Rattle.std.proofs.lemmas.List.{take-append-le, drop-append-le}
 use Rattle.clu_types.specs.CluType.{CluType, Actuals}
 use Rattle.clu_types.specs.Arena.{type_at, types_of, Grows}
@@ -7,7 +7,6 @@ use Rattle.clu_types.specs.Substituted.{substituted}
 use Rattle.clu_types.specs.declared.term.Term.{Term}
 use Rattle.clu_types.specs.declared.term.TypeId.{TypeId}
 use Rattle.clu_types.proofs.Arenas.{types_grown}
-use Rattle.clu_types.proofs.Equality.{join}
 use Rattle.clu_head.specs.declared.head.Demanded.{Demanded}
 use Rattle.clu_head.specs.declared.head.RoutineHead.{RoutineHead}
 use Rattle.clu_bindings.specs.Tables.{between}
@@ -91,7 +90,7 @@ told_stays old new grows f g follows within id there =
     ap (λ (x : Found). between g.asked.items x.from x.to) found
     ∙ ap (λ (l : List Asked). between l (found_at f.founds.items id).from (found_at f.founds.items id).to) follows.asked.1
     ∙ between_stays f.asked.items follows.asked.0 (found_at f.founds.items id).from (found_at f.founds.items id).to below.1 in
-    join (λ (t : Option CluType) (a : List Ask). let it : Told = record { type = t; asks = a } in it)
+    ap₂ (λ (t : Option CluType) (a : List Ask). let it : Told = record { type = t; asks = a } in it)
     (ap (λ (x : Found). option_map (type_at (types_of new)) x.of) found ∙ option_stays old new grows (found_at f.founds.items id).of below.0)
     (ap (λ (l : List Asked). map (ask_told (types_of new) g.words) l) asks ∙ asks_stay old new grows f.words g.words follows.words (asked_by f id) (asks_below (length old) f within id))
 
@@ -143,10 +142,10 @@ module _ (old new : List Term) (grows : Grows old new) where
   demands_stay : (given : Actuals) (demands : List Demanded) → WantedBelow (length old) demands → flat_map (demand_told (types_of new) given) demands ≡ flat_map (demand_told (types_of old) given) demands
   demands_stay given [] b = refl
   demands_stay given (d ∷ demands) b =
-      join (λ (xs ys : List Ask). xs ++ ys) (ap (asked_of given d.parameter d.operation d.in_set) (given_stays given d.wanted b.0)) (demands_stay given demands b.1)
+      ap₂ (λ (xs ys : List Ask). xs ++ ys) (ap (asked_of given d.parameter d.operation d.in_set) (given_stays given d.wanted b.0)) (demands_stay given demands b.1)
 
   part_stays : (given : Actuals) (shows : Shows) → PartBelow (length old) shows → part_told (types_of new) given shows ≡ part_told (types_of old) given shows
-  part_stays given shows b = join (λ (t : Option CluType) (a : List Ask). let it : Told = record { type = t; asks = a } in it) (given_stays given shows.of b.1) (demands_stay given shows.demands b.0)
+  part_stays given shows b = ap₂ (λ (t : Option CluType) (a : List Ask). let it : Told = record { type = t; asks = a } in it) (given_stays given shows.of b.1) (demands_stay given shows.demands b.0)
 
   routine_stays : (given : Actuals) (o : Option RoutineHead) → IfSome o (λ r. PartBelow (length old) (of_routine r))
       → option_map (λ (r : RoutineHead). part_told (types_of new) given (of_routine r)) o ≡ option_map (λ (r : RoutineHead). part_told (types_of old) given (of_routine r)) o

@@ -1,20 +1,21 @@
 -- All that was found of a file stays what is looked for, while types and names grow and more is found.
-use Rattle.std.proofs.Common.{◌≡◌, ◌∙◌, ◌⊎◌, inl, inr, ℕ, ◌<◌, ◌≤◌, cond, Bool, true, false, if◌then◌else◌, List, [], ◌∷◌, length, slice_get, option_map, option_and_then, vec_items, Option, Some, None, IfSome, Result, Ok, Err, IfOk, OnOk, refl, sym, ap, subst, arith, append-nil}
+use Rattle.std.proofs.Common.{◌≡◌, ◌∙◌, ◌⊎◌, inl, inr, ℕ, ◌<◌, ◌≤◌, cond, Bool, true, false, if◌then◌else◌, List, [], ◌∷◌, length, slice_get, option_map, option_and_then, vec_items, Option, Some, None, IfSome, Result, Ok, Err, IfOk, OnOk, refl, sym, ap, subst, arith, append-nil, ap₂}
 use Rattle.std.specs.Bool.{Decides}
 use Rattle.std.specs.HashMap.{get, Updates}
 use Rattle.std.specs.Option.{option_eq, option_or}
 use Rattle.std.proofs.lemmas.Bool.Decides.{Decides-like, Decides-and, Decides-eqb}
+use Rattle.std.proofs.lemmas.Option.{same_Some}
+use Rattle.clu_base.proofs.Lists.{some_at}
 use Rattle.clu_types.specs.CluType.{CluType}
 use Rattle.clu_types.specs.Arena.{type_at, types_of, Grows}
 use Rattle.clu_types.specs.declared.term.Term.{Term}
 use Rattle.clu_types.specs.declared.term.TypeId.{TypeId}
 use Rattle.clu_types.proofs.Arenas.{types_grown}
 use Rattle.clu_types.proofs.Carrying.{length_grows}
-use Rattle.clu_types.proofs.Equality.{join, join3, same_id}
+use Rattle.clu_types.proofs.Equality.{join3, same_id}
 use Rattle.clu_head.specs.declared.head.Demanded.{Demanded}
 use Rattle.clu_bindings.specs.Readers.{round_in}
 use Rattle.clu_bindings.specs.declared.file.Headed.{Headed}
-use Rattle.clu_demands.proofs.Lists.{same_item, some_at}
 use Rattle.clu_operations.specs.contracts.words.NameIdPartialEq.TheImpl as names
 use Rattle.clu_operations.specs.contracts.found.ViewPartialEq.TheImpl as views
 use Rattle.clu_operations.specs.declared.finding.Finding.{Finding}
@@ -61,7 +62,7 @@ same_given a b =
     (Decides-and _ _ (Decides-eqb a.node b.node) (Decides-and _ _ (Decides-eqb a.parameter b.parameter) (same_name a.operation b.operation)))
 
 same_operation : (a b : Option NameId) → Decides (option_eq (names.ghosts).eq a b) (a ≡ b)
-same_operation (Some a) (Some b) = Decides-like _ (ap Some) (λ e. same_item a b e) (same_name a b)
+same_operation (Some a) (Some b) = Decides-like _ (ap Some) (λ e. same_Some a b e) (same_name a b)
 same_operation None None = (λ e. refl, λ e. refl)
 same_operation _ _ = (λ e. cc, λ e. cc)
 
@@ -269,7 +270,7 @@ first_found headed old new grows f g h w found was of name stays ready tells wor
     }
 
     is_right : (q : Wished) (other : Option FoundId) (b : Bool) → same_wished w q ≡ b → cond b (Some found) (get same_wished g.wished q) ≡ Some other → (get same_wished f.wished q ≡ Some other) ⊎ IsWished headed new h q other
-    is_right q other true t e = inr (subst (λ (o : Option FoundId). IsWished headed new h q o) (same_item found other e) (subst (λ (x : Wished). IsWished headed new h x found) ((same_wish w q).0 t) its))
+    is_right q other true t e = inr (subst (λ (o : Option FoundId). IsWished headed new h q o) (same_Some found other e) (subst (λ (x : Wished). IsWished headed new h x found) ((same_wish w q).0 t) its))
     is_right q other false t e = inl (ap (λ m. get same_wished m q) (sym stays.wished) ∙ e)
 
     all : IsFinding headed new h
@@ -314,8 +315,8 @@ module _ (headed : Headed) (terms : List Term) (f : Finding) (was : IsFinding he
       let s = some_at f.words operation.0 lt in
       let e : named f.words s.0 ≡ Some operation = was.once operation s.0 s.1 in
       map_or (told (types_of terms) f) _ _
-      ∙ join (λ (a b : Option Told). option_or a b)
-      (map_or (told (types_of terms) f) _ _ ∙ join (λ (a b : Option Told). option_or a b) (by_told s.0 e (round_in headed.file n).routine) (by_told s.0 e (round_in headed.file n).cluster)) (by_told s.0 e (set_round headed.file n parameter))
+      ∙ ap₂ (λ (a b : Option Told). option_or a b)
+      (map_or (told (types_of terms) f) _ _ ∙ ap₂ (λ (a b : Option Told). option_or a b) (by_told s.0 e (round_in headed.file n).routine) (by_told s.0 e (round_in headed.file n).cluster)) (by_told s.0 e (set_round headed.file n parameter))
       ∙ ap (option_and_then (told_round headed (types_of terms) n parameter)) (sym s.1)
 
   pub given_found : (of : TypeId) (it : Option Told) → operation.0 < length f.words → option_and_then (told_round headed (types_of terms) n parameter) (slice_get f.words operation.0) ≡ it
@@ -353,8 +354,8 @@ module _ (headed : Headed) (old new : List Term) (grows : Grows old new) (f g : 
 
   round_same : (n parameter : ℕ) (name : List ℕ) → told_round headed (types_of new) n parameter name ≡ told_round headed (types_of old) n parameter name
   round_same n parameter name =
-      join (λ (a b : Option Told). option_or a b)
-      (join (λ (a b : Option Told). option_or a b) (given_same (round_in headed.file n).routine parameter name) (given_same (round_in headed.file n).cluster parameter name)) (given_same (set_round headed.file n parameter) parameter name)
+      ap₂ (λ (a b : Option Told). option_or a b)
+      (ap₂ (λ (a b : Option Told). option_or a b) (given_same (round_in headed.file n).routine parameter name) (given_same (round_in headed.file n).cluster parameter name)) (given_same (set_round headed.file n parameter) parameter name)
 
   pub at_stays : (n : ℕ) (operation : NameId) → operation.0 < length f.words → told_at headed new g.words n of operation ≡ told_at headed old f.words n of operation
   unfolding told_at

@@ -1,9 +1,9 @@
 -- Names that stand once, and their numbers while more are kept.
 use Rattle.std.proofs.Common.{◌≡◌, ◌∙◌, ℕ, zero, suc, ◌+◌, ◌<◌, ◌≤◌, ◌||◌, not, cond, ltb, Bool, true, false, true≢false, if◌then◌else◌, List, [], ◌∷◌, ◌++◌, length, slice_get, bytes_eq, option_map, Option, Some, None, refl, sym, ap, subst, arith, ltb-true, ltb-false, lt-ltb, le-ltb}
 use Rattle.std.specs.List.{list_any, position, position_or_len}
-use Rattle.std.proofs.lemmas.Option.{slice_get_within, slice_get-get_or}
+use Rattle.std.proofs.lemmas.Option.{slice_get_within, slice_get-get_or, same_Some}
 use Rattle.std.proofs.lemmas.Slice.Eq.{bytes_eq-Decides}
-use Rattle.clu_demands.proofs.Lists.{none_is_not, same_item, front_of}
+use Rattle.clu_base.proofs.Lists.{none_is_not, front_of, front_get}
 use Rattle.clu_operations.specs.Finding.{Extends}
 use Rattle.clu_operations.specs.Words.{id_of, named, is_kept, with_name, number_with, AreOnce}
 use Rattle.clu_operations.specs.declared.words.NameId.{NameId}
@@ -11,17 +11,12 @@ use Rattle.clu_operations.proofs.Naming.{number_named, number_below}
 
 -- ---- items of lists of which one begins with another
 
-pub item_stays : {A : Type 0} (xs ys : List A) (k : ℕ) → k < length xs → slice_get (xs ++ ys) k ≡ slice_get xs k
-item_stays [] ys k lt = absurd (omega arith)
-item_stays (x ∷ xs) ys zero lt = refl
-item_stays (x ∷ xs) ys (suc k) lt = item_stays xs ys k (omega arith)
-
 pub item_extends : {A : Type 0} (old new : List A) → Extends old new → (k : ℕ) → k < length old → slice_get new k ≡ slice_get old k
-item_extends {A} old new g k lt = ap (λ (l : List A). slice_get l k) g.1 ∙ item_stays old g.0 k lt
+item_extends {A} old new g k lt = ap (λ (l : List A). slice_get l k) g.1 ∙ front_get old g.0 k lt
 
 -- what stands at the end
 behind : {A : Type 0} (xs : List A) (y x : A) (k : ℕ) → length xs ≤ k → slice_get (xs ++ y ∷ []) k ≡ Some x → (y ≡ x) × (k ≡ length xs)
-behind [] y x zero le e = (same_item y x e, refl)
+behind [] y x zero le e = (same_Some y x e, refl)
 behind [] y x (suc k) le e = none_is_not x e
 behind (z ∷ xs) y x zero le e = absurd (omega (arith, le))
 behind (z ∷ xs) y x (suc k) le e = let r = behind xs y x k (omega (arith, le)) e in (r.0, ap (λ (n : ℕ). suc n) r.1)
@@ -57,8 +52,8 @@ module _ {A : Type 0} (p : A → Bool) where
     where
       by : (b : Bool) → p x ≡ b → (o : Option ℕ) → first_at xs ≡ o → ((k : ℕ) → first_at xs ≡ Some k → (y : A) × (slice_get xs k ≡ Some y) × (p y ≡ true)) → (if b then Some zero else option_map (λ (n : ℕ). suc n) o) ≡ Some i
           → (y : A) × (slice_get (x ∷ xs) i ≡ Some y) × (p y ≡ true)
-      by true t o q rest e = (x, ap (λ (k : ℕ). slice_get (x ∷ xs) k) (sym (same_item zero i e)), t)
-      by false t (Some k) q rest e = let r = rest k q in (r.0, ap (λ (j : ℕ). slice_get (x ∷ xs) j) (sym (same_item (suc k) i e)) ∙ r.1, r.2)
+      by true t o q rest e = (x, ap (λ (k : ℕ). slice_get (x ∷ xs) k) (sym (same_Some zero i e)), t)
+      by false t (Some k) q rest e = let r = rest k q in (r.0, ap (λ (j : ℕ). slice_get (x ∷ xs) j) (sym (same_Some (suc k) i e)) ∙ r.1, r.2)
       by false t None q rest e = none_is_not i e
 
   first_stays : (xs ys : List A) (i : ℕ) → first_at xs ≡ Some i → first_at (xs ++ ys) ≡ Some i
@@ -79,7 +74,7 @@ module _ {A : Type 0} (p : A → Bool) where
           → (if b then Some zero else option_map (λ (n : ℕ). suc n) o) ≡ None → (if b then Some zero else option_map (λ (n : ℕ). suc n) u) ≡ Some i → suc (length xs) ≤ i
       by true o q u r rest none e = none_is_not zero (sym none)
       by false (Some k) q u r rest none e = none_is_not (suc k) (sym none)
-      by false None q (Some j) r rest none e = omega (arith, rest j q r, same_item (suc j) i e)
+      by false None q (Some j) r rest none e = omega (arith, rest j q r, same_Some (suc j) i e)
       by false None q None r rest none e = none_is_not i e
 
   -- a new one at the end is the first where none was

@@ -1,7 +1,8 @@
 -- What the demands of a part ask, pushed one after the other.
 use Rattle.std.proofs.Common.{◌≡◌, ◌∙◌, ℕ, zero, suc, ◌+◌, ◌<◌, ◌≤◌, Bool, true≢false, List, [], ◌∷◌, length, take, get_or, flat_map, slice_get, unwrap_or, option_map, Option, Some, None, IsSome, IfSome, Result, OnOk, refl, sym, ap, subst, arith}
 use Rattle.std.proofs.lemmas.List.{take_all, append-nil}
-use Rattle.std.proofs.lemmas.Option.{slice_get-get_or}
+use Rattle.std.proofs.lemmas.Option.{slice_get-get_or, same_Some}
+use Rattle.clu_base.proofs.Lists.{none_is_not}
 use Rattle.clu_types.specs.CluType.{CluType, parameter, CluTypes, no_types, type_and, Actuals, no_actuals, actual_type, actual_const, actual_param}
 use Rattle.clu_types.specs.Arena.{type_at, types_of, actuals_at, ActualsBelow, Grows}
 use Rattle.clu_types.specs.Substituted.{substituted, types_substituted, type_put, type_of_actual}
@@ -17,7 +18,6 @@ use Rattle.clu_types.proofs.Carrying.{grows_on, length_grows, given_grown, given
 use Rattle.clu_specs.specs.Specifications.{DemandsBelow, OpBelow, OpsBelow, FormBelow}
 use Rattle.clu_head.specs.declared.head.Demanded.{Demanded}
 use Rattle.clu_demands.specs.Meeting.{type_in, type_numbered}
-use Rattle.clu_demands.proofs.Lists.{none_is_not, same_item}
 use Rattle.clu_operations.specs.declared.finding.Finding.{Finding}
 use Rattle.clu_operations.specs.declared.modules.Part.{Part}
 use Rattle.clu_operations.specs.declared.modules.Part.TheVariants as part
@@ -56,7 +56,7 @@ module _ (source : List CluType) (given : Actuals) where
   nth_wanted : (demands : List Demanded) (behind : CluTypes) (at : ℕ) (d : Demanded) → slice_get demands at ≡ Some d
       → nth_type (types_substituted given (wanted_types source demands behind)) at ≡ Some (substituted given (type_or_null source d.wanted))
   nth_wanted [] behind at d e = none_is_not d e
-  nth_wanted (x ∷ demands) behind zero d e = ap (λ (y : Demanded). Some (substituted given (type_or_null source y.wanted))) (same_item x d e)
+  nth_wanted (x ∷ demands) behind zero d e = ap (λ (y : Demanded). Some (substituted given (type_or_null source y.wanted))) (same_Some x d e)
   nth_wanted (x ∷ demands) behind (suc at) d e = nth_wanted demands behind at d e
 
   nth_own : (demands : List Demanded) (t : CluType) → nth_type (types_substituted given (wanted_types source demands (type_and t no_types))) (length demands) ≡ Some (substituted given t)
@@ -181,11 +181,11 @@ kept_asks from old now newer grows f g actuals below ds demands is within pushed
 
 op_among : (n : ℕ) (ops : List OpSpec) (place : ℕ) (op : OpSpec) → OpsBelow n ops → slice_get ops place ≡ Some op → OpBelow n op
 op_among n [] place op b e = none_is_not op e
-op_among n (x ∷ ops) zero op b e = subst (OpBelow n) (same_item x op e) b.0
+op_among n (x ∷ ops) zero op b e = subst (OpBelow n) (same_Some x op e) b.0
 op_among n (x ∷ ops) (suc place) op b e = op_among n ops place op b.1 e
 
 pub routine_whole : (n : ℕ) (its : Form) (which : Part) (op : OpSpec) → FormBelow n its → kept_routine its which ≡ Some op → OpBelow n op
-routine_whole n (form.Routine x) which op b e = subst (OpBelow n) (same_item x op e) b
+routine_whole n (form.Routine x) which op b e = subst (OpBelow n) (same_Some x op e) b
 routine_whole n (form.Cluster demands ops) part.Itself op b e = none_is_not op e
 routine_whole n (form.Cluster demands ops) (part.Routine place) op b e = op_among n ops place op b.1 e
 

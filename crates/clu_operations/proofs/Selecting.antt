@@ -5,6 +5,7 @@ use Rattle.std.specs.Option.{option_map}
 use Rattle.std.proofs.lemmas.Bool.{true≢false}
 use Rattle.std.proofs.lemmas.Option.{none-some, same_Some}
 use Rattle.std.proofs.lemmas.Slice.Eq.{bytes_eq-Decides}
+use Rattle.clu_base.proofs.Lists.{same_bytes}
 use Rattle.clu_types.specs.CluType.{CluType, record_of, struct_of, oneof_of, variant_of, CluTypes, no_types, type_and, Fields, no_fields, field_and}
 use Rattle.clu_types.specs.Arena.{type_at, types_at}
 use Rattle.clu_types.specs.declared.term.TypeId.{TypeId}
@@ -24,9 +25,6 @@ use Rattle.clu_builtin.specs.Table.{Table, named, or_else, with_selector, of_sel
 use Rattle.clu_builtin.specs.Rows.{slot_type, taken_types, given_types, row_operation, table_of, row_before}
 use Rattle.clu_operations.specs.Builtins.{selector_in, fields_with, type_with, narrowed_to, narrowed, IsReplaced, AreReplaced, IsOfWhole}
 use Rattle.clu_operations.proofs.InPlace.{same_put}
-
-same_name : (m n : List ℕ) → bytes_eq m n ≡ true → m ≡ n
-same_name m n = (bytes_eq-Decides m n).0
 
 -- ---- no type is a part of itself
 
@@ -144,7 +142,7 @@ module _ (operation_name selector : List ℕ) (behind : selector_in operation_na
     where
       by : (b : Bool) → bytes_eq (op_name row.0 ++ name) operation_name ≡ b → row_before rows name operation_name ≡ None → (if b then Some row else row_before rows name operation_name) ≡ None
       by true e more =
-          let same : name ≡ selector = same_Some name selector (sym (fronts.0 name) ∙ ap selector_in (same_name (op_name row.0 ++ name) operation_name e) ∙ behind) in
+          let same : name ≡ selector = same_Some name selector (sym (fronts.0 name) ∙ ap selector_in (same_bytes (op_name row.0 ++ name) operation_name e) ∙ behind) in
           absurd (true≢false (sym ((bytes_eq-Decides name selector).1 same) ∙ other))
       by false e more = more
 
@@ -163,7 +161,7 @@ module _ (operation_name selector : List ℕ) (behind : selector_in operation_na
     none_before none name = by (bytes_eq name selector) refl
       where
         by : (b : Bool) → bytes_eq name selector ≡ b → row_before rows name operation_name ≡ None
-        by true e = ap (λ (its : List ℕ). row_before rows its operation_name) (same_name name selector e) ∙ none
+        by true e = ap (λ (its : List ℕ). row_before rows its operation_name) (same_bytes name selector e) ∙ none
         by false e = no_row rows fronts name e
 
     none_selected : row_before rows selector operation_name ≡ None → (fields : Fields) → of_selectors (λ t. table_of T t no_types rows) fields operation_name ≡ None
@@ -186,7 +184,7 @@ module _ (operation_name selector : List ℕ) (behind : selector_in operation_na
         by true e more =
             ap (λ (o : Option Operation). or_else o (of_selectors (λ t. table_of T t no_types rows) fields operation_name)) (row_of t rows name)
             ∙ first_of T t (row_before rows name operation_name) (of_selectors (λ t. table_of T t no_types rows) fields operation_name)
-            (λ none. none_selected (ap (λ (its : List ℕ). row_before rows its operation_name) (sym (same_name name selector e)) ∙ none) fields)
+            (λ none. none_selected (ap (λ (its : List ℕ). row_before rows its operation_name) (sym (same_bytes name selector e)) ∙ none) fields)
         by false e more =
             ap (λ (o : Option Operation). or_else o (of_selectors (λ t. table_of T t no_types rows) fields operation_name))
             (row_of t rows name ∙ ap (option_map (row_operation T t no_types)) (no_row rows fronts name e))
@@ -197,7 +195,7 @@ module _ (operation_name selector : List ℕ) (behind : selector_in operation_na
   no_plain ((name, its) ∷ rest) none = by (bytes_eq name operation_name) refl (no_plain rest none.1)
     where
       by : (b : Bool) → bytes_eq name operation_name ≡ b → named rest operation_name ≡ None → (if b then Some its else named rest operation_name) ≡ None
-      by true e more = absurd (none-some selector (sym none.0 ∙ ap selector_in (same_name name operation_name e) ∙ behind))
+      by true e more = absurd (none-some selector (sym none.0 ∙ ap selector_in (same_bytes name operation_name e) ∙ behind))
       by false e more = more
 
   -- ---- a type with components, by its constructor, its table, and the rows of its selectors

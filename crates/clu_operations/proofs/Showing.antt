@@ -3,6 +3,8 @@ use Rattle.std.proofs.Common.{◌≡◌, ◌∙◌, ◌⊎◌, inl, inr, ℕ, ze
 use Rattle.std.specs.HashMap.{get, Updates}
 use Rattle.std.specs.Bool.{Decides}
 use Rattle.std.proofs.lemmas.Bool.Decides.{Decides-like, Decides-eqb}
+use Rattle.std.proofs.lemmas.Option.{same_Some}
+use Rattle.clu_base.proofs.Lists.{none_is_not}
 use Rattle.clu_types.specs.CluType.{CluType, Actuals}
 use Rattle.clu_types.specs.Arena.{type_at, types_of, actuals_at}
 use Rattle.clu_types.specs.Substituted.{substituted}
@@ -13,7 +15,6 @@ use Rattle.clu_types.proofs.Identity.{substituted-none}
 use Rattle.clu_head.specs.declared.head.HeadForm.{HeadForm}
 use Rattle.clu_head.specs.declared.head.RoutineHead.{RoutineHead}
 use Rattle.clu_bindings.specs.declared.meaning.ModuleId.{ModuleId}
-use Rattle.clu_demands.proofs.Lists.{none_is_not, same_item}
 use Rattle.clu_operations.specs.declared.bundles.Shown.{Shown}
 use Rattle.clu_operations.specs.declared.modules.Part.{Part}
 use Rattle.clu_operations.specs.declared.modules.Part.TheVariants as part
@@ -40,7 +41,7 @@ module _ {Z S : Type 0} where
       at k q = ap (λ (k : Bool). option_map box_value (cond k (Some b) (get same_module old m))) (sym q) ∙ sym (ap (option_map box_value) (u.0 m)) ∙ e
 
       by : (k : Bool) → same_module id m ≡ k → (shown_in old m ≡ Some shown) ⊎ ((m ≡ id) × IsShown types shown form)
-      by true q = inr (sym ((same_id id m).0 q), subst (λ (s : Shown). IsShown types s form) (same_item _ _ (at true q)) is)
+      by true q = inr (sym ((same_id id m).0 q), subst (λ (s : Shown). IsShown types s form) (same_Some _ _ (at true q)) is)
       by false q = inl (at false q)
 
   pub none_shown : (types : List CluType) (kept : HashMap ModuleId (Box Shown Z) S) (id : ModuleId) (form : HeadForm) → ShowsMore types kept kept id form
@@ -63,11 +64,11 @@ module _ {Z S : Type 0} where
 
 routine_at : (n : ℕ) (routines : List RoutineHead) (place : ℕ) (shows : Shows) → RoutinesBelow n routines → option_map of_routine (slice_get routines place) ≡ Some shows → PartBelow n shows
 routine_at n [] place shows b e = none_is_not shows e
-routine_at n (r ∷ routines) zero shows b e = subst (PartBelow n) (same_item (of_routine r) shows e) b.0
+routine_at n (r ∷ routines) zero shows b e = subst (PartBelow n) (same_Some (of_routine r) shows e) b.0
 routine_at n (r ∷ routines) (suc place) shows b e = routine_at n routines place shows b.1 e
 
 pub own_below : (n : ℕ) (form : HeadForm) (which : Part) (shows : Shows) → FormBelow n form → own_part form which ≡ Some shows → PartBelow n shows
-own_below n form part.Itself shows b e = subst (PartBelow n) (same_item _ shows e) b.0
+own_below n form part.Itself shows b e = subst (PartBelow n) (same_Some _ shows e) b.0
 own_below n form (part.Routine place) shows b e = routine_at n (routines_in form) place shows b.1 e
 
 -- ---- with actual parameters put in

@@ -1,6 +1,8 @@
 -- The part of a module for which a name stands, and what is told of it.
 use Rattle.std.proofs.Common.{◌≡◌, ◌∙◌, inl, inr, ℕ, ◌<◌, Bool, true, false, ltb, List, length, slice_get, option_map, option_and_then, Option, Some, None, Result, Ok, Err, IfOk, IfSome, OnOk, refl, sym, ap, subst, arith, ltb-true, ltb-false}
 use Rattle.std.proofs.lemmas.List.{get_or_past}
+use Rattle.std.proofs.lemmas.Option.{same_Some}
+use Rattle.clu_base.proofs.Lists.{some_at}
 use Rattle.clu_types.specs.CluType.{CluType, null_type, Actuals}
 use Rattle.clu_types.specs.Arena.{type_at, types_of, type_of, actuals_at, ActualsBelow, PartsBelow, Grows}
 use Rattle.clu_types.specs.declared.term.Term.{Term}
@@ -18,7 +20,6 @@ use Rattle.clu_head.specs.declared.head.HeadForm.{HeadForm}
 use Rattle.clu_head.specs.declared.head.RoutineHead.{RoutineHead}
 use Rattle.clu_demands.specs.declared.needs.Instance.{Instance}
 use Rattle.clu_demands.specs.Asking.{instance_of}
-use Rattle.clu_demands.proofs.Lists.{same_item, some_at}
 use Rattle.clu_bindings.specs.declared.file.Headed.{Headed}
 use Rattle.clu_bindings.specs.declared.meaning.ModuleId.{ModuleId}
 use Rattle.clu_operations.specs.declared.bundles.Shown.{Shown}
@@ -114,7 +115,7 @@ module _ (headed : Headed) (old new : List Term) (grows : Grows old new) (f g : 
       ]
     where
       same : other ≡ id → this ≡ head
-      same e = own_back this head (same_item _ _ (sym known ∙ ap (known_of headed) (sym e) ∙ is))
+      same e = own_back this head (same_Some _ _ (sym known ∙ ap (known_of headed) (sym e) ∙ is))
         where
           own_back : (a b : Head) → own a ≡ own b → a ≡ b
           own_back a b e = cc

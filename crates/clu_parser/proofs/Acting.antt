@@ -2,6 +2,7 @@
 use Rattle.std.proofs.Common.{◌≡◌, ℕ, ◌+◌, ◌-◌, ◌≤◌, Bool, true, false, cond, List, [], ◌∷◌, ◌++◌, length, take, drop, sum_by, Option, Some, None, slice_get, refl, ap, subst, arith}
 use Rattle.std.proofs.lemmas.List.{length_push, length-append, length-map}
 use Rattle.std.proofs.lemmas.List.Sums.{sum_by-cons, sum_by_push}
+use Rattle.std.proofs.lemmas.Option.{same_Some}
 use Rattle.clu_tree.specs.declared.node.Node.{Node}
 use Rattle.clu_tree.specs.declared.node.NodeKind.{NodeKind}
 use Rattle.clu_tree.specs.declared.node.NodeKind.TheVariants as kind
@@ -15,9 +16,6 @@ use Rattle.clu_parser.specs.Trees.{Text, Built, spelling_at, node_of, opened, wr
 use Rattle.clu_parser.proofs.Reading.{begun_after, tops_after, notes}
 use Rattle.clu_parser.proofs.Room.{own_count-le}
 use Rattle.clu_parser.proofs.Sizes.{token_len, spelling_at-le}
-
-pub some_is : {X : Type 0} (x y : X) → Some x ≡ Some y → x ≡ y
-some_is x y h = cc
 
 -- what has changed, as far as it is counted: so many more nodes, so much more that they count at most
 pub record Costs (s : Text) (b c : Built) (begun tops cost : ℕ) : Type 0 where
@@ -39,7 +37,7 @@ wrapped_on_costs : (s : Text) (taken : ℕ) (b c : Built) (o : Option Node) → 
 wrapped_on_costs s taken b c None is = absurd (cc)
 wrapped_on_costs s taken b c (Some n) is =
     let new = opened n.first taken (length b.tops - 1) b in
-    subst (λ (x : Built). Costs s b x (length b.begun + 1) (length b.tops) 0) (some_is new c is) (opened_costs s n.first taken (length b.tops - 1) b)
+    subst (λ (x : Built). Costs s b x (length b.begun + 1) (length b.tops) 0) (same_Some new c is) (opened_costs s n.first taken (length b.tops - 1) b)
 
 wrapped_in_costs : (s : Text) (taken : ℕ) (b c : Built) (o : Option ℕ) → wrapped_in taken b o ≡ Some c → Costs s b c (length b.begun + 1) (length b.tops) 0
 wrapped_in_costs s taken b c None is = absurd (cc)
@@ -53,7 +51,7 @@ noted_costs : (s : Text) (is_name : Bool) (taken : ℕ) (b c : Built) (os : List
 noted_costs s is_name taken b c [] same is = absurd (cc)
 noted_costs s is_name taken b c (o ∷ os) same is =
     let new : Built = record { nodes = b.nodes; tops = b.tops; begun = noted is_name taken o ∷ os } in
-    subst (λ (x : Built). Costs s b x (length b.begun) (length b.tops) (token_len s taken)) (some_is new c is)
+    subst (λ (x : Built). Costs s b x (length b.begun) (length b.tops) (token_len s taken)) (same_Some new c is)
     (record {
       begun_are = ap length same;
       tops_are = omega arith;
@@ -69,7 +67,7 @@ closed_costs s k last b c [] same is = absurd (cc)
 closed_costs s k last b c (o ∷ os) same is =
     let node : Node = node_of s k last b.nodes (drop o.height b.tops) o in
     let new : Built = record { nodes = b.nodes ++ node ∷ []; tops = take o.height b.tops ++ length b.nodes ∷ []; begun = os } in
-    subst (λ (x : Built). Costs s b x (length b.begun - 1) 1 0) (some_is new c is)
+    subst (λ (x : Built). Costs s b x (length b.begun - 1) 1 0) (same_Some new c is)
     (record {
       begun_are = (let size = ap length same in omega arith);
       tops_are = omega (arith, length_push (take o.height b.tops) (length b.nodes));
@@ -83,7 +81,7 @@ given_costs s b c (o ∷ []) same is = absurd (cc)
 given_costs s b c (o ∷ p ∷ os) same is =
     let both : Begun = record { first = p.first; mark = p.mark; height = p.height; names = p.names ++ o.names; value = p.value } in
     let new : Built = record { nodes = b.nodes; tops = b.tops; begun = both ∷ os } in
-    subst (λ (x : Built). Costs s b x (length b.begun - 1) (length b.tops) 0) (some_is new c is)
+    subst (λ (x : Built). Costs s b x (length b.begun - 1) (length b.tops) 0) (same_Some new c is)
     (record {
       begun_are = (let size = ap length same in omega arith);
       tops_are = omega arith;
@@ -108,7 +106,7 @@ rewrapped_costs s taken b c (Some d) was is enough =
     exactly_on s taken b c None is = absurd (cc)
     exactly_on s taken b c (Some n) is =
         let new = opened n.first taken (length b.tops - 1) b in
-        subst (λ (x : Built). (length x.begun ≡ length b.begun + 1) × (length b.tops ≤ length x.tops) × (length x.nodes ≤ length b.nodes) × (spent s x ≤ spent s b)) (some_is new c is)
+        subst (λ (x : Built). (length x.begun ≡ length b.begun + 1) × (length b.tops ≤ length x.tops) × (length x.nodes ≤ length b.nodes) × (spent s x ≤ spent s b)) (same_Some new c is)
         (omega arith, omega arith, omega arith, omega (arith, sum_by-cons (held s) (record { first = n.first; mark = taken; height = length b.tops - 1; names = []; value = None }) b.begun))
 
     exactly_in : (s : Text) (taken : ℕ) (b c : Built) (o : Option ℕ) → wrapped_in taken b o ≡ Some c → (length c.begun ≡ length b.begun + 1) × (length b.tops ≤ length c.tops) × (length c.nodes ≤ length b.nodes) × (spent s c ≤ spent s b)
@@ -120,7 +118,7 @@ rewrapped_costs s taken b c (Some d) was is enough =
 
 base_costs : (s : Text) (taken t : ℕ) (b c : Built) (type : Bool) → t ≤ 1 → t ≤ length b.tops → begun_for action.Base ≤ length b.begun → cond type (Some b) (then_wrapped taken (closed s kind.Name (taken - 1) b)) ≡ Some c → Costs s b c (length b.begun) t 0
 base_costs s taken t b c true small there enough is =
-    subst (λ (x : Built). Costs s b x (length b.begun) t 0) (some_is b c is) (record { begun_are = refl; tops_are = there; nodes_are = omega arith; spent_is = omega arith })
+    subst (λ (x : Built). Costs s b x (length b.begun) t 0) (same_Some b c is) (record { begun_are = refl; tops_are = there; nodes_are = omega arith; spent_is = omega arith })
 base_costs s taken t b c false small there enough is =
     let both = rewrapped_costs s taken b c (closed s kind.Name (taken - 1) b) refl is enough in
     record { begun_are = both.begun_are; tops_are = omega (arith, both.tops_are); nodes_are = both.nodes_are; spent_is = both.spent_is }
@@ -131,7 +129,7 @@ fewer_tops s b c begun tops cost t less known = record { begun_are = known.begun
 pub acted_costs : (s : Text) (a : Action) (taken t : ℕ) (b c : Built) → t ≤ 1 → t ≤ length b.tops → begun_for a ≤ length b.begun → acted s a taken b ≡ Some c → Costs s b c (begun_after a (length b.begun)) (tops_after a t) (cond (notes a) (token_len s taken) 0)
 acted_costs s action.Open taken t b c small there enough is =
     let new = opened taken taken (length b.tops) b in
-    subst (λ (x : Built). Costs s b x (length b.begun + 1) t 0) (some_is new c is) (fewer_tops s b new (length b.begun + 1) (length b.tops) 0 t there (opened_costs s taken taken (length b.tops) b))
+    subst (λ (x : Built). Costs s b x (length b.begun + 1) t 0) (same_Some new c is) (fewer_tops s b new (length b.begun + 1) (length b.tops) 0 t there (opened_costs s taken taken (length b.tops) b))
 acted_costs s action.Wrap taken t b c small there enough is = fewer_tops s b c (length b.begun + 1) (length b.tops) 0 t there (wrapped_in_costs s taken b c (slice_get b.tops (length b.tops - 1)) is)
 acted_costs s action.Note taken t b c small there enough is = fewer_tops s b c (length b.begun) (length b.tops) (token_len s taken) t there (noted_costs s (is_idn (slice_get s.symbols taken)) taken b c b.begun refl is)
 acted_costs s (action.Close k) taken t b c small there enough is = closed_costs s k taken b c b.begun refl is

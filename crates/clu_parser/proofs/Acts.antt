@@ -9,12 +9,13 @@ use Rattle.clu_parser.specs.declared.begun.Begun.{Begun}
 use Rattle.clu_parser.specs.Spellings.{is_idn}
 use Rattle.clu_parser.specs.Trees.{Text, Built, opened as begun_at, noted as noted_by, wrapped_in as holding, wrapped_on as holding_on, noted_in as noting}
 use Rattle.clu_parser.specs.Shape.{Child, is_child, Part, token, name, value, child, Letter, own, named, valued, node, IsWord, nothing, token_is, name_is, value_is, child_is, no_more, one_more, without, with_one, IsShaped}
-use Rattle.clu_parser.proofs.Words.{Ended, last_token, last_token_is, Parted, last_child, last_child_is, plain_own, word_append, word_split, some_is}
+use Rattle.clu_parser.proofs.Words.{Ended, last_token, last_token_is, Parted, last_child, last_child_is, plain_own, word_append, word_split}
 use Rattle.clu_parser.proofs.Sketch.{noted, opened, noted_in, wrapped}
 use Rattle.clu_parser.proofs.Standing.{IsStack, pop_own, open_node, note_name, note_value}
 use Rattle.clu_parser.proofs.Making.{wrap_node}
 use Rattle.clu_parser.proofs.Matching.{Matches, top, one_matches}
 use denote.Enum.Bare.{sameb, same_true, true_same}
+use Rattle.std.proofs.lemmas.Option.{same_Some}
 
 -- what stands there after it
 pub record IsActed (t : Text) (made : List (List Part)) (p : List Letter) (rest : List (List Letter)) (at : ℕ) (c : Built) : Type 0 where
@@ -70,8 +71,8 @@ act_open t at b c a rest_forms made p rest words is built known stack shaped = g
         let l = ended_word a e v.word was v.is_word in
         let words_are : words ≡ ((v.front ++ l.before) ++ own e.last ∷ []) ∷ v.others = v.is ∙ ap (λ (x : List Letter). x ∷ v.others) (ap (λ (x : List Letter). v.front ++ x) l.is ∙ sym (append_assoc v.front l.before (own e.last ∷ []))) in
         let new : Built = begun_at (at - 1) (at - 1) (length b.tops) b in
-        subst (λ (x : Built). IsActed t made p rest at x) (some_is new c built)
-        (subst (λ (m : List (List Part)). IsActed t m p rest at new) (some_is ((token e.last ∷ []) ∷ e.before ∷ rest_forms) made is)
+        subst (λ (x : Built). IsActed t made p rest at x) (same_Some new c built)
+        (subst (λ (m : List (List Part)). IsActed t m p rest at new) (same_Some ((token e.last ∷ []) ∷ e.before ∷ rest_forms) made is)
         (record {
           words = (own e.last ∷ []) ∷ (v.front ++ l.before) ∷ v.others;
           matches = one_matches (token e.last ∷ []) (e.before ∷ rest_forms) p rest ((v.front ++ l.before) ∷ v.others) (own e.last ∷ []) (token_word e.last) (v.again e.before l.before l.is_word);
@@ -88,7 +89,7 @@ note_as t at b c o os x parts front before others rest_forms p rest true same d 
     let idn : x ≡ s.Idn = same_true the_type (search rules) x s.Idn same in
     let new : Built = record { nodes = b.nodes; tops = b.tops; begun = noted_by true (at - 1) o ∷ os } in
     let stack' = note_name t b.nodes b.tops o os (front ++ before) others at (subst (λ (y : Symbol). IsStack t b.nodes b.tops (o ∷ os) (((front ++ before) ++ own y ∷ []) ∷ others) at) idn stack) in
-    subst (λ (y : Built). IsActed t ((parts ++ name ∷ []) ∷ rest_forms) p rest at y) (some_is new c built)
+    subst (λ (y : Built). IsActed t ((parts ++ name ∷ []) ∷ rest_forms) p rest at y) (same_Some new c built)
     (record {
       words = (front ++ (before ++ named ∷ [])) ∷ others;
       matches = again (parts ++ name ∷ []) (before ++ named ∷ []) (word_append parts (name ∷ []) before (named ∷ []) d (name_is [] [] nothing));
@@ -98,7 +99,7 @@ note_as t at b c o os x parts front before others rest_forms p rest true same d 
 note_as t at b c o os x parts front before others rest_forms p rest false same d built stack again shaped =
     let new : Built = record { nodes = b.nodes; tops = b.tops; begun = noted_by false (at - 1) o ∷ os } in
     let stack' = note_value t b.nodes b.tops o os (front ++ before) others at x stack in
-    subst (λ (y : Built). IsActed t ((parts ++ value (x ∷ []) ∷ []) ∷ rest_forms) p rest at y) (some_is new c built)
+    subst (λ (y : Built). IsActed t ((parts ++ value (x ∷ []) ∷ []) ∷ rest_forms) p rest at y) (same_Some new c built)
     (record {
       words = (front ++ (before ++ valued x ∷ [])) ∷ others;
       matches = again (parts ++ value (x ∷ []) ∷ []) (before ++ valued x ∷ []) (word_append parts (value (x ∷ []) ∷ []) before (valued x ∷ []) d (value_is (x ∷ []) x [] [] (rw (has_itself x) refl) nothing));
@@ -138,7 +139,7 @@ act_note t at b c (o ∷ os) a rest_forms made p rest words (Some e) was is buil
     let here : taken.mid ≡ at - 1 = omega (arith, taken.last) in
     let got : slice_get t.symbols (at - 1) ≡ Some e.last = subst (λ (n : ℕ). slice_get t.symbols n ≡ Some e.last) here taken.is in
     let built' : noting (sameb the_type e.last s.Idn) (at - 1) b (o ∷ os) ≡ Some c = subst (λ (x : Option Symbol). noting (is_idn x) (at - 1) b (o ∷ os) ≡ Some c) got built in
-    subst (λ (m : List (List Part)). IsActed t m p rest at c) (some_is (noted e.before e.last ∷ rest_forms) made is)
+    subst (λ (m : List (List Part)). IsActed t m p rest at c) (same_Some (noted e.before e.last ∷ rest_forms) made is)
     (note_as t at b c o os e.last e.before l.front l.before l.others rest_forms p rest (sameb the_type e.last s.Idn) refl l.is_word built' stack' l.again shaped)
 
 -- a node begins over the last child
@@ -175,8 +176,8 @@ act_wrap t at b c a rest_forms made p rest words (Some e) was is built known sta
     let w = wrap_node t b.nodes b.tops b.begun (v.front ++ both.left) f.rest v.others f.kind (at - 1) at (plain_own e.after f.rest parted.plain f.is_word) (subst (λ (x : List (List Letter)). IsStack t b.nodes b.tops b.begun x at) words_are stack) in
     let new : Built = begun_at w.child.first (at - 1) (length b.tops - 1) b in
     let built' : Some new ≡ Some c = subst (λ (x : Option Node). holding_on (at - 1) b x ≡ Some c) w.got (subst (λ (x : Option ℕ). holding (at - 1) b x ≡ Some c) w.top built) in
-    subst (λ (x : Built). IsActed t made p rest at x) (some_is new c built')
-    (subst (λ (m : List (List Part)). IsActed t m p rest at new) (some_is ((child e.last ∷ e.after) ∷ e.before ∷ rest_forms) made is)
+    subst (λ (x : Built). IsActed t made p rest at x) (same_Some new c built')
+    (subst (λ (m : List (List Part)). IsActed t m p rest at new) (same_Some ((child e.last ∷ e.after) ∷ e.before ∷ rest_forms) made is)
     (record {
       words = (node f.kind ∷ f.rest) ∷ (v.front ++ both.left) ∷ v.others;
       matches = one_matches (child e.last ∷ e.after) (e.before ∷ rest_forms) p rest ((v.front ++ both.left) ∷ v.others) (node f.kind ∷ f.rest) (child_is e.last f.kind e.after f.rest f.of_child f.is_word) (v.again e.before both.left both.left_is);

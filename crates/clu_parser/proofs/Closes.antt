@@ -5,11 +5,11 @@ use Rattle.clu_tree.specs.declared.node.Node.{Node}
 use Rattle.clu_tree.specs.declared.node.NodeKind.{NodeKind}
 use Rattle.clu_tree.specs.declared.node.NodeKind.TheVariants as k
 use Rattle.clu_tree.specs.contracts.node.NodeKind.{the_type as kind_type}
-use Rattle.clu_grammar.proofs.Flags.{and_left, and_right, and_both}
+use Rattle.clu_grammar.proofs.Flags.{and_left, and_right}
 use Rattle.clu_parser.specs.declared.begun.Begun.{Begun}
 use Rattle.clu_parser.specs.Trees.{Text, Built, node_of, last_of as last_token_of, end_in, closed_in as closing, given_in as giving}
 use Rattle.clu_parser.specs.Shape.{Child, one, Part, token, name, value, child, many, maybe, parts_of, forms, Letter, own, named, valued, node, IsWord, nothing, token_is, name_is, value_is, child_is, no_more, one_more, without, with_one, Spelled, ended, own_token, a_name, a_value, a_child, IsShaped}
-use Rattle.clu_parser.proofs.Words.{all_plain, plain_own, word_append, word_split, some_is}
+use Rattle.clu_parser.proofs.Words.{all_plain, plain_own, word_append, word_split}
 use Rattle.clu_parser.proofs.Fits.{fits_is}
 use Rattle.clu_parser.proofs.Sketch.{deep, is_one_of, has_letter, is_childless, last_is_child, ends_with_child, Cut, cut_under, cut, is_silent_part, is_silent, is_whole, closed, closed_after, given}
 use Rattle.clu_parser.proofs.Standing.{IsStack, shaped_more}
@@ -17,6 +17,9 @@ use Rattle.clu_parser.proofs.Making.{close_node, give_node, end_of, last_of}
 use Rattle.clu_parser.proofs.Matching.{Matches, top, one_form}
 use Rattle.clu_parser.proofs.Acts.{IsActed}
 use denote.Enum.Bare.{sameb, true_same}
+use Rattle.std.proofs.Math.Bool.{and-false}
+use Rattle.std.proofs.lemmas.Bool.{and_from}
+use Rattle.std.proofs.lemmas.Option.{same_Some}
 
 -- a word with a letter
 pub record IsCons (w : List Letter) : Type 0 where
@@ -62,7 +65,7 @@ close_as t at b c o os kind last whole after outer rest_forms p rest w ts ws is_
     let m = close_node t b.nodes o b.tops os l.head l.tail (v.front ++ v.word) ts v.others kind last at f.form shaped (plain_own after ts plain dts) word f.one stack' ends' in
     let n : Node = node_of t kind last b.nodes (drop o.height b.tops) o in
     let new : Built = record { nodes = b.nodes ++ n ∷ []; tops = take o.height b.tops ++ length b.nodes ∷ []; begun = os } in
-    subst (λ (x : Built). IsActed t ((outer ++ child (one kind) ∷ after) ∷ rest_forms) p rest at x) (some_is new c built)
+    subst (λ (x : Built). IsActed t ((outer ++ child (one kind) ∷ after) ∷ rest_forms) p rest at x) (same_Some new c built)
     (record {
       words = (v.front ++ (v.word ++ node kind ∷ ts)) ∷ v.others;
       matches = v.again (outer ++ child (one kind) ∷ after) (v.word ++ node kind ∷ ts) (word_append outer (child (one kind) ∷ after) v.word (node kind ∷ ts) v.is_word (child_is (one kind) kind after ts (kind_itself kind) dts));
@@ -83,7 +86,7 @@ close_plain t at b c os kind a outer rest_forms made p rest words false is_it ma
 close_plain t at b c [] kind a outer rest_forms made p rest words true is_it made_is last built known stack shaped = absurd (cc)
 close_plain t at b c (o ∷ os) kind a outer rest_forms made p rest words true is_it made_is last built known stack shaped =
     let stack' = subst (λ (x : List Letter). IsStack t b.nodes b.tops (o ∷ os) (x ∷ known.1) at) (sym (append-nil known.0)) (subst (λ (x : List (List Letter)). IsStack t b.nodes b.tops (o ∷ os) x at) known.3 stack) in
-    subst (λ (m : List (List Part)). IsActed t m p rest at c) (some_is ((outer ++ child (one kind) ∷ []) ∷ rest_forms) made made_is)
+    subst (λ (m : List (List Part)). IsActed t m p rest at c) (same_Some ((outer ++ child (one kind) ∷ []) ∷ rest_forms) made made_is)
     (close_as t at b c o os kind (at - 1) a [] outer rest_forms p rest known.0 [] known.1 is_it refl known.2 nothing known.4 stack' shaped
     (λ mid vs less inner after.
     let here : at ≡ mid = no_letters t b.nodes mid at after in
@@ -181,14 +184,6 @@ last_word (p ∷ ps) w h d =
     let both = word_split l.before (child l.last ∷ []) w (subst (λ (x : List Part). IsWord x w) l.is d) in
     subst EndsWithNode (sym both.is) (ends_after both.left both.right (only_child l.last (child l.last ∷ []) both.right both.right_is refl))
 
-and_false : (b : Bool) → (b && false) ≡ false
-and_false true = refl
-and_false false = refl
-
-and_true : (b : Bool) → (b && true) ≡ b
-and_true true = refl
-and_true false = refl
-
 ends_word : (ps : List Part) (w : List Letter) → IsWord ps w → (b : Bool) (u : List Letter) → ends_with_child ps b ≡ true → (b ≡ true → EndsWithNode u) → EndsWithNode (u ++ w)
 ends_word _ _ nothing b u h known = subst EndsWithNode (sym (append-nil u)) (known h)
 ends_word _ _ (token_is x ps w d) b u h known = subst EndsWithNode (append_assoc u (own x ∷ []) w) (ends_word ps w d false (u ++ own x ∷ []) h (λ no'. absurd (cc)))
@@ -203,7 +198,7 @@ ends_word _ w (one_more g ps x y _ first d is) b u h known =
     by : (l : Bool) → last_is_child (parts_of g) ≡ l → ((b' : Bool) → ends_with_child (many g ∷ ps) b' ≡ true → (b' ≡ true → EndsWithNode (u ++ x)) → EndsWithNode ((u ++ x) ++ y)) → EndsWithNode ((u ++ x) ++ y)
     by true l again = again b h (λ yes'. ends_after u x (last_word (parts_of g) x l first))
     by false l again =
-        again false (let h' : ends_with_child ps false ≡ true = subst (λ (z : Bool). ends_with_child ps z ≡ true) (ap (λ (z : Bool). b && z) l ∙ and_false b) h in h') (λ no'. absurd (cc))
+        again false (let h' : ends_with_child ps false ≡ true = subst (λ (z : Bool). ends_with_child ps z ≡ true) (ap (λ (z : Bool). b && z) l ∙ and-false b) h in h') (λ no'. absurd (cc))
 ends_word _ w (without g ps _ d) b u h known = ends_word ps w d false u h (λ no'. absurd (cc))
 ends_word _ w (with_one g ps x y _ first d is) b u h known = subst EndsWithNode (append_assoc u x y ∙ ap (λ (z : List Letter). u ++ z) (sym is)) (ends_word ps y d false (u ++ x) h (λ no'. absurd (cc)))
 
@@ -234,7 +229,7 @@ close_after t at b c (o ∷ os) a outer rest_forms made p rest words e true cut'
     let both = word_split e.whole e.rest known.0 (subst (λ (x : List Part). IsWord x known.0) cut'.is known.2) in
     let stack' = subst (λ (x : List Letter). IsStack t b.nodes b.tops (o ∷ os) (x ∷ known.1) at) both.is (subst (λ (x : List (List Letter)). IsStack t b.nodes b.tops (o ∷ os) x at) known.3 stack) in
     let n = ends_word e.whole both.left both.left_is false [] (and_right (is_whole k.Restrict e.whole) (ends_with_child e.whole false) is_it) (λ no'. absurd (cc)) in
-    subst (λ (m : List (List Part)). IsActed t m p rest at c) (some_is ((outer ++ child (one k.Restrict) ∷ e.rest) ∷ rest_forms) made made_is)
+    subst (λ (m : List (List Part)). IsActed t m p rest at c) (same_Some ((outer ++ child (one k.Restrict) ∷ e.rest) ∷ rest_forms) made made_is)
     (close_as t at b c o os k.Restrict (at - 1) e.whole e.rest outer rest_forms p rest both.left both.right known.1 (and_left (is_whole k.Restrict e.whole) (ends_with_child e.whole false) is_it) cut'.plain both.left_is both.right_is known.4 stack' shaped
     (λ mid vs less inner after.
     let it = end_of t b.nodes o.first mid n.kind n.front [] (drop o.height b.tops) o.names vs refl (subst (λ (x : List Letter). Spelled t b.nodes o.first x (drop o.height b.tops) o.names vs mid) n.is inner) in
@@ -262,7 +257,7 @@ is_no_value _ = true
 
 all_join : (v w : List Letter) → list_all is_no_value v ≡ true → list_all is_no_value w ≡ true → list_all is_no_value (v ++ w) ≡ true
 all_join [] w h e = e
-all_join (x ∷ v) w h e = and_both (is_no_value x) (list_all is_no_value (v ++ w)) (and_left (is_no_value x) (list_all is_no_value v) h) (all_join v w (and_right (is_no_value x) (list_all is_no_value v) h) e)
+all_join (x ∷ v) w h e = and_from (is_no_value x) (list_all is_no_value (v ++ w)) (and_left (is_no_value x) (list_all is_no_value v) h) (all_join v w (and_right (is_no_value x) (list_all is_no_value v) h) e)
 
 flat_silent : (ps : List Part) (w : List Letter) → list_all is_silent_part ps ≡ true → IsWord ps w → list_all is_no_value w ≡ true
 flat_silent _ _ h nothing = refl
@@ -304,8 +299,8 @@ give_as t at b c (o ∷ q ∷ os) a outer rest_forms made p rest words true is_i
     let g = give_node t b.nodes b.tops o q os known.0 (v.front ++ v.word) v.others at (λ vs d. silent_spelled t b.nodes o.first at known.0 (drop o.height b.tops) o.names vs (silent_word a known.0 is_it known.2) d) stack' in
     let both : Begun = record { first = q.first; mark = q.mark; height = q.height; names = q.names ++ o.names; value = q.value } in
     let new : Built = record { nodes = b.nodes; tops = b.tops; begun = both ∷ os } in
-    subst (λ (x : Built). IsActed t made p rest at x) (some_is new c built)
-    (subst (λ (m : List (List Part)). IsActed t m p rest at new) (some_is ((outer ++ a) ∷ rest_forms) made made_is)
+    subst (λ (x : Built). IsActed t made p rest at x) (same_Some new c built)
+    (subst (λ (m : List (List Part)). IsActed t m p rest at new) (same_Some ((outer ++ a) ∷ rest_forms) made made_is)
     (record {
       words = (v.front ++ (v.word ++ known.0)) ∷ v.others;
       matches = v.again (outer ++ a) (v.word ++ known.0) (word_append outer a v.word known.0 v.is_word known.2);

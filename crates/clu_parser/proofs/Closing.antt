@@ -12,13 +12,15 @@ use Rattle.clu_grammar.specs.Choice.{has, is_among}
 use Rattle.clu_grammar.specs.Grammar.{productions}
 use Rattle.clu_grammar.specs.Language.{IsOneOf}
 use Rattle.clu_grammar.specs.Rows.{Production, take, peek, otherwise}
-use Rattle.clu_grammar.proofs.Flags.{and_left, and_right, true_or_false}
+use Rattle.clu_grammar.proofs.Flags.{and_left, and_right}
 use Rattle.clu_parser.specs.Spellings.{is_dollar, closes}
 use Rattle.clu_parser.specs.Trees.{Text, Built}
 use Rattle.clu_parser.proofs.Sketch.{Known, nothing_known, in_bracket, at_dollar, shuts, is_known, passed, kept}
 use Rattle.clu_parser.proofs.Typings.{may_come, is_last}
 use Rattle.clu_parser.proofs.Deriving.{Ran, stopped, took, did, chose}
 use denote.Enum.Bare.{sameb, same_true}
+use Rattle.std.proofs.lemmas.Bool.{cases_Bool}
+use Rattle.clu_base.proofs.Lists.{dropped}
 
 -- with so many square brackets open, the items close all
 abbrev keeps : List Item → ℕ → Bool
@@ -42,7 +44,7 @@ rows_keep _ = refl
 
 pub all_has : (f : Symbol → Bool) (heads : List Symbol) (x : Symbol) → list_all f heads ≡ true → has heads x ≡ true → f x ≡ true
 all_has f [] x h k = absurd (cc)
-all_has f (y ∷ heads) x h k = elim (true_or_false (sameb the_type y x)) [
+all_has f (y ∷ heads) x h k = elim (cases_Bool (sameb the_type y x)) [
   | inl same ↦ subst (λ (z : Symbol). f z ≡ true) (same_true the_type (search rules) y x same) (and_left (f y) (list_all f heads) h)
   | inr other ↦ all_has f heads x (and_right (f y) (list_all f heads) h) (rw other at k)
 ]
@@ -54,11 +56,6 @@ alternative_keeps n (take heads items ∷ ps) row h (inl is) =
     subst (λ (x : List Item). keeps x (shuts n) ≡ true) (sym is.2) (all_has (λ x. keeps (item.Terminal x ∷ items) (shuts n)) heads is.0 (and_left (row_keeps n (take heads items)) (list_all (row_keeps n) ps) h) is.1)
 alternative_keeps n (peek heads items ∷ ps) row h (inl is) = subst (λ (x : List Item). keeps x (shuts n) ≡ true) (sym is) (and_left (row_keeps n (peek heads items)) (list_all (row_keeps n) ps) h)
 alternative_keeps n (otherwise items ∷ ps) row h (inl is) = subst (λ (x : List Item). keeps x (shuts n) ≡ true) (sym is) (and_left (row_keeps n (otherwise items)) (list_all (row_keeps n) ps) h)
-
-pub drop_got : {X : Type 0} (xs : List X) (i : ℕ) (x : X) → slice_get xs i ≡ Some x → drop i xs ≡ x ∷ drop (i + 1) xs
-drop_got [] i x h = absurd (cc)
-drop_got (y ∷ xs) zero x h = let same : y ≡ x = cc in ap (λ (z : _). z ∷ xs) same
-drop_got (y ∷ xs) (suc i) x h = let more : suc i + 1 ≡ suc (i + 1) = omega arith in drop_got xs i x h ∙ ap (λ (z : _). x ∷ z) (sym (ap (λ (n : ℕ). drop n (y ∷ xs)) more))
 
 closes_left : (n : ℕ) (x : Symbol) (xs : List Symbol) → sameb the_type x s.LeftBracket ≡ true → closes n (x ∷ xs) ≡ closes (n + 1) xs
 closes_left zero x xs h = rw h refl
@@ -74,10 +71,10 @@ closes_other (suc n) x xs h k = rw (h, k) refl
 balanced : (t : Text) (items : List Item) (at : ℕ) (b : Built) (to : ℕ) (z : Built) → Ran t items at b to z → (n d : ℕ) → keeps items n ≡ true → closes (d + n) (drop at t.symbols) ≡ closes d (drop to t.symbols)
 balanced t _ at b _ _ (stopped _ _) n d h = let none : n ≡ 0 = eqb-true n 0 h in let same : d + n ≡ d = omega arith in ap (λ (k : ℕ). closes k (drop at t.symbols)) same
 balanced t _ at b to z (took x items _ _ _ _ is e) n d h =
-    let front = drop_got t.symbols at x is in
-    ap (closes (d + n)) front ∙ elim (true_or_false (sameb the_type x s.LeftBracket)) [
+    let front = dropped t.symbols at x is in
+    ap (closes (d + n)) front ∙ elim (cases_Bool (sameb the_type x s.LeftBracket)) [
       | inl left ↦ (let more : d + n + 1 ≡ d + (n + 1) = omega arith in closes_left (d + n) x (drop (at + 1) t.symbols) left ∙ ap (λ (k : ℕ). closes k (drop (at + 1) t.symbols)) more ∙ balanced t items (at + 1) b to z e (n + 1) d (rw (keeps, left) at h))
-      | inr other ↦ elim (true_or_false (sameb the_type x s.RightBracket)) [
+      | inr other ↦ elim (cases_Bool (sameb the_type x s.RightBracket)) [
         | inl right ↦ (let h' : (nat_le 1 n && keeps items (n - 1)) ≡ true = rw (keeps, other, right) at h in
             let some : 1 ≤ n = leb-true 1 n (and_left (nat_le 1 n) (keeps items (n - 1)) h') in
             let less : d + n ≡ suc (d + (n - 1)) = omega arith in
@@ -103,7 +100,7 @@ pub passed_holds : (t : Text) (at : ℕ) (x : Symbol) (known : Known) → slice_
 passed_holds t at x nothing_known is h = tt
 passed_holds t at x (at_dollar b) is h = tt
 passed_holds t at x (in_bracket b) is h =
-    let h' : closes 0 (x ∷ drop (at + 1) t.symbols) ≡ b = subst (λ (y : List Symbol). closes 0 y ≡ b) (drop_got t.symbols at x is) h in
+    let h' : closes 0 (x ∷ drop (at + 1) t.symbols) ≡ b = subst (λ (y : List Symbol). closes 0 y ≡ b) (dropped t.symbols at x is) h in
     after (sameb the_type x s.LeftBracket) (sameb the_type x s.RightBracket) refl refl h'
   where
     after : (left right : Bool) → sameb the_type x s.LeftBracket ≡ left → sameb the_type x s.RightBracket ≡ right → closes 0 (x ∷ drop (at + 1) t.symbols) ≡ b → Holds (cond left nothing_known (cond right (at_dollar b) (in_bracket b))) t (at + 1)
@@ -141,8 +138,8 @@ known_holds t at _ _ h k = absurd (cc)
 pub comes : (t : Text) (at : ℕ) (x : Symbol) (known : Known) → Holds known t at → slice_get t.symbols at ≡ Some x → may_come known x ≡ true
 comes t at x nothing_known h is = refl
 comes t at x (in_bracket b) h is = refl
-comes t at x (at_dollar true) h is = subst (λ (y : List Symbol). is_dollar y ≡ true) (drop_got t.symbols at x is) h
-comes t at x (at_dollar false) h is = let h' : sameb the_type x s.Dollar ≡ false = subst (λ (y : List Symbol). is_dollar y ≡ false) (drop_got t.symbols at x is) h in rw h' refl
+comes t at x (at_dollar true) h is = subst (λ (y : List Symbol). is_dollar y ≡ true) (dropped t.symbols at x is) h
+comes t at x (at_dollar false) h is = let h' : sameb the_type x s.Dollar ≡ false = subst (λ (y : List Symbol). is_dollar y ≡ false) (dropped t.symbols at x is) h in rw h' refl
 
 none_left : (xs : List Symbol) (i : ℕ) → slice_get xs i ≡ None → drop i xs ≡ []
 none_left [] zero h = refl
@@ -160,5 +157,5 @@ last_comes t at heads (at_dollar true) h k = next (slice_get t.symbols at) refl
     next : (o : Option Symbol) → slice_get t.symbols at ≡ o → is_among o heads ≡ true
     next None is = let h' : false ≡ true = subst (λ (y : List Symbol). is_dollar y ≡ true) (none_left t.symbols at is) h in absurd (cc)
     next (Some x) is =
-        let h' : sameb the_type x s.Dollar ≡ true = subst (λ (y : List Symbol). is_dollar y ≡ true) (drop_got t.symbols at x is) h in
+        let h' : sameb the_type x s.Dollar ≡ true = subst (λ (y : List Symbol). is_dollar y ≡ true) (dropped t.symbols at x is) h in
         subst (λ (y : Symbol). has heads y ≡ true) (sym (same_true the_type (search rules) x s.Dollar h')) k

@@ -1,6 +1,7 @@
 -- What has been built when a file has been read: one tree, whose root is the node of the file.
 use Rattle.std.proofs.Common.{◌≡◌, ℕ, ◌+◌, ◌-◌, ◌<◌, ◌≤◌, Bool, true, false, cond, List, [], ◌∷◌, ◌++◌, length, take, drop, Option, Some, None, slice_get, refl, sym, ap, ◌∙◌, subst, inl, inr, arith, append_assoc}
 use Rattle.std.proofs.lemmas.List.{length_push}
+use Rattle.std.proofs.lemmas.Option.{same_Some}
 use Rattle.clu_lexer.specs.declared.symbols.Symbol.{Symbol}
 use Rattle.clu_lexer.specs.declared.symbols.Symbol.TheVariants as symbol
 use Rattle.clu_tree.specs.declared.node.Node.{Node}
@@ -19,7 +20,7 @@ use Rattle.clu_parser.specs.Order.{IsForest, IsPostOrder, IsFileOver}
 use Rattle.clu_parser.specs.Spellings.{closes, is_idn}
 use Rattle.clu_parser.specs.Trees.{Text, Built, Builds, finished, terminal, act, chosen, nothing_built, IsBuilt, node_of, opened, wrapped_in, wrapped_on, noted, noted_in, given_in, closed, closed_in, then_wrapped, acted}
 use Rattle.clu_parser.proofs.Above.{above_for, begun_above, IsAbove, above_is, above_alternative}
-use Rattle.clu_parser.proofs.Acting.{some_is, acted_costs}
+use Rattle.clu_parser.proofs.Acting.{acted_costs}
 use Rattle.clu_parser.proofs.Forest.{got_last}
 use Rattle.clu_parser.proofs.Reading.{begun_after, begun_left}
 
@@ -44,7 +45,7 @@ ground_same o p (q ∷ os) height first known = known
 ground_wrapped_on : (taken : ℕ) (b c : Built) (o : Option Node) → wrapped_on taken b o ≡ Some c → IsGround b.begun → IsGround c.begun
 ground_wrapped_on taken b c None is known = absurd (cc)
 ground_wrapped_on taken b c (Some n) is known =
-    subst (λ (x : Built). IsGround x.begun) (some_is (opened n.first taken (length b.tops - 1) b) c is)
+    subst (λ (x : Built). IsGround x.begun) (same_Some (opened n.first taken (length b.tops - 1) b) c is)
     (ground_push (record { first = n.first; mark = taken; height = length b.tops - 1; names = []; value = None }) b.begun known)
 
 ground_wrapped_in : (taken : ℕ) (b c : Built) (o : Option ℕ) → wrapped_in taken b o ≡ Some c → IsGround b.begun → IsGround c.begun
@@ -54,7 +55,7 @@ ground_wrapped_in taken b c (Some top) is known = ground_wrapped_on taken b c (s
 ground_noted : (is_name : Bool) (taken : ℕ) (b c : Built) (os : List Begun) → noted_in is_name taken b os ≡ Some c → IsGround os → IsGround c.begun
 ground_noted is_name taken b c [] is known = absurd known
 ground_noted is_name taken b c (o ∷ os) is known =
-    subst (λ (x : Built). IsGround x.begun) (some_is (record { nodes = b.nodes; tops = b.tops; begun = noted is_name taken o ∷ os }) c is)
+    subst (λ (x : Built). IsGround x.begun) (same_Some (record { nodes = b.nodes; tops = b.tops; begun = noted is_name taken o ∷ os }) c is)
     (ground_same o (noted is_name taken o) os (height is_name) (first is_name) known)
   where
     height : (is_name : Bool) → (noted is_name taken o).height ≡ o.height
@@ -68,7 +69,7 @@ ground_noted is_name taken b c (o ∷ os) is known =
 ground_closed : (s : Text) (k : NodeKind) (last : ℕ) (b c : Built) (os : List Begun) → closed_in s k last b os ≡ Some c → 1 < length os → IsGround os → IsGround c.begun
 ground_closed s k last b c [] is more known = absurd known
 ground_closed s k last b c (o ∷ os) is more known =
-    subst (λ (x : Built). IsGround x.begun) (some_is (record { nodes = b.nodes ++ node_of s k last b.nodes (drop o.height b.tops) o ∷ []; tops = take o.height b.tops ++ length b.nodes ∷ []; begun = os }) c is)
+    subst (λ (x : Built). IsGround x.begun) (same_Some (record { nodes = b.nodes ++ node_of s k last b.nodes (drop o.height b.tops) o ∷ []; tops = take o.height b.tops ++ length b.nodes ∷ []; begun = os }) c is)
     (ground_pop o os (omega arith) known)
 
 ground_given : (b c : Built) (os : List Begun) → given_in b os ≡ Some c → IsGround os → IsGround c.begun
@@ -76,19 +77,19 @@ ground_given b c [] is known = absurd known
 ground_given b c (o ∷ []) is known = absurd (cc)
 ground_given b c (o ∷ p ∷ os) is known =
     let both : Begun = record { first = p.first; mark = p.mark; height = p.height; names = p.names ++ o.names; value = p.value } in
-    subst (λ (x : Built). IsGround x.begun) (some_is (record { nodes = b.nodes; tops = b.tops; begun = both ∷ os }) c is) (ground_same p both os refl refl known)
+    subst (λ (x : Built). IsGround x.begun) (same_Some (record { nodes = b.nodes; tops = b.tops; begun = both ∷ os }) c is) (ground_same p both os refl refl known)
 
 ground_rewrapped : (s : Text) (taken : ℕ) (b c : Built) (o : Option Built) → closed s kind.Name (taken - 1) b ≡ o → then_wrapped taken o ≡ Some c → 1 < length b.begun → IsGround b.begun → IsGround c.begun
 ground_rewrapped s taken b c None was is more known = absurd (cc)
 ground_rewrapped s taken b c (Some d) was is more known = ground_wrapped_in taken d c (slice_get d.tops (length d.tops - 1)) is (ground_closed s kind.Name (taken - 1) b d b.begun was more known)
 
 ground_base : (s : Text) (taken : ℕ) (b c : Built) (type : Bool) → cond type (Some b) (then_wrapped taken (closed s kind.Name (taken - 1) b)) ≡ Some c → 1 < length b.begun → IsGround b.begun → IsGround c.begun
-ground_base s taken b c true is more known = subst (λ (x : Built). IsGround x.begun) (some_is b c is) known
+ground_base s taken b c true is more known = subst (λ (x : Built). IsGround x.begun) (same_Some b c is) known
 ground_base s taken b c false is more known = ground_rewrapped s taken b c (closed s kind.Name (taken - 1) b) refl is more known
 
 ground_acted : (s : Text) (a : Action) (taken : ℕ) (b c : Built) → acted s a taken b ≡ Some c → above_for a ≤ length b.begun → IsGround b.begun → IsGround c.begun
 ground_acted s action.Open taken b c is more known =
-    subst (λ (x : Built). IsGround x.begun) (some_is (opened taken taken (length b.tops) b) c is) (ground_push (record { first = taken; mark = taken; height = length b.tops; names = []; value = None }) b.begun known)
+    subst (λ (x : Built). IsGround x.begun) (same_Some (opened taken taken (length b.tops) b) c is) (ground_push (record { first = taken; mark = taken; height = length b.tops; names = []; value = None }) b.begun known)
 ground_acted s action.Wrap taken b c is more known = ground_wrapped_in taken b c (slice_get b.tops (length b.tops - 1)) is known
 ground_acted s action.Note taken b c is more known = ground_noted (is_idn (slice_get s.symbols taken)) taken b c b.begun is known
 ground_acted s (action.Close k) taken b c is more known = ground_closed s k taken b c b.begun is (omega arith) known
@@ -107,7 +108,7 @@ closed_file s at b c (o ∷ []) is one more known =
     let node : Node = node_of s kind.File (at - 1) b.nodes (drop o.height b.tops) o in
     let new : Built = record { nodes = b.nodes ++ node ∷ []; tops = take o.height b.tops ++ length b.nodes ∷ []; begun = [] } in
     let place : length (b.nodes ++ node ∷ []) - 1 ≡ length b.nodes = omega (arith, length_push b.nodes node) in
-    subst (IsOne s at) (some_is new c is)
+    subst (IsOne s at) (same_Some new c is)
     (record {
       tops_are = ap (λ (h : ℕ). take h b.tops ++ length b.nodes ∷ []) known.0 ∙ ap (λ (k : ℕ). k ∷ []) (sym place);
       file = record { root = node; is_last = ap (slice_get (b.nodes ++ node ∷ [])) place ∙ got_last b.nodes node; kind_is = refl; first_is = known.1; last_is = omega arith };
@@ -161,7 +162,7 @@ opened_file s _ at b to z (chosen _ _ _ _ _ _ _ is d) same none one = absurd (cc
 opened_file s _ at b to z (act a items _ _ c _ _ is d) same none one =
     let opens : a ≡ action.Open = cc in
     let rest : items ≡ file_front ++ item.Action (action.Close kind.File) ∷ [] = cc in
-    let first : c ≡ opened 0 0 0 nothing_built = (let h = subst (λ (x : Built). acted s action.Open 0 x ≡ Some c) none (subst (λ (k : ℕ). acted s action.Open (k - 1) b ≡ Some c) one (subst (λ (x : Action). acted s x (at - 1) b ≡ Some c) opens is)) in sym (some_is (opened 0 0 0 nothing_built) c h)) in
+    let first : c ≡ opened 0 0 0 nothing_built = (let h = subst (λ (x : Built). acted s action.Open 0 x ≡ Some c) none (subst (λ (k : ℕ). acted s action.Open (k - 1) b ≡ Some c) one (subst (λ (x : Action). acted s x (at - 1) b ≡ Some c) opens is)) in sym (same_Some (opened 0 0 0 nothing_built) c h)) in
     let size : length c.begun ≡ 1 = ap (λ (x : Built). length x.begun) first in
     finishes s file_front items at c to z d rest
     (subst (IsAbove file_front) (sym size) (above_is file_front 1 refl))

@@ -6,11 +6,13 @@ use Rattle.clu_lexer.specs.contracts.symbols.Symbol.{the_type}
 use Rattle.clu_tree.specs.declared.node.NodeKind.{NodeKind}
 use Rattle.clu_tree.specs.contracts.node.NodeKind.{the_type as kind_type}
 use Rattle.clu_grammar.specs.Choice.{has}
-use Rattle.clu_grammar.proofs.Flags.{and_left, and_right, or_cases, or_left, or_right, true_or_false}
+use Rattle.clu_grammar.proofs.Flags.{and_left, and_right}
 use Rattle.clu_grammar.specs.Kinds.{is_expression, is_type}
 use Rattle.clu_parser.specs.Shape.{Child, expression, any_type, constant, statement, one, is_child, Group, semicolon, more_names, more_types, types, types_in_parens, more_constants, actuals, more_expressions, expressions, expressions_in_parens, more_modules, equates, owns, statements, more_routines, parms, more_parms, decls, more_decls, decls_in_parens, results, signals, demands, more_exceptions, more_restricts, more_opers, more_fields, more_components, elseifs, more_arms, whens, others, variable, Part, token, name, value, child, many, maybe, parts_of, Letter, own, IsWord, nothing, token_is, name_is, value_is, child_is, no_more, one_more, without, with_one}
-use Rattle.clu_parser.proofs.Words.{word_split, some_is}
+use Rattle.clu_parser.proofs.Words.{word_split}
 use denote.Enum.Bare.{sameb, same_true}
+use Rattle.std.proofs.lemmas.Bool.{or_left, or_right, or_cases, cases_Bool}
+use Rattle.std.proofs.lemmas.Option.{same_Some}
 
 -- groups by number
 abbrev number : Group → ℕ
@@ -61,7 +63,7 @@ same_group g h = number g == number h
 same_group_is : (g h : Group) → same_group g h ≡ true → g ≡ h
 same_group_is g h e =
     let same : number g ≡ number h = eqb-true (number g) (number h) e in
-    some_is g h (sym (place_of g) ∙ ap (slice_get groups) same ∙ place_of h)
+    same_Some g h (sym (place_of g) ∙ ap (slice_get groups) same ∙ place_of h)
 
 -- each node of the one kind of children is one of the other
 abbrev is_within : Child → Child → Bool
@@ -90,7 +92,7 @@ all_in xs ys = list_all (has ys) xs
 
 has_all : (xs ys : List Symbol) (x : Symbol) → all_in xs ys ≡ true → has xs x ≡ true → has ys x ≡ true
 has_all [] ys x h k = absurd (cc)
-has_all (y ∷ xs) ys x h k = elim (true_or_false (sameb the_type y x)) [
+has_all (y ∷ xs) ys x h k = elim (cases_Bool (sameb the_type y x)) [
   | inl same ↦ subst (λ (z : Symbol). has ys z ≡ true) (same_true the_type (search rules) y x same) (and_left (has ys y) (all_in xs ys) h)
   | inr other ↦ has_all xs ys x (and_right (has ys y) (all_in xs ys) h) (rw other at k)
 ]

@@ -1,9 +1,11 @@
 -- Letters of the nodes that have begun that are of these forms, and what a nonterminal makes of them.
 use Rattle.std.proofs.Common.{◌≡◌, Bool, true, false, cond, List, [], ◌∷◌, ◌++◌, map, Option, Some, None, refl, sym, ap, ◌∙◌, subst, inl, inr, ◌⊎◌, append_assoc, append-nil}
 use Rattle.std.specs.List.{list_all}
-use Rattle.clu_grammar.proofs.Flags.{and_left, and_right, or_cases}
+use Rattle.std.proofs.lemmas.Bool.{or_cases}
+use Rattle.std.proofs.lemmas.Option.{same_Some}
+use Rattle.clu_grammar.proofs.Flags.{and_left, and_right}
 use Rattle.clu_parser.specs.Shape.{Part, child, Letter, IsWord, IsFormOf}
-use Rattle.clu_parser.proofs.Words.{Parted, last_child, last_child_is, word_append, word_split, some_is}
+use Rattle.clu_parser.proofs.Words.{Parted, last_child, last_child_is, word_append, word_split}
 use Rattle.clu_parser.proofs.Fits.{fits, fits_is}
 use Rattle.clu_parser.proofs.Sketch.{deep, Known, Typing, is_one_of, is_known, joined, parted_from, below, applied_to, applied, or_else, applied_one}
 
@@ -69,7 +71,7 @@ joined_is : (front tail : List Part) (from : List Part) (gives forms : List (Lis
 joined_is front tail from gives forms ways p rest words a same turns is known =
     let v = top a forms p rest words known in
     let both = word_split front tail v.word (subst (λ (x : List Part). IsWord x v.word) same v.is_word) in
-    let ways_are : map (λ x. (front ++ x) ∷ forms) gives ≡ ways = some_is (map (λ x. (front ++ x) ∷ forms) gives) ways is in
+    let ways_are : map (λ x. (front ++ x) ∷ forms) gives ≡ ways = same_Some (map (λ x. (front ++ x) ∷ forms) gives) ways is in
     record {
       front = v.front ++ both.left;
       others = v.others;

@@ -1,5 +1,6 @@
 -- What the reader has and what reading the rest will take: no action is asked for more than there is.
 use Rattle.std.proofs.Common.{◌≡◌, ℕ, ◌+◌, ◌-◌, ◌<◌, ◌≤◌, ◌⊎◌, Bool, true, false, not, ◌||◌, cond, List, [], ◌∷◌, ◌++◌, length, Option, Some, slice_get, refl, sym, subst, inl, inr, arith}
+use Rattle.std.proofs.lemmas.Bool.{cases_Bool}
 use Rattle.clu_lexer.specs.declared.symbols.Symbol.{Symbol}
 use Rattle.clu_grammar.specs.declared.items.Action.{Action}
 use Rattle.clu_grammar.specs.declared.items.Item.{Item}
@@ -12,7 +13,7 @@ use Rattle.clu_grammar.specs.Choice.{step, Take, Go, is_among}
 use Rattle.clu_grammar.specs.Rows.{begin, note, close, t as t', n as n'}
 use Rattle.clu_grammar.specs.Grammar.{productions}
 use Rattle.clu_grammar.specs.Language.{whole}
-use Rattle.clu_grammar.proofs.Flags.{and_left, and_right, true_or_false}
+use Rattle.clu_grammar.proofs.Flags.{and_left, and_right}
 use Rattle.clu_grammar.proofs.Tests.{implies}
 use Rattle.clu_grammar.proofs.Weights.{measure, smaller_terminal, smaller_action, smaller_take, smaller_go}
 use Rattle.clu_parser.specs.Steps.{spent, allowance}
@@ -104,7 +105,7 @@ not_whole s n items row at (inl same) is = absurd (no_go (slice_get s.symbols at
     take_go xs ys h = cc
 
     no_go : (t : Option Symbol) (row : List Item) → step (productions r.File) t ≡ Go row → ⊥
-    no_go t row h = elim (true_or_false (is_among t (symbol.Idn ∷ []))) [
+    no_go t row h = elim (cases_Bool (is_among t (symbol.Idn ∷ []))) [
       | inl suits ↦ take_go (begin ∷ begin ∷ begin ∷ note ∷ t' symbol.Equal ∷ n' r.Definition ∷ n' r.Modules ∷ close k.File ∷ []) row (rw suits at h)
       | inr passes ↦ (let h' = rw passes at h in cc)
     ]

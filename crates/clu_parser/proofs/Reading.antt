@@ -1,6 +1,7 @@
 -- The tree in the making has what reading the items needs: nodes that have begun, and whole ones.
 use Rattle.std.proofs.Common.{◌≡◌, ℕ, ◌+◌, ◌-◌, ◌≤◌, Bool, true, false, not, ◌&&◌, ◌||◌, ◌==◌, cond, nat_le, List, [], ◌∷◌, ◌++◌, Option, refl, sym, ap, ◌∙◌, subst, inl, inr, arith, leb-true, eqb-true}
 use Rattle.std.specs.List.{list_all}
+use Rattle.std.proofs.lemmas.Bool.{not-true, and_from, cases_Bool}
 use Rattle.clu_lexer.specs.declared.symbols.Symbol.{Symbol}
 use Rattle.clu_grammar.specs.declared.items.Action.{Action}
 use Rattle.clu_grammar.specs.declared.items.Action.TheVariants as action
@@ -11,7 +12,7 @@ use Rattle.clu_grammar.specs.declared.items.Nonterminal.TheVariants as r
 use Rattle.clu_grammar.specs.Choice.{Step, Take, Go, No, is_among, step}
 use Rattle.clu_grammar.specs.Grammar.{productions}
 use Rattle.clu_grammar.specs.Rows.{Production, take, peek, otherwise}
-use Rattle.clu_grammar.proofs.Flags.{and_left, and_right, and_both, implied, true_or_false}
+use Rattle.clu_grammar.proofs.Flags.{and_left, and_right, implied}
 use Rattle.clu_grammar.proofs.Tests.{implies}
 use Rattle.clu_parser.specs.Steps.{begun_for, tops_for}
 use Rattle.clu_parser.proofs.Effects.{ends, begun_before, tops_before, makes_whole, notes_before}
@@ -210,11 +211,11 @@ IsHeld n No = Unit {0}
 
 is_held : (n : Nonterminal) (ps : List Production) (t : Option Symbol) → list_all (holds_for n) ps ≡ true → IsHeld n (step ps t)
 is_held n [] t test = tt
-is_held n (take heads row ∷ ps) t test = elim (true_or_false (is_among t heads)) [
+is_held n (take heads row ∷ ps) t test = elim (cases_Bool (is_among t heads)) [
   | inl suits ↦ rw suits (and_left (holds n row) (list_all (holds_for n) ps) test)
   | inr passes ↦ rw passes (is_held n ps t (and_right (holds n row) (list_all (holds_for n) ps) test))
 ]
-is_held n (peek heads row ∷ ps) t test = elim (true_or_false (is_among t heads)) [
+is_held n (peek heads row ∷ ps) t test = elim (cases_Bool (is_among t heads)) [
   | inl suits ↦ (let here = and_left (holds_for n (peek heads row)) (list_all (holds_for n) ps) test in rw suits (and_left (holds n row) (implies (may_note row) (notes_before n)) here, and_right (holds n row) (implies (may_note row) (notes_before n)) here))
   | inr passes ↦ rw passes (is_held n ps t (and_right (holds_for n (peek heads row)) (list_all (holds_for n) ps) test))
 ]
@@ -227,7 +228,7 @@ pub held_step : (n : Nonterminal) (t : Option Symbol) (s : Step) → step (produ
 held_step n t s is = subst (IsHeld n) is (is_held n (productions n) t (holds_sound n))
 
 whole_left : (n : Nonterminal) (row : List Item) (t : ℕ) → t ≤ 1 → tops_before n ≤ t → implies (makes_whole n) (tops_left row (tops_before n) == 1) ≡ true → cond (makes_whole n) 1 t ≤ tops_left row t
-whole_left n row t small there test = elim (true_or_false (makes_whole n)) [
+whole_left n row t small there test = elim (cases_Bool (makes_whole n)) [
   | inl makes ↦ (let one : tops_left row (tops_before n) ≡ 1 = eqb-true (tops_left row (tops_before n)) 1 (implied (makes_whole n) (tops_left row (tops_before n) == 1) test makes) in
       rw makes (omega (arith, one, tops_left-le row (tops_before n) t there)))
   | inr none ↦ rw none (tops_left-keeps row t small)
@@ -253,12 +254,8 @@ once_of n row test =
     let more' = and_right (begun_left row (begun_before n) == begun_before n - ends n) (implies (makes_whole n) (tops_left row (tops_before n) == 1) && once row) more in
     and_right (implies (makes_whole n) (tops_left row (tops_before n) == 1)) (once row) more'
 
-not_true : (b : Bool) → not b ≡ true → b ≡ false
-not_true true h = absurd (cc)
-not_true false h = refl
-
 pub note_none : (n : Nonterminal) (items : List Item) → once (item.Nonterminal n ∷ items) ≡ true → may_note items ≡ false
-note_none n items h = not_true (may_note items) (and_left (not (may_note items)) (once items) h)
+note_none n items h = not-true (may_note items) (and_left (not (may_note items)) (once items) h)
 
 may_note-append : (xs items : List Item) → may_note items ≡ false → may_note (xs ++ items) ≡ may_note xs
 may_note-append [] items none = none
@@ -270,11 +267,11 @@ once-append : (xs items : List Item) → once xs ≡ true → may_note items ≡
 once-append [] items h none k = k
 once-append (item.Terminal s ∷ xs) items h none k = once-append xs items h none k
 once-append (item.Action a ∷ xs) items h none k =
-    and_both (implies (notes a) (not (may_note (xs ++ items)))) (once (xs ++ items))
+    and_from (implies (notes a) (not (may_note (xs ++ items)))) (once (xs ++ items))
     (ap (λ (b : Bool). implies (notes a) (not b)) (may_note-append xs items none) ∙ and_left (implies (notes a) (not (may_note xs))) (once xs) h)
     (once-append xs items (and_right (implies (notes a) (not (may_note xs))) (once xs) h) none k)
 once-append (item.Nonterminal n ∷ xs) items h none k =
-    and_both (not (may_note (xs ++ items))) (once (xs ++ items))
+    and_from (not (may_note (xs ++ items))) (once (xs ++ items))
     (ap not (may_note-append xs items none) ∙ and_left (not (may_note xs)) (once xs) h)
     (once-append xs items (and_right (not (may_note xs)) (once xs) h) none k)
 

@@ -16,12 +16,12 @@ use Rattle.clu_grammar.specs.Choice.{Take, Go, has, is_among, step}
 use Rattle.clu_grammar.specs.Grammar.{productions}
 use Rattle.clu_grammar.specs.Language.{whole}
 use Rattle.clu_grammar.specs.Rows.{Production, take as takes, peek, otherwise}
-use Rattle.clu_grammar.proofs.Flags.{and_left, and_right, true_or_false}
+use Rattle.clu_grammar.proofs.Flags.{and_left, and_right}
 use Rattle.clu_parser.specs.declared.begun.Begun.{Begun}
 use Rattle.clu_parser.specs.Spellings.{closes}
 use Rattle.clu_parser.specs.Trees.{Text, Built, acted as built_by, IsBuilt, nothing_built, closed as closed_by, closed_in as closing, then_wrapped, wrapped_in as holding, wrapped_on as holding_on, opened as begun_at, node_of}
 use Rattle.clu_parser.specs.Shape.{one, Part, token, name, child, Letter, own, node, IsWord, nothing, token_is, child_is, Spelled, ended, own_token, IsFormOf, IsShaped}
-use Rattle.clu_parser.proofs.Words.{Ended, last_token, last_child, word_append, some_is}
+use Rattle.clu_parser.proofs.Words.{Ended, last_token, last_child, word_append}
 use Rattle.clu_parser.proofs.Fits.{fits, fits_is}
 use Rattle.clu_parser.proofs.Sketch.{deep, Known, nothing_known, in_bracket, Typing, passed, kept, push, acted, based, named_before, applied_one}
 use Rattle.clu_parser.proofs.Typings.{typings, ends_as, makes, may_come, is_last, start, row_makes, taken_makes, peeked_makes, rows_make}
@@ -35,6 +35,8 @@ use Rattle.clu_parser.proofs.Closing.{all_has, Holds, passed_holds, kept_holds, 
 use Rattle.clu_parser.proofs.Acts.{IsActed, ending, act_open, act_note, act_wrap, ended_word}
 use Rattle.clu_parser.proofs.Closes.{letter_of, act_close, act_close_restrict, act_give}
 use denote.Enum.Bare.{sameb, same_true}
+use Rattle.std.proofs.lemmas.Bool.{cases_Bool}
+use Rattle.std.proofs.lemmas.Option.{same_Some}
 
 -- a row that is chosen does what the typing says
 go_take : (xs ys : List Item) → Go xs ≡ Take ys → ⊥
@@ -53,7 +55,7 @@ among_has o heads x is h = subst (λ (y : Option Symbol). is_among y heads ≡ t
 
 any_has : (f : Symbol → Bool) (heads : List Symbol) (x : Symbol) → has heads x ≡ true → f x ≡ true → list_any f heads ≡ true
 any_has f [] x h e = absurd (cc)
-any_has f (y ∷ heads) x h e = elim (true_or_false (sameb the_type y x)) [
+any_has f (y ∷ heads) x h e = elim (cases_Bool (sameb the_type y x)) [
   | inl same ↦ (let here : f y ≡ true = subst (λ (z : Symbol). f z ≡ true) (sym (same_true the_type (search rules) y x same)) e in rw here refl)
   | inr other ↦ later (f y) (any_has f heads x (rw other at h) e)
 ]
@@ -63,20 +65,20 @@ any_has f (y ∷ heads) x h e = elim (true_or_false (sameb the_type y x)) [
     later false it = it
 
 not_last : (t : Typing) (o : Option Symbol) (heads : List Symbol) → (is_last t.when heads ≡ true → is_among o heads ≡ true) → is_among o heads ≡ false → is_last t.when heads ≡ false
-not_last t o heads known passes = elim (true_or_false (is_last t.when heads)) [
+not_last t o heads known passes = elim (cases_Bool (is_last t.when heads)) [
   | inl yes' ↦ (let h = known yes' in absurd (let e : true ≡ false = sym h ∙ passes in cc))
   | inr no' ↦ no'
 ]
 
 taken_row : (t : Typing) (ps : List Production) (o : Option Symbol) (row : List Item) (x : Symbol) → rows_make t ps ≡ true → o ≡ Some x → may_come t.when x ≡ true → ((heads : List Symbol) → is_last t.when heads ≡ true → is_among o heads ≡ true) → step ps o ≡ Take row → row_makes t (item.Terminal x ∷ row) ≡ true
 taken_row t [] o row x h is may last it = absurd (cc)
-taken_row t (takes heads items ∷ ps) o row x h is may last it = elim (true_or_false (is_among o heads)) [
+taken_row t (takes heads items ∷ ps) o row x h is may last it = elim (cases_Bool (is_among o heads)) [
   | inl suits ↦ (let same : items ≡ row = (let e = rw suits at it in cc) in
       let one' = all_has (taken_makes t items) heads x (and_left (list_all (taken_makes t items) heads) _ h) (among_has o heads x is suits) in
       subst (λ (y : List Item). row_makes t (item.Terminal x ∷ y) ≡ true) same (when_true (may_come t.when x) (row_makes t (item.Terminal x ∷ items)) one' may))
   | inr passes ↦ taken_row t ps o row x (unless_true (is_last t.when heads) (rows_make t ps) (and_right (list_all (taken_makes t items) heads) _ h) (not_last t o heads (last heads) passes)) is may last (rw passes at it)
 ]
-taken_row t (peek heads items ∷ ps) o row x h is may last it = elim (true_or_false (is_among o heads)) [
+taken_row t (peek heads items ∷ ps) o row x h is may last it = elim (cases_Bool (is_among o heads)) [
   | inl suits ↦ absurd (go_take items row (rw suits at it))
   | inr passes ↦ taken_row t ps o row x (unless_true (is_last t.when heads) (rows_make t ps) (and_right (peeked_makes t heads items) _ h) (not_last t o heads (last heads) passes)) is may last (rw passes at it)
 ]
@@ -88,11 +90,11 @@ among_some (Some x) heads h = (x, refl, h)
 
 gone_row : (t : Typing) (ps : List Production) (o : Option Symbol) (row : List Item) → rows_make t ps ≡ true → ((x : Symbol) → o ≡ Some x → may_come t.when x ≡ true) → ((heads : List Symbol) → is_last t.when heads ≡ true → is_among o heads ≡ true) → step ps o ≡ Go row → row_makes t row ≡ true
 gone_row t [] o row h may last it = absurd (cc)
-gone_row t (takes heads items ∷ ps) o row h may last it = elim (true_or_false (is_among o heads)) [
+gone_row t (takes heads items ∷ ps) o row h may last it = elim (cases_Bool (is_among o heads)) [
   | inl suits ↦ absurd (go_take row items (sym (rw suits at it)))
   | inr passes ↦ gone_row t ps o row (unless_true (is_last t.when heads) (rows_make t ps) (and_right (list_all (taken_makes t items) heads) _ h) (not_last t o heads (last heads) passes)) may last (rw passes at it)
 ]
-gone_row t (peek heads items ∷ ps) o row h may last it = elim (true_or_false (is_among o heads)) [
+gone_row t (peek heads items ∷ ps) o row h may last it = elim (cases_Bool (is_among o heads)) [
   | inl suits ↦ (let same : items ≡ row = (let e = rw suits at it in cc) in
       let x = among_some o heads suits in
       subst (λ (y : List Item). row_makes t y ≡ true) same (when_true (list_any (may_come t.when) heads) (row_makes t items) (and_left (peeked_makes t heads items) _ h) (any_has (may_come t.when) heads x.0 x.2 (may x.0 x.1))))
@@ -147,7 +149,7 @@ pushed t x at b (a ∷ forms') p rest words is known stack shaped =
 close_any : (t : Text) (at : ℕ) (b c : Built) (kind : NodeKind) (forms' made' : List (List Part)) (p : List Letter) (rest words : List (List Letter)) → acted (action.Close kind) forms' ≡ Some made' → closing t kind (at - 1) b b.begun ≡ Some c → Matches forms' p rest words → IsStack t b.nodes b.tops b.begun words at → IsShaped t b.nodes → IsActed t made' p rest at c
 close_any t at b c kind [] made' p rest words is built known stack shaped = absurd (cc)
 close_any t at b c kind (a ∷ []) made' p rest words is built known stack shaped = absurd (cc)
-close_any t at b c kind (a ∷ outer ∷ more) made' p rest words is built known stack shaped = elim (true_or_false (sameb kind_type kind k.Restrict)) [
+close_any t at b c kind (a ∷ outer ∷ more) made' p rest words is built known stack shaped = elim (cases_Bool (sameb kind_type kind k.Restrict)) [
   | inl same ↦ (let restrict : kind ≡ k.Restrict = same_true kind_type (search rules) kind k.Restrict same in
       act_close_restrict t at b c a outer more made' p rest words (rw same at is) (subst (λ (x : NodeKind). closing t x (at - 1) b b.begun ≡ Some c) restrict built) known stack shaped)
   | inr other ↦ act_close t at b c kind a outer more made' p rest words other (rw other at is) built known stack shaped
@@ -184,8 +186,8 @@ name_held t at b c (o ∷ os) d e a outer more made' p rest words true h made_is
     let new : Built = begun_at x.child.first (at - 1) (length whole'.tops - 1) whole' in
     let wrapped' : then_wrapped (at - 1) (Some whole') ≡ Some c = subst (λ (y : Option Built). then_wrapped (at - 1) y ≡ Some c) (sym closed') built in
     let held : Some new ≡ Some c = subst (λ (y : Option Node). holding_on (at - 1) whole' y ≡ Some c) x.got (subst (λ (y : Option ℕ). holding (at - 1) whole' y ≡ Some c) x.top wrapped') in
-    subst (λ (y : Built). IsActed t made' p rest at y) (some_is new c held)
-    (subst (λ (y : List (List Part)). IsActed t y p rest at new) (some_is ((child (one k.Name) ∷ token e.last ∷ []) ∷ outer ∷ more) made' made_is)
+    subst (λ (y : Built). IsActed t made' p rest at y) (same_Some new c held)
+    (subst (λ (y : List (List Part)). IsActed t y p rest at new) (same_Some ((child (one k.Name) ∷ token e.last ∷ []) ∷ outer ∷ more) made' made_is)
     (record {
       words = (node k.Name ∷ own e.last ∷ []) ∷ (v.front ++ v.word) ∷ v.others;
       matches = one_matches (child (one k.Name) ∷ token e.last ∷ []) (outer ∷ more) p rest ((v.front ++ v.word) ∷ v.others) (node k.Name ∷ own e.last ∷ []) (child_is (one k.Name) k.Name (token e.last ∷ []) (own e.last ∷ []) refl (token_is e.last [] [] nothing)) (v.again outer v.word v.is_word);
@@ -206,7 +208,7 @@ base_is t at b c a outer more made' p rest words (Some e) was is built known sta
     by (closes 0 (drop (at - 1 + 1) t.symbols)) refl (subst (λ (n : ℕ). (f : Bool) → closes 0 (drop (at - 1 + 1) t.symbols) ≡ f → closes 0 (drop n t.symbols) ≡ f) here (λ f h. h)) built
   where
     by : (type : Bool) → closes 0 (drop (at - 1 + 1) t.symbols) ≡ type → ((f : Bool) → closes 0 (drop (at - 1 + 1) t.symbols) ≡ f → closes 0 (drop at t.symbols) ≡ f) → cond type (Some b) (then_wrapped (at - 1) (closed_by t k.Name (at - 1 - 1) b)) ≡ Some c → IsBased t (a ∷ outer ∷ more) made' p rest at c
-    by true h moved built = inl (moved true h, subst (λ (x : Built). IsActed t (a ∷ outer ∷ more) p rest at x) (some_is b c built) (record { words = words; matches = known; stack = stack; shaped = shaped }))
+    by true h moved built = inl (moved true h, subst (λ (x : Built). IsActed t (a ∷ outer ∷ more) p rest at x) (same_Some b c built) (record { words = words; matches = known; stack = stack; shaped = shaped }))
     by false h moved built =
         inr (moved false h, name_held t at b c b.begun (closing t k.Name (at - 1 - 1) b b.begun) e a outer more made' p rest words (fits deep e.before (name ∷ []) && sameb the_type e.last s.LeftBracket) refl is was refl built known stack shaped)
 

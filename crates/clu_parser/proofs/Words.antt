@@ -1,9 +1,11 @@
 -- Words of a form: put together, taken apart, and their last parts.
 use Rattle.std.proofs.Common.{◌≡◌, Bool, true, false, cond, List, [], ◌∷◌, ◌++◌, Option, Some, None, refl, sym, ap, ◌∙◌, subst, append_assoc}
 use Rattle.std.specs.List.{list_all}
+use Rattle.std.proofs.lemmas.Bool.{and_from}
+use Rattle.std.proofs.lemmas.Option.{same_Some}
 use Rattle.clu_lexer.specs.declared.symbols.Symbol.{Symbol}
 use Rattle.clu_lexer.specs.declared.symbols.Symbol.TheVariants as s
-use Rattle.clu_grammar.proofs.Flags.{and_left, and_right, and_both}
+use Rattle.clu_grammar.proofs.Flags.{and_left, and_right}
 use Rattle.clu_parser.specs.Shape.{Child, Group, semicolon, Part, token, name, value, child, many, maybe, parts_of, Letter, own, named, valued, node, IsWord, nothing, token_is, name_is, value_is, child_is, no_more, one_more, without, with_one}
 
 pub word_append : (ps qs : List Part) (v w : List Letter) → IsWord ps v → IsWord qs w → IsWord (ps ++ qs) (v ++ w)
@@ -65,9 +67,6 @@ split (p ∷ ps) qs _ w (with_one g xs a b _ first d is) same =
 pub word_split : (ps qs : List Part) (w : List Letter) → IsWord (ps ++ qs) w → Split ps qs w
 word_split ps qs w d = split ps qs (ps ++ qs) w d refl
 
-pub some_is : {X : Type 0} (x y : X) → Some x ≡ Some y → x ≡ y
-some_is x y h = cc
-
 -- the token with which a form ends, and what stands before it
 pub record Ended : Type 0 where
   pub before : List Part
@@ -90,7 +89,7 @@ last_token [] = None
 last_token (p ∷ ps) = last_from p ps
 
 only_is : (p : Part) (e : Ended) → only p ≡ Some e → p ∷ [] ≡ e.before ++ token e.last ∷ []
-only_is (token x) e h = subst (λ (f : Ended). token x ∷ [] ≡ f.before ++ token f.last ∷ []) (some_is (record { before = []; last = x }) e h) refl
+only_is (token x) e h = subst (λ (f : Ended). token x ∷ [] ≡ f.before ++ token f.last ∷ []) (same_Some (record { before = []; last = x }) e h) refl
 only_is name e h = absurd (cc)
 only_is (value xs) e h = absurd (cc)
 only_is (child c) e h = absurd (cc)
@@ -100,7 +99,7 @@ only_is (maybe g) e h = absurd (cc)
 under_is : (p q : Part) (ps : List Part) (o : Option Ended) (e : Ended) → ((f : Ended) → o ≡ Some f → q ∷ ps ≡ f.before ++ token f.last ∷ []) → under p o ≡ Some e → p ∷ q ∷ ps ≡ e.before ++ token e.last ∷ []
 under_is p q ps None e known h = absurd (cc)
 under_is p q ps (Some f) e known h =
-    subst (λ (g : Ended). p ∷ q ∷ ps ≡ g.before ++ token g.last ∷ []) (some_is (record { before = p ∷ f.before; last = f.last }) e h) (ap (λ (x : List Part). p ∷ x) (known f refl))
+    subst (λ (g : Ended). p ∷ q ∷ ps ≡ g.before ++ token g.last ∷ []) (same_Some (record { before = p ∷ f.before; last = f.last }) e h) (ap (λ (x : List Part). p ∷ x) (known f refl))
 
 last_from_is : (p : Part) (ps : List Part) (e : Ended) → last_from p ps ≡ Some e → p ∷ ps ≡ e.before ++ token e.last ∷ []
 last_from_is p [] e h = only_is p e h
@@ -147,12 +146,12 @@ pub record IsParted (ps : List Part) (e : Parted) : Type 0 where
   pub plain : all_plain e.after ≡ true
 
 here : (c : Child) (ps : List Part) (test : Bool) (e : Parted) → all_plain ps ≡ test → cond test (Some (record { before = []; last = c; after = ps })) None ≡ Some e → IsParted (child c ∷ ps) e
-here c ps true e plain h = subst (IsParted (child c ∷ ps)) (some_is (record { before = []; last = c; after = ps }) e h) (record { is = refl; plain = plain })
+here c ps true e plain h = subst (IsParted (child c ∷ ps)) (same_Some (record { before = []; last = c; after = ps }) e h) (record { is = refl; plain = plain })
 here c ps false e plain h = absurd (cc)
 
 in_is : (p : Part) (ps : List Part) (o : Option Parted) (e : Parted) → ((f : Parted) → o ≡ Some f → IsParted ps f) → child_in p ps o ≡ Some e → IsParted (p ∷ ps) e
 in_is p ps (Some f) e known h =
-    subst (IsParted (p ∷ ps)) (some_is (record { before = p ∷ f.before; last = f.last; after = f.after }) e h) (record { is = ap (λ (x : List Part). p ∷ x) (known f refl).is; plain = (known f refl).plain })
+    subst (IsParted (p ∷ ps)) (same_Some (record { before = p ∷ f.before; last = f.last; after = f.after }) e h) (record { is = ap (λ (x : List Part). p ∷ x) (known f refl).is; plain = (known f refl).plain })
 in_is (child c) ps None e known h = here c ps (all_plain ps) e refl h
 in_is (token x) ps None e known h = absurd (cc)
 in_is name ps None e known h = absurd (cc)
@@ -166,7 +165,7 @@ last_child_is (p ∷ ps) e h = in_is p ps (last_child ps) e (λ f is. last_child
 
 all_append : (v w : List Letter) → list_all is_own v ≡ true → list_all is_own w ≡ true → list_all is_own (v ++ w) ≡ true
 all_append [] w h k = k
-all_append (x ∷ v) w h k = and_both (is_own x) (list_all is_own (v ++ w)) (and_left (is_own x) (list_all is_own v) h) (all_append v w (and_right (is_own x) (list_all is_own v) h) k)
+all_append (x ∷ v) w h k = and_from (is_own x) (list_all is_own (v ++ w)) (and_left (is_own x) (list_all is_own v) h) (all_append v w (and_right (is_own x) (list_all is_own v) h) k)
 
 one_own : (v : List Letter) (ps : List Part) → IsWord ps v → ps ≡ token s.Semicolon ∷ [] → list_all is_own v ≡ true
 one_own _ _ nothing same = absurd (cc)

@@ -27,7 +27,7 @@ fn place_at(source: &Source, n: u32) -> Place
 fn names(alloc: Global, source: &Source, tokens: &[u32]) -> Result<Sequence<Bytes>, Memory>
     ensures { IfOk result (λ names. names ≡ map (spelling_at (text source.now)) tokens.now) }
 {
-    let mut names = Vec::new(alloc);
+    let mut names = Vec::with_capacity(alloc, tokens.len())?;
     for n in tokens {
         let name = spelling_at(alloc, source, *n)?;
         names.push(name)?;

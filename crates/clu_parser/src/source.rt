@@ -29,7 +29,7 @@ pub fn bytes_of<'a>(bytes: &'a [u8], token: &Token) -> &'a [u8]
 pub fn symbols_of(alloc: Global, bytes: &[u8], tokens: &[Token]) -> Result<Vec<Symbol>, Memory>
     ensures { IfOk result (λ symbols. symbols.items ≡ map (symbol_in bytes.now) tokens.now) }
 {
-    let mut symbols = Vec::new(alloc);
+    let mut symbols = Vec::with_capacity(alloc, tokens.len())?;
     for token in tokens {
         symbols.push(symbol_of(token.kind, bytes_of(bytes, token)))?;
     }

@@ -1,6 +1,6 @@
 -- How many names and values a node has, by the form that it is of.
 use Rattle.std.proofs.Common.{◌≡◌, ◌∙◌, ℕ, zero, suc, ◌+◌, ◌&&◌, Bool, true, false, List, [], ◌∷◌, ◌++◌, length, Some, None, refl, ap, sym, subst, arith}
-use Rattle.std.proofs.lemmas.Bool.{true≢false}
+use Rattle.std.proofs.lemmas.Bool.{true≢false, and_parts}
 use Rattle.clu_lexer.specs.declared.symbols.Symbol.{Symbol}
 use Rattle.clu_tree.specs.declared.node.Node.{Node}
 use Rattle.clu_parser.specs.Shape.{Part, parts_of, token, name, value, child, many, maybe, Letter, own, named, valued, node, IsWord, nothing, token_is, name_is, value_is, child_is, no_more, one_more, without, with_one, names_in, values_in, HasValue}
@@ -38,10 +38,6 @@ is_valued (child c ∷ ps) = is_valued ps
 is_valued (many g ∷ ps) = is_valued ps
 is_valued (maybe g ∷ ps) = is_valued ps
 
-both_true : (a b : Bool) → (a && b) ≡ true → (a ≡ true) × (b ≡ true)
-both_true true b e = (refl, e)
-both_true false b e = absurd (cc)
-
 names_append : (v w : List Letter) → names_in (v ++ w) ≡ names_in v + names_in w
 names_append [] w = omega arith
 names_append (own x ∷ v) w = names_append v w
@@ -69,12 +65,12 @@ no_names zero _ _ (no_more g ps w d) h = absurd (true≢false (sym h))
 no_names zero _ _ (one_more g ps v w u dv dw e) h = absurd (true≢false (sym h))
 no_names zero _ _ (without g ps w d) h = absurd (true≢false (sym h))
 no_names zero _ _ (with_one g ps v w u dv dw e) h = absurd (true≢false (sym h))
-no_names (suc steps) _ _ (no_more g ps w d) h = no_names (suc steps) ps w d (both_true (is_unnamed steps (parts_of g)) (is_unnamed (suc steps) ps) h).1
+no_names (suc steps) _ _ (no_more g ps w d) h = no_names (suc steps) ps w d (and_parts (is_unnamed steps (parts_of g)) (is_unnamed (suc steps) ps) h).1
 no_names (suc steps) _ _ (one_more g ps v w u dv dw e) h =
-    no_names_in v w u e (no_names steps (parts_of g) v dv (both_true (is_unnamed steps (parts_of g)) (is_unnamed (suc steps) ps) h).0) (no_names (suc steps) (many g ∷ ps) w dw h)
-no_names (suc steps) _ _ (without g ps w d) h = no_names (suc steps) ps w d (both_true (is_unnamed steps (parts_of g)) (is_unnamed (suc steps) ps) h).1
+    no_names_in v w u e (no_names steps (parts_of g) v dv (and_parts (is_unnamed steps (parts_of g)) (is_unnamed (suc steps) ps) h).0) (no_names (suc steps) (many g ∷ ps) w dw h)
+no_names (suc steps) _ _ (without g ps w d) h = no_names (suc steps) ps w d (and_parts (is_unnamed steps (parts_of g)) (is_unnamed (suc steps) ps) h).1
 no_names (suc steps) _ _ (with_one g ps v w u dv dw e) h =
-    let both = both_true (is_unnamed steps (parts_of g)) (is_unnamed (suc steps) ps) h in
+    let both = and_parts (is_unnamed steps (parts_of g)) (is_unnamed (suc steps) ps) h in
     no_names_in v w u e (no_names steps (parts_of g) v dv both.0) (no_names (suc steps) ps w dw both.1)
 
 no_values_in : (v w u : List Letter) → u ≡ v ++ w → values_in v ≡ [] → values_in w ≡ [] → values_in u ≡ []
@@ -90,12 +86,12 @@ no_values zero _ _ (no_more g ps w d) h = absurd (true≢false (sym h))
 no_values zero _ _ (one_more g ps v w u dv dw e) h = absurd (true≢false (sym h))
 no_values zero _ _ (without g ps w d) h = absurd (true≢false (sym h))
 no_values zero _ _ (with_one g ps v w u dv dw e) h = absurd (true≢false (sym h))
-no_values (suc steps) _ _ (no_more g ps w d) h = no_values (suc steps) ps w d (both_true (is_unvalued steps (parts_of g)) (is_unvalued (suc steps) ps) h).1
+no_values (suc steps) _ _ (no_more g ps w d) h = no_values (suc steps) ps w d (and_parts (is_unvalued steps (parts_of g)) (is_unvalued (suc steps) ps) h).1
 no_values (suc steps) _ _ (one_more g ps v w u dv dw e) h =
-    no_values_in v w u e (no_values steps (parts_of g) v dv (both_true (is_unvalued steps (parts_of g)) (is_unvalued (suc steps) ps) h).0) (no_values (suc steps) (many g ∷ ps) w dw h)
-no_values (suc steps) _ _ (without g ps w d) h = no_values (suc steps) ps w d (both_true (is_unvalued steps (parts_of g)) (is_unvalued (suc steps) ps) h).1
+    no_values_in v w u e (no_values steps (parts_of g) v dv (and_parts (is_unvalued steps (parts_of g)) (is_unvalued (suc steps) ps) h).0) (no_values (suc steps) (many g ∷ ps) w dw h)
+no_values (suc steps) _ _ (without g ps w d) h = no_values (suc steps) ps w d (and_parts (is_unvalued steps (parts_of g)) (is_unvalued (suc steps) ps) h).1
 no_values (suc steps) _ _ (with_one g ps v w u dv dw e) h =
-    let both = both_true (is_unvalued steps (parts_of g)) (is_unvalued (suc steps) ps) h in
+    let both = and_parts (is_unvalued steps (parts_of g)) (is_unvalued (suc steps) ps) h in
     no_values_in v w u e (no_values steps (parts_of g) v dv both.0) (no_values (suc steps) ps w dw both.1)
 
 -- some symbol is there

@@ -1,7 +1,7 @@
 -- The children of a node stand in the slots of its form: those of one kind with which a list begins, and what stands after them.
 use Rattle.std.proofs.Common.{◌≡◌, ◌∙◌, ◌⊎◌, ℕ, zero, suc, ◌+◌, ◌<◌, ◌&&◌, ◌||◌, Bool, true, false, if◌then◌else◌, List, [], ◌∷◌, ◌++◌, take, drop, Some, slice_get, refl, ap, sym, subst, inl, inr, arith, add-one}
 use Rattle.std.specs.List.{All}
-use Rattle.std.proofs.lemmas.Bool.{true≢false}
+use Rattle.std.proofs.lemmas.Bool.{true≢false, or_left, or_right}
 use Rattle.std.proofs.lemmas.List.Elements.{All-head, All-tail}
 use Rattle.clu_tree.specs.declared.node.Node.{Node}
 use Rattle.clu_tree.specs.declared.node.NodeKind.{NodeKind}
@@ -32,14 +32,6 @@ all_append p (k ∷ ks) js h g = (h.0, all_append p ks js h.1 g)
 all_weaker : (p q : NodeKind → Bool) (ks : List NodeKind) → ((k : NodeKind) → p k ≡ true → q k ≡ true) → AllOf p ks → AllOf q ks
 all_weaker p q [] w h = tt
 all_weaker p q (k ∷ ks) w h = (w k h.0, all_weaker p q ks w h.1)
-
-or_left : (a b : Bool) → a ≡ true → (a || b) ≡ true
-or_left true b e = refl
-or_left false b e = absurd (cc)
-
-or_right : (a b : Bool) → b ≡ true → (a || b) ≡ true
-or_right true b e = refl
-or_right false b e = e
 
 true_all : (ks : List NodeKind) → AllOf (λ k. true) ks
 true_all [] = tt

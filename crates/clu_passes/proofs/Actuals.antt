@@ -3,6 +3,7 @@ use Rattle.std.proofs.Common.{◌≡◌, ◌∙◌, ◌⊎◌, ℕ, zero, suc, �
 use Rattle.std.specs.Prelude.{All, not, is_none, slice_get, slice_index_or}
 use Rattle.std.specs.List.{list_any, AllByRecursion}
 use Rattle.std.specs.Option.{option_and_then}
+use Rattle.std.proofs.Math.Bool.{or-false}
 use Rattle.std.proofs.lemmas.Bool.{true≢false}
 use Rattle.std.proofs.lemmas.Option.{none-some, same_Some}
 use Rattle.clu_base.specs.declared.constants.Const.{Const}
@@ -103,10 +104,6 @@ pub type_kind : (ts : List Term) → IsArena ts → (id : TypeId) → id.0 < len
 type_kind ts arena id less =
     let t = some_there ts id.0 less in
     ap kind_of_type (type_found ts arena id t.0 t.1 less) ∙ term_kind (types_of ts) t.0 ∙ ap head.kind_in (sym t.1)
-
-or_false : (b : Bool) → (b || false) ≡ b
-or_false true = refl
-or_false false = refl
 
 module _ (t : Tables) (scope : Scope) (library : List Specification) (refused : List ℕ) where
   abbrev nodes : List Node
@@ -257,7 +254,7 @@ module _ (t : Tables) (scope : Scope) (library : List Specification) (refused : 
     alone : (n : ℕ) → kind_at nodes n ≡ kind.Name → Fits (wants.named_by f (item f n).expression) (Some (n, []))
     alone n is =
         ap (λ (e : Expression). list_any (rules_of.has_bad_actuals f) (wants.named_by f e)) (so.a_name_at t scope library refused n is)
-        ∙ or_false (rules_of.has_bad_actuals f (record { node = n; name = first_name_at f n; constants = no_constants }))
+        ∙ or-false (rules_of.has_bad_actuals f (record { node = n; name = first_name_at f n; constants = no_constants }))
         ∙ misfit n n (first_name_at f n) [] (are.named n is) tt tt
 
     name_by : (n : ℕ) → kind_at nodes n ≡ kind.Name → (w : WantedThere) → Fits (wants.named_as f kind.Name (wanted_told w) n) (named.named_alone w n)
@@ -283,7 +280,7 @@ module _ (t : Tables) (scope : Scope) (library : List Specification) (refused : 
       where
         by : (b : Bool) → Fits (if b then record { node = c; name = first_name_at f c; constants = constants_at (before n (item_at nodes)) cs } ∷ [] else []) (if b then Some (c, cs) else None)
         by true =
-            or_false (rules_of.has_bad_actuals f (record { node = c; name = first_name_at f c; constants = constants_at (before n (item_at nodes)) cs }))
+            or-false (rules_of.has_bad_actuals f (record { node = c; name = first_name_at f c; constants = constants_at (before n (item_at nodes)) cs }))
             ∙ misfit c n (first_name_at f c) cs (are.named c (same_kind kind.Name (kind_at nodes c) x.is)) parts known
         by false = refl
     bracketed n c cs parts known equated (inr x) =
@@ -312,7 +309,7 @@ module _ (t : Tables) (scope : Scope) (library : List Specification) (refused : 
         let named_so : first_name_at f n ≡ first_name x.node.names = ap (λ (its : Option Node). first_name (node_names f its)) x.at in
         ap (λ (i : Item). list_any (rules_of.has_bad_actuals f) (wants.named_by_type f i.type)) (its_item nodes n kind.NameT x)
         ∙ ap (λ (k : NodeKind). list_any (rules_of.has_bad_actuals f) (wants.named_by_type f (type_expression_of (before n (item_at nodes)) nodes n x.node k))) x.is
-        ∙ or_false (rules_of.has_bad_actuals f (record { node = n; name = first_name x.node.names; constants = constants_at (before n (item_at nodes)) cs }))
+        ∙ or-false (rules_of.has_bad_actuals f (record { node = n; name = first_name x.node.names; constants = constants_at (before n (item_at nodes)) cs }))
         ∙ misfit n n (first_name x.node.names) cs (subst (IsMeant f r n) named_so (are.named_types n is)) (all_parts nodes tree shaped is_constant_kind n x.node x.at (ap slots x.is)) (subst (AllByRecursion (IsKnown r)) whole known)
         ∙ ap (λ (xs : List ℕ). not (named.has_fitting_kinds r types n xs)) (sym whole)
 

@@ -1,8 +1,8 @@
 -- At a name with actual parameters at which nothing is lost it is known what stands in its brackets, and of a type by its name the type.
-use Rattle.std.proofs.Common.{◌≡◌, ◌∙◌, ◌||◌, ℕ, Bool, true, false, List, [], ◌∷◌, drop, refl, sym, ap, subst}
+use Rattle.std.proofs.Common.{◌≡◌, ◌∙◌, ℕ, Bool, true, false, List, [], ◌∷◌, drop, refl, sym, ap, subst}
 use Rattle.std.specs.List.{AllByRecursion}
-use Rattle.std.proofs.lemmas.Bool.{true≢false}
 use Rattle.std.proofs.lemmas.Option.{slice_get_within}
+use Rattle.clu_base.proofs.Bools.{second_true}
 use Rattle.clu_tree.specs.declared.node.Node.{Node}
 use Rattle.clu_tree.specs.declared.node.NodeKind.TheVariants as kind
 use Rattle.clu_parser.specs.Trees.{Text}
@@ -28,10 +28,6 @@ use Rattle.clu_passes.proofs.LostKnown.{expression_value, index_known, type_valu
 use Rattle.clu_passes.proofs.LostNodes.{lost_below}
 use Rattle.clu_passes.proofs.ValuesKnown as at
 
-or_right : (a b : Bool) → (a || b) ≡ true → a ≡ false → b ≡ true
-or_right true b e none = absurd (true≢false none)
-or_right false b e none = e
-
 module _ (t : Text) (its : Tables) (library : List Specification) (refused : List ℕ) (whole : IsWhole t its library refused) where
   abbrev r : Read
   r = its.file
@@ -53,7 +49,7 @@ module _ (t : Text) (its : Tables) (library : List Specification) (refused : Lis
     where
       by : (b : Bool) → is_expression (kind_at nodes c) ≡ b → IsKnown r c
       by true e = expression_value t its library refused whole c fine e
-      by false e = type_value t its library refused whole c fine (or_right (is_expression (kind_at nodes c)) (is_type (kind_at nodes c)) is e)
+      by false e = type_value t its library refused whole c fine (second_true (is_expression (kind_at nodes c)) (is_type (kind_at nodes c)) is e)
 
   all_known : (n : ℕ) (cs : List ℕ) → AreParts nodes is_constant_kind n cs → AllByRecursion (λ c. lost f c ≡ false) cs → AllByRecursion (IsKnown r) cs
   all_known n [] parts fine = tt

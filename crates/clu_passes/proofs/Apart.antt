@@ -1,6 +1,6 @@
 -- The equates that lead to no circle, in an order in which each comes after those that it leads to, and then the Decls of arms:
 -- what stands in each reads bits of equates before it alone. So the bits that come of it say which equates are bad.
-use Rattle.std.proofs.Common.{◌≡◌, ◌∙◌, ◌⊎◌, ◌&&◌, ℕ, zero, suc, ◌+◌, ◌-◌, ◌<◌, ◌≤◌, if◌then◌else◌, Bool, true, false, List, [], ◌∷◌, ◌++◌, length, map, fold, Option, Some, None, is_some, inl, inr, refl, sym, ap, subst, arith, rules, length-append}
+use Rattle.std.proofs.Common.{◌≡◌, ◌∙◌, ◌⊎◌, ◌&&◌, ℕ, zero, suc, ◌+◌, ◌-◌, ◌<◌, ◌≤◌, if◌then◌else◌, Bool, true, false, List, [], ◌∷◌, length, map, fold, Option, Some, None, is_some, inl, inr, refl, sym, ap, subst, arith, rules, length-append}
 use Rattle.std.specs.Prelude.{◌↔◌, replicate, slice_get}
 use Rattle.std.specs.List.{list_any, range_with_len}
 use Rattle.std.specs.Option.{option_map}
@@ -51,28 +51,9 @@ use Rattle.clu_passes.proofs.Marked.{none_there}
 use Rattle.clu_passes.proofs.Places.{Declares, equate_declares}
 use Rattle.clu_passes.proofs.Tables.{bound_is}
 use denote.Enum.Bare.{same_true}
+use Rattle.clu_base.proofs.Lists.{mapped_at as map_get, got_front, split}
 
 -- ---- lists
-
-no_more : (i : ℕ) → 0 + i ≡ i
-no_more i = omega arith
-
-one_more : (n i : ℕ) → suc n + i ≡ suc (n + i)
-one_more n i = omega arith
-
--- in the first list, or in the second
-pub split : {X : Type 0} (xs ys : List X) (i : ℕ) (x : X) → slice_get (xs ++ ys) i ≡ Some x → (slice_get xs i ≡ Some x) ⊎ ((j : ℕ) × (i ≡ length xs + j) × (slice_get ys j ≡ Some x))
-split [] ys i x e = inr (i, sym (no_more i), e)
-split (y ∷ xs) ys zero x e = inl e
-split (y ∷ xs) ys (suc i) x e = elim (split xs ys i x e) [
-  | inl front ↦ inl front
-  | inr behind ↦ inr (behind.0, ap suc behind.1 ∙ sym (one_more (length xs) behind.0), behind.2)
-]
-
-first_get : {X : Type 0} (xs ys : List X) (i : ℕ) (x : X) → slice_get xs i ≡ Some x → slice_get (xs ++ ys) i ≡ Some x
-first_get [] ys i x e = absurd (none-some x e)
-first_get (y ∷ xs) ys zero x e = e
-first_get (y ∷ xs) ys (suc i) x e = first_get xs ys i x e
 
 range_get : (a len j x : ℕ) → slice_get (range_with_len a len) j ≡ Some x → x ≡ a + j
 range_get a zero j x e = absurd (none-some x e)
@@ -88,11 +69,6 @@ pub mapped_at : {X Y : Type 0} (h : X → Option Y) (xs : List X) (i : ℕ) (y :
 mapped_at h [] i y e = absurd (none-some (Some y) e)
 mapped_at h (x ∷ xs) zero y e = record { item = x; there = refl; gives = same_Some (h x) (Some y) e }
 mapped_at h (x ∷ xs) (suc i) y e = let m = mapped_at h xs i y e in record { item = m.item; there = m.there; gives = m.gives }
-
-map_get : {X Y : Type 0} (h : X → Y) (xs : List X) (i : ℕ) (x : X) → slice_get xs i ≡ Some x → slice_get (map h xs) i ≡ Some (h x)
-map_get h [] i x e = absurd (none-some x e)
-map_get {X} h (y ∷ xs) zero x e = ap (λ (z : X). Some (h z)) (same_Some y x e)
-map_get h (y ∷ xs) (suc i) x e = map_get h xs i x e
 
 pub if_some : (b : Bool) (x y : ℕ) → if◌then◌else◌ {A = Option ℕ} b (Some x) None ≡ Some y → (b ≡ true) × (x ≡ y)
 if_some true x y e = (refl, same_Some x y e)
@@ -300,7 +276,7 @@ module _ (f : File) (of : IsFileOfTree f) (names : Names) (are : AreNames f name
   -- where the equate stands in the list
   stands_at : (q m : ℕ) (named : IsNamed q m) (x : ℕ) → slice_get order x ≡ Some named.place → slice_get es x ≡ Some (Some m)
   stands_at q m named x there =
-      first_get equates arms x (Some m)
+      got_front equates arms x (Some m)
       (map_get (λ place. equate_declared f.nodes (slice_get ds place)) order x named.place there
       ∙ ap (λ (o : Option Declared). Some (equate_declared f.nodes o)) named.declared
       ∙ ap (λ (b : Bool). Some (if◌then◌else◌ {A = Option ℕ} b (Some named.its.node) None)) (ap (λ (i : ℕ). is_there kind.Equate (slice_get f.nodes i)) named.declares ∙ named.equate)
@@ -393,7 +369,7 @@ module _ (f : File) (of : IsFileOfTree f) (names : Names) (are : AreNames f name
           let other : slice_get circular d.place ≡ Some true → ⊥ = not_marked d.place d.its d.there d.declares in
           let at = circles.listed d.place (bit_false circular d.place (omega (arith, place, many, size)) other (slice_get circular d.place) refl) in (
             at.0,
-            first_get equates arms at.0 (Some e)
+            got_front equates arms at.0 (Some e)
                 (map_get (λ place. equate_declared f.nodes (slice_get ds place)) order at.0 d.place at.1
                 ∙ ap (λ (o : Option Declared). Some (equate_declared f.nodes o)) d.there
                 ∙ ap (λ (b : Bool). Some (if◌then◌else◌ {A = Option ℕ} b (Some d.its.node) None)) (ap (λ (i : ℕ). is_there kind.Equate (slice_get f.nodes i)) d.declares ∙ there_is)

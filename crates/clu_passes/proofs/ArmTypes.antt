@@ -3,6 +3,7 @@ use Rattle.std.proofs.Common.{◌≡◌, ◌∙◌, ◌<◌, ◌+◌, ℕ, Bool,
 use Rattle.std.specs.Prelude.{slice_get, not, is_some}
 use Rattle.std.specs.List.{AllByRecursion, list_all}
 use Rattle.std.proofs.lemmas.Bool.{true≢false, and_parts}
+use Rattle.clu_base.proofs.Bools.{first_true}
 use Rattle.clu_tree.specs.declared.node.Node.{Node}
 use Rattle.clu_tree.specs.declared.node.NodeKind.{NodeKind}
 use Rattle.clu_tree.specs.declared.node.NodeKind.TheVariants as kind
@@ -77,10 +78,6 @@ unfolding no_form
 in_no_form form [] j at none may = at
 in_no_form form (g ∷ fs) j (inl e) none may = not_both (may_stand 3 g j) (and_parts (not (may_stand 3 g j)) (no_form fs j) none).0 (subst (λ (g : List Part). may_stand 3 g j ≡ true) e may)
 in_no_form form (g ∷ fs) j (inr more) none may = in_no_form form fs j more (and_parts (not (may_stand 3 g j)) (no_form fs j) none).1 may
-
-either : (a b : Bool) → (a || b) ≡ true → (b ≡ true → ⊥) → a ≡ true
-either true b e never = refl
-either false b e never = absurd (never e)
 
 -- ---- the variable of others has a name
 
@@ -176,7 +173,7 @@ module _ (k : Known) (scope : Scope) (library : List Specification) (refused : L
             let may : may_stand 3 h.form (kind_at nodes n) ≡ true = (of_all (λ c. (c < e) × (may_stand 3 h.form (kind_at nodes c) ≡ true)) n node.children (children_stand nodes tree e node at h) (is_in n node.children there_is)).1 in
             let may_when : may_stand 3 h.form kind.When ≡ true = ap (may_stand 3 h.form) (sym is) ∙ may in
             ap kind_of at
-            ∙ same_kind kind.Except node.kind (either (is_of kind.Except node.kind) (no_form (forms node.kind) kind.When) (above_when node.kind) (λ none. in_no_form h.form (forms node.kind) kind.When h.of_kind none may_when))
+            ∙ same_kind kind.Except node.kind (first_true (is_of kind.Except node.kind) (no_form (forms node.kind) kind.When) (above_when node.kind) (λ none. in_no_form h.form (forms node.kind) kind.When h.of_kind none may_when))
 
     module _ (are : AreTables f k.tables) (lost : ℕ → Bool) (facts : AreFacts f terms k.facts.now lost) (inside : AreInside f k lost) where
       abbrev Here : List ℕ → Type 0

@@ -1,6 +1,7 @@
 -- What is asked of all nodes of a file, with its types, falls into what each node asks.
 use Rattle.std.proofs.Common.{◌≡◌, ◌∙◌, ℕ, zero, suc, ◌+◌, ◌-◌, ◌<◌, List, [], ◌∷◌, ◌++◌, length, map, take, drop, refl, sym, ap, subst, arith, append_assoc, length-append}
 use Rattle.std.specs.List.{AllZip}
+use Rattle.std.proofs.Math.Seq.{take-append_seam, drop-append_seam}
 use Rattle.std.proofs.lemmas.List.{length-map, append-nil}
 use Rattle.clu_types.specs.declared.term.Term.{Term}
 use Rattle.clu_head.specs.declared.head.Demanded.{Demanded}
@@ -10,7 +11,7 @@ use Rattle.clu_head.specs.Asked.{demands_at, demands_to, starts_to, demands_of}
 use Rattle.clu_head.specs.Asking.{asked_at, untyped, demands_by_all}
 use Rattle.clu_head.specs.Wanted.{IsAskedBy, one_list, AreAsked, asked_to}
 use Rattle.clu_head.proofs.Wanting.{list_joined, all_untyped}
-use Rattle.clu_passes.proofs.AskedPieces.{dropped_front, taken_front, demands_next, of_node}
+use Rattle.clu_passes.proofs.AskedPieces.{demands_next, of_node}
 
 module _ {X Y : Type 0} (R : X → Y → Type 0) where
   zip_front : (xs ys : List X) (zs : List Y) → AllZip R (xs ++ ys) zs → (ps qs : List Y) × (zs ≡ ps ++ qs) × AllZip R xs ps × AllZip R ys qs
@@ -78,6 +79,6 @@ module _ (k : Known) (old new : List Term) where
       ∙ ap (λ (m : ℕ). take m (drop (length (demands_to of n)) demands)) count
       ∙ ap (λ (m : ℕ). take (length inner.0) (drop m demands)) (sym front)
       ∙ ap (λ (ds : List Demanded). take (length inner.0) (drop (length outer.0) ds)) outer.2
-      ∙ ap (take (length inner.0)) (dropped_front outer.0 outer.1 ∙ inner.2)
-      ∙ taken_front inner.0 inner.1 in
+      ∙ ap (take (length inner.0)) (drop-append_seam outer.0 outer.1 ∙ inner.2)
+      ∙ take-append_seam inner.0 inner.1 in
       subst (AreAsked k old new (asks n)) (sym piece) inner.3

@@ -4,6 +4,7 @@ use Rattle.std.proofs.Common.{◌≡◌, ◌∙◌, ℕ, ◌+◌, ◌<◌, min, 
 use Rattle.std.specs.Prelude.{slice_get}
 use Rattle.std.specs.List.{AllByRecursion, AllZip}
 use Rattle.std.specs.Option.{option_map}
+use Rattle.std.proofs.lemmas.List.{map-append}
 use Rattle.std.proofs.lemmas.Option.{slice_get_within}
 use Rattle.clu_base.specs.declared.constants.Const.{Const}
 use Rattle.clu_tree.specs.declared.node.Node.{Node}
@@ -55,10 +56,6 @@ use Rattle.clu_passes.proofs.PutMeanings.{TypeIn, settled_put}
 use Rattle.clu_passes.proofs.PutTypes.{KeepConstants}
 use Rattle.clu_passes.proofs.SetMeanings as meant
 use Rattle.clu_passes.proofs.Units.{is_inner, has_unit}
-
-map_append : {X Y : Type 0} (g : X → Y) (xs ys : List X) → map g (xs ++ ys) ≡ map g xs ++ map g ys
-map_append g [] ys = refl
-map_append g (x ∷ xs) ys = ap (λ zs. g x ∷ zs) (map_append g xs ys)
 
 -- ---- types that are put in
 
@@ -179,9 +176,9 @@ module _ (t : Text) (k : Known) (library : List Specification) (refused : List �
       all_told (c ∷ cs) ps stand (q ∷ qs) by =
           let x = there nodes c kind.Oper refl (same_kind kind.Oper (kind_at nodes c) ps.0.1) in
           let same = asked.operation_is k scope library refused parsed.forms parsed.tree counted_so old new constants known lost p s c ps.0.0 x in
-          map_append (demand_told (types_of new)) q (one_list qs)
+          map-append (demand_told (types_of new)) q (one_list qs)
           ∙ ap₂ (λ (xs ys : List Demand). xs ++ ys) (one_told c x stand.0 q by.0) (all_told cs ps.1 stand.1 qs by.1)
-          ∙ sym (map_append (asked_at f n) (demands_for f (variable_scope p) c p (typed c x).type false x.node.names) (operations_asked f (variable_scope p) p (operations_at (before s (item_at nodes)) cs)))
+          ∙ sym (map-append (asked_at f n) (demands_for f (variable_scope p) c p (typed c x).type false x.node.names) (operations_asked f (variable_scope p) p (operations_at (before s (item_at nodes)) cs)))
           ∙ sym (ap (λ (d : Typed). map (asked_at f n) (operations_asked f (variable_scope p) p (d ∷ operations_at (before s (item_at nodes)) cs))) same)
 
       pub in_told : (cs : List ℕ) → AreParts nodes (is_of kind.Oper) s cs → AllByRecursion Stands cs → (ds : List Demanded) → AreAsked k old new (asked_by_opers p (Some its_set) cs) ds

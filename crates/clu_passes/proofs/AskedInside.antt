@@ -2,6 +2,7 @@
 use Rattle.std.proofs.Common.{◌≡◌, ◌∙◌, inl, inr, ℕ, suc, ◌+◌, ◌-◌, ◌<◌, ◌≤◌, ◌&&◌, nat_le, Bool, true, false, if◌then◌else◌, List, [], ◌∷◌, Contains, length, map, take, drop, slice_get, Option, Some, None, IfSome, refl, sym, ap, subst, arith}
 use Rattle.std.proofs.lemmas.Bool.{cases_lt}
 use Rattle.std.proofs.lemmas.Option.{slice_get_past}
+use Rattle.clu_base.proofs.Lists.{head_or_tail, in_none}
 use Rattle.clu_parser.specs.Trees.{Text}
 use Rattle.clu_syntax.specs.Rounds.{AreRounds}
 use Rattle.clu_checking.specs.Files.{File}
@@ -17,7 +18,7 @@ use Rattle.clu_operations.specs.Wished.{AreHeads}
 use Rattle.clu_type_rules.specs.Disagreeing.{demands_in}
 use Rattle.clu_passes.specs.Demands.{clause_of}
 use Rattle.clu_passes.proofs.AskedPieces.{piece, starts_size}
-use Rattle.clu_passes.proofs.DemandsInside.{head_or_tail, in_none, all_inside}
+use Rattle.clu_passes.proofs.DemandsInside.{all_inside}
 
 -- ---- types
 

@@ -1,9 +1,10 @@
 -- Nodes that are asked one after the other, each after those whose bits it reads: what is noted of a node stays true, so that at
 -- the end the bit of each says whether there is a fault in it.
-use Rattle.std.proofs.Common.{◌≡◌, ◌∙◌, ◌⊎◌, ℕ, zero, suc, ◌+◌, ◌-◌, ◌<◌, ◌≤◌, ◌||◌, Bool, true, false, List, [], ◌∷◌, length, fold, set, drop, Option, Some, None, inl, inr, refl, sym, ap, subst, arith}
+use Rattle.std.proofs.Common.{◌≡◌, ◌∙◌, ◌⊎◌, ℕ, zero, suc, ◌+◌, ◌-◌, ◌<◌, ◌≤◌, ◌||◌, Bool, true, false, List, [], ◌∷◌, length, fold, drop, Option, Some, None, inl, inr, refl, sym, ap, subst, arith}
 use Rattle.std.specs.Prelude.{replicate, slice_get}
 use Rattle.std.specs.List.{list_any, range_with_len}
 use Rattle.std.proofs.lemmas.Bool.{true≢false, cases_lt}
+use Rattle.std.proofs.lemmas.List.{length-set}
 use Rattle.std.proofs.lemmas.Option.{same_Some, none-some}
 use Rattle.clu_circles.proofs.Places.{set_here, set_there, set_cases}
 use Rattle.clu_syntax.specs.declared.round.Round.{Round}
@@ -19,11 +20,6 @@ or_behind true true r = refl
 or_behind true false r = refl
 or_behind false true r = refl
 or_behind false false r = refl
-
-set_length : {X : Type 0} (xs : List X) (i : ℕ) (x : X) → length (set xs i x) ≡ length xs
-set_length [] i x = refl
-set_length (y ∷ ys) zero x = refl
-set_length (y ∷ ys) (suc i) x = ap suc (set_length ys i x)
 
 replicated : {X : Type 0} (n i : ℕ) (x y : X) → slice_get (replicate n x) i ≡ Some y → x ≡ y
 replicated zero i x y e = absurd (none-some y e)
@@ -146,7 +142,7 @@ module _ (rounds : List Round) (fault : List Bool → ℕ → Bool) (es : List (
     size_still = by l.found
       where
         by : (b : Bool) → length (if_so b a.bad e) ≡ length a.bad
-        by true = set_length a.bad e true
+        by true = length-set a.bad e true
         by false = refl
 
     notes_still : AreNoted bad l.faulty (p + 1)

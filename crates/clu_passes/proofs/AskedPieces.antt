@@ -1,31 +1,16 @@
 -- What a node asks stands together in the list of all that is asked.
 use Rattle.std.proofs.Common.{◌≡◌, ◌∙◌, ◌⊎◌, ℕ, zero, suc, ◌+◌, ◌-◌, ◌<◌, ◌≤◌, ◌&&◌, Bool, nat_le, if◌then◌else◌, List, [], ◌∷◌, ◌++◌, length, map, take, drop, Some, refl, sym, ap, inl, inr, arith, add-one, append_assoc, length-append, le-leb}
 use Rattle.std.specs.Prelude.{slice_get}
+use Rattle.std.proofs.Math.Seq.{take-append_seam, drop-append_seam}
 use Rattle.std.proofs.lemmas.Bool.{cases_lt}
 use Rattle.std.proofs.lemmas.List.{append-nil, take-map, drop-map, length-map}
 use Rattle.std.proofs.lemmas.Option.{slice_get_past}
+use Rattle.clu_base.proofs.Lists.{get_before, get_last}
 use Rattle.clu_head.specs.declared.head.Demanded.{Demanded}
 use Rattle.clu_head.specs.Asked.{demands_to, starts_to, start_in, between, demands_of}
 use Rattle.clu_head.specs.Asking.{untyped}
 
 -- ---- lists
-
-got_front : (xs : List ℕ) (x k : ℕ) → k < length xs → slice_get (xs ++ x ∷ []) k ≡ slice_get xs k
-got_front [] x k l = absurd (omega (arith, l))
-got_front (y ∷ ys) x zero l = refl
-got_front (y ∷ ys) x (suc k) l = got_front ys x k (omega (arith, l))
-
-got_last : (xs : List ℕ) (x : ℕ) → slice_get (xs ++ x ∷ []) (length xs) ≡ Some x
-got_last [] x = refl
-got_last (y ∷ ys) x = got_last ys x
-
-pub dropped_front : {X : Type 0} (xs ys : List X) → drop (length xs) (xs ++ ys) ≡ ys
-dropped_front [] ys = refl
-dropped_front (x ∷ xs) ys = dropped_front xs ys
-
-pub taken_front : {X : Type 0} (xs ys : List X) → take (length xs) (xs ++ ys) ≡ xs
-taken_front [] ys = refl
-taken_front (x ∷ xs) ys = ap (λ zs. x ∷ zs) (taken_front xs ys)
 
 module _ (of : ℕ → List Demanded) where
   abbrev so_far : ℕ → ℕ
@@ -52,12 +37,12 @@ module _ (of : ℕ → List Demanded) where
       size = starts_size n
 
       by : (k < n) ⊎ (n ≤ k) → (k < n → slice_get (starts_to of n) k ≡ Some (so_far k)) → slice_get (starts_to of (suc n)) k ≡ Some (so_far k)
-      by (inl less) before = ap (λ (xs : List ℕ). slice_get xs k) (starts_next n) ∙ got_front (starts_to of n) (so_far n) k (omega (arith, size, less)) ∙ before less
+      by (inl less) before = ap (λ (xs : List ℕ). slice_get xs k) (starts_next n) ∙ get_before (starts_to of n) (so_far n) k (omega (arith, size, less)) ∙ before less
       by (inr more) before =
           let same : k ≡ n = omega (arith, l, more) in
           ap (λ (xs : List ℕ). slice_get xs k) (starts_next n)
           ∙ ap (slice_get (starts_to of n ++ so_far n ∷ [])) (same ∙ sym size)
-          ∙ got_last (starts_to of n) (so_far n)
+          ∙ get_last (starts_to of n) (so_far n)
           ∙ ap (λ (x : ℕ). Some (so_far x)) (sym same)
 
   pub begins_with : (n k : ℕ) → (rest : List Demanded) × (demands_to of (n + k) ≡ demands_to of n ++ rest)
@@ -109,6 +94,6 @@ module _ (of : ℕ → List Demanded) where
         let count : so_far (suc n) - so_far n ≡ length (of n) = omega (arith, own) in
         ap (map untyped) (of_node n less)
         ∙ sym (take-map untyped (so_far (suc n) - so_far n) (drop (so_far n) demands))
-        ∙ ap (take (so_far (suc n) - so_far n)) (sym (drop-map untyped (so_far n) demands) ∙ ap (drop (so_far n)) (all ∙ whole) ∙ dropped_front (demands_to of n) (of n ++ rest.0))
+        ∙ ap (take (so_far (suc n) - so_far n)) (sym (drop-map untyped (so_far n) demands) ∙ ap (drop (so_far n)) (all ∙ whole) ∙ drop-append_seam (demands_to of n) (of n ++ rest.0))
         ∙ ap (λ (x : ℕ). take x (of n ++ rest.0)) count
-        ∙ taken_front (of n) rest.0
+        ∙ take-append_seam (of n) rest.0

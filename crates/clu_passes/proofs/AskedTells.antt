@@ -2,6 +2,7 @@
 -- of their arena, and each demand stands in its clause.
 use Rattle.std.proofs.Common.{◌≡◌, ◌∙◌, ℕ, ◌+◌, ◌<◌, Bool, List, [], ◌∷◌, Contains, length, Option, Some, None, IfSome, inl, inr, sym, ap, subst, arith, length-append}
 use Rattle.clu_base.specs.declared.constants.Const.{Const}
+use Rattle.clu_base.proofs.Lists.{head_or_tail, in_none}
 use Rattle.clu_parser.specs.Trees.{Text}
 use Rattle.clu_tree.specs.declared.node.Node.{Node}
 use Rattle.clu_types.specs.Arena.{Grows, types_of}
@@ -35,7 +36,6 @@ use Rattle.clu_passes.specs.Made.{IsMade}
 use Rattle.clu_passes.proofs.AskedInside.{inside}
 use Rattle.clu_passes.proofs.AskedWhole.{table_told}
 use Rattle.clu_passes.proofs.DemandsEach.{Each, each_of}
-use Rattle.clu_passes.proofs.DemandsInside.{head_or_tail, in_none}
 use Rattle.clu_passes.proofs.HeadNumbers.{asked_below}
 
 -- ---- types

@@ -3,7 +3,9 @@
 use Rattle.std.proofs.Common.{◌≡◌, ◌∙◌, ℕ, ◌<◌, Bool, false, if◌then◌else◌, List, [], ◌∷◌, ◌++◌, map, Option, Some, None, refl, sym, ap, ap₂, append_assoc}
 use Rattle.std.specs.Prelude.{slice_get}
 use Rattle.std.specs.Option.{option_map}
+use Rattle.std.proofs.lemmas.List.{map-append}
 use Rattle.std.proofs.lemmas.Option.{none-some, same_Some}
+use Rattle.clu_base.proofs.Lists.{mapped}
 use Rattle.clu_tree.specs.declared.node.Node.{Node}
 use Rattle.clu_tree.specs.declared.node.NodeKind.{NodeKind}
 use Rattle.clu_tree.specs.declared.node.NodeKind.TheVariants as kind
@@ -37,14 +39,6 @@ use Rattle.clu_passes.specs.Heads.{without_type, parameter_meant, set_meant, IsR
 use Rattle.clu_passes.proofs.ClauseParts.{routine_clause, routine_parts, routine_restricts, routine_asks, cluster_clause, cluster_parts, cluster_restricts, cluster_asks}
 
 -- ---- lists
-
-mapped : {X Y Z : Type 0} (g : Y → Z) (h : X → Y) (xs : List X) → map (λ x. g (h x)) xs ≡ map g (map h xs)
-mapped g h [] = refl
-mapped g h (x ∷ xs) = ap (λ ys. g (h x) ∷ ys) (mapped g h xs)
-
-pub map_append : {X Y : Type 0} (g : X → Y) (xs ys : List X) → map g (xs ++ ys) ≡ map g xs ++ map g ys
-map_append g [] ys = refl
-map_append g (x ∷ xs) ys = ap (λ zs. g x ∷ zs) (map_append g xs ys)
 
 by_all_append : (nodes : List Node) (xs ys : List Asking) → demands_by_all nodes (xs ++ ys) ≡ demands_by_all nodes xs ++ demands_by_all nodes ys
 unfolding demands_by_all
@@ -100,9 +94,9 @@ module _ (f : File) (shaped : HaveForms f.nodes) (tree : IsTree f.nodes) (types 
         let d : Typed = operation_of (its c) nodes c x.node kind.Oper in
         let wanted : Option CluType = checking.unless_refused f (checking.type_node d.type) (type_settled scope d.type) in
         ap told (by_more nodes (asking c) (asked_by_opers k set cs))
-        ∙ map_append (demand_told types) (demands_by nodes (asking c)) (demands_by_all nodes (asked_by_opers k set cs))
+        ∙ map-append (demand_told types) (demands_by nodes (asking c)) (demands_by_all nodes (asked_by_opers k set cs))
         ∙ ap₂ (λ (xs ys : List Demand). xs ++ ys) (ap told (by_oper c x) ∙ names_told c wanted x.node.names) (opers_told scope n cs ps.1)
-        ∙ sym (map_append (λ d. without_type (turn d)) (checking.demands_for f scope d.node k d.type false d.names) (operations_asked f scope k (operations_at (its n) cs)))
+        ∙ sym (map-append (λ d. without_type (turn d)) (checking.demands_for f scope d.node k d.type false d.names) (operations_asked f scope k (operations_at (its n) cs)))
         ∙ sym (ap (λ (d : Typed). map (λ d. without_type (turn d)) (operations_asked f scope k (d ∷ operations_at (its n) cs))) (operation_is n c ps.0.0 x))
 
   none_turned : (k : ℕ) → IsTurned (λ d. d) k None
@@ -222,9 +216,9 @@ module _ (f : File) (shaped : HaveForms f.nodes) (tree : IsTree f.nodes) (types 
       all_told n [] ps = ap told (by_none nodes)
       all_told n (c ∷ cs) ps =
           ap told (by_all_append nodes (asked_by_restriction nodes rounds counts restricted c) (asked_by_restrictions nodes rounds counts restricted cs))
-          ∙ map_append (demand_told types) (demands_by_all nodes (asked_by_restriction nodes rounds counts restricted c)) (demands_by_all nodes (asked_by_restrictions nodes rounds counts restricted cs))
+          ∙ map-append (demand_told types) (demands_by_all nodes (asked_by_restriction nodes rounds counts restricted c)) (demands_by_all nodes (asked_by_restrictions nodes rounds counts restricted cs))
           ∙ ap₂ (λ (xs ys : List Demand). xs ++ ys) (by_restriction c (same_kind kind.Restrict (kind_at nodes c) ps.0.1)) (all_told n cs ps.1)
-          ∙ sym (map_append without_type (checking.demands_by f (item_at nodes c).restriction) (demands_in f (restrictions_at (its n) cs)))
+          ∙ sym (map-append without_type (checking.demands_by f (item_at nodes c).restriction) (demands_in f (restrictions_at (its n) cs)))
           ∙ sym (ap (λ (i : Item). map without_type (checking.demands_by f i.restriction ++ demands_in f (restrictions_at (its n) cs))) (before_is nodes n c ps.0.0))
 
       -- ---- by a routine, and by a cluster

@@ -4,6 +4,7 @@ use Rattle.std.specs.Prelude.{slice_get}
 use Rattle.std.specs.List.{AllZip}
 use Rattle.std.specs.Option.{option_map}
 use Rattle.std.proofs.lemmas.Bool.{true≢false}
+use Rattle.std.proofs.lemmas.List.{map-append}
 use Rattle.std.proofs.lemmas.Option.{slice_get_within, slice_get-get_or}
 use Rattle.clu_base.specs.declared.constants.Const.{Const}
 use Rattle.clu_tree.specs.declared.node.Node.{Node}
@@ -51,10 +52,6 @@ node_of_type items nodes n node kind.FieldsT = refl
 node_of_type items nodes n node kind.RoutineT = refl
 node_of_type items nodes n node kind.NameT = refl
 node_of_type items nodes n node _ = refl
-
-map_append : {X Y : Type 0} (g : X → Y) (xs ys : List X) → map g (xs ++ ys) ≡ map g xs ++ map g ys
-map_append g [] ys = refl
-map_append g (x ∷ xs) ys = ap (λ zs. g x ∷ zs) (map_append g xs ys)
 
 -- where refused nodes are counted, so is the type of each Oper
 pub opers_counted : (k : Known) (scope : Scope) (library : List Specification) (refused : List ℕ) → HaveForms k.syntax.now → IsTree k.syntax.now → AreCounted k (file_known k scope library refused) → AreOpersCounted (file_known k scope library refused) k.refused.now
@@ -145,7 +142,7 @@ module _ (k : Known) (scope : Scope) (library : List Specification) (refused : L
       all_told n (c ∷ cs) ps [] are = absurd are
       all_told n (c ∷ cs) ps (q ∷ qs) are =
           let x = there nodes c kind.Oper refl (same_kind kind.Oper (kind_at nodes c) ps.0.1) in
-          map_append (demand_told types) q (one_list qs)
+          map-append (demand_told types) q (one_list qs)
           ∙ ap₂ (λ (xs ys : List Demand). xs ++ ys) (one_told c x q are.0) (all_told n cs ps.1 qs are.1)
           ∙ sym (ap (λ (d : Typed). operations_asked f scope p (d ∷ operations_at (before n (item_at nodes)) cs)) (operation_is n c ps.0.0 x))
 

@@ -54,6 +54,7 @@ use Rattle.clu_passes.proofs.AskedEach.{asked_split, each_asked}
 use Rattle.clu_passes.proofs.AskedInSets as sets
 use Rattle.clu_passes.proofs.AskedInside.{past_none}
 use Rattle.clu_passes.proofs.AskedPieces.{starts_size}
+use Rattle.std.proofs.lemmas.List.{map-append}
 use Rattle.clu_passes.proofs.AskedTold as untyped
 use Rattle.clu_passes.proofs.AskedTypes as asked
 use Rattle.clu_passes.proofs.ClauseParts.{routine_clause, routine_parts, routine_restricts, routine_asks, cluster_clause, cluster_parts, cluster_restricts, cluster_asks}
@@ -234,7 +235,7 @@ module _ (t : Text) (k : Known) (library : List Specification) (refused : List �
   all_told n (c ∷ cs) ps ds by =
       let both = asked_split k old new (asked_by_restriction nodes rounds k.counts.now k.restricted.now c) (asked_by_restrictions nodes rounds k.counts.now k.restricted.now cs) ds by in
       ap told both.2
-      ∙ untyped.map_append (demand_told (types_of new)) both.0 both.1
+      ∙ map-append (demand_told (types_of new)) both.0 both.1
       ∙ ap₂ (λ (xs ys : List Demand). xs ++ ys) (by_restriction c (same_kind kind.Restrict (kind_at nodes c) ps.0.1) both.0 both.3) (all_told n cs ps.1 both.1 both.4)
       ∙ sym (ap (λ (i : Item). checking.demands_by f i.restriction ++ demands_in f (restrictions_at (its n) cs)) (before_is nodes n c ps.0.0))
 

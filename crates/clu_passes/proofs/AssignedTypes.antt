@@ -3,6 +3,7 @@ use Rattle.std.proofs.Common.{◌≡◌, ◌∙◌, ◌<◌, ℕ, ◌+◌, Bool,
 use Rattle.std.specs.Prelude.{slice_get, not}
 use Rattle.std.specs.Option.{option_map}
 use Rattle.std.specs.List.{AllByRecursion, list_any}
+use Rattle.std.proofs.Math.Bool.{or-false}
 use Rattle.std.proofs.lemmas.Bool.{true≢false}
 use Rattle.clu_lexer.specs.declared.symbols.Symbol.{Symbol}
 use Rattle.clu_tree.specs.declared.node.Node.{Node}
@@ -55,10 +56,6 @@ use Rattle.clu_passes.proofs.Misfits.{IsBelow, AreFieldsBelow, component_below}
 use Rattle.clu_passes.proofs.Selectors.{component_is}
 use Rattle.clu_passes.proofs.TagsRound.{TagsTold, tags_are, round_told}
 
-or_false : (b : Bool) → (b || false) ≡ b
-or_false true = refl
-or_false false = refl
-
 name_behind : (x : Symbol) (ps : List Part) (w : List Letter) → IsWord (shape.token x ∷ shape.name ∷ ps) w → (m : ℕ) × (names_in w ≡ m + 1)
 name_behind x ps _ (token_is _ _ _ (name_is _ w d)) = (names_in w, refl)
 
@@ -105,7 +102,7 @@ module _ (k : Known) (scope : Scope) (library : List Specification) (refused : L
   misfits_are None (x ∷ xs) is = absurd is
   misfits_are (Some b) [] is = absurd is
   misfits_are (Some b) (x ∷ []) is =
-      or_false (not (statements.may_name f x.variables x.objects)) ∙ ap not (may_name_same b.variables x.variables is.0 b.objects x.objects is.1)
+      or-false (not (statements.may_name f x.variables x.objects)) ∙ ap not (may_name_same b.variables x.variables is.0 b.objects x.objects is.1)
   misfits_are (Some b) (x ∷ y ∷ xs) is = absurd is
 
   -- ---- tags
@@ -223,7 +220,7 @@ module _ (k : Known) (scope : Scope) (library : List Specification) (refused : L
               let is : kind_at nodes n ≡ kind.TagArm = same_kind kind.TagArm (kind_at nodes n) e in
               ap (λ (j : NodeKind). v15_in f j n) is
               ∙ arm_is others n is here round
-              ∙ sym (or_false (of_tags.arm_misfits k others kind.TagArm n))
+              ∙ sym (or-false (of_tags.arm_misfits k others kind.TagArm n))
               ∙ ap (λ (j : NodeKind). of_tags.arm_misfits k others j n || of_tables.is_misfit k (binding_at k others j n)) (sym is)
           by false e =
               bound_by n (kind_at nodes n) e

@@ -2,6 +2,7 @@
 use Rattle.std.proofs.Common.{◌≡◌, ◌∙◌, ◌⊎◌, inl, inr, ℕ, zero, suc, ◌<◌, ◌&&◌, ◌||◌, not, Bool, true, false, List, [], ◌∷◌, Contains, length, map, get_or, Option, refl, sym, ap, subst, arith}
 use Rattle.std.specs.List.{list_any}
 use Rattle.std.proofs.lemmas.Bool.{true≢false, and_parts, and_from}
+use Rattle.clu_base.proofs.Bools.{same_truth}
 use Rattle.clu_types.specs.CluType.{CluType}
 use Rattle.clu_checking.specs.Files.{File}
 use Rattle.clu_checking.specs.Headings.{specification}
@@ -40,11 +41,6 @@ module _ {X : Type 0} where
       or_true : (b : Bool) → (b || true) ≡ true
       or_true true = refl
       or_true false = refl
-
-same_truth : (a b : Bool) → (a ≡ true → b ≡ true) → (b ≡ true → a ≡ true) → a ≡ b
-same_truth true b to from = sym (to refl)
-same_truth false true to from = from refl
-same_truth false false to from = refl
 
 not_true : (b : Bool) → not b ≡ true → b ≡ true → ⊥
 not_true true e is = absurd (true≢false (sym e))

@@ -1,6 +1,7 @@
 -- The bits of names that stand twice, told of a file.
 use Rattle.std.proofs.Common.{◌≡◌, ◌∙◌, ℕ, suc, ◌<◌, Bool, true, false, ◌&&◌, ◌||◌, not, if◌then◌else◌, List, [], ◌∷◌, ◌++◌, length, fold, slice_get, is_none, bytes_eq, Option, Some, None, refl, sym, ap, ap₂}
 use Rattle.std.specs.List.{list_any}
+use Rattle.std.proofs.Math.Bool.{or_comm}
 use Rattle.std.proofs.lemmas.Bool.{true≢false, ne_eqb, lt-ltb, and_parts}
 use Rattle.std.proofs.lemmas.Option.{none-some, same_Some, slice_get_within}
 use Rattle.clu_tree.specs.declared.node.Node.{Node}
@@ -29,12 +30,6 @@ use Rattle.clu_passes.proofs.Noted.{seen, repeats, bits_are, names_apart, same_w
 use Rattle.clu_passes.proofs.Known.{is_known, are_known, any_turned, twice_is, nodes_known}
 use Rattle.clu_passes.proofs.StandTwice.{IsItemOf, all_names, exceptions_are, arms_are, declared_are, selectors_are, components_are, own_before, names_before, stand_before, list_strict, list_loose}
 use Rattle.clu_passes.proofs.FileNames.{item_repeats, own_repeats}
-
-pub or_turned : (a b : Bool) → (a || b) ≡ (b || a)
-or_turned true true = refl
-or_turned true false = refl
-or_turned false true = refl
-or_turned false false = refl
 
 any_known : (all : List Identifier) (p q : Identifier → Bool) → ((x : Identifier) → is_known all x ≡ true → p x ≡ q x) → (xs : List Identifier) → are_known all xs ≡ true → list_any p xs ≡ list_any q xs
 any_known all p q same [] known = refl
@@ -141,7 +136,7 @@ module _ (f : File) (parents : HaveParents f) (modules : DeclareModules f) (bits
       strict_told : IsStrict k → is_set (slice_get bits n) ≡ (stands_twice its_names || own_stands_before (own f.nodes) item n)
       strict_told strict =
           by_list (stand_before all f.nodes own item k is p cs n || stand_twice all its_names) (λ before fresh none. list_strict all f.nodes own item k is p n kind_is cs there once before fresh none strict)
-          ∙ or_turned (stand_before all f.nodes own item k is p cs n) (stand_twice all its_names)
+          ∙ or_comm (stand_before all f.nodes own item k is p cs n) (stand_twice all its_names)
           ∙ ap (λ (b : Bool). b || stand_before all f.nodes own item k is p cs n) (twice_is all its_names known)
           ∙ ap (λ (b : Bool). stands_twice its_names || b) before_told
 

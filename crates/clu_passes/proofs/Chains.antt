@@ -3,6 +3,7 @@
 use Rattle.std.proofs.Common.{◌≡◌, ◌∙◌, ◌⊎◌, ℕ, zero, suc, ◌+◌, ◌-◌, ◌<◌, ◌≤◌, ◌||◌, ◌&&◌, if◌then◌else◌, Bool, true, false, List, [], ◌∷◌, length, map, Option, Some, None, inl, inr, refl, sym, ap, subst, arith}
 use Rattle.std.specs.Prelude.{slice_get}
 use Rattle.std.specs.List.{list_any, range_with_len}
+use Rattle.std.proofs.Math.Bool.{and-false}
 use Rattle.std.proofs.lemmas.Bool.{cases_eq, cases_lt, true≢false}
 use Rattle.std.proofs.lemmas.List.{length-map}
 use Rattle.std.proofs.lemmas.Option.{none-some, same_Some, slice_get_within}
@@ -43,10 +44,6 @@ none_ranged f a zero none = refl
 none_ranged f a (suc len) none =
     ap (λ (b : Bool). b || list_any f (range_with_len (a + 1) len)) (none a (omega arith) (omega arith))
     ∙ none_ranged f (a + 1) len (λ n l m. none n (omega (arith, l)) (omega (arith, m)))
-
-pub and_none : (b : Bool) → (b && false) ≡ false
-and_none true = refl
-and_none false = refl
 
 -- ---- a Decl has a name
 
@@ -219,7 +216,7 @@ module _ (f : File) (of : IsFileOfTree f) (names : Names) (order : List ℕ) (ci
     ends_sooner m equate straight =
         let found : IsNode kind.Equate (slice_get f.nodes m) = node_there kind.Equate (slice_get f.nodes m) (equate_there (slice_get f.nodes m) ∙ equate) in
         let its : Declares ds m = subst (λ (xs : List Declared). Declares xs m) (sym its_order.all) (equate_declares f.nodes f.rounds m found.node found.there found.its) in
-        let p = listed its.place its.its its.there (ap (λ (b : Bool). is_kind f kind.Equate its.its.node && b) (ap (is_circular f) its.declares ∙ straight) ∙ and_none (is_kind f kind.Equate its.its.node)) in
+        let p = listed its.place its.its its.there (ap (λ (b : Bool). is_kind f kind.Equate its.its.node && b) (ap (is_circular f) its.declares ∙ straight) ∙ and-false (is_kind f kind.Equate its.its.node)) in
         let is : is_equate_at f.nodes its.its.node ≡ true = equate_kind (kind_at f.nodes its.its.node) ∙ ap (is_kind f kind.Equate) its.declares ∙ equate in
         let inside : p.0 < length order = slice_get_within order p.0 its.place p.1 in
         let its_inside : v < length order = slice_get_within order v declared.place its_place.1 in

@@ -2,6 +2,7 @@
 use Rattle.std.proofs.Common.{◌≡◌, ◌∙◌, ◌<◌, ℕ, Bool, true, false, ◌&&◌, ◌||◌, if◌then◌else◌, List, [], ◌∷◌, take, drop, get_or, Option, Some, None, inl, inr, refl, sym, ap, ap₂, subst}
 use Rattle.std.specs.Prelude.{slice_get}
 use Rattle.std.specs.List.{AllByRecursion, list_any}
+use Rattle.std.proofs.Math.Bool.{or-false}
 use Rattle.std.proofs.lemmas.List.{take-append-drop}
 use Rattle.std.proofs.lemmas.List.Folds.{list_any-append}
 use Rattle.clu_tree.specs.declared.node.Node.{Node}
@@ -44,10 +45,6 @@ use Rattle.clu_passes.proofs.FactNodes as so
 body_items : (k : NodeKind) → (some_of body_slots k && is_expression k) ≡ false
 body_items kind.File = refl
 body_items _ = refl
-
-or_false : (b : Bool) → (b || false) ≡ b
-or_false true = refl
-or_false false = refl
 
 module _ (k : Known) (scope : Scope) (library : List Specification) (refused : List ℕ) where
   abbrev nodes : List Node
@@ -113,7 +110,7 @@ module _ (k : Known) (scope : Scope) (library : List Specification) (refused : L
     if_is node l p =
         let count : ℕ = leading_before nodes node node.children in
         clauses_are (take count node.children) (all_take (λ c. c < n) count node.children l)
-        ∙ sym (or_false (list_any other (take count node.children)))
+        ∙ sym (or-false (list_any other (take count node.children)))
         ∙ ap (λ (b : Bool). list_any other (take count node.children) || b) (sym (none_behind node.value_token (drop count node.children) p.behind))
         ∙ sym (list_any-append other (take count node.children) (drop count node.children))
         ∙ ap (list_any other) (take-append-drop count node.children)
@@ -123,13 +120,13 @@ module _ (k : Known) (scope : Scope) (library : List Specification) (refused : L
     while_is : (cs : List ℕ) → Stand nodes n (just (is_child expression) ∷ body_slots) cs → is_other_than bool_type (checking.type_of f (items (get_or cs 0 0)).expression) ≡ list_any other cs
     while_is cs s =
         on_head nodes n (λ cs. is_other_than bool_type (checking.type_of f (items (get_or cs 0 0)).expression) ≡ list_any other cs) (is_child expression) body_slots
-        (λ c rest is s. condition c is.0 is.1 ∙ sym (or_false (other c)) ∙ ap (λ (b : Bool). other c || b) (sym (none_in_body n rest s))) cs s
+        (λ c rest is s. condition c is.0 is.1 ∙ sym (or-false (other c)) ∙ ap (λ (b : Bool). other c || b) (sym (none_in_body n rest s))) cs s
 
     -- ---- the operands of cand and cor
 
     operands : (op : Operator) (a b : Expression) (x y : Bool) → is_other_than bool_type (checking.type_of f a) ≡ x → is_other_than bool_type (checking.type_of f b) ≡ y → (m : ℕ) (c d : Expression) → has_no_bool_operand f (sugar op) a b ≡ (joins_conditions (an_infix m op c d) && (x || (y || false)))
-    operands operator.Cand a b x y e g m c d = ap₂ (λ (p q : Bool). p || q) e (g ∙ sym (or_false y))
-    operands operator.Cor a b x y e g m c d = ap₂ (λ (p q : Bool). p || q) e (g ∙ sym (or_false y))
+    operands operator.Cand a b x y e g m c d = ap₂ (λ (p q : Bool). p || q) e (g ∙ sym (or-false y))
+    operands operator.Cor a b x y e g m c d = ap₂ (λ (p q : Bool). p || q) e (g ∙ sym (or-false y))
     operands _ a b x y e g m c d = refl
 
     infix_is : (cs : List ℕ) → Stand nodes n (just (is_child expression) ∷ just (is_child expression) ∷ []) cs → (op : Operator) (c d : Expression) → has_no_bool_operand f (sugar op) (items (get_or cs 0 0)).expression (items (get_or cs 1 0)).expression ≡ (joins_conditions (an_infix n op c d) && list_any other cs)

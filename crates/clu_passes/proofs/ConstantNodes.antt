@@ -1,6 +1,7 @@
 -- What stands at a node, what is wanted there, and names of bad equates, by tables.
 use Rattle.std.proofs.Common.{◌≡◌, ◌∙◌, ◌⊎◌, ℕ, zero, suc, ◌-◌, Bool, true, false, ◌&&◌, if◌then◌else◌, List, [], ◌∷◌, length, map, drop, Option, Some, None, inl, inr, refl, sym, ap, subst, arith}
 use Rattle.std.specs.Prelude.{All, ◌==◌, get_or, not, slice_get}
+use Rattle.std.proofs.Math.Bool.{and-false, and-true}
 use Rattle.std.proofs.lemmas.Bool.{true≢false}
 use Rattle.std.proofs.lemmas.Option.{none-some, same_Some}
 use Rattle.std.proofs.lemmas.List.Elements.{All-head, All-tail}
@@ -65,14 +66,6 @@ use Rattle.clu_passes.proofs.Tables.{bound_is}
 -- what a node of a kind is, by what the nodes before it are
 pub its_item : (nodes : List Node) (n : ℕ) (k : NodeKind) (x : There nodes n k) → item_at nodes n ≡ item_with (before n (item_at nodes)) nodes n (Some x.node)
 its_item nodes n k x = item_there nodes n x.node x.at
-
-pub and_true : (b : Bool) → (b && true) ≡ b
-and_true true = refl
-and_true false = refl
-
-pub and_false : (b : Bool) → (b && false) ≡ false
-and_false true = refl
-and_false false = refl
 
 -- ---- names are expressions of their own
 
@@ -270,8 +263,8 @@ module _ (t : Tables) (scope : Scope) (library : List Specification) (refused : 
     module _ (bits : List Bool) (bad : ℕ → Bool) (are_bad : AreBad f bits bad) where
       bad_at : (e : Option ℕ) → ((x : ℕ) → e ≡ Some x → is_kind f kind.Equate x ≡ true) → (b : Bool) → leads_on f (is_circular f) e ≡ b → equates.is_bad_at f bad e ≡ (table.is_bad_at bits e && not b)
       bad_at None is b circle = refl
-      bad_at (Some x) is true circle = ap (λ (c : Bool). bad_unless f bad c x) circle ∙ sym (and_false (is_set (slice_get bits x)))
-      bad_at (Some x) is false circle = ap (λ (c : Bool). bad_unless f bad c x) circle ∙ sym (are_bad x (is x refl)) ∙ sym (and_true (is_set (slice_get bits x)))
+      bad_at (Some x) is true circle = ap (λ (c : Bool). bad_unless f bad c x) circle ∙ sym (and-false (is_set (slice_get bits x)))
+      bad_at (Some x) is false circle = ap (λ (c : Bool). bad_unless f bad c x) circle ∙ sym (are_bad x (is x refl)) ∙ sym (and-true (is_set (slice_get bits x)))
 
       pub bad_name : (n : ℕ) (name : Identifier) → equates.is_bad_name f bad n name ≡ of_tables.is_bad t bits (found ds name n)
       bad_name n name =

@@ -2,6 +2,7 @@
 use Rattle.std.proofs.Common.{◌≡◌, ◌∙◌, ◌⊎◌, ℕ, ◌≤◌, Bool, true, false, ◌&&◌, ◌||◌, if◌then◌else◌, List, [], ◌∷◌, length, map, drop, codes, Option, Some, None, inl, inr, refl, sym, ap, subst, arith}
 use Rattle.std.specs.Prelude.{not, bytes_eq, is_none, is_some, slice_get}
 use Rattle.std.specs.List.{list_any}
+use Rattle.std.proofs.Math.Bool.{or_assoc}
 use Rattle.std.proofs.lemmas.Bool.{true≢false, and_parts}
 use Rattle.clu_base.specs.declared.constants.Const.{Const}
 use Rattle.clu_tree.specs.declared.node.Node.{Node}
@@ -133,10 +134,6 @@ guarded false b x y e same = ap (λ (c : Bool). c && y) e
 none_is : {A : Type 0} (o : Option A) → is_none o ≡ not (is_some o)
 none_is None = refl
 none_is (Some x) = refl
-
-or_three : (a b c : Bool) → (a || b || c) ≡ (a || (b || c))
-or_three true b c = refl
-or_three false b c = refl
 
 or_five : (a b c d e : Bool) → (a || b || c || d || e) ≡ (a || (b || (c || (d || e))))
 or_five true b c d e = refl
@@ -480,7 +477,7 @@ module _ (t : Tables) (scope : Scope) (library : List Specification) (refused : 
           (guarded (rules_of.is_neither f n) (of_tables.is_neither r n) (not (wants.wants_type f n)) (not (named.wants_type r n)) (neither_same n known brackets) (λ h. ap not (neither_wants n h)))
           ∙ ap (λ (b : Bool). (of_tables.is_neither r n && not (named.wants_type r n)) || b || rules_of.is_too_long f rules_of.is_long_constant n) (bad_constant n (type_wanted n brackets) (kind_at nodes n) refl)
           ∙ ap (λ (c : Bool). (of_tables.is_neither r n && not (named.wants_type r n)) || of_tables.has_bad_constant t bits (kind_at nodes n) n || c) long
-          ∙ or_three (of_tables.is_neither r n && not (named.wants_type r n)) (of_tables.has_bad_constant t bits (kind_at nodes n) n) (of_tables.is_right_side r n && of_tables.is_long_constant t.long_constants.now (value_in r n))
+          ∙ or_assoc (of_tables.is_neither r n && not (named.wants_type r n)) (of_tables.has_bad_constant t bits (kind_at nodes n) n) (of_tables.is_right_side r n && of_tables.is_long_constant t.long_constants.now (value_in r n))
 
       pub v8_is : (n : ℕ) → IsKnown r n → AreBracketsKnown r n → rules_of.v8 f bad n ≡ of_tables.v8 t bits n
       v8_is n known brackets = v8_by n (operator_known_in r (kind_at nodes n) n known) brackets (too_long_constant n (λ side. known))

@@ -3,7 +3,7 @@
 use Rattle.std.proofs.Common.{◌≡◌, ◌∙◌, ℕ, ◌<◌, ◌≤◌, ◌&&◌, ◌||◌, Bool, true, false, List, [], ◌∷◌, length, drop, is_some, Option, Some, None, inl, inr, refl, sym, ap, subst, arith}
 use Rattle.std.specs.Prelude.{slice_get}
 use Rattle.std.specs.List.{AllByRecursion}
-use Rattle.std.proofs.lemmas.Bool.{true≢false, or_right}
+use Rattle.std.proofs.lemmas.Bool.{true≢false, or_right, or_left}
 use Rattle.clu_base.specs.declared.rules.Rule.{Rule}
 use Rattle.clu_base.specs.declared.rules.Rule.TheVariants as rule
 use Rattle.clu_tree.specs.declared.node.Node.{Node}
@@ -53,14 +53,10 @@ abbrev pub reads_facts : NodeKind → Bool
 reads_facts kind.NameT = true
 reads_facts k = is_expression k
 
-either : (a b : Bool) → a ≡ true → (a || b) ≡ true
-either true b e = refl
-either false b e = absurd (true≢false (sym e))
-
 constant_of : (k : NodeKind) → reads_facts k ≡ true → (is_expression k || is_type k) ≡ true
 constant_of kind.NameT e = refl
 constant_of kind.File e = absurd (true≢false (sym e))
-constant_of k e = either (is_expression k) (is_type k) e
+constant_of k e = or_left (is_expression k) (is_type k) e
 
 no_simple : (k : NodeKind) → reads_facts k ≡ true → is_of kind.Simple k ≡ false
 no_simple kind.Simple e = absurd (true≢false (sym e))

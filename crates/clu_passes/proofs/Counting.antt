@@ -1,25 +1,21 @@
 -- Names that all stand in a list, each once, are all of the list if they are no fewer.
 use Rattle.std.proofs.Common.{◌≡◌, ◌∙◌, suc, ◌≤◌, nat_lt, not, Bool, true, false, ◌&&◌, ◌||◌, List, [], ◌∷◌, length, bytes_eq, refl, sym, ap, arith}
 use Rattle.std.specs.List.{list_any, AllByRecursion, IsDistinct}
-use Rattle.std.proofs.lemmas.Bool.{true≢false, lt-ltb, le-ltb}
+use Rattle.std.proofs.lemmas.Bool.{true≢false, lt-ltb, le-ltb, or_right, or_parts}
 use Rattle.std.proofs.lemmas.Cmp.{nat_list_eq_equiv}
 use Rattle.std.proofs.lemmas.Map.Made.{length-le_from_is_member}
 use Rattle.clu_syntax.specs.Syntax.{Identifier}
 use Rattle.clu_checking.specs.NameRules.{stands_twice}
 use Rattle.clu_passes.specs.Counting.{has_all}
 
-pub either_false : (a b : Bool) → (a || b) ≡ false → (a ≡ false) × (b ≡ false)
-either_false true b e = absurd (true≢false e)
-either_false false b e = (refl, e)
-
 apart : (x : Identifier) (ys : List Identifier) → list_any (bytes_eq x) ys ≡ false → AllByRecursion (λ y. bytes_eq x y ≡ false) ys
 apart x [] e = tt
-apart x (y ∷ ys) e = let both = either_false (bytes_eq x y) (list_any (bytes_eq x) ys) e in (both.0, apart x ys both.1)
+apart x (y ∷ ys) e = let both = or_parts (bytes_eq x y) (list_any (bytes_eq x) ys) e in (both.0, apart x ys both.1)
 
 once : (xs : List Identifier) → stands_twice xs ≡ false → IsDistinct bytes_eq xs
 unfolding IsDistinct
 once [] e = tt
-once (x ∷ xs) e = let both = either_false (list_any (bytes_eq x) xs) (stands_twice xs) e in (apart x xs both.0, once xs both.1)
+once (x ∷ xs) e = let both = or_parts (list_any (bytes_eq x) xs) (stands_twice xs) e in (apart x xs both.0, once xs both.1)
 
 with_one : (x : Identifier) (ys : List Identifier) → list_any (bytes_eq x) ys ≡ false → IsDistinct bytes_eq ys → IsDistinct bytes_eq (x ∷ ys)
 unfolding IsDistinct
@@ -41,10 +37,6 @@ members (x ∷ xs) ys all q e = by (bytes_eq q x) refl (list_any (bytes_eq x) ys
     by true same true there all e more = alike q x ys same ∙ there
     by false same true there all e more = more all q e
 
-or_second : (a b : Bool) → b ≡ true → (a || b) ≡ true
-or_second true b e = refl
-or_second false b e = e
-
 -- one that is missing
 missing : (xs ys : List Identifier) → has_all xs ys ≡ false → (x : Identifier) × (list_any (bytes_eq x) xs ≡ true) × (list_any (bytes_eq x) ys ≡ false)
 missing [] ys e = absurd (true≢false e)
@@ -53,7 +45,7 @@ missing (x ∷ xs) ys e = by (list_any (bytes_eq x) ys) refl e (missing xs ys)
     by : (b : Bool) → list_any (bytes_eq x) ys ≡ b → (b && has_all xs ys) ≡ false → (has_all xs ys ≡ false → (z : Identifier) × (list_any (bytes_eq z) xs ≡ true) × (list_any (bytes_eq z) ys ≡ false))
         → (z : Identifier) × (list_any (bytes_eq z) (x ∷ xs) ≡ true) × (list_any (bytes_eq z) ys ≡ false)
     by false there e more = (x, ap (λ (b : Bool). b || list_any (bytes_eq x) xs) (nat_list_eq_equiv.refl x), there)
-    by true there e more = let found = more e in (found.0, or_second (bytes_eq found.0 x) (list_any (bytes_eq found.0) xs) found.1, found.2)
+    by true there e more = let found = more e in (found.0, or_right (bytes_eq found.0 x) (list_any (bytes_eq found.0) xs) found.1, found.2)
 
 in_whole : (x q : Identifier) (xs ys : List Identifier) → list_any (bytes_eq x) xs ≡ true → ((q : Identifier) → list_any (bytes_eq q) ys ≡ true → list_any (bytes_eq q) xs ≡ true) → list_any (bytes_eq q) (x ∷ ys) ≡ true → list_any (bytes_eq q) xs ≡ true
 in_whole x q xs ys there more e = by (bytes_eq q x) refl e

@@ -1,8 +1,9 @@
 -- `cvt` as a whole type of a heading stands below no expression, type or equate.
 use Rattle.std.proofs.Common.{◌≡◌, ◌∙◌, ◌⊎◌, ℕ, ◌+◌, ◌<◌, ◌≤◌, ◌&&◌, ◌||◌, not, Bool, true, false, List, length, Option, Some, inl, inr, refl, sym, ap, subst, arith}
 use Rattle.std.specs.Prelude.{slice_get}
-use Rattle.std.proofs.lemmas.Bool.{true≢false, cases_lt}
+use Rattle.std.proofs.lemmas.Bool.{true≢false, cases_lt, not-true}
 use Rattle.std.proofs.lemmas.Option.{same_Some, slice_get_within}
+use Rattle.clu_base.proofs.Bools.{implied}
 use Rattle.clu_tree.specs.declared.node.Node.{Node}
 use Rattle.clu_tree.specs.declared.node.NodeKind.{NodeKind}
 use Rattle.clu_tree.specs.declared.node.NodeKind.TheVariants as kind
@@ -38,10 +39,6 @@ equate_top = record { of_constant = refl; no_results = refl; no_exception = refl
 abbrev is_constant_kind : NodeKind → Bool
 is_constant_kind k = is_expression k || is_type k
 
-implied : (a b : Bool) → (not a || b) ≡ true → a ≡ true → b ≡ true
-implied true b e d = e
-implied false b e d = absurd (true≢false (sym d))
-
 of_constants_too : (k : NodeKind) → (not (is_constant_kind k) || is_of_constant k) ≡ true
 of_constants_too kind.File = refl
 of_constants_too _ = refl
@@ -59,15 +56,11 @@ unfolding no_form
 none_below_too kind.File = refl
 none_below_too _ = refl
 
-other : (b : Bool) → not b ≡ true → b ≡ false
-other true e = absurd (true≢false (sym e))
-other false e = refl
-
 pub constant_top : (k : NodeKind) → is_constant_kind k ≡ true → IsTop k
 constant_top k e = record {
   of_constant = implied (is_constant_kind k) (is_of_constant k) (of_constants_too k) e;
-  no_results = other (is_of kind.Results k) (implied (is_constant_kind k) (not (is_of kind.Results k)) (no_results_too k) e);
-  no_exception = other (is_of kind.Exc k) (implied (is_constant_kind k) (not (is_of kind.Exc k)) (no_exceptions_too k) e);
+  no_results = not-true (is_of kind.Results k) (implied (is_constant_kind k) (not (is_of kind.Results k)) (no_results_too k) e);
+  no_exception = not-true (is_of kind.Exc k) (implied (is_constant_kind k) (not (is_of kind.Exc k)) (no_exceptions_too k) e);
   none_below = implied (is_constant_kind k) (no_form (forms k) kind.Exc) (none_below_too k) e;
 }
 
@@ -181,7 +174,7 @@ module _ (f : File) (of : IsFileOfTree f) where
     no_exception : (p : ℕ) (q : HasParent f.nodes p) → is_kind f kind.Exc p ≡ true → q.parent ≡ e → ⊥
     no_exception p q hit same =
         let alike : q.node ≡ its = same_Some q.node its (sym q.at ∙ ap (slice_get f.nodes) same ∙ at) in
-        true≢false (sym hit ∙ other (is_of kind.Exc (kind_at f.nodes p)) (kind_of_child f.nodes of.tree q.parent q.node q.at (of.shaped q.parent q.node q.at) p q.child (λ k. not (is_of kind.Exc k))
+        true≢false (sym hit ∙ not-true (is_of kind.Exc (kind_at f.nodes p)) (kind_of_child f.nodes of.tree q.parent q.node q.at (of.shaped q.parent q.node q.at) p q.child (λ k. not (is_of kind.Exc k))
         (λ k. ap (λ (m : Node). not (is_of kind.Exc k) || no_form (forms m.kind) k) alike ∙ no_such_child its.kind top.none_below k)))
 
     no_heading : (p : ℕ) → (round f e).first ≤ p → p ≤ e → is_of_heading f (Some p) ≡ false

@@ -3,6 +3,7 @@ use Rattle.std.proofs.Common.{◌≡◌, ◌∙◌, ◌⊎◌, ℕ, zero, suc, �
 use Rattle.std.specs.Prelude.{slice_get}
 use Rattle.std.proofs.lemmas.Bool.{true≢false, cases_eq}
 use Rattle.std.proofs.lemmas.Option.{none-some, same_Some}
+use Rattle.clu_base.proofs.Lists.{split}
 use Rattle.clu_tree.specs.declared.node.Node.{Node}
 use Rattle.clu_tree.specs.declared.node.NodeKind.{NodeKind}
 use Rattle.clu_tree.specs.declared.node.NodeKind.TheVariants as kind
@@ -15,7 +16,7 @@ use Rattle.clu_names.specs.Scopes.{node_at, kind_at_parent, scope_of, equate_nam
 use Rattle.clu_head.specs.There.{is_there}
 use Rattle.clu_passes.specs.Turns.{DeclareOnce}
 use Rattle.clu_passes.proofs.Units.{AllOf, VariablesAre, all_here, all_to, at_node, of_variables}
-use Rattle.clu_passes.proofs.Apart.{node_there, split}
+use Rattle.clu_passes.proofs.Apart.{node_there}
 
 -- ---- an Equate has one name, or the word `rep`
 

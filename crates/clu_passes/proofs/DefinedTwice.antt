@@ -1,6 +1,7 @@
 -- Whether a name is defined twice at a node, by the bits of names that stand twice and by the places of declarations.
 use Rattle.std.proofs.Common.{◌≡◌, ◌∙◌, ℕ, zero, suc, ◌-◌, ◌^◌, ◌<◌, ◌≤◌, ◌&&◌, ◌||◌, Bool, true, false, List, [], ◌∷◌, length, get_or, take, drop, slice_get, Option, Some, None, refl, sym, ap, ap₂, subst, arith}
 use Rattle.std.specs.List.{list_any}
+use Rattle.std.proofs.Math.Bool.{or-false, or_comm, or-true}
 use Rattle.std.proofs.lemmas.Bool.{true≢false, and_parts, and_from}
 use Rattle.clu_tree.specs.declared.node.Node.{Node}
 use Rattle.clu_tree.specs.declared.node.NodeKind.{NodeKind}
@@ -36,10 +37,10 @@ use Rattle.clu_name_rules.specs.Own.{own_places}
 use Rattle.clu_name_rules.specs.Repeated.{exports_at}
 use Rattle.clu_passes.specs.Notes.{AreRepeated, HaveParents, DeclareModules}
 use Rattle.clu_passes.specs.Tables.{AreNames}
-use Rattle.clu_passes.proofs.ByNotes.{or_turned, items_told, arms_told, names_told}
+use Rattle.clu_passes.proofs.ByNotes.{items_told, arms_told, names_told}
 use Rattle.clu_passes.proofs.Known.{is_known, are_known, twice_is}
 use Rattle.clu_passes.proofs.ModuleNames.{words, inner_bit, module_bit, routine_noted, cluster_noted, names_known}
-use Rattle.clu_passes.proofs.Noted.{or_false, stand_twice}
+use Rattle.clu_passes.proofs.Noted.{stand_twice}
 use Rattle.clu_passes.proofs.OfParents.{have_parents}
 use Rattle.clu_passes.proofs.OwnPlaces.{there_is}
 use Rattle.clu_passes.proofs.RedeclaredInside.{redefined_told}
@@ -47,32 +48,28 @@ use Rattle.clu_passes.proofs.Units.{declare_modules, around_child}
 
 -- ---- tests
 
-or_true : (b : Bool) → (b || true) ≡ true
-or_true true = refl
-or_true false = refl
-
 own_case : (t r h : Bool) → (t ≡ false → r ≡ h) → ((t || r) || false) ≡ (t || (false || h))
 own_case true r h e = refl
-own_case false r h e = or_false r ∙ e refl
+own_case false r h e = or-false r ∙ e refl
 
 decl_case : (t r h s : Bool) → (t ≡ false → r ≡ h) → ((t || r) || s) ≡ ((t || s) || (false || h))
 decl_case true r h s e = refl
-decl_case false r h true e = or_true r
-decl_case false r h false e = or_false r ∙ e refl
+decl_case false r h true e = or-true r
+decl_case false r h false e = or-false r ∙ e refl
 
 alone_case : (t r h : Bool) → t ≡ false → (t ≡ false → r ≡ h) → ((t || r) || false) ≡ h
 alone_case true r h none e = absurd (true≢false none)
-alone_case false r h none e = or_false r ∙ e refl
+alone_case false r h none e = or-false r ∙ e refl
 
 routine_case : (t r h s st mb b m : Bool) → t ≡ false → (t ≡ false → r ≡ h) → m ≡ s → (s ≡ true → st ≡ false → b ≡ mb) → (s ≡ false → b ≡ false) → ((t || r) || (s && (st || mb))) ≡ (b || ((m && st) || h))
 routine_case true r h s st mb b m none e is one other = absurd (true≢false none)
-routine_case false r h true true mb b m none e is one other = or_true r ∙ sym (ap (λ (x : Bool). b || ((x && true) || h)) is ∙ or_true b)
-routine_case false r h true false mb b m none e is one other = or_turned r mb ∙ ap₂ (λ (x y : Bool). x || y) (sym (one refl refl)) (e refl) ∙ sym (ap (λ (x : Bool). b || ((x && false) || h)) is)
-routine_case false r h false st mb b m none e is one other = or_false r ∙ e refl ∙ sym (ap₂ (λ (x y : Bool). x || ((y && st) || h)) (other refl) is)
+routine_case false r h true true mb b m none e is one other = or-true r ∙ sym (ap (λ (x : Bool). b || ((x && true) || h)) is ∙ or-true b)
+routine_case false r h true false mb b m none e is one other = or_comm r mb ∙ ap₂ (λ (x y : Bool). x || y) (sym (one refl refl)) (e refl) ∙ sym (ap (λ (x : Bool). b || ((x && false) || h)) is)
+routine_case false r h false st mb b m none e is one other = or-false r ∙ e refl ∙ sym (ap₂ (λ (x y : Bool). x || ((y && st) || h)) (other refl) is)
 
 cluster_case : (st mb tw b m : Bool) → m ≡ true → (st ≡ false → b ≡ (mb || tw)) → ((st || mb) || tw) ≡ (b || ((m && st) || false))
-cluster_case true mb tw b m is one = sym (ap (λ (x : Bool). b || ((x && true) || false)) is ∙ or_true b)
-cluster_case false mb tw b m is one = sym (one refl) ∙ sym (ap (λ (x : Bool). b || ((x && false) || false)) is ∙ or_false b)
+cluster_case true mb tw b m is one = sym (ap (λ (x : Bool). b || ((x && true) || false)) is ∙ or-true b)
+cluster_case false mb tw b m is one = sym (one refl) ∙ sym (ap (λ (x : Bool). b || ((x && false) || false)) is ∙ or-false b)
 
 once_alone : (names : List Identifier) → stands_twice (take 1 names) ≡ false
 once_alone [] = refl
@@ -174,7 +171,7 @@ module _ (t : Text) (f : File) (parsed : IsParsed t f.nodes) (are : AreRounds f.
       ap (λ (xs : List Identifier). (twice kind.Routine n || redefined kind.Routine n) || (checking.stands_in f kind.Module n && (is_stream (first_name xs) || module_before f n (first_name xs)))) names_is
       ∙ routine_case (twice kind.Routine n) (redefined kind.Routine n) (by_places kind.Routine n) (checking.stands_in f kind.Module n) (is_stream first.0) (module_before f n first.0) (bit n) (of_module n)
       (once_alone (names f n)) (placed n kind.Routine e) in_module
-      (λ is plain. module_bit t f parsed are same bits repeated n its.node its.at first.0 first.1 first.2 plain (sym module_is ∙ is) ∙ ap (λ (b : Bool). module_before f n first.0 || b) noted ∙ or_false (module_before f n first.0))
+      (λ is plain. module_bit t f parsed are same bits repeated n its.node its.at first.0 first.1 first.2 plain (sym module_is ∙ is) ∙ ap (λ (b : Bool). module_before f n first.0 || b) noted ∙ or-false (module_before f n first.0))
       (λ other. inner_bit t f parsed are same bits repeated n its.node its.at (sym module_is ∙ other) ∙ noted)
       ∙ sym (ap (λ (xs : List Identifier). bit n || ((of_module n && begins_with_stream xs) || by_places kind.Routine n)) table_names)
 
@@ -218,7 +215,7 @@ module _ (t : Text) (f : File) (parsed : IsParsed t f.nodes) (are : AreRounds f.
       decl_case (twice kind.Decl n) (redefined kind.Decl n) (by_places kind.Decl n) (stands_before f kind.Decl n) (placed n kind.Decl e)
       ∙ sym (ap₂ (λ (b m : Bool). b || ((m && of_stream n) || by_places kind.Decl n)) (items_told f parents modules bits repeated n kind.Decl e refl) (no_module n kind.Decl e refl refl))
   by_kind n kind.Exc e =
-      sym (ap₂ (λ (b m : Bool). b || ((m && of_stream n) || false)) (arms_told f parents modules bits repeated n kind.Exc e refl) (no_module n kind.Exc e refl refl) ∙ or_false (stands_before f kind.Exc n))
+      sym (ap₂ (λ (b m : Bool). b || ((m && of_stream n) || false)) (arms_told f parents modules bits repeated n kind.Exc e refl) (no_module n kind.Exc e refl refl) ∙ or-false (stands_before f kind.Exc n))
   by_kind n kind.TagArm e = alone n kind.TagArm e (variable_alone (item_at f.nodes n).tag_arm.variable) (no_module n kind.TagArm e refl refl)
   by_kind n kind.TypeSet e = alone n kind.TypeSet e (once_alone (names f n)) (no_module n kind.TypeSet e refl refl)
   by_kind n kind.Routine e = routine_told n e

@@ -1,9 +1,11 @@
 -- Each demand of a node is made at a node that stands in its clause.
-use Rattle.std.proofs.Common.{◌≡◌, ◌∙◌, ◌⊎◌, inl, inr, ℕ, zero, suc, ◌-◌, ◌<◌, ◌≤◌, ◌&&◌, Bool, true, false, if◌then◌else◌, List, [], ◌∷◌, ◌++◌, Contains, length, get_or, slice_get, Option, Some, None, refl, sym, ap, arith}
+use Rattle.std.proofs.Common.{◌≡◌, ◌∙◌, ◌⊎◌, inl, inr, ℕ, ◌-◌, ◌<◌, ◌≤◌, ◌&&◌, Bool, true, false, if◌then◌else◌, List, [], ◌∷◌, ◌++◌, Contains, length, get_or, slice_get, Option, Some, None, refl, sym, ap, arith}
 use Rattle.std.specs.List.{AllByRecursion}
 use Rattle.std.specs.Option.{option_or}
 use Rattle.std.proofs.lemmas.Bool.{true≢false, cases_lt}
+use Rattle.std.proofs.lemmas.List.Elements.{Contains-append_cases}
 use Rattle.std.proofs.lemmas.Option.{slice_get_within}
+use Rattle.clu_base.proofs.Lists.{head_or_tail, in_none}
 use Rattle.clu_tree.specs.declared.node.Node.{Node}
 use Rattle.clu_tree.specs.declared.node.NodeKind.{NodeKind}
 use Rattle.clu_tree.specs.declared.node.NodeKind.TheVariants as kind
@@ -30,23 +32,6 @@ use Rattle.clu_head.specs.There.{is_there}
 use Rattle.clu_passes.specs.Demands.{clause_of}
 
 -- ---- lists
-
-pub head_or_tail : {X : Type 0} (x : X) (xs : List X) (m : X) → Contains (x ∷ xs) m → (x ≡ m) ⊎ Contains xs m
-head_or_tail x xs m h = by h.0 h.1 h.2
-  where
-    by : (k : ℕ) → k < length (x ∷ xs) → get_or (x ∷ xs) k m ≡ m → (x ≡ m) ⊎ Contains xs m
-    by zero lt is = inl is
-    by (suc k) lt is = inr (k, omega (arith, lt), is)
-
-in_either : {X : Type 0} (xs ys : List X) (m : X) → Contains (xs ++ ys) m → Contains xs m ⊎ Contains ys m
-in_either [] ys m h = inr h
-in_either (x ∷ xs) ys m h = elim (head_or_tail x (xs ++ ys) m h) [
-  | inl is ↦ inl (0, omega arith, is)
-  | inr there ↦ elim (in_either xs ys m there) [ inl a ↦ inl (suc a.0, omega (arith, a.1), a.2) | inr b ↦ inr b ]
-]
-
-pub in_none : {X A : Type 0} (m : X) → Contains [] m → A
-in_none m h = absurd (omega (arith, h.1))
 
 all_after_one : (P : ℕ → Type 0) (nodes : List Node) (k : NodeKind) (cs : List ℕ) → AllByRecursion P cs → AllByRecursion P (after_one nodes k cs)
 all_after_one P nodes k [] ps = tt
@@ -341,7 +326,7 @@ module _ (t : Text) (f : File) (parsed : IsParsed t f.nodes) (are : AreRounds f.
   by_all : (c : ℕ) (askings : List Asking) → AreIn c askings → (d : Demanded) → Contains (demands_by_all nodes askings) d → clause_of f d.node ≡ Some c
   unfolding demands_by_all
   by_all c [] all d h = in_none d h
-  by_all c (a ∷ askings) all d h = elim (in_either (demands_by nodes a) (demands_by_all nodes askings) d h) [
+  by_all c (a ∷ askings) all d h = elim (Contains-append_cases (demands_by nodes a) (demands_by_all nodes askings) d h) [
     | inl here ↦ by_one c a all.0 d here
     | inr there ↦ by_all c askings all.1 d there
   ]

@@ -2,9 +2,11 @@
 use Rattle.std.proofs.Common.{◌≡◌, ◌∙◌, ◌⊎◌, inl, inr, ℕ, zero, suc, ◌+◌, ◌<◌, ◌≤◌, ◌==◌, ◌&&◌, ◌||◌, not, Bool, true, false, if◌then◌else◌, List, [], ◌∷◌, Contains, length, map, get_or, slice_get, replicate, bytes_eq, option_map, Option, Some, None, IfSome, refl, sym, ap, subst, arith, eqb-true, eq-eqb}
 use Rattle.std.specs.List.{list_any}
 use Rattle.std.specs.Option.{option_or}
+use Rattle.std.proofs.Math.Bool.{or-false, and_comm}
 use Rattle.std.proofs.lemmas.Bool.{cases_lt, cases_eq, and_parts}
 use Rattle.std.proofs.lemmas.Option.{none-some, same_Some, slice_get_past}
 use Rattle.std.proofs.lemmas.Slice.Eq.{bytes_eq-Decides}
+use Rattle.clu_base.proofs.Bools.{same_truth}
 use Rattle.clu_types.specs.CluType.{CluType}
 use Rattle.clu_types.specs.Arena.{IsArena, type_at, types_of}
 use Rattle.clu_types.specs.declared.term.Term.{Term}
@@ -48,26 +50,11 @@ use Rattle.clu_passes.proofs.UpDown.{same_numbers}
 
 -- ---- tests
 
-or_false : (b : Bool) → (b || false) ≡ b
-or_false true = refl
-or_false false = refl
-
-same_truth : (a b : Bool) → (a ≡ true → b ≡ true) → (b ≡ true → a ≡ true) → a ≡ b
-same_truth true b to from = sym (to refl)
-same_truth false true to from = from refl
-same_truth false false to from = refl
-
 turned : (a b : ℕ) → (a == b) ≡ (b == a)
 turned a b = same_truth (a == b) (b == a) (λ e. eq-eqb b a (sym (eqb-true a b e))) (λ e. eq-eqb a b (sym (eqb-true b a e)))
 
 turned_name : (a b : List ℕ) → bytes_eq a b ≡ bytes_eq b a
 turned_name a b = same_truth (bytes_eq a b) (bytes_eq b a) (λ e. (bytes_eq-Decides b a).1 (sym ((bytes_eq-Decides a b).0 e))) (λ e. (bytes_eq-Decides a b).1 (sym ((bytes_eq-Decides b a).0 e)))
-
-and_turned : (a b : Bool) → (a && b) ≡ (b && a)
-and_turned true true = refl
-and_turned true false = refl
-and_turned false true = refl
-and_turned false false = refl
 
 and_assoc : (a b c : Bool) → ((a && b) && c) ≡ (a && b && c)
 and_assoc true b c = refl
@@ -145,7 +132,7 @@ module _ (asked : Asked) (n : ℕ) where
   none_below zero none = refl
   none_below (suc many) none =
       ap (λ (b : Bool). tables.is_disagreeing asked many n || b) (none many (omega arith))
-      ∙ or_false (tables.is_disagreeing asked many n)
+      ∙ or-false (tables.is_disagreeing asked many n)
       ∙ none_below many (λ c lt. none c (omega (arith, lt)))
 
   one_below : (many its : ℕ) → its < many → ((c : ℕ) → (c ≡ its → ⊥) → in_clause c ≡ false) → tables.is_disagreeing asked many n ≡ in_clause its
@@ -155,7 +142,7 @@ module _ (asked : Asked) (n : ℕ) where
         ap (λ (b : Bool). b || in_clause many) (none_below many (λ c less. others c (λ is. omega (arith, less, is, same)))) ∙ ap in_clause same
     | inr other ↦
         ap (λ (b : Bool). tables.is_disagreeing asked many n || b) (others many other)
-        ∙ or_false (tables.is_disagreeing asked many n)
+        ∙ or-false (tables.is_disagreeing asked many n)
         ∙ one_below many its (omega (arith, lt, other)) others
   ]
 
@@ -278,7 +265,7 @@ module _ (t : Tables) (scope : Scope) (library : List Specification) (refused : 
       by_kind n kind.Restrict is =
           ap (λ (b : Bool). not b && checking.disagrees_with n [] (checking.clause_round f bad n)) (unusable_at n is)
           ∙ ap (λ (b : Bool). not (list_any (rules.is_unusable nodes t.file.names.now t.circular.now bits) (bound_in t.file.names.now n)) && b) (at_restrict n is ∙ sym (at_bit n kind.Restrict (λ x. cc) is))
-          ∙ and_turned (not (list_any (rules.is_unusable nodes t.file.names.now t.circular.now bits) (bound_in t.file.names.now n))) (is_set (slice_get disagreeing n))
+          ∙ and_comm (not (list_any (rules.is_unusable nodes t.file.names.now t.circular.now bits) (bound_in t.file.names.now n))) (is_set (slice_get disagreeing n))
       by_kind n _ is = refl
 
       pub disagrees_same : (n : ℕ) → checking.disagrees_at f bad (kind_at nodes n) n ≡ rules.disagrees_by nodes t.file.names.now t.circular.now bits disagreeing (kind_at nodes n) n

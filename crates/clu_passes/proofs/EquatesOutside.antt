@@ -2,6 +2,7 @@
 use Rattle.std.proofs.Common.{◌≡◌, ◌∙◌, ℕ, ◌&&◌, ◌||◌, not, Bool, true, false, List, [], ◌∷◌, Option, Some, None, refl, sym, ap}
 use Rattle.std.specs.Prelude.{slice_get}
 use Rattle.std.proofs.lemmas.Bool.{true≢false}
+use Rattle.clu_base.proofs.Bools.{implied}
 use Rattle.clu_tree.specs.declared.node.Node.{Node}
 use Rattle.clu_tree.specs.declared.node.NodeKind.{NodeKind}
 use Rattle.clu_tree.specs.declared.node.NodeKind.TheVariants as kind
@@ -33,10 +34,6 @@ or_no_equate : (top : NodeKind) → no_form (forms top) kind.Equate ≡ true →
 or_no_equate top e kind.Equate = e
 or_no_equate top e kind.File = refl
 or_no_equate top e _ = refl
-
-implied : (a b : Bool) → (not a || b) ≡ true → a ≡ true → b ≡ true
-implied true b e h = e
-implied false b e h = absurd (true≢false (sym h))
 
 not_both : (b : Bool) → not b ≡ true → b ≡ true → ⊥
 not_both true e h = true≢false (sym e)

@@ -1,10 +1,11 @@
 -- The arm to which an exit goes, by tables: along what guards it, the first of its name.
-use Rattle.std.proofs.Common.{◌≡◌, ◌∙◌, ◌<◌, ◌≤◌, ◌⊎◌, ℕ, zero, suc, ◌+◌, ◌-◌, Bool, true, false, ◌&&◌, ◌||◌, ◌==◌, cond, filter, find, if◌then◌else◌, List, [], ◌∷◌, ◌++◌, length, drop, flat_map, bytes_eq, nat_le, Option, Some, None, inl, inr, refl, sym, ap, ap₂, subst, arith}
+use Rattle.std.proofs.Common.{◌≡◌, ◌∙◌, ◌<◌, ◌≤◌, ◌⊎◌, ℕ, zero, suc, ◌+◌, ◌-◌, Bool, true, false, ◌&&◌, ◌||◌, ◌==◌, cond, filter, find, if◌then◌else◌, List, [], ◌∷◌, length, drop, flat_map, bytes_eq, nat_le, Option, Some, None, inl, inr, refl, sym, ap, ap₂, subst, arith}
 use Rattle.std.specs.Prelude.{slice_get, not}
 use Rattle.std.specs.Option.{option_or}
 use Rattle.std.specs.List.{list_any, range_with_len}
 use Rattle.std.proofs.lemmas.Bool.{true≢false, cases_lt, and_parts, eq-eqb, ne_eqb, leb-true, not-true}
 use Rattle.std.proofs.lemmas.List.{take-append-drop}
+use Rattle.std.proofs.lemmas.List.Folds.{find-append}
 use Rattle.std.proofs.lemmas.Option.{slice_get_within}
 use Rattle.clu_tree.specs.declared.node.Node.{Node}
 use Rattle.clu_tree.specs.declared.node.NodeKind.{NodeKind}
@@ -46,14 +47,6 @@ use Rattle.clu_passes.proofs.StandTwice.{all_names, arms_are}
 
 -- ---- searches
 
-find_joined : {X : Type 0} (p : X → Bool) (xs ys : List X) → find p (xs ++ ys) ≡ option_or (find p xs) (find p ys)
-find_joined p [] ys = refl
-find_joined p (x ∷ xs) ys = by (p x) (find_joined p xs ys)
-  where
-    by : (b : Bool) → find p (xs ++ ys) ≡ option_or (find p xs) (find p ys) → cond b (Some x) (find p (xs ++ ys)) ≡ option_or (cond b (Some x) (find p xs)) (find p ys)
-    by true rest = refl
-    by false rest = rest
-
 or_none : {X : Type 0} (o : Option X) → option_or o None ≡ o
 or_none None = refl
 or_none (Some x) = refl
@@ -73,7 +66,7 @@ module _ {X : Type 0} where
   in_each p g q (e ∷ es) = by (q e) (in_each p g q es)
     where
       by : (b : Bool) → find p (flat_map g (filter q es)) ≡ first_when q (λ e. find p (g e)) es → find p (flat_map g (cond b (e ∷ filter q es) (filter q es))) ≡ pick b (find p (g e)) (first_when q (λ e. find p (g e)) es)
-      by true rest = find_joined p (g e) (flat_map g (filter q es)) ∙ ap (option_or (find p (g e))) rest
+      by true rest = find-append p (g e) (flat_map g (filter q es)) ∙ ap (option_or (find p (g e))) rest
       by false rest = rest
 
   none_when : (q : ℕ → Bool) (h : ℕ → Option X) → ((e : ℕ) → q e ≡ false) → (es : List ℕ) → first_when q h es ≡ None
@@ -209,7 +202,7 @@ module _ (k : Known) (scope : Scope) (library : List Specification) (refused : L
             let code : find has_name (c ∷ rest) ≡ find has_name (run nodes kind.When rest) =
             ap (λ (b : Bool). cond (b && list_any (bytes_eq name) (all_names nodes c)) (Some c) (find has_name rest)) (and_false (is_child shape.statement (kind_at nodes c)) (is_of kind.When (kind_at nodes c)) (statement_no_when (kind_at nodes c)) is.1)
             ∙ ap (find has_name) (sym (take-append-drop (leading nodes kind.When rest) rest))
-            ∙ find_joined has_name (run nodes kind.When rest) (after_run nodes kind.When rest)
+            ∙ find-append has_name (run nodes kind.When rest) (after_run nodes kind.When rest)
             ∙ ap (option_or (find has_name (run nodes kind.When rest))) behind
             ∙ or_none (find has_name (run nodes kind.When rest)) in
             subst (λ (o : Option ℕ). IsArm o (find (takes_name name) (arms_of (whens_at (items e) (run nodes kind.When rest))))) (sym code) (arms_found e (run nodes kind.When rest) r.parts)

@@ -3,7 +3,8 @@ use Rattle.std.proofs.Common.{◌≡◌, ◌∙◌, ◌<◌, ◌≤◌, ℕ, zer
 use Rattle.std.specs.Prelude.{slice_get, is_some, is_none, not}
 use Rattle.std.specs.Option.{option_or}
 use Rattle.std.specs.List.{list_any}
-use Rattle.std.proofs.lemmas.Bool.{true≢false, cases_lt, and_parts, or_cases, eq-eqb, ne_eqb, not-true}
+use Rattle.std.proofs.Math.Bool.{or-false, or_comm}
+use Rattle.std.proofs.lemmas.Bool.{true≢false, cases_lt, and_parts, or_cases, eq-eqb, ne_eqb, not-true, not-false}
 use Rattle.std.proofs.lemmas.List.{take-append-drop}
 use Rattle.std.proofs.lemmas.List.Folds.{list_any-append}
 use Rattle.std.proofs.lemmas.Option.{slice_get_within}
@@ -44,7 +45,7 @@ use Rattle.clu_passes.proofs.FactNodes as so
 use Rattle.clu_passes.proofs.FirstItems.{word_found, item_found}
 use Rattle.clu_passes.proofs.Guards.{IsGuarded, guarded, starts, some_guard, by_parent, none_guards}
 use Rattle.clu_passes.proofs.Known.{is_known, are_known, nodes_known}
-use Rattle.clu_passes.proofs.Noted.{or_false, any_same}
+use Rattle.clu_passes.proofs.Noted.{any_same}
 use Rattle.clu_passes.proofs.OneName.{OneName, exit_name}
 use Rattle.clu_passes.proofs.OwnPlaces.{there_is}
 use Rattle.clu_passes.proofs.RightSides.{no_parent}
@@ -75,12 +76,6 @@ some_either (Some x) b = refl
 none_is : (o : Option ℕ) → is_none o ≡ not (is_some o)
 none_is None = refl
 none_is (Some x) = refl
-
-or_turned : (a b : Bool) → (a || b) ≡ (b || a)
-or_turned true true = refl
-or_turned true false = refl
-or_turned false true = refl
-or_turned false false = refl
 
 -- ---- the parts of an Except
 
@@ -124,10 +119,6 @@ pub resignal_no_when : (j : NodeKind) → (not (is_of kind.When j) || no_form (f
 unfolding no_form
 resignal_no_when kind.File = refl
 resignal_no_when _ = refl
-
-not_false : (b : Bool) → not b ≡ false → b ≡ true
-not_false true e = refl
-not_false false e = absurd (true≢false e)
 
 module _ (all : List (List ℕ)) (nodes : List Node) where
   abbrev names_at : ℕ → List Identifier
@@ -193,7 +184,7 @@ module _ (all : List (List ℕ)) (nodes : List Node) where
       (λ c rest is s. (
       let r = run_is nodes n kind.When whens_here other_slots rest same_whens whens_apart s in
       arms_taken name n (run nodes kind.When rest) r.parts
-      ∙ sym (or_false (list_any (bytes_eq name) (whens_in (run nodes kind.When rest))))
+      ∙ sym (or-false (list_any (bytes_eq name) (whens_in (run nodes kind.When rest))))
       ∙ ap (λ (xs : List Identifier). list_any (bytes_eq name) (whens_in (run nodes kind.When rest)) || list_any (bytes_eq name) xs) (sym (no_other_whens n (after_run nodes kind.When rest) (some_slot nodes n other_slots (after_run nodes kind.When rest) r.rest)))
       ∙ sym (any_joined name (run nodes kind.When rest) (after_run nodes kind.When rest))
       ∙ ap (λ (ds : List ℕ). list_any (bytes_eq name) (whens_in ds)) (take-append-drop (leading nodes kind.When rest) rest)
@@ -212,7 +203,7 @@ module _ (all : List (List ℕ)) (nodes : List Node) where
       arm : (rest : List ℕ) → Stand nodes p arm_slots rest → IsIn n rest → is_arm (kind_at nodes n) ≡ true
       arm rest s i =
           let its = of_all (IsPart nodes (some_of arm_slots) p) n rest (some_slot nodes p arm_slots rest s) i in
-          not_false (is_arm (kind_at nodes n)) (and_false (some_of arm_slots (kind_at nodes n)) (not (is_arm (kind_at nodes n))) (arm_is_arm (kind_at nodes n)) its.1)
+          not-false (is_arm (kind_at nodes n)) (and_false (some_of arm_slots (kind_at nodes n)) (not (is_arm (kind_at nodes n))) (arm_is_arm (kind_at nodes n)) its.1)
 
       first_or_later : (c : ℕ) (rest : List ℕ) → IsPart nodes (is_child shape.statement) p c → Stand nodes p arm_slots rest → IsIn n (c ∷ rest) → (n == c) ≡ not (is_arm (kind_at nodes n))
       first_or_later c rest is s (inl e) =
@@ -250,7 +241,7 @@ module _ (k : Known) (scope : Scope) (library : List Specification) (refused : L
         by_parent t f parsed are n q.parent q.node q.at q.child asked
         ∙ ap (λ (its : Option Node). guarded_by asked q.parent || ((is_of kind.Except (kind_of its) && starts n (node_children f its)) && asked q.parent)) q.at
         ∙ ap (λ (b : Bool). guarded_by asked q.parent || ((b && starts n q.node.children) && asked q.parent)) other
-        ∙ or_false (guarded_by asked q.parent)
+        ∙ or-false (guarded_by asked q.parent)
 
     abbrev Last : ℕ → Type 0
     Last n = length nodes - 1 ≤ n
@@ -351,10 +342,10 @@ module _ (k : Known) (scope : Scope) (library : List Specification) (refused : L
             by : (b : Bool) → is_arm (kind_at nodes n) ≡ b → Found n
             by true e =
                 passed (its_guard ∙ ap (λ (j : NodeKind). guard_in j (kind_at nodes n) p (round_at f.rounds p)) is_except ∙ ap (λ (b : Bool). if◌then◌else◌ {A = Option ℕ} b (round_at f.rounds p).guard (Some p)) e)
-                (sum ∙ ap (λ (b : Bool). guarded_by asked p || (not b && asked p)) e ∙ or_false (guarded_by asked p))
+                (sum ∙ ap (λ (b : Bool). guarded_by asked p || (not b && asked p)) e ∙ or-false (guarded_by asked p))
             by false e =
                 by_it (its_guard ∙ ap (λ (j : NodeKind). guard_in j (kind_at nodes n) p (round_at f.rounds p)) is_except ∙ ap (λ (b : Bool). if◌then◌else◌ {A = Option ℕ} b (round_at f.rounds p).guard (Some p)) e)
-                (sum ∙ ap (λ (b : Bool). guarded_by asked p || (not b && asked p)) e ∙ or_turned (guarded_by asked p) (asked p))
+                (sum ∙ ap (λ (b : Bool). guarded_by asked p || (not b && asked p)) e ∙ or_comm (guarded_by asked p) (asked p))
 
         not_asked : q.node.kind ≡ kind.Resignal → asked p ≡ false
         not_asked is =

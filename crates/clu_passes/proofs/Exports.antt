@@ -2,6 +2,7 @@
 use Rattle.std.proofs.Common.{◌≡◌, ◌∙◌, ◌⊎◌, ℕ, zero, suc, ◌-◌, ◌<◌, ◌≤◌, Bool, true, false, ◌&&◌, ◌||◌, ◌==◌, not, if◌then◌else◌, List, [], ◌∷◌, length, take, drop, map, fold, filter, slice_get, is_some, is_none, bytes_eq, Option, Some, None, inl, inr, refl, sym, ap, arith, rules}
 use Rattle.std.specs.List.{list_any, list_all}
 use Rattle.std.specs.HashMap.{get}
+use Rattle.std.proofs.Math.Bool.{or-false}
 use Rattle.std.proofs.lemmas.Bool.{true≢false, ne_eqb, cases_lt, and_parts, and_from}
 use Rattle.std.proofs.lemmas.Option.{slice_get_within}
 use Rattle.std.proofs.lemmas.Slice.Eq.{bytes_eq-Decides}
@@ -31,7 +32,7 @@ use Rattle.clu_name_rules.specs.Words.{words_to}
 use Rattle.clu_name_rules.specs.Repeated.{same, Note, first_in, list_of, exports_at, item_names, own_names, listed_name, with_name, with_names, with_item_of, with_item, with_module, with_node, with_nodes, notes_of, AreNoted}
 use Rattle.clu_passes.specs.Notes.{HaveRoutines}
 use Rattle.clu_passes.proofs.AtNodes.{kids_are}
-use Rattle.clu_passes.proofs.Noted.{or_false, any_same, same_word, same_kind, seen, seen_names, same_listed}
+use Rattle.clu_passes.proofs.Noted.{any_same, same_word, same_kind, seen, seen_names, same_listed}
 use Rattle.clu_passes.proofs.StandTwice.{any_none, is_list, names_of_others, names_elsewhere, seen_other}
 use Rattle.clu_passes.proofs.FileNames.{unseen, unseen_node}
 use Rattle.clu_passes.proofs.Known.{is_known, are_known, turned_is, nodes_known}
@@ -130,7 +131,7 @@ module _ (all : List Identifier) (nodes : List Node) (top : ℕ) where
       (any_none (λ y. same (listed_name all top list.Names y) (at x)) (λ y. names_of_others all nodes top top list.Names list.Routines x y refl) (own_names nodes (kind_at nodes top) top))
       ∙ seen_routines (children_of (slice_get nodes top)) note x
       ∙ ap (λ (b : Bool). list_any (names_it x) (children_of (slice_get nodes top)) || b) (unseen all nodes top top list.Routines x (omega arith))
-      ∙ or_false (list_any (names_it x) (children_of (slice_get nodes top)))
+      ∙ or-false (list_any (names_it x) (children_of (slice_get nodes top)))
 
   seen_nodes : (l : ℕ) → top < l → (x : Identifier) → seen (with_nodes all nodes l []) (at x) ≡ list_any (names_it x) (children_of (slice_get nodes top))
   seen_nodes zero less x = absurd (omega (arith, less))
@@ -183,7 +184,7 @@ module _ (f : File) (shaped : HaveForms f.nodes) (have : HaveRoutines f) (items 
   first_is : (names : List Identifier) (x : Identifier) → (names ≡ [] → ⊥) → is_known all x ≡ true → (r : Identifier) → r ≡ first_name names → list_any (λ y. same_word all y x) (take 1 names) ≡ bytes_eq r x
   first_is [] x some known r e = absurd (some refl)
   first_is (name ∷ names) x some known r e =
-      or_false (same_word all name x) ∙ turned_is all x name known ∙ bytes_turned x name ∙ ap (λ (y : Identifier). bytes_eq y x) (sym e)
+      or-false (same_word all name x) ∙ turned_is all x name known ∙ bytes_turned x name ∙ ap (λ (y : Identifier). bytes_eq y x) (sym e)
 
   routine_named : (c : ℕ) (x : Identifier) → is_known all x ≡ true → is_kind f kind.Routine c ≡ true → list_any (λ y. same_word all y x) (take 1 (names_of (slice_get f.nodes c))) ≡ bytes_eq (routine c).name x
   routine_named c x known is = by (slice_get f.nodes c) refl

@@ -1,7 +1,8 @@
 -- V26 of an exception of a heading: `failure` is listed with one string, as callers see it.
-use Rattle.std.proofs.Common.{◌≡◌, ◌∙◌, ℕ, Bool, true, false, ◌&&◌, List, [], ◌∷◌, map, Option, Some, None, refl, sym, ap, ap₂, subst}
+use Rattle.std.proofs.Common.{◌≡◌, ◌∙◌, ℕ, Bool, ◌&&◌, List, [], ◌∷◌, map, Option, Some, None, refl, sym, ap, ap₂, subst}
 use Rattle.std.specs.Prelude.{not}
 use Rattle.std.specs.List.{AllByRecursion}
+use Rattle.std.proofs.Math.Bool.{and-false, and-true}
 use Rattle.clu_tree.specs.declared.node.Node.{Node}
 use Rattle.clu_tree.specs.declared.node.NodeKind.{NodeKind}
 use Rattle.clu_tree.specs.declared.node.NodeKind.TheVariants as kind
@@ -47,14 +48,6 @@ string_same : (types : List CluType) (its : Term) → same_type (type_of types i
 string_same types term.Str = refl
 string_same types _ = refl
 
-and_true : (b : Bool) → (b && true) ≡ b
-and_true true = refl
-and_true false = refl
-
-and_none : (b : Bool) → (b && false) ≡ false
-and_none true = refl
-and_none false = refl
-
 module _ (k : Known) (scope : Scope) (library : List Specification) (refused : List ℕ) where
   abbrev nodes : List Node
   nodes = k.tables.file.syntax.now
@@ -78,10 +71,10 @@ module _ (k : Known) (scope : Scope) (library : List Specification) (refused : L
     one_same : (others : ℕ → Item) (n : ℕ) (cs : List ℕ) → AreParts nodes is_type n cs → Told n cs → same_types (results_outside f n (types_at (before n (item_at nodes)) cs)) one_string ≡ is_one_string k (map (type_outside k.tables.file others n) cs)
     one_same others n [] ps here = refl
     one_same others n (c ∷ []) ps here =
-        and_true (same_type (for_callers (heading_type (place_at f n) (before n (item_at nodes) c).type)) string_type)
+        and-true (same_type (for_callers (heading_type (place_at f n) (before n (item_at nodes) c).type)) string_type)
         ∙ ap (λ (i : Item). same_type (for_callers (heading_type (place_at f n) i.type)) string_type) (before_is nodes n c ps.0.0)
         ∙ is_string_type (type_outside k.tables.file others n c) (for_callers (heading_type (place_at f n) (item f c).type)) (here.0 others)
-    one_same others n (c ∷ d ∷ cs) ps here = and_none (same_type (for_callers (heading_type (place_at f n) (before n (item_at nodes) c).type)) string_type)
+    one_same others n (c ∷ d ∷ cs) ps here = and-false (same_type (for_callers (heading_type (place_at f n) (before n (item_at nodes) c).type)) string_type)
 
     pub v26_is : (bad : ℕ → Bool) (others : ℕ → Item) (n : ℕ) → kind_at nodes n ≡ kind.Exc → Told n (known.children k n) → v26 f bad n ≡ is_other_failure k others n (names k n)
     v26_is bad others n is here =

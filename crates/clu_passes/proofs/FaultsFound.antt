@@ -1,11 +1,14 @@
 -- Rules over tables find the first fault that the definitions find, if they say the same up to it.
-use Rattle.std.proofs.Common.{◌≡◌, ◌∙◌, ◌⊎◌, ℕ, zero, suc, ◌+◌, ◌-◌, ◌<◌, ◌≤◌, ◌||◌, ◌&&◌, if◌then◌else◌, Bool, true, false, List, [], ◌∷◌, ◌++◌, length, map, filter, cond, is_some, Option, Some, None, inl, inr, refl, sym, ap, subst, arith}
+use Rattle.std.proofs.Common.{◌≡◌, ◌∙◌, ◌⊎◌, ℕ, zero, suc, ◌+◌, ◌-◌, ◌<◌, ◌≤◌, ◌||◌, ◌&&◌, if◌then◌else◌, Bool, true, false, List, [], ◌∷◌, ◌++◌, length, map, filter, cond, is_some, Option, Some, None, inl, inr, refl, sym, ap, subst, arith, zero-add}
 use Rattle.std.specs.Prelude.{find, slice_get}
 use Rattle.std.specs.List.{AllByRecursion, list_any, range_with_len}
+use Rattle.std.proofs.Math.Bool.{and-false}
 use Rattle.std.proofs.lemmas.Bool.{cases_eq, true≢false, and_parts}
 use Rattle.std.proofs.lemmas.List.{length-map}
+use Rattle.std.proofs.lemmas.List.FromFn.{length-range_with_len}
 use Rattle.std.proofs.lemmas.Option.{get_or_from_slice_get, none-some, slice_get_within}
 use Rattle.clu_base.specs.declared.rules.Rule.{Rule}
+use Rattle.clu_base.proofs.Lists.{get_shifted}
 use Rattle.clu_tree.specs.declared.node.NodeKind.{NodeKind}
 use Rattle.clu_tree.specs.declared.node.NodeKind.TheVariants as kind
 use Rattle.clu_syntax.specs.declared.round.Round.{Round}
@@ -37,7 +40,7 @@ use Rattle.clu_passes.specs.Turns.{ReadsAlone, arm_declared, bit, equate_declare
 use Rattle.clu_passes.proofs.Apart.{IsNode, bits_right, equate_right, node_there}
 use Rattle.clu_passes.proofs.BadEquates.{any_same, bad_is, least_same, names_are, solved, violates_same}
 use Rattle.clu_passes.proofs.ByKinds.{least_at, least_of_headings, least_of_rest, not_elsewhere}
-use Rattle.clu_passes.proofs.Chains.{and_none, ends_sooner, fewer_declared}
+use Rattle.clu_passes.proofs.Chains.{ends_sooner, fewer_declared}
 use Rattle.clu_passes.proofs.Counted.{refused_below, refused_is}
 use Rattle.clu_passes.proofs.DeclaredOnce.{declare_once}
 use Rattle.clu_passes.proofs.InEquates.{in_declarations}
@@ -149,7 +152,7 @@ module _ (f : File) (of : IsFileOfTree f) (bad : ℕ → Bool) (n : ℕ) where
   its = of_types (definition.violates f bad n)
 
   elsewhere : (r : Rule) → is_asked (kind_in f n) r ≡ false → its r ≡ false
-  elsewhere r e = ap (λ (b : Bool). is_of_types r && b) (not_elsewhere f of bad n r e) ∙ and_none (is_of_types r)
+  elsewhere r e = ap (λ (b : Bool). is_of_types r && b) (not_elsewhere f of bad n r e) ∙ and-false (is_of_types r)
 
   listed : least its all_rules ≡ least (definition.violates f bad n) (rules_of_types f)
   listed = refl
@@ -160,16 +163,9 @@ module _ (f : File) (of : IsFileOfTree f) (bad : ℕ → Bool) (n : ℕ) where
 
 -- ---- bad equates
 
-no_more : (e : ℕ) → 0 + e ≡ e
-no_more e = omega arith
-
 given : (b : Bool) (e : ℕ) → if◌then◌else◌ {A = Option ℕ} b (Some e) None ≡ Some e → b ≡ true
 given true e h = refl
 given false e h = absurd (none-some e h)
-
-behind_get : {X : Type 0} (xs ys : List X) (j : ℕ) → slice_get (xs ++ ys) (length xs + j) ≡ slice_get ys j
-behind_get [] ys j = let same : 0 + j ≡ j = omega arith in ap (slice_get ys) same
-behind_get (x ∷ xs) ys j = let same : suc (length xs) + j ≡ suc (length xs + j) = omega arith in ap (slice_get (x ∷ (xs ++ ys))) same ∙ behind_get xs ys j
 
 range_at : (h : ℕ → Option ℕ) (a len j : ℕ) → j < len → slice_get (map h (range_with_len a len)) j ≡ Some (h (a + j))
 range_at h a zero j less = absurd (omega (arith, less))
@@ -220,9 +216,9 @@ module _ (f : File) (of : IsFileOfTree f) (names : Names) (order : List ℕ) (ci
 
         stands : slice_get (equates ++ arms) (length equates + e) ≡ Some (Some e)
         stands =
-            behind_get equates arms e
+            get_shifted equates arms e
             ∙ range_at (arm_declared f.nodes f.rounds) 0 (length f.nodes) e (slice_get_within f.nodes e its_node.node its_node.there)
-            ∙ ap (λ (x : ℕ). Some (arm_declared f.nodes f.rounds x)) (no_more e)
+            ∙ ap (λ (x : ℕ). Some (arm_declared f.nodes f.rounds x)) (zero-add e)
             ∙ ap (λ (o : Option ℕ). Some o) arm
 
         -- one step fewer than there are declarations is enough for what is named there
@@ -317,19 +313,15 @@ mapped_bit g a zero j less = absurd (omega (arith, less))
 mapped_bit g a (suc len) zero less = let same : a ≡ a + 0 = omega arith in ap g same
 mapped_bit g a (suc len) (suc j) less = let same : a + 1 + j ≡ a + suc j = omega arith in mapped_bit g (a + 1) len j (omega (arith, less)) ∙ ap g same
 
-range_size : (a len : ℕ) → length (range_with_len a len) ≡ len
-range_size a zero = refl
-range_size a (suc len) = ap suc (range_size (a + 1) len)
-
 module _ (g : ℕ → Bool) (size : ℕ) where
   abbrev all_of : List Bool
   all_of = map g (range_with_len 0 size)
 
   all_size : length all_of ≡ size
-  all_size = length-map (range_with_len 0 size) g ∙ range_size 0 size
+  all_size = length-map (range_with_len 0 size) g ∙ length-range_with_len 0 size
 
   bit_of : (n : ℕ) → n < size → bit all_of n ≡ g n
-  bit_of n less = mapped_bit g 0 size n less ∙ ap g (no_more n)
+  bit_of n less = mapped_bit g 0 size n less ∙ ap g (zero-add n)
 
   filtered : filter g (range_with_len 0 size) ≡ filter (bit all_of) (range_with_len 0 (length all_of))
   filtered =

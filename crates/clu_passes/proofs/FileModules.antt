@@ -4,6 +4,7 @@ use Rattle.std.specs.Prelude.{bytes_eq}
 use Rattle.std.proofs.lemmas.Bool.{true≢false, cases_Bool, cases_lt, cases_eq, and_from}
 use Rattle.std.proofs.lemmas.Option.{none-some, same_Some, slice_get_within}
 use Rattle.std.proofs.lemmas.Slice.Eq.{bytes_eq-Decides}
+use Rattle.clu_base.proofs.Lists.{got_front}
 use Rattle.clu_tree.specs.declared.node.Node.{Node}
 use Rattle.clu_tree.specs.declared.node.NodeKind.{NodeKind}
 use Rattle.clu_tree.specs.declared.node.NodeKind.TheVariants as kind
@@ -119,13 +120,8 @@ pub record Has (name : Identifier) (ds : List Declared) : Type 0 where
   pub named : its.name ≡ name
   pub of_none : its.unit ≡ None
 
-get_front : {X : Type 0} (xs ys : List X) (i : ℕ) (x : X) → slice_get xs i ≡ Some x → slice_get (xs ++ ys) i ≡ Some x
-get_front [] ys i x e = absurd (none-some x e)
-get_front (y ∷ xs) ys zero x e = e
-get_front (y ∷ xs) ys (suc i) x e = get_front xs ys i x e
-
 has_front : (name : Identifier) (xs ys : List Declared) → Has name xs → Has name (xs ++ ys)
-has_front name xs ys h = record { place = h.place; its = h.its; there = get_front xs ys h.place h.its h.there; named = h.named; of_none = h.of_none }
+has_front name xs ys h = record { place = h.place; its = h.its; there = got_front xs ys h.place h.its h.there; named = h.named; of_none = h.of_none }
 
 has_back : (name : Identifier) (xs ys : List Declared) → Has name ys → Has name (xs ++ ys)
 has_back name [] ys h = h

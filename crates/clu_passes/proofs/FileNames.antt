@@ -1,5 +1,6 @@
 -- Which names of a file stand twice, by what is noted of all its nodes.
 use Rattle.std.proofs.Common.{◌≡◌, ◌∙◌, ◌⊎◌, ℕ, zero, suc, ◌<◌, ◌≤◌, Bool, true, false, ◌||◌, ◌==◌, List, [], ◌∷◌, fold, slice_get, Option, Some, None, inl, inr, refl, ap, arith}
+use Rattle.std.proofs.Math.Bool.{or-false}
 use Rattle.std.proofs.lemmas.Bool.{eqb-true, ne_eqb, cases_lt}
 use Rattle.clu_tree.specs.declared.node.Node.{Node}
 use Rattle.clu_syntax.specs.Kinds.{kind_at}
@@ -10,7 +11,7 @@ use Rattle.clu_name_rules.specs.declared.repeated.ListKind.TheVariants as list
 use Rattle.clu_name_rules.specs.declared.repeated.Listed.{Listed}
 use Rattle.clu_name_rules.specs.Repeated.{same, Note, list_of, item_names, own_names, listed_name, with_names, with_item_of, with_item, with_node, with_nodes}
 use Rattle.clu_passes.specs.Notes.{has}
-use Rattle.clu_passes.proofs.Noted.{or_false, seen, repeats, IsStrict, stand_twice, seen_names, names_apart, names_strict}
+use Rattle.clu_passes.proofs.Noted.{seen, repeats, IsStrict, stand_twice, seen_names, names_apart, names_strict}
 use Rattle.clu_passes.proofs.StandTwice.{any_none, never_names, names_elsewhere, seen_other, item_apart, items_apart}
 
 module _ (all : List (List ℕ)) (nodes : List Node) where
@@ -124,7 +125,7 @@ module _ (all : List (List ℕ)) (nodes : List Node) where
         ∙ ap (λ (b : Bool). (b || stand_twice all (own_at n)) || repeats (inside n (upto n)) n)
         (any_none (λ x. seen (inside n (upto n)) (listed_name all n list.Names x)) (λ x. seen_never (children n) (upto n) x ∙ unseen n n list.Names x (omega arith)) (own_at n))
         ∙ ap (λ (b : Bool). stand_twice all (own_at n) || b) (items_never n (children n) (upto n) ∙ before_own n (omega arith))
-        ∙ or_false (stand_twice all (own_at n))
+        ∙ or-false (stand_twice all (own_at n))
 
     -- one of them stands twice among them
     pub own_repeats : (l : ℕ) → n < l → repeats (upto l) n ≡ stand_twice all (own_at n)

@@ -1,7 +1,9 @@
 -- Objects and the types that are wanted of them, in lists, by what is known of both.
 use Rattle.std.proofs.Common.{◌≡◌, ◌∙◌, ◌==◌, ℕ, suc, Bool, true, false, ◌&&◌, List, [], ◌∷◌, ◌++◌, length, drop, Option, Some, None, refl, sym, ap, ap₂, arith}
+use Rattle.std.proofs.Math.Bool.{and-true}
 use Rattle.std.proofs.lemmas.Bool.{eq-eqb, eqb-true, eqb-false, ne_eqb}
 use Rattle.std.proofs.lemmas.List.{length-replicate}
+use Rattle.clu_base.proofs.Bools.{and_more}
 use Rattle.clu_types.specs.CluType.{CluType, string_type, CluTypes, no_types, type_and}
 use Rattle.clu_types.specs.declared.term.TypeId.{TypeId}
 use Rattle.clu_types.specs.declared.term.Term.{Term}
@@ -24,20 +26,12 @@ use Rattle.clu_passes.specs.FactTables.{IsType, AreTypes}
 use Rattle.clu_passes.proofs.FactTypes.{IsTerm, term_of_type, may_known}
 use Rattle.clu_passes.proofs.Invoked.{lengths}
 
-and_true : (b : Bool) → (b && true) ≡ b
-and_true true = refl
-and_true false = refl
-
 next_equal : (a b : ℕ) → (suc a == suc b) ≡ (a == b)
 next_equal a b = by (a == b) refl
   where
     by : (t : Bool) → (a == b) ≡ t → (suc a == suc b) ≡ t
     by true is = let same : a ≡ b = eqb-true a b is in eq-eqb (suc a) (suc b) (ap suc same)
     by false is = ne_eqb (suc a) (suc b) (λ e. eqb-false a b is (omega (arith, e)))
-
-and_more : (b x y z : Bool) → x ≡ (y && z) → (b && x) ≡ ((b && y) && z)
-and_more true x y z same = same
-and_more false x y z same = refl
 
 string_fits : (types : List CluType) (its : Term) → fits (type_of types its) string_type ≡ is_string its
 string_fits types term.Str = refl
@@ -137,7 +131,7 @@ module _ (k : Known) where
     one_string_same [] [] are = refl
     one_string_same [] (t ∷ ts) are = absurd are
     one_string_same (g ∷ gs) [] are = absurd are
-    one_string_same (g ∷ []) (t ∷ []) are = and_true (may_fit t string_type) ∙ may_string g t are.0
+    one_string_same (g ∷ []) (t ∷ []) are = and-true (may_fit t string_type) ∙ may_string g t are.0
     one_string_same (g ∷ []) (t ∷ u ∷ ts) are = absurd are.1
     one_string_same (g ∷ h ∷ gs) (t ∷ []) are = absurd are.1
     one_string_same (g ∷ h ∷ gs) (t ∷ u ∷ ts) are = ap (λ (b : Bool). b && (may_fit t string_type && true)) (ne_eqb (length (t ∷ u ∷ ts)) 1 (λ e. omega (arith, e)))

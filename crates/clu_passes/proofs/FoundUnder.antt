@@ -1,9 +1,10 @@
 -- What is looked for at a node, in any arena that has grown, is what is found under the clauses of the node.
-use Rattle.std.proofs.Common.{◌≡◌, ◌∙◌, ◌⊎◌, inl, inr, ℕ, zero, suc, ◌<◌, ◌||◌, Bool, true, false, if◌then◌else◌, List, [], ◌∷◌, ◌++◌, Contains, length, map, flat_map, take, drop, get_or, slice_get, option_map, option_and_then, Option, Some, None, IfSome, refl, sym, ap, subst, arith, append_assoc, length-append}
+use Rattle.std.proofs.Common.{◌≡◌, ◌∙◌, inl, inr, ℕ, suc, ◌<◌, ◌||◌, Bool, true, false, if◌then◌else◌, List, [], ◌∷◌, ◌++◌, Contains, length, map, flat_map, take, drop, get_or, slice_get, option_map, option_and_then, Option, Some, None, IfSome, refl, sym, ap, subst, arith, append_assoc, length-append, ap₂}
 use Rattle.std.proofs.Math.Seq.{get_or-append_seam, split_at}
 use Rattle.std.proofs.lemmas.List.{length-take}
 use Rattle.std.proofs.lemmas.Option.{none-some, same_Some, get_or_from_slice_get, slice_get-get_or, slice_get_within}
 use Rattle.std.specs.Option.{option_or}
+use Rattle.clu_base.proofs.Lists.{head_or_tail}
 use Rattle.clu_types.specs.CluType.{CluType, null_type, bool_type, int_type, char_type, string_type, any_type, stream_type, array_of, sequence_of, record_of, struct_of, oneof_of, variant_of, proc_of, iter_of, cluster_of, parameter, Actuals}
 use Rattle.clu_types.specs.Arena.{type_at, type_of, types_of, actuals_at, Grows}
 use Rattle.clu_types.specs.Substituted.{substituted, type_put}
@@ -13,7 +14,6 @@ use Rattle.clu_types.specs.declared.term.Term.{Term}
 use Rattle.clu_types.specs.declared.term.Term.TheVariants as term
 use Rattle.clu_types.specs.declared.term.TypeId.{TypeId}
 use Rattle.clu_types.proofs.Arenas.{types_of-push, length-types_of, types_kept, types_grown}
-use Rattle.clu_types.proofs.Equality.{join}
 use Rattle.clu_builtin.specs.Operation.{Needed, Operation}
 use Rattle.clu_builtin.specs.Table.{operation}
 use Rattle.clu_tree.specs.declared.node.NodeKind.{NodeKind}
@@ -87,10 +87,10 @@ module _ (old new : List Term) (grows : Grows old new) where
   demands_stay : (given : Actuals) (demands : List Demanded) → WantedBelow (length old) demands → flat_map (demand_told (types_of new) given) demands ≡ flat_map (demand_told (types_of old) given) demands
   demands_stay given [] b = refl
   demands_stay given (d ∷ demands) b =
-      join (λ (xs ys : List Ask). xs ++ ys) (ap (asked_of given d.parameter d.operation d.in_set) (type_stays given d.wanted b.0)) (demands_stay given demands b.1)
+      ap₂ (λ (xs ys : List Ask). xs ++ ys) (ap (asked_of given d.parameter d.operation d.in_set) (type_stays given d.wanted b.0)) (demands_stay given demands b.1)
 
   part_stays : (given : Actuals) (shows : Shows) → PartBelow (length old) shows → part_told (types_of new) given shows ≡ part_told (types_of old) given shows
-  part_stays given shows b = join (λ (t : Option CluType) (a : List Ask). let it : Told = record { type = t; asks = a } in it) (type_stays given shows.of b.1) (demands_stay given shows.demands b.0)
+  part_stays given shows b = ap₂ (λ (t : Option CluType) (a : List Ask). let it : Told = record { type = t; asks = a } in it) (type_stays given shows.of b.1) (demands_stay given shows.demands b.0)
 
   among_routines : (name : List ℕ) (given : Actuals) (rs : List RoutineHead) → RoutinesBelow (length old) rs
       → option_map (λ (r : RoutineHead). part_told (types_of new) given (of_routine r)) (if_seen false (first_named routine_name name rs)) ≡ option_map (λ (r : RoutineHead). part_told (types_of old) given (of_routine r)) (if_seen false (first_named routine_name name rs))
@@ -129,8 +129,8 @@ module _ (old new : List Term) (grows : Grows old new) where
 
     round_stays : (n number : ℕ) (name : List ℕ) → told_round headed (types_of new) n number name ≡ told_round headed (types_of old) n number name
     round_stays n number name =
-        join (λ (a b : Option Told). option_or a b)
-        (join (λ (a b : Option Told). option_or a b) (by_stays (round_in headed.file n).routine number name) (by_stays (round_in headed.file n).cluster number name)) (by_stays (set_round headed.file n number) number name)
+        ap₂ (λ (a b : Option Told). option_or a b)
+        (ap₂ (λ (a b : Option Told). option_or a b) (by_stays (round_in headed.file n).routine number name) (by_stays (round_in headed.file n).cluster number name)) (by_stays (set_round headed.file n number) number name)
 
 -- ---- clauses say what is given
 
@@ -166,7 +166,7 @@ module _ (headed : Headed) (types : List CluType) where
       by None e =
           ap (λ (set : Option ℕ). option_or (option_or (told_given headed types (round_in headed.file n).routine number name) (told_given headed types (round_in headed.file n).cluster number name)) (told_given headed types set number name)) (sets n e number)
           ∙ or_none (option_or (told_given headed types (round_in headed.file n).routine number name) (told_given headed types (round_in headed.file n).cluster number name))
-          ∙ join (λ (a b : Option Told). option_or a b) (sym (asking_same (round_in headed.file n).routine number name)) (sym (asking_same (round_in headed.file n).cluster number name))
+          ∙ ap₂ (λ (a b : Option Told). option_or a b) (sym (asking_same (round_in headed.file n).routine number name)) (sym (asking_same (round_in headed.file n).cluster number name))
 
 -- ---- what is told of a type
 
@@ -249,13 +249,6 @@ AsksUp o = IfSome o (λ it. AllUp it.asks)
 
 no_asks : AllUp []
 no_asks a h = absurd (omega (arith, h.1))
-
-head_or_tail : {X : Type 0} (x : X) (xs : List X) (m : X) → Contains (x ∷ xs) m → (x ≡ m) ⊎ Contains xs m
-head_or_tail x xs m h = by h.0 h.1 h.2
-  where
-    by : (k : ℕ) → k < length (x ∷ xs) → get_or (x ∷ xs) k m ≡ m → (x ≡ m) ⊎ Contains xs m
-    by zero lt is = inl is
-    by (suc k) lt is = inr (k, omega (arith, lt), is)
 
 one_up : (a : Ask) → ascends a.of ≡ true → AllUp (a ∷ [])
 one_up a up b h = elim (head_or_tail a [] b h) [

@@ -2,7 +2,9 @@
 use Rattle.std.proofs.Common.{◌≡◌, ◌∙◌, ℕ, zero, suc, ◌+◌, ◌-◌, ◌<◌, ◌≤◌, nat_le, nat_lt, ◌==◌, ◌&&◌, ◌||◌, ◌⊎◌, inl, inr, cond, Bool, true, false, if◌then◌else◌, List, [], ◌∷◌, ◌++◌, length, map, filter, flat_map, find, bytes_eq, option_map, Option, Some, None, refl, sym, ap, ap₂, arith}
 use Rattle.std.specs.List.{AllByRecursion, list_any, range_with_len}
 use Rattle.std.specs.Option.{option_or}
+use Rattle.std.proofs.Math.Bool.{and-false, and_assoc}
 use Rattle.std.proofs.lemmas.Bool.{true≢false, and_parts, cases_lt, eqb-true, eq-eqb, lt-ltb}
+use Rattle.std.proofs.lemmas.List.Folds.{find-append}
 use Rattle.std.proofs.lemmas.Option.{slice_get_past}
 use Rattle.std.proofs.lemmas.Slice.Eq.{bytes_eq-Decides}
 use Rattle.clu_types.specs.CluType.{CluType}
@@ -39,25 +41,9 @@ turned_name a b = by (bytes_eq a b) refl (bytes_eq b a) refl
     by true e false g = absurd (true≢false (sym ((bytes_eq-Decides b a).1 (sym ((bytes_eq-Decides a b).0 e))) ∙ g))
     by false e true g = absurd (true≢false (sym ((bytes_eq-Decides a b).1 (sym ((bytes_eq-Decides b a).0 g))) ∙ e))
 
-pub find_behind : {A : Type 0} (p : A → Bool) (xs ys : List A) → find p (xs ++ ys) ≡ option_or (find p xs) (find p ys)
-find_behind p [] ys = refl
-find_behind p (x ∷ xs) ys = by (p x) (find_behind p xs ys)
-  where
-    by : (b : Bool) → find p (xs ++ ys) ≡ option_or (find p xs) (find p ys) → cond b (Some x) (find p (xs ++ ys)) ≡ option_or (cond b (Some x) (find p xs)) (find p ys)
-    by true more = refl
-    by false more = more
-
 map_or : {A B : Type 0} (g : A → B) (a b : Option A) → option_map g (option_or a b) ≡ option_or (option_map g a) (option_map g b)
 map_or g (Some a) b = refl
 map_or g None b = refl
-
-and_false : (b : Bool) → (b && false) ≡ false
-and_false true = refl
-and_false false = refl
-
-and_assoc : (a b c : Bool) → ((a && b) && c) ≡ (a && (b && c))
-and_assoc true b c = refl
-and_assoc false b c = refl
 
 -- a number in a list of numbers
 abbrev has : ℕ → List ℕ → Bool
@@ -72,7 +58,7 @@ has_filtered q m (x ∷ xs) = by (q x) refl (x == m) refl (has_filtered q m xs)
     by true passes false same more = ap (λ (b : Bool). b || has m (filter q xs)) same ∙ more
     by false passes true same more =
         let fails : q m ≡ false = ap q (sym (eqb-true x m same)) ∙ passes in
-        more ∙ ap (λ (b : Bool). has m xs && b) fails ∙ and_false (has m xs) ∙ sym fails
+        more ∙ ap (λ (b : Bool). has m xs && b) fails ∙ and-false (has m xs) ∙ sym fails
     by false passes false same more = more
 
 has_in_range : (from count m : ℕ) → from ≤ m → m < from + count → has m (range_with_len from count) ≡ true
@@ -148,7 +134,7 @@ module _ (f : File) where
   in_sets : (k : ℕ) (name : List ℕ) (own : ℕ) (sets : List ℕ) → AllByRecursion (λ s. (number s == k) ≡ true → s ≡ own) sets
       → find (is_given k name) (flat_map of_set sets) ≡ (if has own sets then find (is_given k name) (of_set own) else None)
   in_sets k name own [] only = refl
-  in_sets k name own (s ∷ sets) only = find_behind (is_given k name) (of_set s) (flat_map of_set sets) ∙ by (s == own) refl (in_sets k name own sets only.1)
+  in_sets k name own (s ∷ sets) only = find-append (is_given k name) (of_set s) (flat_map of_set sets) ∙ by (s == own) refl (in_sets k name own sets only.1)
     where
       other : (b : Bool) → (number s == k) ≡ b → (s == own) ≡ false → found_of_set k name s ≡ None
       other true is differ = absurd (true≢false (sym (eq-eqb s own (only.0 is)) ∙ differ))
@@ -206,7 +192,7 @@ module _ (h : Headed) (scope : Scope) (library : List Specification) (refused : 
     where
       by : (b : Bool) → is_type_set_node f.nodes s ≡ b → (has s (numbers f.nodes) && b) ≡ b
       by true is = ap (λ (b : Bool). b && true) (within s is)
-      by false is = and_false (has s (numbers f.nodes))
+      by false is = and-false (has s (numbers f.nodes))
 
   -- the set of a variable has its number
   abbrev own_of : ℕ → ℕ → ℕ
@@ -280,7 +266,7 @@ module _ (h : Headed) (scope : Scope) (library : List Specification) (refused : 
       (map_or found_of (told_given h types (round f n).routine k name) (told_given h types (round f n).cluster k name)
       ∙ ap₂ (λ (a b : Option Found). option_or a b) (by_routine n k name (round f n).routine refl) (by_cluster n k name (round f n).cluster refl)
       ∙ sym (map_or (given_found f) (find (is_given k name) (by_routines n)) (find (is_given k name) (by_clusters n)))
-      ∙ ap (option_map (given_found f)) (sym (find_behind (is_given k name) (by_routines n) (by_clusters n))))
+      ∙ ap (option_map (given_found f)) (sym (find-append (is_given k name) (by_routines n) (by_clusters n))))
       (by_sets n k name)
       ∙ sym (map_or (given_found f) (find (is_given k name) (by_routines n ++ by_clusters n)) (find (is_given k name) (given_by_sets f n)))
-      ∙ ap (option_map (given_found f)) (sym (find_behind (is_given k name) (by_routines n ++ by_clusters n) (given_by_sets f n)))
+      ∙ ap (option_map (given_found f)) (sym (find-append (is_given k name) (by_routines n ++ by_clusters n) (given_by_sets f n)))

@@ -3,8 +3,10 @@
 use Rattle.std.proofs.Common.{◌≡◌, ◌∙◌, ◌⊎◌, ℕ, zero, suc, ◌+◌, ◌-◌, ◌<◌, ◌≤◌, nat_le, Bool, true, false, ◌&&◌, ◌||◌, ◌==◌, List, [], ◌∷◌, length, map, Option, Some, None, inl, inr, refl, sym, ap, subst, arith}
 use Rattle.std.specs.Prelude.{slice_get}
 use Rattle.std.specs.List.{AllByRecursion, list_any, range_with_len}
+use Rattle.std.proofs.Math.Bool.{and-false, or-false}
 use Rattle.std.proofs.lemmas.Bool.{true≢false, cases_lt, and_parts, and_from, or_cases, or_left, or_right, eq-eqb, eqb-true, ne_eqb, leb-true, le-leb, lt-leb}
 use Rattle.std.proofs.lemmas.Option.{same_Some, slice_get_within}
+use Rattle.clu_base.proofs.Bools.{same_truth}
 use Rattle.clu_tree.specs.declared.node.Node.{Node}
 use Rattle.clu_tree.specs.declared.node.NodeKind.TheVariants as kind
 use Rattle.clu_tree.specs.Nodes.{IsTree}
@@ -109,11 +111,6 @@ module _ (nodes : List Node) (rounds : List Round) (n : ℕ) (node : Node) where
 
 -- ---- what guards a node, by its parent
 
-alike : (a b : Bool) → (a ≡ true → b ≡ true) → (b ≡ true → a ≡ true) → a ≡ b
-alike true b f g = sym (f refl)
-alike false true f g = absurd (true≢false (sym (g refl)))
-alike false false f g = refl
-
 -- of one Except, and of all of them
 shuffled : (k a b c : Bool) → (k && (a || (b && c))) ≡ ((k && a) || (c && (k && b)))
 shuffled true true b c = refl
@@ -134,14 +131,6 @@ spread true false c false = refl
 spread false true c m = refl
 spread false false c m = refl
 
-and_none : (b : Bool) → (b && false) ≡ false
-and_none true = refl
-and_none false = refl
-
-or_false : (b : Bool) → (b || false) ≡ b
-or_false true = refl
-or_false false = refl
-
 any_past : (q : ℕ → Bool) (p a k : ℕ) → p < a → list_any (λ e. p == e && q e) (range_with_len a k) ≡ false
 any_past q p a zero l = refl
 any_past q p a (suc k) l = ap (λ (b : Bool). (b && q a) || list_any (λ e. p == e && q e) (range_with_len (a + 1) k)) (ne_eqb p a (λ e. omega (arith, e, l))) ∙ any_past q p (a + 1) k (omega (arith, l))
@@ -157,7 +146,7 @@ any_at q p a (suc k) l m = by (cases_lt a p) (λ n o. any_at q p (a + 1) k n o)
         let same : p ≡ a = omega (arith, l, upto) in
         ap (λ (b : Bool). (b && q a) || list_any (λ e. p == e && q e) (range_with_len (a + 1) k)) (eq-eqb p a same)
         ∙ ap (λ (b : Bool). q a || b) (any_past q p (a + 1) k (omega (arith, upto)))
-        ∙ or_false (q a) ∙ ap q (sym same)
+        ∙ or-false (q a) ∙ ap q (sym same)
 
 -- the node is the first of these
 abbrev pub starts : ℕ → List ℕ → Bool
@@ -239,7 +228,7 @@ module _ (t : Text) (f : File) (parsed : IsParsed t f.nodes) (are : AreRounds f.
     ]
 
     pub below_same : stands_below f n s ≡ (stands_below f p s || (n == s && p == e))
-    below_same = alike (stands_below f n s) (stands_below f p s || (n == s && p == e)) up down
+    below_same = same_truth (stands_below f n s) (stands_below f p s || (n == s && p == e)) up down
 
   -- a child is a node, and none of the last
   its_node : (e s : ℕ) (cs : List ℕ) → children f e ≡ cs → has s cs ≡ true → (its : Node) × ((slice_get nodes s ≡ Some its) × (s < length nodes - 1))
@@ -291,13 +280,13 @@ module _ (t : Text) (f : File) (parsed : IsParsed t f.nodes) (are : AreRounds f.
     not_guarded e = by (children f e) refl
       where
         by : (cs : List ℕ) → children f e ≡ cs → (is_kind f kind.Except e && guards f n cs) ≡ false
-        by [] is = and_none (is_kind f kind.Except e)
+        by [] is = and-false (is_kind f kind.Except e)
         by (s ∷ arms) is =
             let its = its_node e s (children f e) refl (ap (has s) is ∙ or_left (s == s) (has s arms) (eq-eqb s s refl)) in
             let less : s < length nodes - 1 = its.1.1 in
             ap (λ (b : Bool). is_kind f kind.Except e && (nat_le (first s) n && b)) (lt-leb n s (omega (arith, less, last)))
-            ∙ ap (λ (b : Bool). is_kind f kind.Except e && b) (and_none (nat_le (first s) n))
-            ∙ and_none (is_kind f kind.Except e)
+            ∙ ap (λ (b : Bool). is_kind f kind.Except e && b) (and-false (nat_le (first s) n))
+            ∙ and-false (is_kind f kind.Except e)
 
     pub none_guards : (asked : ℕ → Bool) → some_guard asked n ≡ false
     none_guards asked = any_none (λ e. is_guarded_by f n e && asked e) (λ e. ap (λ (b : Bool). b && asked e) (not_guarded e)) (numbers nodes)

@@ -6,6 +6,7 @@ use Rattle.std.specs.Option.{option_map}
 use Rattle.std.proofs.lemmas.List.Elements.{All-cons, All-nil}
 use Rattle.std.proofs.lemmas.Option.{none-some, same_Some}
 use Rattle.clu_base.specs.declared.constants.Const.{Const}
+use Rattle.clu_base.proofs.Lists.{front_get}
 use Rattle.clu_tree.specs.declared.node.Node.{Node}
 use Rattle.clu_tree.specs.declared.node.NodeKind.{NodeKind}
 use Rattle.clu_tree.specs.declared.node.NodeKind.TheVariants as kind
@@ -80,7 +81,7 @@ use Rattle.clu_passes.proofs.FileModules.{modules_are, root}
 use Rattle.clu_passes.proofs.HeadKinds.{kinds_listed}
 use Rattle.clu_passes.proofs.HeadsTyped.{head_typed, no_cluster, routines_typed}
 use Rattle.clu_passes.proofs.Listing.{listed_told}
-use Rattle.clu_passes.proofs.OwnTypeKept.{got_kept, own_below, own_kept, own_there, values_later}
+use Rattle.clu_passes.proofs.OwnTypeKept.{own_below, own_kept, own_there, values_later}
 use Rattle.clu_passes.proofs.OwnTypes.{own_told}
 use Rattle.clu_passes.proofs.Routines.{exported_routines, own_routines}
 use Rattle.clu_passes.proofs.RoutinesSaid.{AreRoutines, routine_said, routines_said}
@@ -96,7 +97,7 @@ module _ (many constants : ℕ) (values : List Value) (within : AreWithin many c
   type_kept (value.Parameter k) is = refl
   type_kept (value.Type id) is =
       let less : id.0 < many = is.0 in
-      ap parameters.kind_in (sym (got_kept old grows.0 id.0 (omega (arith, less, enough))) ∙ ap (λ (ts : List Term). slice_get ts id.0) (sym grows.1))
+      ap parameters.kind_in (sym (front_get old grows.0 id.0 (omega (arith, less, enough))) ∙ ap (λ (ts : List Term). slice_get ts id.0) (sym grows.1))
 
   declared_kept : (o : Option ℕ) → parameters.kind_declared old values o ≡ parameters.kind_declared new values o
   declared_kept None = refl

@@ -4,6 +4,7 @@ use Rattle.std.specs.Prelude.{slice_get}
 use Rattle.std.specs.List.{AllByRecursion}
 use Rattle.std.proofs.lemmas.Bool.{true≢false}
 use Rattle.std.proofs.lemmas.Option.{none-some, same_Some}
+use Rattle.clu_base.proofs.Bools.{implied}
 use Rattle.clu_tree.specs.declared.node.Node.{Node}
 use Rattle.clu_tree.specs.declared.node.NodeKind.{NodeKind}
 use Rattle.clu_tree.specs.declared.node.NodeKind.TheVariants as kind
@@ -18,10 +19,6 @@ use Rattle.clu_syntax.specs.Splits.{is_of}
 use Rattle.clu_syntax.proofs.Slots.{children_fit}
 use Rattle.clu_passes.specs.Trees.{is_of_constant}
 use Rattle.clu_passes.proofs.Subtrees.{is_subtree, Pass, all_pass}
-
-implied : (a b : Bool) → (not a || b) ≡ true → a ≡ true → b ≡ true
-implied true b e d = e
-implied false b e d = absurd (true≢false (sym d))
 
 expressions : (k : NodeKind) → (not (is_expression k) || is_of_constant k) ≡ true
 expressions kind.File = refl

@@ -2,6 +2,7 @@
 use Rattle.std.proofs.Common.{◌≡◌, ◌∙◌, ℕ, ◌<◌, ◌≤◌, ◌^◌, ◌+◌, ◌&&◌, ◌||◌, not, if◌then◌else◌, Bool, true, false, List, [], ◌∷◌, length, codes, is_none, is_some, Option, Some, None, inl, inr, refl, sym, ap, ap₂, subst, arith}
 use Rattle.std.specs.Prelude.{drop, slice_get}
 use Rattle.std.specs.List.{AllByRecursion}
+use Rattle.std.proofs.Math.Bool.{or-false}
 use Rattle.std.proofs.lemmas.Bool.{true≢false, cases_lt, or_parts, and_parts, or_right}
 use Rattle.std.proofs.lemmas.Option.{none-some, same_Some, slice_get_within}
 use Rattle.clu_base.specs.declared.rules.Rule.TheVariants as rule
@@ -106,22 +107,18 @@ for_plain : (b : Bool) (t : CluType) → for_body b (plain t) ≡ t
 for_plain true t = refl
 for_plain false t = refl
 
-or_none : (b : Bool) → (b || false) ≡ b
-or_none true = refl
-or_none false = refl
-
 -- whether a type is refused, as a body sees it
 inside_as : (f : File) (n m : ℕ) (t : TypeExpression) → type_node t ≡ m → is_refused_inside f n t ≡ (is_refused f m || (is_word simple.Cvt t && is_refused_rep f n))
 inside_as f n m (a_simple_type k simple.Cvt) e = ap (λ (i : ℕ). is_refused f i || is_refused_rep f n) e
-inside_as f n m (a_simple_type k simple.Null) e = ap (is_refused f) e ∙ sym (or_none (is_refused f m))
-inside_as f n m (a_simple_type k simple.Bool) e = ap (is_refused f) e ∙ sym (or_none (is_refused f m))
-inside_as f n m (a_simple_type k simple.Int) e = ap (is_refused f) e ∙ sym (or_none (is_refused f m))
-inside_as f n m (a_simple_type k simple.Real) e = ap (is_refused f) e ∙ sym (or_none (is_refused f m))
-inside_as f n m (a_simple_type k simple.Char) e = ap (is_refused f) e ∙ sym (or_none (is_refused f m))
-inside_as f n m (a_simple_type k simple.String) e = ap (is_refused f) e ∙ sym (or_none (is_refused f m))
-inside_as f n m (a_simple_type k simple.Any) e = ap (is_refused f) e ∙ sym (or_none (is_refused f m))
-inside_as f n m (a_simple_type k simple.Rep) e = ap (is_refused f) e ∙ sym (or_none (is_refused f m))
-inside_as f n m t e = ap (is_refused f) e ∙ sym (or_none (is_refused f m))
+inside_as f n m (a_simple_type k simple.Null) e = ap (is_refused f) e ∙ sym (or-false (is_refused f m))
+inside_as f n m (a_simple_type k simple.Bool) e = ap (is_refused f) e ∙ sym (or-false (is_refused f m))
+inside_as f n m (a_simple_type k simple.Int) e = ap (is_refused f) e ∙ sym (or-false (is_refused f m))
+inside_as f n m (a_simple_type k simple.Real) e = ap (is_refused f) e ∙ sym (or-false (is_refused f m))
+inside_as f n m (a_simple_type k simple.Char) e = ap (is_refused f) e ∙ sym (or-false (is_refused f m))
+inside_as f n m (a_simple_type k simple.String) e = ap (is_refused f) e ∙ sym (or-false (is_refused f m))
+inside_as f n m (a_simple_type k simple.Any) e = ap (is_refused f) e ∙ sym (or-false (is_refused f m))
+inside_as f n m (a_simple_type k simple.Rep) e = ap (is_refused f) e ∙ sym (or-false (is_refused f m))
+inside_as f n m t e = ap (is_refused f) e ∙ sym (or-false (is_refused f m))
 
 -- `cvt` that is not misplaced stands in a cluster
 right_and : (a b : Bool) → a ≡ true → (a && b) ≡ false → b ≡ false

@@ -6,6 +6,7 @@ use Rattle.std.specs.Option.{option_or}
 use Rattle.std.proofs.lemmas.Bool.{cases_lt}
 use Rattle.std.proofs.lemmas.List.{length-append}
 use Rattle.std.proofs.lemmas.Option.{slice_get_within}
+use Rattle.clu_base.proofs.Lists.{get_before}
 use Rattle.clu_tree.specs.declared.node.NodeKind.{NodeKind}
 use Rattle.clu_tree.specs.declared.node.NodeKind.TheVariants as kind
 use Rattle.clu_parser.specs.Trees.{Text}
@@ -52,7 +53,7 @@ use Rattle.clu_passes.specs.Trees.{IsFileOfTree}
 use Rattle.clu_passes.proofs.InvokedAtNode.{invoked_said}
 use Rattle.clu_passes.proofs.NodeTyped.{type_grown}
 use Rattle.clu_passes.proofs.NodesNoted as pass
-use Rattle.clu_passes.proofs.NodesNoted.{item_before, item_behind}
+use Rattle.clu_passes.proofs.NodesNoted.{item_behind}
 
 -- ---- with more types and more names
 
@@ -205,7 +206,7 @@ module _ (t : Text) (h : Headed) (scope : Scope) (library : List Specification) 
 
       by : AreSaidTo n known.0 known.1 → (m < n) ⊎ (n ≤ m) → IsSaidIf terms facts.finding.words (optional (slice_get facts.invoked.items m)) (meant.invoked_at f m)
       by were (inl less) =
-          subst (λ (o : Option Invoked). IsSaidIf terms facts.finding.words o (meant.invoked_at f m)) (sym (ap (λ (l : List (Option Invoked)). optional (slice_get l m)) same ∙ ap optional (item_before known.1.invoked.items (next_at n terms known.1 known.3.0) m (omega (arith, less, count)))))
+          subst (λ (o : Option Invoked). IsSaidIf terms facts.finding.words o (meant.invoked_at f m)) (sym (ap (λ (l : List (Option Invoked)). optional (slice_get l m)) same ∙ ap optional (get_before known.1.invoked.items (next_at n terms known.1 known.3.0) m (omega (arith, less, count)))))
           (said_later known.0 terms grown known.1.finding.words facts.finding.words after_all.words (optional (slice_get known.1.invoked.items m)) (meant.invoked_at f m) (were m less fine))
       by were (inr ge) =
           let at : m ≡ n = omega (arith, ge, lt) in

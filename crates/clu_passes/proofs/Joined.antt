@@ -1,29 +1,12 @@
 -- What a table by number has at a place, and what stands together in one that is joined of lists.
 use Rattle.std.proofs.Common.{◌≡◌, ◌∙◌, ◌⊎◌, ℕ, zero, suc, ◌+◌, ◌-◌, ◌<◌, ◌≤◌, ◌&&◌, Bool, if◌then◌else◌, List, [], ◌∷◌, ◌++◌, length, take, drop, Option, Some, None, slice_get, refl, ap, sym, inl, inr, arith, add-one, append-nil, append_assoc, length-append}
+use Rattle.std.proofs.Math.Seq.{take-append_seam, drop-append_seam}
 use Rattle.std.proofs.lemmas.Option.{slice_get_past}
 use Rattle.std.proofs.lemmas.Bool.{cases_lt}
+use Rattle.clu_base.proofs.Lists.{get_before, get_last}
 use Rattle.clu_names.specs.Denotes.{end_in, end_of}
 use Rattle.clu_bindings.specs.Tables.{between, items_at, table_to, joined_to}
 use Rattle.clu_passes.proofs.Tables.{between_is}
-
--- ---- lists
-
-get_front : {A : Type 0} (xs : List A) (x : A) (k : ℕ) → k < length xs → slice_get (xs ++ x ∷ []) k ≡ slice_get xs k
-get_front [] x k l = absurd (omega (arith, l))
-get_front (y ∷ ys) x zero l = refl
-get_front (y ∷ ys) x (suc k) l = get_front ys x k (omega (arith, l))
-
-get_last : {A : Type 0} (xs : List A) (x : A) → slice_get (xs ++ x ∷ []) (length xs) ≡ Some x
-get_last [] x = refl
-get_last (y ∷ ys) x = get_last ys x
-
-drop_front : {A : Type 0} (xs ys : List A) → drop (length xs) (xs ++ ys) ≡ ys
-drop_front [] ys = refl
-drop_front (x ∷ xs) ys = drop_front xs ys
-
-take_front : {A : Type 0} (xs ys : List A) → take (length xs) (xs ++ ys) ≡ xs
-take_front [] ys = refl
-take_front (x ∷ xs) ys = ap (λ (zs : List _). x ∷ zs) (take_front xs ys)
 
 -- ---- tables
 
@@ -42,7 +25,7 @@ module _ {A : Type 0} (f : ℕ → A) where
   table_at (suc m) n l =
       let size : length (table_to f m) ≡ m = table_size m in
       ap (λ (xs : List A). slice_get xs n) (table_suc m) ∙ elim (cases_lt n m) [
-        | inl less ↦ get_front (table_to f m) (f m) n (omega (arith, less, size)) ∙ table_at m n less
+        | inl less ↦ get_before (table_to f m) (f m) n (omega (arith, less, size)) ∙ table_at m n less
         | inr more ↦
             (let same : n ≡ m = omega (arith, l, more) in
             ap (slice_get (table_to f m ++ f m ∷ [])) (same ∙ sym size) ∙ get_last (table_to f m) (f m) ∙ ap (λ (k : ℕ). Some (f k)) (sym same))
@@ -98,9 +81,9 @@ module _ {A : Type 0} (f : ℕ → List A) where
       cut_is starts m (length (joined_to f n)) (length (joined_to f (suc n))) n (ap (λ (o : Option ℕ). end_in o (length (joined_to f m))) (are.at n l)) (end_at starts m n are l)
       ∙ between_is (joined_to f m) (length (joined_to f n)) (length (joined_to f (suc n))) (omega (arith, next)) (omega (arith, size))
       ∙ ap (λ (xs : List A). take (length (joined_to f (suc n)) - length (joined_to f n)) (drop (length (joined_to f n)) xs)) whole
-      ∙ ap (take (length (joined_to f (suc n)) - length (joined_to f n))) (drop_front (joined_to f n) (f n ++ rest.0))
+      ∙ ap (take (length (joined_to f (suc n)) - length (joined_to f n))) (drop-append_seam (joined_to f n) (f n ++ rest.0))
       ∙ ap (λ (k : ℕ). take k (f n ++ rest.0)) own
-      ∙ take_front (f n) rest.0
+      ∙ take-append_seam (f n) rest.0
 
   pub joined_past : (starts : List ℕ) (m n : ℕ) → AreStarts starts m → m ≤ n → items_at (joined_to f m) starts n ≡ []
   joined_past starts m n are late =

@@ -1,7 +1,8 @@
 -- The kinds of parameters stay as they are while the arena grows.
-use Rattle.std.proofs.Common.{◌≡◌, ◌∙◌, ℕ, zero, suc, ◌<◌, Bool, List, [], ◌∷◌, ◌++◌, length, Option, Some, None, refl, sym, ap, ap₂, subst, arith}
+use Rattle.std.proofs.Common.{◌≡◌, ◌∙◌, ℕ, Bool, List, [], ◌∷◌, ◌++◌, length, Option, Some, None, refl, sym, ap, ap₂, subst}
 use Rattle.std.specs.Prelude.{All, slice_get, if◌then◌else◌}
 use Rattle.std.proofs.lemmas.Option.{slice_get_within, get_or_from_slice_get}
+use Rattle.clu_base.proofs.Lists.{front_get}
 use Rattle.clu_tree.specs.declared.node.Node.{Node}
 use Rattle.clu_tree.specs.declared.node.NodeKind.TheVariants as kind
 use Rattle.clu_syntax.specs.Splits.{is_of, type_of}
@@ -20,14 +21,9 @@ use Rattle.clu_head.specs.Outside.{times}
 use Rattle.clu_head.specs.ParameterKinds.{kind_in, kind_of_type, kind_declared, kinds_at, kinds_of}
 use Rattle.clu_head.specs.Modules.{AreKinds}
 
-got_front : (xs ys : List Term) (i : ℕ) → i < length xs → slice_get (xs ++ ys) i ≡ slice_get xs i
-got_front [] ys i l = absurd (omega (arith, l))
-got_front (x ∷ xs) ys zero l = refl
-got_front (x ∷ xs) ys (suc i) l = got_front xs ys i (omega (arith, l))
-
 module _ (old new : List Term) (grows : Grows old new) where
   value_same : (v : Value) → TypeWithin (length old) v → kind_of_type new (type_id v) ≡ kind_of_type old (type_id v)
-  value_same (value.Type id) within = ap (λ (ts : List Term). kind_in (slice_get ts id.0)) grows.1 ∙ ap kind_in (got_front old grows.0 id.0 within)
+  value_same (value.Type id) within = ap (λ (ts : List Term). kind_in (slice_get ts id.0)) grows.1 ∙ ap kind_in (front_get old grows.0 id.0 within)
   value_same _ within = refl
 
   module _ (values : List Value) (all : All (TypeWithin (length old)) values) where

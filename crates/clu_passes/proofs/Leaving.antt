@@ -4,6 +4,7 @@ use Rattle.std.specs.Prelude.{not, slice_get}
 use Rattle.std.proofs.lemmas.Bool.{cases_lt, true≢false}
 use Rattle.std.proofs.lemmas.List.{length-append}
 use Rattle.std.proofs.lemmas.Option.{slice_get_within}
+use Rattle.clu_base.proofs.Lists.{get_before, get_last}
 use Rattle.clu_tree.specs.declared.node.Node.{Node}
 use Rattle.clu_tree.specs.declared.node.NodeKind.{NodeKind}
 use Rattle.clu_tree.specs.declared.node.NodeKind.TheVariants as kind
@@ -36,15 +37,6 @@ v28_is f n = ap (λ (b : Bool). b && not (round_at f.rounds n).in_loop) (leaves_
 
 -- ---- the table of parts
 
-get_front : {A : Type 0} (xs : List A) (x : A) (k : ℕ) → k < length xs → slice_get (xs ++ x ∷ []) k ≡ slice_get xs k
-get_front [] x k l = absurd (omega (arith, l))
-get_front (y ∷ ys) x zero l = refl
-get_front (y ∷ ys) x (suc k) l = get_front ys x k (omega arith)
-
-get_last : {A : Type 0} (xs : List A) (x : A) → slice_get (xs ++ x ∷ []) (length xs) ≡ Some x
-get_last [] x = refl
-get_last (y ∷ ys) x = get_last ys x
-
 module _ (items : ℕ → Item) (nodes : List Node) where
   size : (n : ℕ) → length (parts_to items nodes n) ≡ n
   size zero = refl
@@ -55,7 +47,7 @@ module _ (items : ℕ → Item) (nodes : List Node) where
   part_at (suc n) k l = by (cases_lt k n) (part_at n k)
     where
       by : (k < n) ⊎ (n ≤ k) → (k < n → slice_get (parts_to items nodes n) k ≡ Some (parts_at items nodes k)) → slice_get (parts_to items nodes (suc n)) k ≡ Some (parts_at items nodes k)
-      by (inl less) earlier = get_front (parts_to items nodes n) (parts_at items nodes n) k (omega (arith, less, size n)) ∙ earlier less
+      by (inl less) earlier = get_before (parts_to items nodes n) (parts_at items nodes n) k (omega (arith, less, size n)) ∙ earlier less
       by (inr more) earlier =
           let same : k ≡ length (parts_to items nodes n) = omega (arith, size n, more, l) in
           let last : k ≡ n = omega (arith, more, l) in

@@ -2,6 +2,7 @@
 use Rattle.std.proofs.Common.{◌≡◌, ◌∙◌, ◌<◌, ℕ, Bool, true, false, ◌&&◌, ◌||◌, if◌then◌else◌, List, [], ◌∷◌, ◌++◌, codes, bytes_eq, Option, Some, None, refl, sym, ap, ap₂}
 use Rattle.std.specs.Prelude.{slice_get, is_some, not, length}
 use Rattle.std.specs.List.{list_any, list_all}
+use Rattle.std.proofs.Math.Bool.{and-true}
 use Rattle.std.proofs.lemmas.Bool.{true≢false, and_parts}
 use Rattle.std.proofs.lemmas.Cmp.{nat_list_eq_equiv}
 use Rattle.std.proofs.lemmas.Option.{slice_get_within}
@@ -61,10 +62,6 @@ exchanged true true c = refl
 exchanged true false c = refl
 exchanged false true c = refl
 exchanged false false c = refl
-
-and_true : (b : Bool) → (b && true) ≡ b
-and_true true = refl
-and_true false = refl
 
 module _ (name : Identifier) where
   abbrev is_its : Exception → Bool
@@ -227,7 +224,7 @@ module _ (k : Known) (scope : Scope) (library : List Specification) (refused : L
         let one : OneName nodes n = signal_name nodes shaped n is in
         let its : are_known words (one.its ∷ []) ≡ true = ap (are_known words) (sym one.is) ∙ names_known kind.Signal n (there nodes n kind.Signal refl is) in
         ap (λ (xs : List Identifier). not (checking.is_listed f n (first_name xs))) (sym (names_are f n) ∙ one.is)
-        ∙ ap not (listed_at n one.its (and_parts (is_known words one.its) true its).0 ∙ sym (and_true (of_tables.is_listed k n one.its)))
+        ∙ ap not (listed_at n one.its (and_parts (is_known words one.its) true its).0 ∙ sym (and-true (of_tables.is_listed k n one.its)))
         ∙ ap (λ (xs : List Identifier). not (list_all (of_tables.is_listed k n) xs)) (sym one.is)
 
     in_resignal : (n : ℕ) → kind_at nodes n ≡ kind.Resignal → v25_in f kind.Resignal n ≡ is_not_listed k kind.Resignal n

@@ -4,8 +4,9 @@ use Rattle.std.specs.Prelude.{bytes_eq}
 use Rattle.std.specs.declared.cmp.Ordering.{Ordering}
 use Rattle.std.specs.declared.cmp.Ordering.TheVariants.{Less, Equal, Greater}
 use Rattle.std.specs.Ordering.{is_lt, is_gt, is_eq, ordering_then, nat_cmp}
-use Rattle.std.specs.Cmp.{unsigned_tied, unsigned_ties}
-use Rattle.std.specs.Cmp.Lexicographic.{slice_cmp, lists_ties}
+use Rattle.std.specs.Cmp.{unsigned_tied}
+use Rattle.std.specs.Cmp.Lexicographic.{slice_cmp}
+use Rattle.std.proofs.lemmas.Map.Text.{is_eq-slice_cmp}
 use Rattle.clu_types.specs.CluType.{CluType}
 use Rattle.clu_meaning.specs.Settling.{comes_after}
 use Rattle.clu_checking.specs.Specifications.{Demand, Heading}
@@ -42,9 +43,6 @@ all_three x y z u v w e f g = cc
 both_of : (x y u v : Bool) → x ≡ u → y ≡ v → (x && y) ≡ (u && v)
 both_of x y u v e f = cc
 
-equal_texts : (a b : List ℕ) → is_eq (slice_cmp nat_cmp a b) ≡ bytes_eq a b
-equal_texts a b = sym (lists_ties {E = nat_eq} nat_cmp unsigned_ties a b)
-
 -- ---- what is asked
 
 module _ (types : List CluType) where
@@ -59,7 +57,7 @@ module _ (types : List CluType) where
   same_told : (a b : Demanded) → same demand_rank a b ≡ is_same (told a) (told b)
   same_told a b =
       eq_then (nat_cmp a.parameter b.parameter) (slice_cmp nat_cmp a.operation b.operation)
-      ∙ both_of _ _ _ _ (unsigned_tied a.parameter b.parameter) (equal_texts a.operation b.operation)
+      ∙ both_of _ _ _ _ (unsigned_tied a.parameter b.parameter) (is_eq-slice_cmp a.operation b.operation)
 
   abbrev with_asked : Demanded → List Demanded → List Demanded
   with_asked = with_one (before demand_rank) (same demand_rank) both_asked
@@ -87,7 +85,7 @@ module _ (types : List CluType) where
 
 module _ {X : Type 0} (rank : X → List ℕ) (head : X → Heading) (named : (x : X) → (head x).name ≡ rank x) where
   same_named : (a b : X) → same rank a b ≡ bytes_eq (head a).name (head b).name
-  same_named a b = equal_texts (rank a) (rank b) ∙ ap (λ (n : List ℕ). bytes_eq n (rank b)) (sym (named a)) ∙ ap (bytes_eq (head a).name) (sym (named b))
+  same_named a b = is_eq-slice_cmp (rank a) (rank b) ∙ ap (λ (n : List ℕ). bytes_eq n (rank b)) (sym (named a)) ∙ ap (bytes_eq (head a).name) (sym (named b))
 
   after_named : (a b : X) → comes_after (head a).name (head b).name ≡ is_gt (slice_cmp nat_cmp (rank a) (rank b))
   after_named a b = ap (λ (n : List ℕ). comes_after n (head b).name) (named a) ∙ ap (comes_after (rank a)) (named b)

@@ -3,6 +3,7 @@ use Rattle.std.proofs.Common.{◌≡◌, ◌∙◌, ◌<◌, ℕ, Bool, true, fa
 use Rattle.std.specs.Prelude.{slice_get, not}
 use Rattle.std.specs.List.{AllByRecursion, list_all}
 use Rattle.std.specs.Option.{option_and_then, option_map}
+use Rattle.std.proofs.Math.Bool.{and-false}
 use Rattle.std.proofs.lemmas.Bool.{true≢false}
 use Rattle.clu_tree.specs.declared.node.Node.{Node}
 use Rattle.clu_tree.specs.declared.node.NodeKind.{NodeKind}
@@ -102,10 +103,6 @@ abbrev is_constructor : NodeKind → Bool
 is_constructor kind.Fields = true
 is_constructor kind.Elems = true
 is_constructor _ = false
-
-and_none : (b : Bool) → (b && false) ≡ false
-and_none true = refl
-and_none false = refl
 
 module _ (k : Known) (scope : Scope) (library : List Specification) (refused : List ℕ) where
   abbrev nodes : List Node
@@ -316,7 +313,7 @@ module _ (k : Known) (scope : Scope) (library : List Specification) (refused : L
     misfit_is wanted others n here j is typed_first true e = by_kind wanted others n here j is e typed_first
     misfit_is wanted others n here j is typed_first false e =
         quiet n j e
-        ∙ sym (ap (λ (b : Bool). bound.is_object_wanted (wanted_in k n) && b) (none_misfit others j n e (known.children k n)) ∙ and_none (bound.is_object_wanted (wanted_in k n)))
+        ∙ sym (ap (λ (b : Bool). bound.is_object_wanted (wanted_in k n) && b) (none_misfit others j n e (known.children k n)) ∙ and-false (bound.is_object_wanted (wanted_in k n)))
 
     pub v13_is : AreWantedKnown k.tables.file lost → (others : ℕ → Item) (n : ℕ) → lost n ≡ false → IsTyped k.tables (known.kind_in k n) (known.children k n) → v13 f n ≡ of_tables.v13 k others n
     v13_is wanted others n here typed_first =

@@ -3,6 +3,7 @@
 use Rattle.std.proofs.Common.{◌≡◌, ◌∙◌, ℕ, ◌-◌, ◌^◌, ◌<◌, ◌≤◌, ◌&&◌, ◌||◌, not, Bool, true, false, cond, if◌then◌else◌, List, [], ◌∷◌, length, map, Option, Some, None, slice_get, is_some, codes, refl, ap, sym, subst, arith}
 use Rattle.std.specs.Prelude.{bytes_eq}
 use Rattle.std.specs.List.{list_any}
+use Rattle.std.proofs.Math.Bool.{and_assoc}
 use Rattle.std.proofs.lemmas.Bool.{true≢false, or_parts}
 use Rattle.std.proofs.lemmas.Slice.Eq.{bytes_eq-Decides}
 use Rattle.clu_tree.specs.declared.node.Node.{Node}
@@ -60,10 +61,6 @@ pub denotes_same : (f : File) (m : means.Meaning) → denotes_module f m ≡ is_
 denotes_same f means.is_module = refl
 denotes_same f means.is_type_set = refl
 denotes_same f _ = refl
-
-pub and_on : (a b c : Bool) → ((a && b) && c) ≡ (a && (b && c))
-and_on true b c = refl
-and_on false b c = refl
 
 pub and_if : (a x : Bool) → (a && x) ≡ (if a then x else false)
 and_if true x = refl
@@ -187,7 +184,7 @@ module _ (t : Text) (r : Read) (library : List Specification) (refused : List �
 
     chosen : {A : Type 0} (g : Option Specification → A) → (if is_of_module f n name then g (specification f name) else g None) ≡ (if is_module_meant (meaning f n name) then g (specification f name) else g None)
     chosen g =
-        ap (λ (b : Bool). if b then g (specification f name) else g None) (and_on (denotes_module f (meaning f n name)) (not (is_stream name)) (is_own_module f name || is_kept f name))
+        ap (λ (b : Bool). if b then g (specification f name) else g None) (and_assoc (denotes_module f (meaning f n name)) (not (is_stream name)) (is_own_module f name || is_kept f name))
         ∙ by (denotes_module f (meaning f n name)) (not (is_stream name) && (is_own_module f name || is_kept f name)) refl
         ∙ ap (λ (b : Bool). if b then g (specification f name) else g None) (denotes_same f (meaning f n name))
       where

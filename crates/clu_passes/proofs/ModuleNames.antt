@@ -1,6 +1,7 @@
 -- The bits of modules and routines: a module before this one has its name, or an export of a cluster stands twice.
 use Rattle.std.proofs.Common.{◌≡◌, ◌∙◌, ◌⊎◌, ℕ, zero, suc, ◌<◌, ◌≤◌, nat_lt, ◌==◌, ◌&&◌, ◌||◌, not, Bool, true, false, if◌then◌else◌, List, [], ◌∷◌, ◌++◌, length, fold, slice_get, is_none, bytes_eq, Option, Some, None, inl, inr, refl, sym, ap, ap₂, arith}
 use Rattle.std.specs.List.{list_any}
+use Rattle.std.proofs.Math.Bool.{or-false}
 use Rattle.std.proofs.lemmas.Bool.{true≢false, ne_eqb, lt-ltb, le-ltb, cases_lt, eqb-true, and_parts}
 use Rattle.std.proofs.lemmas.List.Folds.{list_any-append}
 use Rattle.std.proofs.lemmas.Grind.{fold-append}
@@ -30,7 +31,7 @@ use Rattle.clu_name_rules.specs.Repeated.{Note, list_of, item_names, own_names a
 use Rattle.clu_passes.specs.Notes.{AreRepeated}
 use Rattle.clu_passes.proofs.FileNames.{unseen, own_repeats}
 use Rattle.clu_passes.proofs.Known.{is_known, are_known, turned_is, nodes_known}
-use Rattle.clu_passes.proofs.Noted.{or_false, seen, seen_more, repeats, bits_are, is_second, names_apart, names_strict, same_listed, same_word, stand_twice, IsStrict}
+use Rattle.clu_passes.proofs.Noted.{seen, seen_more, repeats, bits_are, is_second, names_apart, names_strict, same_listed, same_word, stand_twice, IsStrict}
 use Rattle.clu_passes.proofs.StandTwice.{item_apart}
 use Rattle.clu_passes.proofs.Units.{AllOf, all_both, of_variables, of_owns, at_node, has_unit, HasUnit, inner_below, no_file, inner_opens, inner_scope, is_inner}
 
@@ -297,7 +298,7 @@ module _ (t : Text) (nodes : List Node) (rounds : List Round) (parsed : IsParsed
         by rest (inr more) =
             list_any-append (is_before n x) (declared_to nodes rounds m) (declared_at nodes rounds m (slice_get nodes m))
             ∙ ap₂ (λ (a b : Bool). a || b) (rest more) (any_none m more (declared_at nodes rounds m (slice_get nodes m)) (modules_here m))
-            ∙ or_false (list_any (is_before n x) (declared_to nodes rounds n))
+            ∙ or-false (list_any (is_before n x) (declared_to nodes rounds n))
 
     module_before_is : n ≤ length nodes → list_any (is_before n x) (declarations nodes rounds) ≡ list_any (is_named all (length nodes) x) (declared_to nodes rounds n)
     module_before_is most = past_node (length nodes) most ∙ upto_node n (omega arith)

@@ -3,9 +3,10 @@ use Rattle.std.proofs.Common.{◌≡◌, ◌∙◌, ◌⊎◌, ℕ, zero, suc, �
 use Rattle.std.specs.Prelude.{bytes_eq}
 use Rattle.std.proofs.Math.Nat.{min-eq_left}
 use Rattle.std.proofs.lemmas.Bool.{cases_lt}
-use Rattle.std.proofs.lemmas.List.{take_all, length-take-le}
+use Rattle.std.proofs.lemmas.List.{take_all, length-take-le, map-append}
 use Rattle.std.proofs.lemmas.Option.{slice_get_within}
 use Rattle.clu_base.specs.declared.constants.Const.{Const}
+use Rattle.clu_base.proofs.Lists.{map_size}
 use Rattle.clu_tree.specs.declared.node.Node.{Node}
 use Rattle.clu_tree.specs.declared.node.NodeKind.{NodeKind}
 use Rattle.clu_tree.specs.declared.node.NodeKind.TheVariants as kind
@@ -91,10 +92,6 @@ both_alike P (x ∷ xs) (s ∷ ss) ys ts a b = (a.0, both_alike P xs ss ys ts a.
 as_same : (P : Type 0) (x a : Option ModuleKnown) (y b : Option Specification) → x ≡ a → y ≡ b → AreSame P a b → AreSame P x y
 as_same P x a y b e g same = subst (λ (x : Option ModuleKnown). AreSame P x y) (sym e) (subst (AreSame P a) (sym g) same)
 
-map_size : {X Y : Type 0} (g : X → Y) (xs : List X) → length (map g xs) ≡ length xs
-map_size g [] = refl
-map_size g (x ∷ xs) = ap suc (map_size g xs)
-
 -- ---- the first of a name
 
 abbrev pub first_known : List (Identifier × ModuleKnown) → Identifier → Option ModuleKnown
@@ -170,10 +167,6 @@ kept_more f (s ∷ ss) name = by (bytes_eq s.name name) (specification_in ss nam
 
 -- ---- kinds of parameters
 
-map_both : {X Y : Type 0} (g : X → Y) (xs ys : List X) → map g (xs ++ ys) ≡ map g xs ++ map g ys
-map_both g [] ys = refl
-map_both g (x ∷ xs) ys = ap (λ (zs : List _). g x ∷ zs) (map_both g xs ys)
-
 each_same : {X Y : Type 0} (g : X → Y) (x : X) (names : List Identifier) → map (λ (name : Identifier). g x) names ≡ map g (map (λ name. x) names)
 each_same g x [] = refl
 each_same g x (name ∷ names) = ap (λ (zs : List _). g x ∷ zs) (each_same g x names)
@@ -183,7 +176,7 @@ pub kinds_by_types : (f : File) (ps : List Parameter) → kinds_in f ps ≡ map 
 kinds_by_types f [] = refl
 kinds_by_types f (p ∷ ps) =
     ap₂ (λ (xs ys : List (Option ParamKind)). xs ++ ys) (each_same (kind_of_parameter f) p.type p.names) (kinds_by_types f ps)
-    ∙ sym (map_both (kind_of_parameter f) (map (λ name. p.type) p.names) (types_in ps))
+    ∙ sym (map-append (kind_of_parameter f) (map (λ name. p.type) p.names) (types_in ps))
 
 module _ (types : List Term) (values : List Value) (nodes : List Node) where
   abbrev of_type : Option ℕ → Option ParamKind
@@ -203,7 +196,7 @@ module _ (types : List Term) (values : List Value) (nodes : List Node) where
   kinds_by_nodes [] = refl
   kinds_by_nodes (n ∷ ns) =
       ap₂ (λ (xs ys : List (Option ParamKind)). xs ++ ys) (parm_kinds (slice_get nodes n)) (kinds_by_nodes ns)
-      ∙ sym (map_both of_type (of_parm nodes (slice_get nodes n)) (of_parms nodes ns))
+      ∙ sym (map-append of_type (of_parm nodes (slice_get nodes n)) (of_parms nodes ns))
 
 module _ (t : Text) (r : Read) (scope : Scope) (library : List Specification) (refused : List ℕ) (types : List Term) (arena : IsArena types) (known : AreSettled r.syntax.now scope types r.constants.now r.values.now)
     (parsed : IsParsed t r.syntax.now) (are : AreRounds r.syntax.now r.rounds.now) (tables : AreBindings r.syntax.now r.rounds.now r.names.now r.values.now r.bindings.now) where

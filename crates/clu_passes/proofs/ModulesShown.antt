@@ -6,6 +6,7 @@ use Rattle.std.proofs.Math.Nat.{min-eq_left}
 use Rattle.std.proofs.lemmas.Bool.{ltb-false, ltb-true}
 use Rattle.std.proofs.lemmas.List.{length-map}
 use Rattle.std.proofs.lemmas.Option.{slice_get-map}
+use Rattle.clu_base.proofs.Lists.{front_get}
 use Rattle.clu_tree.specs.declared.node.Node.{Node}
 use Rattle.clu_tree.specs.Nodes.{modules}
 use Rattle.clu_parser.specs.Trees.{Text}
@@ -41,11 +42,6 @@ use Rattle.clu_passes.proofs.FileModules.{modules_are, root}
 use Rattle.clu_passes.proofs.ModulesSaid.{AreAlike, all_alike, few_all, kept_more}
 
 -- ---- lists
-
-front_got : {X : Type 0} (xs ys : List X) (i : ℕ) → i < length xs → slice_get (xs ++ ys) i ≡ slice_get xs i
-front_got [] ys i l = absurd (omega (arith, l))
-front_got (x ∷ xs) ys zero l = refl
-front_got (x ∷ xs) ys (suc i) l = front_got xs ys i (omega (arith, l))
 
 behind_got : {X : Type 0} (xs ys : List X) (i : ℕ) → length xs ≤ i → slice_get (xs ++ ys) i ≡ slice_get ys (i - length xs)
 behind_got [] ys i l = let same : i ≡ i - 0 = omega arith in ap (slice_get ys) same
@@ -166,7 +162,7 @@ module _ (t : Text) (h : Headed) (library : List Specification) (refused : List 
       by true e =
           let less : k < h.file.bindings.now.modules.of_file = ltb-true k h.file.bindings.now.modules.of_file e in
           own_form seen (slice_get h.heads.now.modules.items k)
-          ∙ ap form_of (sym (slice_get-map (head_told seen) h.heads.now.modules.items k) ∙ ap (λ (ss : List Specification). slice_get ss k) told ∙ sym (front_got (own_specifications f) library k (omega (arith, less, size))))
+          ∙ ap form_of (sym (slice_get-map (head_told seen) h.heads.now.modules.items k) ∙ ap (λ (ss : List Specification). slice_get ss k) told ∙ sym (front_get (own_specifications f) library k (omega (arith, less, size))))
       by false e =
           let more : h.file.bindings.now.modules.of_file ≤ k = ltb-false k h.file.bindings.now.modules.of_file e in
           kept_form seen (slice_get h.file.library.now (k - h.file.bindings.now.modules.of_file))

@@ -1,6 +1,7 @@
 -- The name of a Name, or of a type by its name, is that of a module just if the table has one for it.
 use Rattle.std.proofs.Common.{◌≡◌, ◌∙◌, ℕ, suc, ◌-◌, ◌^◌, ◌<◌, ◌≤◌, ◌&&◌, ◌||◌, not, Bool, true, false, cond, if◌then◌else◌, List, [], ◌∷◌, length, map, ◌++◌, Option, Some, None, slice_get, is_some, option_map, refl, ap, sym, arith}
 use Rattle.std.specs.Prelude.{bytes_eq}
+use Rattle.std.proofs.Math.Bool.{and_assoc}
 use Rattle.clu_tree.specs.declared.node.Node.{Node}
 use Rattle.clu_tree.specs.declared.node.NodeKind.{NodeKind}
 use Rattle.clu_tree.specs.declared.node.NodeKind.TheVariants as kind
@@ -34,7 +35,7 @@ use Rattle.clu_passes.specs.ConstantTables.{file_with}
 use Rattle.clu_passes.specs.Legal.{AreLegalKnown}
 use Rattle.clu_passes.specs.Tables.{AreNames}
 use Rattle.clu_passes.proofs.FileModules.{modules_are, root}
-use Rattle.clu_passes.proofs.ModuleMeant.{and_if, and_on, denotes_same, file_is, module_is, of_first, own_found}
+use Rattle.clu_passes.proofs.ModuleMeant.{and_if, denotes_same, file_is, module_is, of_first, own_found}
 use Rattle.clu_passes.proofs.ModulesSaid.{AreAlike, all_alike, kept_more}
 use Rattle.clu_passes.proofs.NamesMean.{is_module_meant}
 
@@ -108,7 +109,7 @@ module _ (t : Text) (r : Read) (library : List Specification) (refused : List �
       ∙ some_if (is_module_meant (meaning f n name)) (of name)
       ∙ sym (and_if (is_module_meant (meaning f n name)) (is_some (of name)))
       ∙ ap (λ (b : Bool). is_module_meant (meaning f n name) && b) (named_by name (is_stream name) refl)
-      ∙ sym (and_on (is_module_meant (meaning f n name)) (not (is_stream name)) (is_own_module f name || is_kept f name))
+      ∙ sym (and_assoc (is_module_meant (meaning f n name)) (not (is_stream name)) (is_own_module f name || is_kept f name))
       ∙ ap (λ (b : Bool). (b && not (is_stream name)) && (is_own_module f name || is_kept f name)) (sym (denotes_same f (meaning f n name)))
 
   -- ---- by kinds of nodes

@@ -5,6 +5,7 @@ use Rattle.std.specs.List.{AllByRecursion}
 use Rattle.std.proofs.lemmas.Bool.{cases_lt, eq-eqb, ne_eqb}
 use Rattle.std.proofs.lemmas.List.{length-append}
 use Rattle.std.proofs.lemmas.Option.{slice_get_past}
+use Rattle.clu_base.proofs.Lists.{get_before}
 use Rattle.clu_tree.specs.declared.node.Node.{Node}
 use Rattle.clu_tree.specs.declared.node.NodeKind.{NodeKind}
 use Rattle.clu_tree.specs.declared.node.NodeKind.TheVariants as kind
@@ -68,11 +69,6 @@ use Rattle.clu_passes.proofs.StandsLater.{AreThere, applied_there, node_later, o
 use Rattle.clu_passes.proofs.TypesNoted.{type_noted}
 
 -- ---- lists with one item more
-
-pub item_before : {A : Type 0} (xs : List A) (y : A) (k : ℕ) → k < length xs → slice_get (xs ++ y ∷ []) k ≡ slice_get xs k
-item_before [] y k lt = absurd (omega (arith, lt))
-item_before (x ∷ xs) y zero lt = refl
-item_before (x ∷ xs) y (suc k) lt = item_before xs y k (omega (arith, lt))
 
 pub item_behind : {A : Type 0} (xs : List A) (y : A) (k : ℕ) → k ≡ length xs → slice_get (xs ++ y ∷ []) k ≡ Some y
 item_behind [] y k e = ap (λ (j : ℕ). slice_get (y ∷ []) j) e
@@ -214,7 +210,7 @@ module _ (t : Text) (h : Headed) (scope : Scope) (library : List Specification) 
 
       by : AreTyped n known.0 known.1 → (m < n) ⊎ (n ≤ m) → IsType terms (type_of facts m) (typed f m)
       by before (inl less) =
-          subst (λ (o : Option TypeId). IsType terms o (typed f m)) (sym (ap (λ (l : List (Option TypeId)). optional (slice_get l m)) same ∙ ap optional (item_before known.1.types.items known.3.2.of m (omega (arith, less, count)))))
+          subst (λ (o : Option TypeId). IsType terms o (typed f m)) (sym (ap (λ (l : List (Option TypeId)). optional (slice_get l m)) same ∙ ap optional (get_before known.1.types.items known.3.2.of m (omega (arith, less, count)))))
           (type_grown known.0 terms grown (type_of known.1 m) (typed f m) (before m less here))
       by before (inr ge) =
           let at : m ≡ n = omega (arith, ge, lt) in

@@ -2,6 +2,7 @@
 use Rattle.std.proofs.Common.{◌≡◌, ◌∙◌, ℕ, zero, suc, nat_lt, Bool, true, false, not, ◌&&◌, ◌||◌, ◌==◌, if◌then◌else◌, ◌⊎◌, ◌<◌, ◌≤◌, inl, inr, arith, get_or, List, [], ◌∷◌, length, set, replicate, slice_get, is_some, Option, Some, None, refl, sym, ap}
 use Rattle.std.specs.List.{list_any}
 use Rattle.std.specs.Bool.{Decides}
+use Rattle.std.proofs.Math.Bool.{and-false}
 use Rattle.std.proofs.lemmas.Bool.{eq-eqb, eqb-true, eqb-false, cases_lt, lt-ltb, le-ltb}
 use Rattle.std.proofs.lemmas.Bool.Decides.{Decides-like, Decides-and, Decides-eqb}
 use Rattle.std.proofs.lemmas.List.{length-set, length-replicate, get_or-set_same, get_or-set_other, set_past}
@@ -14,14 +15,6 @@ use Rattle.clu_name_rules.specs.Words.{number_of}
 use Rattle.clu_name_rules.specs.Repeated.{same, Note, first_in, put_first, marked, repeated_in, is_refused, listed_name, with_name, with_names}
 
 -- ---- tests
-
-and_false : (b : Bool) → (b && false) ≡ false
-and_false true = refl
-and_false false = refl
-
-pub or_false : (b : Bool) → (b || false) ≡ b
-or_false true = refl
-or_false false = refl
 
 or_assoc : (a b c : Bool) → (a || (b || c)) ≡ ((a || b) || c)
 or_assoc true b c = refl
@@ -151,10 +144,10 @@ none_set (suc nodes) (suc n) = none_set nodes n
 
 set_if : (b : Bool) (bits : List Bool) (m n : ℕ) → is_set (slice_get (if b then set bits m true else bits) n) ≡ ((m == n && (b && nat_lt n (length bits))) || is_set (slice_get bits n))
 set_if true bits m n = set_at bits m n
-set_if false bits m n = ap (λ (b : Bool). b || is_set (slice_get bits n)) (sym (and_false (m == n)))
+set_if false bits m n = ap (λ (b : Bool). b || is_set (slice_get bits n)) (sym (and-false (m == n)))
 
 marked_at : (o : Option ℕ) (note : Note) (bits : List Bool) (n : ℕ) → is_set (slice_get (marked o note bits) n) ≡ ((note.node == n && (is_second o note && nat_lt n (length bits))) || is_set (slice_get bits n))
-marked_at None note bits n = ap (λ (b : Bool). b || is_set (slice_get bits n)) (sym (and_false (note.node == n)))
+marked_at None note bits n = ap (λ (b : Bool). b || is_set (slice_get bits n)) (sym (and-false (note.node == n)))
 marked_at (Some first) note bits n = set_if (is_refused note.name.kind (first == note.node)) bits note.node n
 
 inside_both : (m b l r : Bool) → ((m && (b && l)) || (l && r)) ≡ (l && ((m && b) || r))
@@ -165,7 +158,7 @@ inside_both false b l r = refl
 
 -- the bits are those of what repeats
 pub bits_are : (nodes : ℕ) (notes : List Note) (n : ℕ) → is_set (slice_get (repeated_in nodes notes) n) ≡ (nat_lt n nodes && repeats notes n)
-bits_are nodes [] n = none_set nodes n ∙ sym (and_false (nat_lt n nodes))
+bits_are nodes [] n = none_set nodes n ∙ sym (and-false (nat_lt n nodes))
 bits_are nodes (note ∷ before) n =
     marked_at (first_in before note.name) note (repeated_in nodes before) n
     ∙ ap (λ (k : ℕ). (note.node == n && (is_second (first_in before note.name) note && nat_lt n k)) || is_set (slice_get (repeated_in nodes before) n)) (size_is nodes before)
@@ -244,7 +237,7 @@ module _ (all : List (List ℕ)) (top : ℕ) (k : ListKind) where
     second_is (Some first) name m = strict (first == m)
 
     repeats_again : (m n : ℕ) (names : List (List ℕ)) (before : List Note) → repeats (with_names all top k m names before) n ≡ ((m == n && again m names before) || repeats before n)
-    repeats_again m n [] before = ap (λ (b : Bool). b || repeats before n) (sym (and_false (m == n)))
+    repeats_again m n [] before = ap (λ (b : Bool). b || repeats before n) (sym (and-false (m == n)))
     repeats_again m n (name ∷ names) before =
         repeats_again m n names (with_name all top k m before name)
         ∙ ap (λ (b : Bool). (m == n && again m names (with_name all top k m before name)) || ((m == n && b) || repeats before n)) (second_is (first_in before (listed name)) name m)
@@ -276,7 +269,7 @@ module _ (all : List (List ℕ)) (top : ℕ) (k : ListKind) where
     other_is (Some first) name m = loose (first == m)
 
     repeats_other : (m n : ℕ) (names : List (List ℕ)) (before : List Note) → repeats (with_names all top k m names before) n ≡ ((m == n && list_any (λ y. is_other (first_in before (listed y)) m) names) || repeats before n)
-    repeats_other m n [] before = ap (λ (b : Bool). b || repeats before n) (sym (and_false (m == n)))
+    repeats_other m n [] before = ap (λ (b : Bool). b || repeats before n) (sym (and-false (m == n)))
     repeats_other m n (name ∷ names) before =
         repeats_other m n names (with_name all top k m before name)
         ∙ ap (λ (b : Bool). (m == n && b) || ((m == n && is_second (first_in before (listed name)) (record { name = listed name; node = m })) || repeats before n))

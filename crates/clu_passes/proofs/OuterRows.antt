@@ -1,7 +1,7 @@
 -- What is read outside of routines: so each routine of the tree is plain.
 use Rattle.std.proofs.Common.{◌≡◌, ◌∙◌, ◌⊎◌, ℕ, zero, suc, ◌+◌, ◌-◌, ◌<◌, ◌≤◌, ◌&&◌, not, Bool, true, false, if◌then◌else◌, List, [], ◌∷◌, ◌++◌, length, take, drop, Option, Some, None, slice_get, refl, ap, sym, subst, inl, inr, arith, append-nil}
 use Rattle.std.specs.List.{list_all}
-use Rattle.std.proofs.lemmas.Bool.{not-true, not_from_false}
+use Rattle.std.proofs.lemmas.Bool.{not-true, not_from_false, cases_Bool}
 use Rattle.std.proofs.lemmas.List.{length_push}
 use Rattle.clu_lexer.specs.declared.symbols.Symbol.{Symbol}
 use Rattle.clu_tree.specs.declared.node.Node.{Node}
@@ -15,7 +15,7 @@ use Rattle.clu_grammar.specs.declared.items.Nonterminal.{Nonterminal}
 use Rattle.clu_grammar.specs.declared.items.Nonterminal.TheVariants as r
 use Rattle.clu_grammar.specs.Grammar.{productions}
 use Rattle.clu_grammar.specs.Language.{IsOneOf, whole}
-use Rattle.clu_grammar.proofs.Flags.{and_left, and_right, implied, true_or_false}
+use Rattle.clu_grammar.proofs.Flags.{and_left, and_right, implied}
 use Rattle.clu_grammar.proofs.Tests.{implies, items_of}
 use Rattle.clu_parser.specs.declared.begun.Begun.{Begun}
 use Rattle.clu_parser.specs.Spellings.{is_idn}
@@ -137,7 +137,7 @@ outer_plain t _ at b to z true fresh (did a items _ _ c _ _ is d) outer f plain 
     outer_plain t items at c to z false false d (and_right (ends_module (item.Action a)) (are_outer false false items) outer) (λ e. absurd (cc))
     (module_plain t (at - 1) b c a is (module_end a (and_left (ends_module (item.Action a)) (are_outer false false items) outer)) plain)
 outer_plain t _ at b to z true fresh (chose n items row _ _ mid c _ _ one it d e) outer f plain = absurd (cc)
-outer_plain t _ at b to z false fresh (chose n items row _ _ mid c _ _ one it d e) outer f plain = elim (true_or_false (is_head n)) [
+outer_plain t _ at b to z false fresh (chose n items row _ _ mid c _ _ one it d e) outer f plain = elim (cases_Bool (is_head n)) [
   | inl head ↦
       (let x : IsRow n row = head_row n row head one in
       let rest : are_outer (not fresh) false items ≡ true = sym (ap (λ (b : Bool). if b then are_outer (not fresh) false items else implies (wants_fresh n) fresh && are_outer false false items) head) ∙ outer in

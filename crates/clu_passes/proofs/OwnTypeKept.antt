@@ -1,8 +1,9 @@
 -- What was of an arena is of each into which it grows: types of values, and that of a cluster with its own parameters.
-use Rattle.std.proofs.Common.{◌≡◌, ◌∙◌, ℕ, zero, suc, ◌<◌, ◌≤◌, Bool, true, false, List, [], ◌∷◌, ◌++◌, length, Option, Some, None, refl, sym, ap, subst, arith}
+use Rattle.std.proofs.Common.{◌≡◌, ◌∙◌, ℕ, suc, ◌<◌, ◌≤◌, Bool, true, false, List, [], ◌∷◌, length, Option, Some, None, sym, ap, subst, arith}
 use Rattle.std.specs.Prelude.{slice_get}
 use Rattle.std.proofs.lemmas.List.Elements.{All-weaker}
 use Rattle.std.proofs.lemmas.Option.{none-some, same_Some, slice_get_within}
+use Rattle.clu_base.proofs.Lists.{front_get}
 use Rattle.clu_types.specs.Arena.{Grows}
 use Rattle.clu_types.specs.declared.spec.ParamKind.{ParamKind}
 use Rattle.clu_types.specs.declared.term.Actual.{Actual}
@@ -26,14 +27,9 @@ values_later n m constants more values within = (All-weaker (TypeWithin n) (Type
 
 -- ---- terms
 
-pub got_kept : (xs more : List Term) (i : ℕ) → i < length xs → slice_get (xs ++ more) i ≡ slice_get xs i
-got_kept [] more i l = absurd (omega (arith, l))
-got_kept (x ∷ xs) more zero l = refl
-got_kept (x ∷ xs) more (suc i) l = got_kept xs more i (omega (arith, l))
-
 module _ (old new : List Term) (grows : Grows old new) where
   term_kept : (i : ℕ) (t : Term) → slice_get old i ≡ Some t → slice_get new i ≡ Some t
-  term_kept i t at = ap (λ (ts : List Term). slice_get ts i) grows.1 ∙ got_kept old grows.0 i (slice_get_within old i t at) ∙ at
+  term_kept i t at = ap (λ (ts : List Term). slice_get ts i) grows.1 ∙ front_get old grows.0 i (slice_get_within old i t at) ∙ at
 
   one_kept : (b : Bool) (n : ℕ) (a : Actual) → IsOwn old b n a → IsOwn new b n a
   one_kept true n (actual.Of id) is = term_kept id.0 (term.Param n) is

@@ -1,14 +1,11 @@
 -- The place that is noted of a node is that of its first declaration.
 use Rattle.std.proofs.Common.{◌≡◌, ◌∙◌, ℕ, suc, ◌+◌, ◌<◌, ◌≤◌, ◌⊎◌, ◌&&◌, ◌==◌, inl, inr, nat_lt, Bool, true, false, if◌then◌else◌, List, [], ◌∷◌, length, get_or, set, replicate, refl, sym, ap, subst, arith, lt-ltb, le-ltb, eqb-true}
+use Rattle.std.proofs.Math.Bool.{and-false}
 use Rattle.std.proofs.lemmas.Bool.{eqb-false}
 use Rattle.std.proofs.lemmas.List.{length-set, get_or-set_same, get_or-set_other, get_or-replicate, length-replicate}
 use Rattle.clu_names.specs.declared.scopes.Declared.{Declared}
 use Rattle.clu_name_rules.specs.Own.{noted, noted_from, own_places}
 use Rattle.clu_passes.specs.Owns.{first_from}
-
-and_false : (b : Bool) → (b && false) ≡ false
-and_false true = refl
-and_false false = refl
 
 -- what is noted of a node before the place k: a place before it, or none
 abbrev IsNoted : ℕ → ℕ → ℕ → Type 0
@@ -71,7 +68,7 @@ module _ (none m : ℕ) where
           elim is [
             | inl less ↦
                 let late : nat_lt k (get_or own d.node 0) ≡ false = le-ltb k (get_or own d.node 0) (omega (arith, its, less)) in
-                before_all goes (ap (λ (b : Bool). get_or (if b then set own d.node k else own) m 0) (ap (λ (b : Bool). nat_lt d.node (length own) && b) late ∙ and_false (nat_lt d.node (length own)))) less
+                before_all goes (ap (λ (b : Bool). get_or (if b then set own d.node k else own) m 0) (ap (λ (b : Bool). nat_lt d.node (length own) && b) late ∙ and-false (nat_lt d.node (length own)))) less
             | inr at ↦
                 let there : nat_lt d.node (length own) ≡ true = lt-ltb d.node (length own) (omega (arith, same, inside)) in
                 let early : nat_lt k (get_or own d.node 0) ≡ true = lt-ltb k (get_or own d.node 0) (omega (arith, its, at, most)) in

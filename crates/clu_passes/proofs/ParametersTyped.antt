@@ -1,6 +1,7 @@
 -- Types of constant parameters are by the tables those of the definitions, whatever more types there are.
-use Rattle.std.proofs.Common.{◌≡◌, ◌∙◌, ℕ, zero, suc, ◌<◌, Bool, true, false, List, [], ◌∷◌, ◌++◌, length, Option, Some, None, inl, inr, refl, sym, ap, subst, arith}
+use Rattle.std.proofs.Common.{◌≡◌, ◌∙◌, ℕ, Bool, true, false, List, length, Option, Some, None, inl, inr, refl, sym, ap, subst}
 use Rattle.std.specs.Prelude.{slice_get}
+use Rattle.clu_base.proofs.Lists.{front_get}
 use Rattle.clu_types.specs.CluType.{CluType}
 use Rattle.clu_types.specs.Arena.{Grows}
 use Rattle.clu_types.specs.declared.spec.ParamKind.{ParamKind}
@@ -33,11 +34,6 @@ use Rattle.clu_passes.proofs.Actuals as actuals
 use Rattle.clu_passes.proofs.ConstantNodes.{value_within}
 use Rattle.clu_passes.proofs.NodeTyped.{type_grown}
 use Rattle.clu_passes.proofs.Strings.{value_same}
-
-front_get : {A : Type 0} (xs ys : List A) (k : ℕ) → k < length xs → slice_get (xs ++ ys) k ≡ slice_get xs k
-front_get [] ys k less = absurd (omega (arith, less))
-front_get (x ∷ xs) ys zero less = refl
-front_get (x ∷ xs) ys (suc k) less = front_get xs ys k (omega (arith, less))
 
 -- the kind of a type that is there
 kind_grown : (old new : List Term) → Grows old new → (of : Option TypeId) → IsBelowIf (length old) of → head.kind_of_type new of ≡ head.kind_of_type old of

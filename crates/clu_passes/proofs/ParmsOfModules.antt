@@ -1,7 +1,8 @@
 -- Each Parm of the tree of a text is a parameter of a module.
-use Rattle.std.proofs.Common.{◌≡◌, ◌∙◌, ◌⊎◌, ℕ, ◌+◌, ◌-◌, ◌<◌, ◌≤◌, ◌||◌, Bool, true, false, List, [], ◌∷◌, length, Option, Some, slice_get, refl, ap, ap₂, sym, subst, inl, inr, arith}
+use Rattle.std.proofs.Common.{◌≡◌, ◌∙◌, ◌⊎◌, ℕ, ◌+◌, ◌-◌, ◌<◌, ◌≤◌, true, List, [], ◌∷◌, length, Option, Some, slice_get, refl, ap, ap₂, sym, subst, inl, inr, arith}
 use Rattle.std.proofs.lemmas.Bool.{true≢false, cases_Bool, cases_lt}
 use Rattle.std.proofs.lemmas.Option.{same_Some, slice_get_within}
+use Rattle.clu_base.proofs.Bools.{second_true}
 use Rattle.clu_tree.specs.declared.node.Node.{Node}
 use Rattle.clu_tree.specs.declared.node.NodeKind.{NodeKind}
 use Rattle.clu_tree.specs.declared.node.NodeKind.TheVariants as kind
@@ -51,10 +52,6 @@ last_inside nodes from to _ (tree _ root _ n roots there inside behind) d node a
   ]
 ]
 
-or_right : (a b : Bool) → (a || b) ≡ true → a ≡ false → b ≡ true
-or_right true b e f = absurd (true≢false f)
-or_right false b e f = e
-
 module _ (t : Text) (nodes : List Node) (rounds : List Round) (parsed : IsParsed t nodes) (are : AreRounds nodes rounds) where
   -- a routine before a Module stands in it
   before_module : (n : ℕ) → IsBeforeModule nodes n → kind_at_parent nodes (round_at rounds n).parent ≡ kind.Module
@@ -71,7 +68,7 @@ module _ (t : Text) (nodes : List Node) (rounds : List Round) (parsed : IsParsed
     outer_module : (q : HasParent nodes n) → kind_at_parent nodes (round_at rounds q.parent).parent ≡ kind.Module
     outer_module q = elim (cases_Bool (is_of kind.Routine q.node.kind)) [
       | inl r ↦ of_routine (plain q.parent q.node q.at (same_kind kind.Routine q.node.kind r))
-      | inr other ↦ of_cluster (same_kind kind.Cluster q.node.kind (or_right (is_of kind.Routine q.node.kind) (is_of kind.Cluster q.node.kind) (round_parm nodes parsed.tree q.parent q.node q.at (parsed.forms q.parent q.node q.at) n q.child is) other))
+      | inr other ↦ of_cluster (same_kind kind.Cluster q.node.kind (second_true (is_of kind.Routine q.node.kind) (is_of kind.Cluster q.node.kind) (round_parm nodes parsed.tree q.parent q.node q.at (parsed.forms q.parent q.node q.at) n q.child is) other))
     ]
       where
         of_routine : IsPlain nodes q.parent q.node → kind_at_parent nodes (round_at rounds q.parent).parent ≡ kind.Module

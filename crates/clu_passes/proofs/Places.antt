@@ -4,6 +4,7 @@ use Rattle.std.proofs.Common.{◌≡◌, ℕ, zero, suc, ◌+◌, ◌<◌, ◌�
 use Rattle.std.specs.Prelude.{slice_get}
 use Rattle.std.proofs.lemmas.Bool.{cases_eq}
 use Rattle.std.proofs.lemmas.Option.{none-some, slice_get_within, same_Some}
+use Rattle.clu_base.proofs.Lists.{got_front}
 use Rattle.clu_tree.specs.declared.node.Node.{Node}
 use Rattle.clu_tree.specs.declared.node.NodeKind.{NodeKind}
 use Rattle.clu_tree.specs.declared.node.NodeKind.TheVariants as kind
@@ -41,13 +42,8 @@ pub record Declares (ds : List Declared) (n : ℕ) : Type 0 where
   pub there : slice_get ds place ≡ Some its
   pub declares : its.node ≡ n
 
-get_left : {X : Type 0} (xs ys : List X) (i : ℕ) (x : X) → slice_get xs i ≡ Some x → slice_get (xs ++ ys) i ≡ Some x
-get_left [] ys i x e = absurd (none-some x e)
-get_left (y ∷ xs) ys zero x e = e
-get_left (y ∷ xs) ys (suc i) x e = get_left xs ys i x e
-
 in_left : (xs ys : List Declared) (n : ℕ) → Declares xs n → Declares (xs ++ ys) n
-in_left xs ys n d = record { place = d.place; its = d.its; there = get_left xs ys d.place d.its d.there; declares = d.declares }
+in_left xs ys n d = record { place = d.place; its = d.its; there = got_front xs ys d.place d.its d.there; declares = d.declares }
 
 in_right : (xs ys : List Declared) (n : ℕ) → Declares ys n → Declares (xs ++ ys) n
 in_right [] ys n d = d

@@ -1,6 +1,7 @@
 -- Behind a routine of the tree that reading builds comes its module, unless none of its children is a Parm: the nodes so far, and what
 -- an action adds to them.
 use Rattle.std.proofs.Common.{◌≡◌, ◌∙◌, ◌⊎◌, ℕ, zero, suc, ◌+◌, ◌-◌, ◌<◌, ◌≤◌, ◌&&◌, not, Bool, true, false, if◌then◌else◌, List, [], ◌∷◌, ◌++◌, length, take, drop, Option, Some, None, slice_get, refl, ap, sym, subst, inl, inr, arith, append-nil}
+use Rattle.clu_base.proofs.Lists.{got_front}
 use Rattle.clu_tree.specs.declared.node.Node.{Node}
 use Rattle.clu_tree.specs.declared.node.NodeKind.{NodeKind}
 use Rattle.clu_tree.specs.declared.node.NodeKind.TheVariants as kind
@@ -13,11 +14,6 @@ use Rattle.clu_syntax.specs.Splits.{is_of}
 use Rattle.clu_declares.proofs.Parents.{IsIn}
 
 -- ---- lists
-
-pub got_front : {X : Type 0} (xs ys : List X) (i : ℕ) (x : X) → slice_get xs i ≡ Some x → slice_get (xs ++ ys) i ≡ Some x
-got_front [] ys i x e = absurd (cc)
-got_front (y ∷ xs) ys zero x e = e
-got_front (y ∷ xs) ys (suc i) x e = got_front xs ys i x e
 
 -- an item of a list with one more is one of the list, or that one
 pub got_either : {X : Type 0} (xs : List X) (y : X) (i : ℕ) (x : X) → slice_get (xs ++ y ∷ []) i ≡ Some x → (slice_get xs i ≡ Some x) ⊎ ((y ≡ x) × (i ≡ length xs))

@@ -1,5 +1,6 @@
 -- Each node raises what its children raise, in the order of the text, and behind that what it raises by itself.
 use Rattle.std.proofs.Common.{◌≡◌, ◌∙◌, ℕ, ◌-◌, ◌&&◌, ◌||◌, not, Bool, true, false, if◌then◌else◌, List, [], ◌∷◌, ◌++◌, take, drop, get_or, Option, Some, None, refl, ap, ap₂, sym, subst, append_assoc, append-nil}
+use Rattle.clu_base.proofs.Bools.{implied}
 use Rattle.clu_tree.specs.declared.node.Node.{Node}
 use Rattle.clu_tree.specs.declared.node.NodeKind.{NodeKind}
 use Rattle.clu_tree.specs.declared.node.NodeKind.TheVariants as kind
@@ -71,10 +72,6 @@ plain_decls _ = refl
 call_is : (j : NodeKind) → (not (is_child (shape.one kind.Call) j) || is_expression j) ≡ true
 call_is kind.File = refl
 call_is _ = refl
-
-implied : (a b : Bool) → (not a || b) ≡ true → a ≡ true → b ≡ true
-implied true b e h = e
-implied false b e h = absurd (let none : true ≡ false = sym h in cc)
 
 pub a_call : (nodes : List Node) (n c : ℕ) → IsPart nodes (is_child (shape.one kind.Call)) n c → IsPart nodes is_expression n c
 a_call nodes n c is = (is.0, implied (is_child (shape.one kind.Call) (kind_at nodes c)) (is_expression (kind_at nodes c)) (call_is (kind_at nodes c)) is.1)

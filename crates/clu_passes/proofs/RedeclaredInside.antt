@@ -2,6 +2,7 @@
 -- child, and of routines, which declare their first name.
 use Rattle.std.proofs.Common.{◌≡◌, ◌∙◌, ◌⊎◌, ℕ, zero, suc, ◌+◌, ◌-◌, ◌^◌, ◌<◌, ◌≤◌, nat_lt, ◌==◌, ◌&&◌, ◌||◌, Bool, true, false, if◌then◌else◌, List, [], ◌∷◌, ◌++◌, length, get_or, map, take, drop, slice_get, is_some, bytes_eq, Option, Some, None, inl, inr, refl, sym, ap, ap₂, subst, arith, append_assoc}
 use Rattle.std.specs.List.{AllByRecursion, list_any}
+use Rattle.std.proofs.Math.Bool.{and-false}
 use Rattle.std.proofs.lemmas.Bool.{true≢false, ne_eqb, eqb-true, le-ltb, eq-eqb, and_parts}
 use Rattle.std.proofs.lemmas.List.{drop-map, length-map}
 use Rattle.std.proofs.lemmas.Option.{same_Some, none-some, slice_get_within, slice_get_past}
@@ -133,10 +134,6 @@ no_other k None own = refl
 no_unit : (k : ℕ) (o : Option Declared) (own : ℕ) (e : Declared) → e.unit ≡ None → both_before k o own (Some e) ≡ false
 no_unit k (Some d) own e alone = ap (λ (b : Bool). b && (nat_lt (rank e) (rank d) || (rank d == rank e && nat_lt k own))) (same_other d.unit e.unit alone)
 no_unit k None own e alone = refl
-
-and_false : (b : Bool) → (b && false) ≡ false
-and_false true = refl
-and_false false = refl
 
 take_mapped : {X Y : Type 0} (f : X → Y) (xs : List X) → take 1 (map f xs) ≡ map f (take 1 xs)
 take_mapped f [] = refl
@@ -443,7 +440,7 @@ module _ (t : Text) (f : File) (parsed : IsParsed t f.nodes) (are : AreRounds f.
 
           by_bounds : (xs : List (Option ℕ)) → has_redefined ds (first_from 0 ds n (length ds)) (take 1 xs) ≡ false
           by_bounds [] = refl
-          by_bounds (x ∷ xs) = ap (λ (b : Bool). nat_lt (first_from 0 ds n (length ds)) (length ds) && (b || false)) (other_alone none x) ∙ and_false (nat_lt (first_from 0 ds n (length ds)) (length ds))
+          by_bounds (x ∷ xs) = ap (λ (b : Bool). nat_lt (first_from 0 ds n (length ds)) (length ds) && (b || false)) (other_alone none x) ∙ and-false (nat_lt (first_from 0 ds n (length ds)) (length ds))
 
       inner_told : (scope : ℕ × ℕ) → scope_of kind.Routine outer n (round n) ≡ Some scope → stands_twice (take 1 (names f n)) ≡ false → list_any (rules_of.is_redefined f n) (take 1 (names f n)) ≡ has_redefined ds (own n) (take 1 (bound_in table n))
       inner_told scope e once =

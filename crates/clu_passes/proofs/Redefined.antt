@@ -1,8 +1,9 @@
 -- A declaration of the module comes before another one just if that does to which the name is bound there.
-use Rattle.std.proofs.Common.{◌≡◌, ◌∙◌, ◌⊎◌, ℕ, zero, suc, ◌+◌, ◌<◌, ◌≤◌, nat_lt, Bool, true, false, ◌&&◌, ◌||◌, List, [], ◌∷◌, Option, Some, None, inl, inr, refl, sym, ap, arith}
+use Rattle.std.proofs.Common.{◌≡◌, ◌∙◌, ◌⊎◌, ℕ, zero, suc, ◌+◌, ◌<◌, ◌≤◌, nat_lt, Bool, true, ◌&&◌, ◌||◌, List, [], ◌∷◌, Option, Some, None, inl, inr, refl, sym, ap, arith}
 use Rattle.std.specs.Prelude.{◌==◌, slice_get}
 use Rattle.std.proofs.lemmas.Bool.{cases_lt, and_parts, and_from, or_cases, or_left, or_right, ltb-true, lt-ltb, eqb-true, eq-eqb, true≢false}
 use Rattle.std.proofs.lemmas.Option.{none-some, same_Some}
+use Rattle.clu_base.proofs.Bools.{same_truth}
 use Rattle.clu_syntax.specs.Syntax.{Identifier}
 use Rattle.clu_names.specs.declared.scopes.Declared.{Declared}
 use Rattle.clu_names.specs.Denotes.{is_open, rank, rank_of, found}
@@ -14,11 +15,6 @@ use Rattle.clu_name_rules.specs.NameRules.{same_unit, comes_before, both_before,
 use Rattle.clu_passes.specs.Tables.{OpenOfOne}
 
 -- ---- tests
-
-same_bool : (a b : Bool) → (a ≡ true → b ≡ true) → (b ≡ true → a ≡ true) → a ≡ b
-same_bool true b to from = sym (to refl)
-same_bool false true to from = from refl
-same_bool false false to from = refl
 
 units_same : (a b : Option ℕ) → rules_of.same_unit a b ≡ same_unit a b
 units_same (Some a) (Some b) = refl
@@ -138,4 +134,4 @@ module _ (n : ℕ) (name : Identifier) (own : ℕ) (e : Declared) where
     pub redefined_is : is_preceded n name own e 0 ds ≡ is_redefined ds own (found ds name n)
     redefined_is =
         let best = found_is ds name n in
-        same_bool (is_preceded n name own e 0 ds) (is_redefined ds own (found ds name n)) (λ h. best_precedes (found ds name n) best (one_precedes 0 ds h)) (precedes_best (found ds name n) best)
+        same_truth (is_preceded n name own e 0 ds) (is_redefined ds own (found ds name n)) (λ h. best_precedes (found ds name n) best (one_precedes 0 ds h)) (precedes_best (found ds name n) best)

@@ -3,12 +3,14 @@
 use Rattle.std.proofs.Common.{◌≡◌, ◌∙◌, ◌⊎◌, ℕ, ◌+◌, ◌-◌, ◌≤◌, ◌&&◌, ◌||◌, not, cond, Bool, true, false, if◌then◌else◌, List, [], ◌∷◌, ◌++◌, length, map, take, drop, Option, Some, None, slice_get, refl, ap, ap₂, sym, subst, inl, inr, arith, append-nil, append_assoc, length-append}
 use Rattle.std.proofs.lemmas.List.{length_push}
 use Rattle.std.proofs.Math.Seq.{drop-append_seam, take-append_seam}
+use Rattle.std.proofs.lemmas.Bool.{or_cases}
+use Rattle.clu_base.proofs.Lists.{got_front}
 use Rattle.clu_tree.specs.declared.node.Node.{Node}
 use Rattle.clu_tree.specs.declared.node.NodeKind.{NodeKind}
 use Rattle.clu_tree.specs.declared.node.NodeKind.TheVariants as kind
 use Rattle.clu_grammar.specs.declared.items.Action.{Action}
 use Rattle.clu_grammar.specs.declared.items.Action.TheVariants as action
-use Rattle.clu_grammar.proofs.Flags.{and_left, and_right, or_cases}
+use Rattle.clu_grammar.proofs.Flags.{and_left, and_right}
 use Rattle.clu_parser.specs.declared.begun.Begun.{Begun}
 use Rattle.clu_parser.specs.Spellings.{closes, is_idn}
 use Rattle.clu_parser.specs.Trees.{Text, Built, acted, spelling_at, node_of, opened, wrapped, wrapped_in, wrapped_on, noted, noted_in, given_in, closed, then_wrapped}
@@ -16,7 +18,7 @@ use Rattle.clu_parser.proofs.Forest.{got_last}
 use Rattle.clu_syntax.specs.Roles.{has_no_name}
 use Rattle.clu_syntax.specs.Splits.{is_of}
 use Rattle.clu_declares.proofs.Below.{same_kind}
-use Rattle.clu_passes.proofs.PlainNodes.{IsClosed, closed_is, got_either, got_front}
+use Rattle.clu_passes.proofs.PlainNodes.{IsClosed, closed_is, got_either}
 
 -- ---- nodes
 

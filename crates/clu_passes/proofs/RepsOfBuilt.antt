@@ -1,6 +1,6 @@
 -- What the grammar says of the word `rep` holds in the tree of a text.
 use Rattle.std.proofs.Common.{◌≡◌, ◌∙◌, ℕ, ◌+◌, ◌-◌, ◌==◌, ◌&&◌, Bool, true, false, List, [], ◌∷◌, ◌++◌, length, Option, Some, None, slice_get, refl, ap, ap₂, sym, subst, inl, inr, arith, eqb-true}
-use Rattle.std.proofs.lemmas.Bool.{true≢false}
+use Rattle.std.proofs.lemmas.Bool.{true≢false, or_cases}
 use Rattle.std.proofs.lemmas.Option.{same_Some}
 use Rattle.clu_base.specs.declared.tokens.Token.{Token}
 use Rattle.clu_lexer.specs.Tokens.{Tokens}
@@ -10,7 +10,6 @@ use Rattle.clu_tree.specs.declared.node.NodeKind.TheVariants as kind
 use Rattle.clu_grammar.specs.declared.items.Item.{Item}
 use Rattle.clu_grammar.specs.declared.items.Nonterminal.TheVariants as r
 use Rattle.clu_grammar.specs.Language.{whole}
-use Rattle.clu_grammar.proofs.Flags.{or_cases}
 use Rattle.clu_parser.specs.Parsing.{IsTreeOf, text_of}
 use Rattle.clu_parser.specs.Shape.{IsShaped}
 use Rattle.clu_parser.specs.Spellings.{is_idn}

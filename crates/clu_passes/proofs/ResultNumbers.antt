@@ -2,6 +2,7 @@
 use Rattle.std.proofs.Common.{◌≡◌, ◌∙◌, ◌==◌, ℕ, Bool, true, false, ◌&&◌, ◌||◌, List, [], ◌∷◌, length, drop, ◌⊎◌, Option, Some, None, inl, inr, refl, sym, ap, ap₂, subst}
 use Rattle.std.specs.Prelude.{not, is_some}
 use Rattle.std.specs.List.{AllByRecursion, list_any}
+use Rattle.std.proofs.Math.Bool.{or-false}
 use Rattle.std.proofs.lemmas.Bool.{true≢false}
 use Rattle.clu_base.specs.declared.constants.Const.{Const}
 use Rattle.clu_tree.specs.declared.node.Node.{Node}
@@ -102,10 +103,6 @@ type_told types constants (value.Type id) s known e = ap typing.is_type_value e
 type_told types constants (value.Constant k) s known e = ap typing.is_type_value e
 type_told types constants (value.Parameter k) s known e = ap typing.is_type_value e
 
-or_false : (b : Bool) → (b || false) ≡ b
-or_false true = refl
-or_false false = refl
-
 abbrev is_named : NodeKind → Bool
 is_named kind.Name = true
 is_named kind.Index = true
@@ -138,7 +135,7 @@ module _ (k : Known) (scope : Scope) (library : List Specification) (refused : L
   numbers_are None (x ∷ xs) is = absurd is
   numbers_are (Some b) [] is = absurd is
   numbers_are (Some b) (x ∷ []) is =
-      or_false (not (length x.variables == length x.objects))
+      or-false (not (length x.variables == length x.objects))
       ∙ ap₂ (λ (m n : ℕ). not (m == n)) (each_length Any b.variables x.variables is.0) (lengths terms b.objects x.objects is.1)
   numbers_are (Some b) (x ∷ y ∷ xs) is = absurd is
 

@@ -7,6 +7,7 @@ use Rattle.std.specs.declared.cmp.Ordering.{Ordering}
 use Rattle.std.specs.declared.cmp.Ordering.TheVariants.{Less, Equal, Greater}
 use Rattle.std.specs.Ordering.{is_lt, is_eq, nat_cmp}
 use Rattle.std.specs.Cmp.Lexicographic.{slice_cmp}
+use Rattle.clu_base.proofs.Lists.{mapped}
 use Rattle.clu_types.specs.CluType.{CluType}
 use Rattle.clu_syntax.specs.Syntax.{Identifier, Cluster}
 use Rattle.clu_meaning.specs.Resolving.{Place, cluster_place}
@@ -22,10 +23,6 @@ use Rattle.clu_passes.specs.Told.{routine_told, AreNamed, AreHeadsOf, listed_nam
 use Rattle.clu_passes.proofs.Listing.{listed_named}
 
 -- ---- lists
-
-map_mapped : {X Y Z : Type 0} (g : Y → Z) (h : X → Y) (xs : List X) → map (λ x. g (h x)) xs ≡ map g (map h xs)
-map_mapped g h [] = refl
-map_mapped g h (x ∷ xs) = ap (λ ys. g (h x) ∷ ys) (map_mapped g h xs)
 
 module _ {X : Type 0} (P : X → Type 0) (rank : X → List ℕ) where
   with_all : (d : X) (es : List X) → P d → All P es → All P (with_one (before rank) (same rank) first_of d es)
@@ -73,7 +70,7 @@ module _ (f : File) (c : Cluster) (rs : List Named) (named : AreNamed f rs) (all
   pub routines_are : map (heading f inside) (listed_names rs) ≡ routines_of f c
   routines_are =
       headings_are f inside rs named
-      ∙ ap listed_headings (map_mapped (heading_of f inside) (λ r. (item f r.node).routine) rs ∙ ap (map (heading_of f inside)) all)
+      ∙ ap listed_headings (mapped (heading_of f inside) (λ r. (item f r.node).routine) rs ∙ ap (map (heading_of f inside)) all)
 
 -- ---- what heads tell of them
 

@@ -48,10 +48,6 @@ use Rattle.clu_passes.proofs.Routines.{listed_all}
 
 -- ---- lists
 
-mapped : {X Y Z : Type 0} (g : Y → Z) (h : X → Y) (xs : List X) → map (λ x. g (h x)) xs ≡ map g (map h xs)
-mapped g h [] = refl
-mapped g h (x ∷ xs) = ap (λ ys. g (h x) ∷ ys) (mapped g h xs)
-
 module _ (k : Known) (scope : Scope) (library : List Specification) (refused : List ℕ) (shaped : HaveForms k.syntax.now) (tree : IsTree k.syntax.now) (counted : AreCounted k (file_known k scope library refused))
     (asked : Asked) (old new : List Term) (arena : IsArena new) (constants : List Const) (settled : AreSettled k.syntax.now scope new constants k.values.now) (its : AreHeadsKnown k (file_known k scope library refused) asked new) where
   abbrev pub f : File

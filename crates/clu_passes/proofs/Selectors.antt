@@ -3,6 +3,7 @@ use Rattle.std.proofs.Common.{◌≡◌, ◌∙◌, ◌⊎◌, ℕ, ◌+◌, ◌
 use Rattle.std.specs.Prelude.{is_some}
 use Rattle.std.specs.List.{list_any, list_all}
 use Rattle.std.specs.Option.{option_map}
+use Rattle.std.proofs.Math.Bool.{not-not}
 use Rattle.std.proofs.lemmas.Bool.{cases_lt, lt-ltb, le-ltb}
 use Rattle.std.proofs.lemmas.Cmp.{nat_list_eq_equiv}
 use Rattle.std.proofs.lemmas.List.{length-append}
@@ -66,10 +67,6 @@ length_names : (fs : List Field) → length (names_of_fields fs) ≡ length fs
 length_names [] = refl
 length_names (f ∷ fs) = omega (arith, length_names fs)
 
-twice_not : (b : Bool) → not (not b) ≡ b
-twice_not true = refl
-twice_not false = refl
-
 -- each selector of the type stands among the names just if they are no fewer, where all are selectors of it and none stands
 -- twice
 module _ (types : List CluType) (fs : List Field) (names : List Identifier) (once_in : stands_twice (names_of_fields fs) ≡ false) (once_of : stands_twice names ≡ false) where
@@ -85,7 +82,7 @@ module _ (types : List CluType) (fs : List Field) (names : List Identifier) (onc
       ∙ by (list_all (is_selector_of fs) names) has_all_is
     where
       by : (all : Bool) → (all ≡ true → has_all (names_of_fields fs) names ≡ not (nat_lt (length names) (length fs))) → not (all && has_all (names_of_fields fs) names) ≡ (not all || nat_lt (length names) (length fs))
-      by true same = ap not (same refl) ∙ twice_not (nat_lt (length names) (length fs))
+      by true same = ap not (same refl) ∙ not-not (nat_lt (length names) (length fs))
       by false same = refl
 
 -- ---- the names of several nodes, one after the other

@@ -5,6 +5,7 @@ use Rattle.std.specs.List.{AllByRecursion}
 use Rattle.std.specs.Option.{option_or}
 use Rattle.std.proofs.lemmas.Bool.{true≢false, cases_lt, leb-true}
 use Rattle.std.proofs.lemmas.Option.{none-some, slice_get_within}
+use Rattle.clu_base.proofs.Bools.{of_three}
 use Rattle.clu_tree.specs.declared.node.Node.{Node}
 use Rattle.clu_tree.specs.declared.node.NodeKind.{NodeKind}
 use Rattle.clu_tree.specs.declared.node.NodeKind.TheVariants as kind
@@ -108,12 +109,6 @@ set_kind _ e = absurd (true≢false (sym e))
 set_there : (n : ℕ) (k : NodeKind) → k ≡ kind.TypeSet → if_set n k ≡ Some n
 set_there n k e = ap (if_set n) e
 
-three : (a b c : Bool) → (a && b && c) ≡ true → (a ≡ true) × (b ≡ true) × (c ≡ true)
-three true true true e = (refl, refl, refl)
-three true true false e = absurd (true≢false (sym e))
-three true false c e = absurd (true≢false (sym e))
-three false b c e = absurd (true≢false (sym e))
-
 never : {A : Type 0} (o other : Option ℕ) (n : ℕ) → o ≡ Some n → option_or o other ≡ None → A
 never o other n is e = absurd (none-some n (sym e ∙ ap (λ (x : Option ℕ). option_or x other) is))
 
@@ -151,5 +146,5 @@ module _ (headed : Headed) (shaped : HaveForms headed.file.syntax.now) (order : 
           also false b e = refl
           also true false e = refl
           also true true e =
-              let p = three (is_set_kind (kind_in headed.file s)) (nat_le (round_in headed.file s).first n) (nat_le n s) e in
+              let p = of_three (is_set_kind (kind_in headed.file s)) (nat_le (round_in headed.file s).first n) (nat_le n s) e in
               absurd (not_round n s outside p.0 (leb-true (round_in headed.file s).first n p.1) (leb-true n s p.2))

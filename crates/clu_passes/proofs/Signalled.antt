@@ -1,9 +1,10 @@
 -- The exceptions of a heading with the types of their objects, by tables; and V26 of a Signal.
-use Rattle.std.proofs.Common.{◌≡◌, ◌∙◌, ◌<◌, ℕ, Bool, true, false, ◌&&◌, ◌||◌, cond, find, if◌then◌else◌, List, [], ◌∷◌, length, bytes_eq, Option, Some, None, refl, sym, ap, ap₂, subst}
+use Rattle.std.proofs.Common.{◌≡◌, ◌∙◌, ◌<◌, ℕ, Bool, true, false, ◌&&◌, cond, find, if◌then◌else◌, List, [], ◌∷◌, length, bytes_eq, Option, Some, None, refl, sym, ap, ap₂, subst}
 use Rattle.std.specs.Prelude.{slice_get}
 use Rattle.std.specs.Ordering.{is_gt}
 use Rattle.std.specs.Cmp.Lexicographic.{nat_list_cmp_total}
 use Rattle.std.specs.List.{AllByRecursion, list_any}
+use Rattle.std.proofs.Math.Bool.{or-false}
 use Rattle.std.proofs.lemmas.Bool.{true≢false}
 use Rattle.std.proofs.lemmas.Cmp.{nat_list_eq_equiv, tied_itself}
 use Rattle.std.proofs.lemmas.Slice.Eq.{bytes_eq-Decides}
@@ -105,10 +106,6 @@ module _ (name : Identifier) (place : Place) (seen : HeadingType → CluType) wh
       by true is = sym (ap (λ (b : Bool). if◌then◌else◌ {A = Option CluTypes} b (Some (types_by seen (heading_types place ts))) (listed_in (exceptions_of place es))) (other_name is))
       by false is = listed_with (record { name = other; objects = heading_types place ts }) (exceptions_of place es)
 
-or_false : (b : Bool) → (b || false) ≡ b
-or_false true = refl
-or_false false = refl
-
 module _ (k : Known) (scope : Scope) (library : List Specification) (refused : List ℕ) where
   abbrev nodes : List Node
   nodes = k.tables.file.syntax.now
@@ -183,7 +180,7 @@ module _ (k : Known) (scope : Scope) (library : List Specification) (refused : L
         has_its c p =
             let n : ItsName k scope library refused shaped tree are stand routines r c = its_name k scope library refused shaped tree are stand routines r c p in
             ap₂ (λ (a : Bool) (xs : List Identifier). a && list_any (bytes_eq name) xs) p.1 n.one
-            ∙ or_false (bytes_eq name n.its)
+            ∙ or-false (bytes_eq name n.its)
             ∙ nat_list_eq_equiv.symm name n.its
             ∙ ap (λ (other : Identifier). bytes_eq other name) (sym n.written)
 

@@ -1,6 +1,7 @@
 -- Which names stand twice in a list or at a node, by what is noted of all nodes.
 use Rattle.std.proofs.Common.{◌≡◌, ◌∙◌, ◌⊎◌, ℕ, Bool, true, false, not, ◌&&◌, ◌||◌, ◌==◌, if◌then◌else◌, List, [], ◌∷◌, ◌++◌, fold, slice_get, is_some, Option, Some, None, inl, inr, refl, sym, ap, rules}
 use Rattle.std.specs.List.{list_any}
+use Rattle.std.proofs.Math.Bool.{or-false}
 use Rattle.std.proofs.lemmas.Bool.{true≢false, eq-eqb, eqb-true, ne_eqb, and_parts, not-true, or_left, or_right, or_parts}
 use Rattle.std.proofs.lemmas.List.Folds.{list_any-append}
 use Rattle.std.proofs.lemmas.Option.{same_Some}
@@ -17,7 +18,7 @@ use Rattle.clu_name_rules.specs.declared.repeated.ListKind.TheVariants as list
 use Rattle.clu_name_rules.specs.declared.repeated.Listed.{Listed}
 use Rattle.clu_name_rules.specs.Repeated.{same, Note, first_in, put_first, list_of, is_refused, tags_at, item_names, listed_name, with_name, with_names, with_item_of, with_item}
 use Rattle.clu_passes.specs.Notes.{has, each_once}
-use Rattle.clu_passes.proofs.Noted.{or_false, any_same, seen, repeats, IsStrict, same_word, stand_twice, are_seen, same_listed, same_kind, seen_names, names_apart, names_strict, is_other, names_loose}
+use Rattle.clu_passes.proofs.Noted.{any_same, seen, repeats, IsStrict, same_word, stand_twice, are_seen, same_listed, same_kind, seen_names, names_apart, names_strict, is_other, names_loose}
 use denote.Enum.Bare.{same_true}
 
 pub any_none : {X : Type 0} (p : X → Bool) → ((x : X) → p x ≡ false) → (xs : List X) → list_any p xs ≡ false
@@ -234,7 +235,7 @@ module _ (all : List (List ℕ)) (nodes : List Node) where
       seen_is x =
           seen_items (before_in cs n) before x
           ∙ ap (λ (b : Bool). are_there x (own_before (own nodes) item (before_in cs n)) || b) (fresh x)
-          ∙ or_false (are_there x (own_before (own nodes) item (before_in cs n)))
+          ∙ or-false (are_there x (own_before (own nodes) item (before_in cs n)))
 
       as_names : repeats (step top others n) n ≡ repeats (with_names all top k n (own nodes n) others) n
       as_names =
@@ -251,7 +252,7 @@ module _ (all : List (List ℕ)) (nodes : List Node) where
           ∙ as_names
           ∙ names_strict all top k strict n (own nodes n) others
           ∙ ap (λ (b : Bool). (are_seen all top k others (own nodes n) || stand_twice all (own nodes n)) || b) none_so_far
-          ∙ or_false (are_seen all top k others (own nodes n) || stand_twice all (own nodes n))
+          ∙ or-false (are_seen all top k others (own nodes n) || stand_twice all (own nodes n))
           ∙ ap (λ (b : Bool). b || stand_twice all (own nodes n)) (any_same (λ x. seen others (at x)) (λ x. are_there x (own_before (own nodes) item (before_in cs n))) seen_is (own nodes n))
 
       others_are : (x : List ℕ) → is_other (first_in others (at x)) n ≡ seen others (at x)
@@ -270,5 +271,5 @@ module _ (all : List (List ℕ)) (nodes : List Node) where
           ∙ as_names
           ∙ names_loose all top k loose n (own nodes n) others
           ∙ ap (λ (b : Bool). list_any (λ x. is_other (first_in others (at x)) n) (own nodes n) || b) none_so_far
-          ∙ or_false (list_any (λ x. is_other (first_in others (at x)) n) (own nodes n))
+          ∙ or-false (list_any (λ x. is_other (first_in others (at x)) n) (own nodes n))
           ∙ any_same (λ x. is_other (first_in others (at x)) n) (λ x. are_there x (own_before (own nodes) item (before_in cs n))) (λ x. others_are x ∙ seen_is x) (own nodes n)

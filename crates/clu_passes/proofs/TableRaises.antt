@@ -6,6 +6,7 @@ use Rattle.std.proofs.lemmas.Bool.{true≢false, and_parts, and_from, or_left, o
 use Rattle.std.proofs.lemmas.Iterator.Adapters.{position_from-zero}
 use Rattle.std.proofs.lemmas.Option.{none-some, same_Some}
 use Rattle.std.proofs.lemmas.Slice.Eq.{bytes_eq-Decides}
+use Rattle.clu_base.proofs.Bools.{same_truth}
 use Rattle.clu_syntax.specs.Syntax.{Identifier}
 use Rattle.clu_operations.specs.declared.words.NameId.{NameId}
 use Rattle.clu_operations.specs.Words.{id_of, named}
@@ -101,11 +102,6 @@ same_name words a b id other e g same = same_from a b 0 id.0 words (place_in wor
 
 -- ---- the test
 
-alike : (a b : Bool) → (a ≡ true → b ≡ true) → (b ≡ true → a ≡ true) → a ≡ b
-alike true b f g = sym (f refl)
-alike false true f g = absurd (true≢false (sym (g refl)))
-alike false false f g = refl
-
 module _ (k : Known) (set : RaisesId) (xs : List definition.Raise) (same : AreSame k (raises_of k.facts.now.raising set) xs) (names : List Identifier) (test : Identifier → Raise → Bool) (its_test : definition.Raise → Bool) (agree : (name : Identifier) → IsAmong name names → (r : Raise) (x : definition.Raise) → IsRaise k r x → x.0 ≡ name → its_test x ≡ test name r) where
   abbrev words : List (List ℕ)
   words = k.facts.now.finding.words
@@ -159,4 +155,4 @@ module _ (k : Known) (set : RaisesId) (xs : List definition.Raise) (same : AreSa
           ∙ all_at its_test (filter (is_named names) xs) all told.its (among_filter (is_named names) xs told.its told.among (among_any told.its.0 name names told.name_is i))
 
   pub tests_same : by_definition ≡ by_tables
-  tests_same = alike by_definition by_tables to_tables to_definition
+  tests_same = same_truth by_definition by_tables to_tables to_definition

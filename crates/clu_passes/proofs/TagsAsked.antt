@@ -3,6 +3,7 @@ use Rattle.std.proofs.Common.{◌≡◌, ◌∙◌, ◌⊎◌, ℕ, zero, suc, �
 use Rattle.std.specs.Prelude.{slice_get}
 use Rattle.std.proofs.lemmas.Bool.{true≢false, cases_Bool, not-true}
 use Rattle.std.proofs.lemmas.Option.{slice_get_within}
+use Rattle.clu_base.proofs.Bools.{implied}
 use Rattle.clu_tree.specs.declared.node.Node.{Node}
 use Rattle.clu_tree.specs.declared.node.NodeKind.{NodeKind}
 use Rattle.clu_tree.specs.declared.node.NodeKind.TheVariants as kind
@@ -165,10 +166,6 @@ body_heading kind.Module child r is = absurd (true≢false (sym is))
 body_heading kind.Routine child r is = absurd (true≢false (sym is))
 body_heading kind.Cluster child r is = absurd (true≢false (sym is))
 body_heading _ child r is = refl
-
-implied : (a b : Bool) → (not a || b) ≡ true → a ≡ true → b ≡ true
-implied true b e is = e
-implied false b e is = absurd (true≢false (sym is))
 
 either_of_three : (a b c : Bool) → (a || b || c) ≡ true → (a ≡ true) ⊎ ((b ≡ true) ⊎ (c ≡ true))
 either_of_three true b c e = inl refl

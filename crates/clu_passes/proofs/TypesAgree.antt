@@ -3,6 +3,7 @@
 use Rattle.std.proofs.Common.{◌≡◌, ◌∙◌, ◌⊎◌, ℕ, suc, ◌<◌, ◌≤◌, ◌&&◌, ◌||◌, not, Bool, true, false, List, [], ◌∷◌, length, drop, codes, Option, Some, None, inl, inr, refl, sym, ap, subst, arith}
 use Rattle.std.specs.Prelude.{slice_get}
 use Rattle.std.specs.List.{AllByRecursion, list_any}
+use Rattle.std.proofs.Math.Bool.{and-false}
 use Rattle.std.proofs.lemmas.Bool.{true≢false, or_right}
 use Rattle.clu_base.specs.declared.rules.Rule.{Rule}
 use Rattle.clu_base.specs.declared.rules.Rule.TheVariants as rule
@@ -138,10 +139,6 @@ or_fourth false true c d e h = refl
 or_fourth false false true d e h = refl
 or_fourth false false false d e h = ap (λ (x : Bool). x || e) h
 
-and_none : (a : Bool) → (a && false) ≡ false
-and_none true = refl
-and_none false = refl
-
 no_more : {A : Type 0} (name : Identifier) (others : List Identifier) → [] ≡ name ∷ others → A
 no_more name others e = let size : 0 ≡ suc (length others) = ap length e in absurd (omega (arith, size))
 
@@ -230,15 +227,15 @@ module _ (t : Text) (its : Tables) (library : List Specification) (refused : Lis
   long_constant : (n : ℕ) → n < length nodes → rules_of.is_too_long f rules_of.is_long_constant n ≡ (of_tables.is_right_side r n && of_tables.is_long_constant its.long_constants.now (value_in r n))
   long_constant n inside = elim (at.known_or_lost t its library refused all lost n) [
     | inl known ↦ too_long_constant its scope library refused shaped its_tree are n (λ const. known)
-    | inr gone ↦ by (is_constant nodes n) refl gone ∙ sym (ap (λ (v : Value). of_tables.is_right_side r n && of_tables.is_long_constant its.long_constants.now v) gone ∙ and_none (of_tables.is_right_side r n))
+    | inr gone ↦ by (is_constant nodes n) refl gone ∙ sym (ap (λ (v : Value). of_tables.is_right_side r n && of_tables.is_long_constant its.long_constants.now v) gone ∙ and-false (of_tables.is_right_side r n))
   ]
     where
       by : (b : Bool) → is_constant nodes n ≡ b → value_in r n ≡ value.Lost → rules_of.is_too_long f rules_of.is_long_constant n ≡ false
       by true const gone =
           ap (λ (b : Bool). rules_of.is_right_side f n && (not (rules_of.is_cvt (item f n).constant) && b))
           (lost_short f of_file (are_meanings t nodes r.rounds.now all.file.parsed all.file.rounds all.file.few) n inside const (at.gone_at t its library refused all lost n inside gone))
-          ∙ ap (λ (b : Bool). rules_of.is_right_side f n && b) (and_none (not (rules_of.is_cvt (item f n).constant)))
-          ∙ and_none (rules_of.is_right_side f n)
+          ∙ ap (λ (b : Bool). rules_of.is_right_side f n && b) (and-false (not (rules_of.is_cvt (item f n).constant)))
+          ∙ and-false (rules_of.is_right_side f n)
       by false apart gone = ap (λ (b : Bool). b && (not (rules_of.is_cvt (item f n).constant) && rules_of.is_long_constant (value_settled scope (item f n).constant))) (no_side n apart)
 
   abbrev IsTypeLongSame : ℕ → Type 0
@@ -251,8 +248,8 @@ module _ (t : Text) (its : Tables) (library : List Specification) (refused : Lis
   long_cvt : (n : ℕ) → rules_of.is_cvt (item f n).constant ≡ true → value_in r n ≡ value.Lost → IsTypeLongSame n
   long_cvt n cvt gone =
       ap (λ (b : Bool). rules_of.is_right_side f n && (not b && rules_of.is_long_type (value_settled scope (item f n).constant))) cvt
-      ∙ and_none (rules_of.is_right_side f n)
-      ∙ sym (ap (λ (v : Value). of_tables.is_right_side r n && of_tables.is_long_type its.long_types.now v) gone ∙ and_none (of_tables.is_right_side r n))
+      ∙ and-false (rules_of.is_right_side f n)
+      ∙ sym (ap (λ (v : Value). of_tables.is_right_side r n && of_tables.is_long_type its.long_types.now v) gone ∙ and-false (of_tables.is_right_side r n))
 
   module _ (n : ℕ) (inside : n < length nodes) (clear : IsClear f n)
       (read : AllByRecursion (λ (name : Identifier). is_bad_name f types_bad n name ≡ true → is_bad_name f bad n name ≡ true) (names_unfolded f (kind_in f n) n)) where

@@ -1,5 +1,6 @@
 -- Where no rule is violated by equates of which those are bad in which a type is refused, no type is refused.
 use Rattle.std.proofs.Common.{◌≡◌, ◌∙◌, ℕ, ◌&&◌, ◌||◌, Bool, true, false, List, [], ◌∷◌, is_some, Option, Some, None, refl, sym, ap}
+use Rattle.std.proofs.Math.Bool.{or-false}
 use Rattle.std.proofs.lemmas.Bool.{true≢false, or_right}
 use Rattle.std.proofs.lemmas.Option.{none-some}
 use Rattle.clu_base.specs.declared.rules.Rule.{Rule}
@@ -18,10 +19,6 @@ use Rattle.clu_passes.proofs.BadEquates.{names_are}
 use Rattle.clu_passes.proofs.FaultsFound.{least_of_types}
 use Rattle.clu_passes.proofs.RefusedFaults.{name_more, violated_more}
 use Rattle.clu_passes.proofs.TypesSettled.{types_same}
-
-or_none : (a : Bool) → (a || false) ≡ a
-or_none true = refl
-or_none false = refl
 
 -- rules that are violated sooner by one reading are so by the other
 none_least : (v w : Rule → Bool) → ((r : Rule) → v r ≡ false → w r ≡ false) → (rs : List Rule) → least v rs ≡ None → least w rs ≡ None
@@ -44,7 +41,7 @@ module _ (f : File) (bad : ℕ → Bool) (are : AreTypesBad f bad) where
     where
       by : (b : Bool) → types_bad e ≡ b → bad e ≡ either e
       by true is = are e equate straight is ∙ sym (or_right (bad e) (types_bad e) is)
-      by false is = sym (ap (λ (b : Bool). bad e || b) is ∙ or_none (bad e))
+      by false is = sym (ap (λ (b : Bool). bad e || b) is ∙ or-false (bad e))
 
   named_same : (n : ℕ) (name : Identifier) → is_bad_name f bad n name ≡ is_bad_name f either n name
   named_same = names_are f bad either either_same

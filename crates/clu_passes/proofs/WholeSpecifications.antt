@@ -5,6 +5,7 @@ use Rattle.std.specs.List.{AllByRecursion, list_any}
 use Rattle.std.proofs.lemmas.Bool.{true≢false, cases_Bool, or_parts}
 use Rattle.std.proofs.lemmas.Option.{slice_get_within}
 use Rattle.clu_base.specs.declared.rules.Rule.TheVariants as rule
+use Rattle.clu_base.proofs.Bools.{second_true}
 use Rattle.clu_tree.specs.declared.node.Node.{Node}
 use Rattle.clu_tree.specs.declared.node.NodeKind.{NodeKind}
 use Rattle.clu_tree.specs.declared.node.NodeKind.TheVariants as kind
@@ -98,10 +99,6 @@ of_heading kind.Results e = refl
 of_heading kind.Signals e = refl
 of_heading kind.File e = absurd (true≢false (sym e))
 of_heading _ e = absurd (true≢false (sym e))
-
-second : (a b : Bool) → (a || b) ≡ true → a ≡ false → b ≡ true
-second true b e f = absurd (true≢false f)
-second false b e f = e
 
 module _ (t : Text) (f : File) (parsed : IsParsed t f.nodes) (are : AreRounds f.nodes f.rounds) (again : RefusesAgain f) (clear : heading_refusal f ≡ None) where
   abbrev nodes : List Node
@@ -210,7 +207,7 @@ module _ (t : Text) (f : File) (parsed : IsParsed t f.nodes) (are : AreRounds f.
       fine : IsFine f of n
       fine = elim (cases_Bool (is_of kind.Routine q.node.kind)) [
         | inl r ↦ fine_of_routine f of clear q.parent q.node q.at (same_kind kind.Routine q.node.kind r) n q.child (ap is_of_heading is)
-        | inr other ↦ fine_of_cluster f of clear q.parent q.node q.at (same_kind kind.Cluster q.node.kind (second (is_of kind.Routine q.node.kind) (is_of kind.Cluster q.node.kind) above other)) n q.child (ap is_clustered is)
+        | inr other ↦ fine_of_cluster f of clear q.parent q.node q.at (same_kind kind.Cluster q.node.kind (second_true (is_of kind.Routine q.node.kind) (is_of kind.Cluster q.node.kind) above other)) n q.child (ap is_clustered is)
       ]
 
       by : (b : Bool) → v19 f n ≡ b → v19 f n ≡ false

@@ -3,6 +3,7 @@ use Rattle.std.proofs.Common.{◌≡◌, ◌∙◌, ℕ, ◌+◌, Bool, true, fa
 use Rattle.std.specs.Prelude.{◌==◌, not, is_none, slice_get}
 use Rattle.std.specs.List.{AllByRecursion}
 use Rattle.std.proofs.lemmas.Bool.{eqb-true, eq-eqb, false_from_ne_true}
+use Rattle.clu_base.proofs.Bools.{same_truth}
 use Rattle.clu_tree.specs.declared.node.Node.{Node}
 use Rattle.clu_tree.specs.declared.node.NodeKind.{NodeKind}
 use Rattle.clu_tree.specs.declared.node.NodeKind.TheVariants as kind
@@ -43,14 +44,9 @@ equated_rep items nodes n (Some name) kind.TypeSet c = refl
 equated_rep items nodes n None _ c = refl
 equated_rep items nodes n (Some name) _ c = refl
 
-same_bool : (a b : Bool) → (a ≡ true → b ≡ true) → (b ≡ true → a ≡ true) → a ≡ b
-same_bool true b to from = sym (to refl)
-same_bool false true to from = from refl
-same_bool false false to from = refl
-
 one_more : (k : ℕ) → (k == 0) ≡ ((1 + k) == 1)
 one_more k =
-    same_bool (k == 0) ((1 + k) == 1)
+    same_truth (k == 0) ((1 + k) == 1)
     (λ h. let zero : k ≡ 0 = eqb-true k 0 h in eq-eqb (1 + k) 1 (omega (arith, zero)))
     (λ h. let one : 1 + k ≡ 1 = eqb-true (1 + k) 1 h in eq-eqb k 0 (omega (arith, one)))
 

@@ -3,10 +3,13 @@ use Rattle.std.proofs.Common.{◌≡◌, ℕ, zero, suc, ◌+◌, ◌<◌, ◌�
 use Rattle.std.specs.List.{AllZip, list_all}
 use Rattle.std.proofs.lemmas.Bool.{and_from, and_parts, false≢true, or_cases, or_left, or_right}
 use Rattle.std.proofs.lemmas.List.{take-map, take-take, take_more}
+use Rattle.std.proofs.lemmas.List.Elements.{filter-append}
+use Rattle.std.proofs.lemmas.Option.{same_Some}
+use Rattle.clu_base.proofs.Lists.{none_is_not, item_at}
 use Rattle.clu_handlers.specs.declared.region.Region.{Region}
 use Rattle.clu_handlers.specs.Regions.{are_nested, can_add, is_apart, is_in, nests_behind}
 use Rattle.clu_peep.specs.Moved.{IsMoved, before, count_true, has_place, number_of, staying}
-use Rattle.clu_peep.proofs.Items.{get_at, none_is_not, same_item, taken_below}
+use Rattle.clu_peep.proofs.Items.{taken_below}
 
 -- Bounds keep their order.
 
@@ -26,7 +29,7 @@ nested_behind : (rs front : List Region) (j : ℕ) (b : Region) → nests_behind
 nested_behind [] front j b h e = none_is_not b e
 nested_behind (r ∷ rs) front zero b h e =
     let here : can_add front r.first r.last r.parent ≡ true = (and_parts _ _ h).0 in
-    subst (λ (x : Region). can_add (front ++ []) x.first x.last x.parent ≡ true) (same_item r b e)
+    subst (λ (x : Region). can_add (front ++ []) x.first x.last x.parent ≡ true) (same_Some r b e)
     (subst (λ (l : List Region). can_add l r.first r.last r.parent ≡ true) (sym (append-nil front)) here)
 nested_behind (r ∷ rs) front (suc j) b h e =
     subst (λ (l : List Region). can_add l b.first b.last b.parent ≡ true) (append_assoc front (r ∷ []) (take j rs))
@@ -116,7 +119,7 @@ module _ (left : List ℕ) (stays : List Bool) where
       → Found old (drop (suc p) xs) news (number_of (map (has_place left) xs) p)
   found_moved [] news p old e has zip = none_is_not old e
   found_moved (x ∷ xs) news zero old e has zip =
-      let is = same_item x old e in
+      let is = same_Some x old e in
       found_here x old xs news (has_place left x) (ap (has_place left) is ∙ has) is zip
   found_moved (x ∷ xs) news (suc p) old e has zip =
       found_later x old xs (drop (suc p) xs) news (has_place left x) (number_of (map (has_place left) xs) p) (λ ns z. found_moved xs ns p old e has z) zip
@@ -172,15 +175,11 @@ pub may_add : (left : List ℕ) (regions : List Region) (i : ℕ) (news : List R
     → MovedSoFar left regions i news → are_nested regions ≡ true → i < length regions → r ≡ get_or regions i r
     → has_place left r ≡ true → IsMoved left (staying left regions) r r' → can_add news r'.first r'.last r'.parent ≡ true
 may_add left regions i news r r' so_far nested lt at has mr =
-    fits_moved left regions i r r' news mr has so_far.zip (nested_behind regions [] i r nested (get_at regions i r lt at))
+    fits_moved left regions i r r' news mr has so_far.zip (nested_behind regions [] i r nested (item_at regions i r lt at))
 
 filter_head : {X : Type 0} (b : Bool) (x : X) (all front back : List X) → all ≡ front ++ back → cond b (x ∷ all) all ≡ cond b (x ∷ front) front ++ back
 filter_head true x all front back e = ap (λ l. x ∷ l) e
 filter_head false x all front back e = e
-
-filter-append : {X : Type 0} (test : X → Bool) (xs ys : List X) → filter test (xs ++ ys) ≡ filter test xs ++ filter test ys
-filter-append test [] ys = refl
-filter-append test (x ∷ xs) ys = filter_head (test x) x (filter test (xs ++ ys)) (filter test xs) (filter test ys) (filter-append test xs ys)
 
 taken : (left : List ℕ) (regions : List Region) (i : ℕ) (r : Region) → i < length regions → r ≡ get_or regions i r
     → filter (has_place left) (take (i + 1) regions) ≡ filter (has_place left) (take i regions) ++ filter (has_place left) (r ∷ [])

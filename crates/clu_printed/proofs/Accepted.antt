@@ -1,6 +1,8 @@
 -- The printed text of a source that is accepted is accepted: no token is bad, no level is too high, no node too deep.
 use Rattle.std.proofs.Common.{◌≡◌, ℕ, zero, suc, ◌+◌, ◌-◌, ◌<◌, ◌≤◌, List, [], ◌∷◌, length, take, drop, Some, None, slice_get, slice_index, Contains, refl, sym, ap, ◌∙◌, subst, inl, inr, arith}
+use Rattle.std.proofs.lemmas.Bool.{cases_Bool}
 use Rattle.std.proofs.lemmas.List.{length-map}
+use Rattle.std.proofs.lemmas.Slice.Zip.{AllZip-long}
 use Rattle.clu_base.specs.declared.tokens.Place.{Place}
 use Rattle.clu_base.specs.declared.tokens.Token.{Token}
 use Rattle.clu_lexer.specs.declared.symbols.Symbol.{Symbol}
@@ -9,7 +11,6 @@ use Rattle.clu_lexer.specs.declared.tokens.LexError.TheVariants as lexer
 use Rattle.clu_lexer.specs.Tokens.{kind_of, IsGap, Cut, IsBad, Tokens, IsFault as IsLexFault}
 use Rattle.clu_tree.specs.declared.node.Node.{Node}
 use Rattle.clu_tree.specs.Nodes.{IsTree}
-use Rattle.clu_grammar.proofs.Flags.{true_or_false}
 use Rattle.clu_parser.specs.declared.errors.ParseError.{ParseError}
 use Rattle.clu_parser.specs.declared.errors.ParseError.TheVariants as parser
 use Rattle.clu_parser.specs.Depths.{IsDepth, top, below, AreDepths, AreShallow, IsFirstDeep, IsFirstTooDeep}
@@ -21,7 +22,7 @@ use Rattle.clu_printed.proofs.Kept.{is_optional, kept}
 use Rattle.clu_printed.specs.Refused.{IsNeverRefused}
 use Rattle.clu_printed.proofs.Again.{symbols_in, text, again, without, found, lexed, likes, printed_is, built_file}
 use Rattle.clu_printed.proofs.OneReading.{token_one, none_left, tokens_one, tree_one}
-use Rattle.clu_printed.proofs.Rebuilt.{zip_got, zip_length}
+use Rattle.clu_printed.proofs.Rebuilt.{zip_got}
 use Rattle.clu_printed.proofs.Stripped.{semicolon_is}
 
 -- levels over a list of symbols
@@ -42,7 +43,7 @@ low_to level (x ∷ xs) (suc j) le h = low_to (level_behind level x) xs j (omega
 -- a ; changes no level
 low_kept : (level : ℕ) (xs : List Symbol) → LowFrom level xs → LowFrom level (kept xs xs)
 low_kept level [] h = h
-low_kept level (x ∷ xs) h = elim (true_or_false (is_optional x)) [
+low_kept level (x ∷ xs) h = elim (cases_Bool (is_optional x)) [
   | inl gone ↦ (
       let e : kept (x ∷ xs) (x ∷ xs) ≡ kept xs xs = rw gone refl in
       let same : level_behind level x ≡ level = subst (λ (y : Symbol). level_behind level y ≡ level) (sym (semicolon_is x gone)) refl in
@@ -72,7 +73,7 @@ depth_like ms ns _ _ z (below parent n depth m is has d) =
 
 shallow_like : (ms ns : List Node) → AreLike ms ns → IsFirstTooDeep ms None → (depths : List ℕ) × AreDepths ns depths × AreShallow depths (length ns)
 shallow_like ms ns z h =
-    let same : length ns ≡ length ms = zip_length IsLike ms ns z in
+    let same : length ns ≡ length ms = AllZip-long IsLike ms ns z in
     (h.0, record { size = h.1.size ∙ sym same; each = λ n less. depth_like ms ns n (slice_index h.0 n) z (h.1.each n (subst (λ (k : ℕ). n < k) same less)) }, subst (AreShallow h.0) (sym same) h.2)
 
 -- no node has two parents

@@ -1,6 +1,7 @@
 -- The printed text of a source is read again.
 use Rattle.std.proofs.Common.{◌≡◌, ℕ, ◌+◌, ◌<◌, ◌≤◌, ◌^◌, Bool, true, false, not, ◌&&◌, List, [], ◌∷◌, ◌++◌, length, map, Option, Some, None, slice_get, unwrap_or, option_map, refl, sym, ap, ◌∙◌, subst, inl, inr, arith}
 use Rattle.std.specs.List.{AllZip}
+use Rattle.std.proofs.lemmas.Bool.{cases_Bool}
 use Rattle.std.proofs.lemmas.List.{length-map}
 use Rattle.std.proofs.lemmas.Option.{slice_get-map, same_Some}
 use Rattle.clu_base.specs.declared.tokens.Token.{Token}
@@ -15,7 +16,6 @@ use Rattle.clu_grammar.specs.Choice.{has}
 use Rattle.clu_grammar.specs.Grammar.{signs}
 use Rattle.clu_grammar.specs.Language.{Derives, done, symbol, action, choice, whole, IsFile}
 use Rattle.clu_grammar.proofs.Deterministic.{begun, at_end}
-use Rattle.clu_grammar.proofs.Flags.{true_or_false}
 use Rattle.clu_grammar.proofs.Tests.{begins}
 use Rattle.clu_parser.specs.Parsing.{text_of, IsTreeOf}
 use Rattle.clu_parser.specs.Spellings.{spelled, spelling}
@@ -54,7 +54,7 @@ first_symbol ys d = next (slice_get ys 0) refl (begun ys whole 0 (length ys) d r
   where
     next : (o : Option Symbol) → slice_get ys 0 ≡ o → begins whole at_end o ≡ true → IsKept ys 0
     next None is h = absurd (cc)
-    next (Some x) is h = elim (true_or_false (is_optional x)) [
+    next (Some x) is h = elim (cases_Bool (is_optional x)) [
       | inl gone ↦ (let h' : false ≡ true = subst (λ (y : Symbol). begins whole at_end (Some y) ≡ true) (semicolon_is x gone) h in absurd (cc))
       | inr left ↦ (x, is, left)
     ]

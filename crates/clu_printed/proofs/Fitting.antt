@@ -1,10 +1,10 @@
 -- Symbols that fit one behind the other; which bracket closes before a `$` is the same without the optional `;`.
 use Rattle.std.proofs.Common.{◌≡◌, ℕ, zero, suc, ◌+◌, true, false, List, [], ◌∷◌, drop, refl, sym, ◌∙◌, subst, inl, inr, arith}
-use Rattle.std.proofs.lemmas.Bool.{not-true}
+use Rattle.std.proofs.lemmas.Bool.{not-true, cases_Bool}
 use Rattle.clu_lexer.specs.declared.symbols.Symbol.{Symbol}
 use Rattle.clu_lexer.specs.declared.symbols.Symbol.TheVariants as s
 use Rattle.clu_lexer.specs.contracts.symbols.Symbol.{the_type}
-use Rattle.clu_grammar.proofs.Flags.{and_left, and_right, true_or_false}
+use Rattle.clu_grammar.proofs.Flags.{and_left, and_right}
 use Rattle.clu_parser.specs.Spellings.{closes, is_dollar}
 use Rattle.clu_printed.proofs.Kept.{is_optional, kept}
 use Rattle.clu_printed.proofs.Neighbours.{fits, AreFit}
@@ -30,11 +30,11 @@ drop_fitting (suc n) (x ∷ y ∷ ys) h = drop_fitting n (y ∷ ys) h.1
 -- behind a ; stands neither another nor a $
 dollar_kept : (xs : List Symbol) → Fitting xs → is_dollar (kept xs xs) ≡ is_dollar xs
 dollar_kept [] h = refl
-dollar_kept (x ∷ []) h = elim (true_or_false (is_optional x)) [
+dollar_kept (x ∷ []) h = elim (cases_Bool (is_optional x)) [
   | inl gone ↦ (let e : x ≡ s.Semicolon = semicolon_is x gone in rw e refl)
   | inr stays ↦ rw stays refl
 ]
-dollar_kept (x ∷ y ∷ ys) h = elim (true_or_false (is_optional x)) [
+dollar_kept (x ∷ y ∷ ys) h = elim (cases_Bool (is_optional x)) [
   | inl gone ↦ (
       let e : x ≡ s.Semicolon = semicolon_is x gone in
       let f : fits s.Semicolon y ≡ true = subst (λ (z : Symbol). fits z y ≡ true) e h.0 in
@@ -53,7 +53,7 @@ tail_fitting x (y ∷ ys) h = h.1
 
 pub closes_kept : (depth : ℕ) (xs : List Symbol) → Fitting xs → closes depth (kept xs xs) ≡ closes depth xs
 closes_kept depth [] h = refl
-closes_kept zero (x ∷ xs) h = elim (true_or_false (is_optional x)) [
+closes_kept zero (x ∷ xs) h = elim (cases_Bool (is_optional x)) [
   | inl gone ↦ (
       let e : x ≡ s.Semicolon = semicolon_is x gone in
       let rhs : closes zero (x ∷ xs) ≡ closes zero xs = rw e refl in
@@ -61,7 +61,7 @@ closes_kept zero (x ∷ xs) h = elim (true_or_false (is_optional x)) [
       )
   | inr stays ↦ rw (stays, closes_kept 1 xs (tail_fitting x xs h), dollar_kept xs (tail_fitting x xs h), closes_kept zero xs (tail_fitting x xs h)) refl
 ]
-closes_kept (suc depth) (x ∷ xs) h = elim (true_or_false (is_optional x)) [
+closes_kept (suc depth) (x ∷ xs) h = elim (cases_Bool (is_optional x)) [
   | inl gone ↦ (
       let e : x ≡ s.Semicolon = semicolon_is x gone in
       let rhs : closes (suc depth) (x ∷ xs) ≡ closes (suc depth) xs = rw e refl in

@@ -1,6 +1,6 @@
 -- Two printed tokens with no blank between them are read as these two.
 use Rattle.std.proofs.Common.{◌≡◌, ℕ, ◌≤◌, Bool, true, false, not, ◌&&◌, ◌||◌, ◌==◌, List, [], ◌∷◌, Some, refl, sym, ap, ◌∙◌, subst, inl, inr, ◌⊎◌, arith, rules, eqb-true, leb-true, ne_eqb}
-use Rattle.std.proofs.lemmas.Bool.{lt-leb, not-false}
+use Rattle.std.proofs.lemmas.Bool.{lt-leb, not-false, or_cases, cases_Bool, or_parts}
 use Rattle.std.proofs.lemmas.Option.{same_Some}
 use Rattle.clu_base.specs.declared.tokens.Kind.{Kind}
 use Rattle.clu_base.specs.declared.tokens.Kind.TheVariants as kind
@@ -15,7 +15,7 @@ use Rattle.clu_lexer.specs.Tokens.{kind_in, kind_of}
 use Rattle.clu_lexer.specs.Words.{symbol_of}
 use Rattle.clu_grammar.specs.Choice.{has}
 use Rattle.clu_grammar.specs.Grammar.{signs}
-use Rattle.clu_grammar.proofs.Flags.{true_or_false, true_is_false, and_left, and_right, or_cases}
+use Rattle.clu_grammar.proofs.Flags.{true_is_false, and_left, and_right}
 use Rattle.clu_printer.specs.Blanks.{clings, holds, would_be_real, is_argument_list, blank_between}
 use Rattle.clu_printed.proofs.Neighbours.{fits}
 use Rattle.clu_printed.proofs.Lowered.{run_stopped, class_behind}
@@ -30,7 +30,7 @@ digit_begins b h =
 -- a name behind a point begins with no digit
 point_stops : (l : Kind) (b : ℕ) (more : List ℕ) → kind_of (b ∷ more) ≡ Some l → sameb the_type (symbol_of l (b ∷ more)) s.Idn ≡ true → next state.Point b ≡ state.Stop
 unfolding class_of
-point_stops l b more h name = elim (true_or_false (is_digit b)) [
+point_stops l b more h name = elim (cases_Bool (is_digit b)) [
   | inl is_so ↦ (
       let c = class_behind (b ∷ more) l h in
       let e : begin b ≡ state.Whole = digit_begins b is_so in
@@ -49,7 +49,7 @@ mark_alone (b ∷ bs) c h = (let h' : accepts state.Stop ≡ Some c = subst (λ 
 
 equal_behind : (bs : List ℕ) (c : Kind) → accepts (run state.BeforeEqual bs) ≡ Some c → (bs ≡ []) ⊎ (bs ≡ 61 ∷ [])
 equal_behind [] c h = inl refl
-equal_behind (b ∷ bs) c h = elim (true_or_false (b == 61)) [
+equal_behind (b ∷ bs) c h = elim (cases_Bool (b == 61)) [
   | inl is_so ↦ (
       let h' : accepts (run state.Mark bs) ≡ Some c = rw is_so at h in
       let e : b ≡ 61 = eqb-true b 61 is_so in
@@ -93,11 +93,11 @@ behind_tilde l b more h fit (inr e) =
     wrong_mark l (b ∷ more) (61 ∷ []) (rw (e, none) refl) h refl refl fit
 
 tilde_stops : (l : Kind) (b : ℕ) (more : List ℕ) → kind_of (b ∷ more) ≡ Some l → fits s.Tilde (symbol_of l (b ∷ more)) ≡ true → next state.Tilde b ≡ state.Stop
-tilde_stops l b more h fit = elim (true_or_false (b == 60)) [
+tilde_stops l b more h fit = elim (cases_Bool (b == 60)) [
   | inl is_so ↦ absurd (behind_tilde l b more h fit (inl (inl (eqb-true b 60 is_so))))
-  | inr is_not ↦ elim (true_or_false (b == 62)) [
+  | inr is_not ↦ elim (cases_Bool (b == 62)) [
     | inl is_so ↦ absurd (behind_tilde l b more h fit (inl (inr (eqb-true b 62 is_so))))
-    | inr none ↦ elim (true_or_false (b == 61)) [
+    | inr none ↦ elim (cases_Bool (b == 61)) [
       | inl is_so ↦ absurd (behind_tilde l b more h fit (inr (eqb-true b 61 is_so)))
       | inr nor ↦ rw (is_not, none, nor) refl
     ]
@@ -123,10 +123,6 @@ holds_is _ h = absurd (cc)
 clings_lean : (y : Symbol) → clings y ≡ true → leans y ≡ true
 clings_lean s.LeftParen h = refl
 clings_lean _ h = h
-
-or_false : (a b : Bool) → (a || b) ≡ false → (a ≡ false) × (b ≡ false)
-or_false true b h = absurd (cc)
-or_false false b h = (refl, h)
 
 module _ (k l : Kind) (text : List ℕ) (b : ℕ) (more : List ℕ) (is_k : kind_of text ≡ Some k) (is_l : kind_of (b ∷ more) ≡ Some l) (fit : fits (symbol_of k text) (symbol_of l (b ∷ more)) ≡ true) where
   -- the first of the two is a mark of one byte
@@ -161,7 +157,7 @@ module _ (k l : Kind) (text : List ℕ) (b : ℕ) (more : List ℕ) (is_k : kind
 
   without_blank : blank_between (symbol_of k text) (symbol_of l (b ∷ more)) ≡ false → next (run state.Start text) b ≡ state.Stop
   without_blank none =
-      let parts = or_false _ _ none in
+      let parts = or_parts _ _ none in
       elim (or_cases (clings (symbol_of l (b ∷ more)) || holds (symbol_of k text)) (is_argument_list (symbol_of k text) (symbol_of l (b ∷ more))) (not-false _ parts.1)) [
         | inl either ↦ elim (or_cases (clings (symbol_of l (b ∷ more))) (holds (symbol_of k text)) either) [
           | inl clinging ↦ before_leaning (clings_lean (symbol_of l (b ∷ more)) clinging) parts.0

@@ -2,6 +2,7 @@
 -- second one.
 use Rattle.std.proofs.Common.{◌≡◌, ℕ, Bool, true, false, ◌&&◌, ◌||◌, ◌==◌, List, [], ◌∷◌, Option, Some, None, slice_get, refl, sym, ap, ◌∙◌, subst, inl, inr, arith, if◌then◌else◌, nat_lt, nat_le, unwrap_or, eqb-true, leb-true, ltb-true}
 use Rattle.std.specs.List.{list_all}
+use Rattle.std.proofs.lemmas.Bool.{or_cases, cases_Bool}
 use Rattle.std.proofs.lemmas.Option.{same_Some}
 use Rattle.std.specs.Char.{to_ascii_lowercase}
 use Rattle.clu_base.specs.declared.tokens.Kind.{Kind}
@@ -16,7 +17,7 @@ use Rattle.clu_lexer.specs.Scanner.{next, accepts, run, only_if}
 use Rattle.clu_lexer.specs.Symbols.{spells, symbol_named}
 use Rattle.clu_lexer.specs.Tokens.{kind_in}
 use Rattle.clu_lexer.specs.Words.{words, marks, symbol_of}
-use Rattle.clu_grammar.proofs.Flags.{true_or_false, true_is_false, and_left, and_right, or_cases}
+use Rattle.clu_grammar.proofs.Flags.{true_is_false, and_left, and_right}
 use Rattle.clu_printer.specs.Blanks.{clings}
 use Rattle.clu_printed.proofs.Neighbours.{all_at}
 use Rattle.clu_printed.proofs.Lowered.{cases_lower}
@@ -101,7 +102,7 @@ byte_spelled b (c ∷ []) (t ∷ u ∷ us) test one h = (let k : false ≡ true 
 
 named_byte : (b : ℕ) (x : Symbol) (table : List (List ℕ × Symbol)) (text : List ℕ) → (nat_lt b 97 || nat_le 123 b) ≡ true → only b x table ≡ true → symbol_named table text ≡ Some x → text ≡ b ∷ []
 named_byte b x [] text test one h = absurd (cc)
-named_byte b x (entry ∷ table) text test one h = elim (true_or_false (spells entry.0 text)) [
+named_byte b x (entry ∷ table) text test one h = elim (cases_Bool (spells entry.0 text)) [
   | inl is_so ↦ (
       let h' : Some entry.1 ≡ Some x = rw is_so at h in
       let e : entry.1 ≡ x = same_Some _ _ h' in

@@ -1,10 +1,10 @@
 -- What is left of a list with an item for each token, if the optional `;` are left out.
 use Rattle.std.proofs.Common.{◌≡◌, ℕ, zero, suc, ◌+◌, ◌≤◌, Bool, true, false, List, [], ◌∷◌, length, drop, set, replicate, Some, None, slice_get, refl, sym, ap, ◌∙◌, subst, inl, inr, arith, add-one, if◌then◌else◌}
 use Rattle.clu_lexer.specs.declared.symbols.Symbol.{Symbol}
-use Rattle.clu_grammar.proofs.Flags.{true_or_false}
 use Rattle.clu_lexer.specs.declared.symbols.Symbol.TheVariants as symbol
 use Rattle.clu_lexer.specs.contracts.symbols.Symbol.{the_type}
 use denote.Enum.Bare.{sameb}
+use Rattle.std.proofs.lemmas.Bool.{cases_Bool}
 
 abbrev pub is_optional : Symbol → Bool
 is_optional s = sameb the_type s symbol.Semicolon
@@ -31,7 +31,7 @@ got_kept (z ∷ symbols) (x ∷ xs) zero s is left =
     let same : z ≡ s = cc in
     let stays : is_optional z ≡ false = subst (λ (y : Symbol). is_optional y ≡ false) (sym same) left in
     rw stays refl
-got_kept (z ∷ symbols) (x ∷ xs) (suc n) s is left = elim (true_or_false (is_optional z)) [
+got_kept (z ∷ symbols) (x ∷ xs) (suc n) s is left = elim (cases_Bool (is_optional z)) [
   | inl gone ↦ rw gone (got_kept symbols xs n s is left)
   | inr stays ↦ rw stays (got_kept symbols xs n s is left)
 ]
@@ -43,7 +43,7 @@ set_kept (z ∷ symbols) (x ∷ xs) zero v s is left =
     let same : z ≡ s = cc in
     let stays : is_optional z ≡ false = subst (λ (y : Symbol). is_optional y ≡ false) (sym same) left in
     rw stays refl
-set_kept {X = X} (z ∷ symbols) (x ∷ xs) (suc n) v s is left = elim (true_or_false (is_optional z)) [
+set_kept {X = X} (z ∷ symbols) (x ∷ xs) (suc n) v s is left = elim (cases_Bool (is_optional z)) [
   | inl gone ↦ rw gone (set_kept symbols xs n v s is left)
   | inr stays ↦ rw stays (ap (λ (ys : List X). x ∷ ys) (set_kept symbols xs n v s is left))
 ]
@@ -55,7 +55,7 @@ next_kept (z ∷ symbols) zero s is left =
     let same : z ≡ s = cc in
     let stays : is_optional z ≡ false = subst (λ (y : Symbol). is_optional y ≡ false) (sym same) left in
     rw stays refl
-next_kept (z ∷ symbols) (suc n) s is left = elim (true_or_false (is_optional z)) [
+next_kept (z ∷ symbols) (suc n) s is left = elim (cases_Bool (is_optional z)) [
   | inl gone ↦ rw gone (next_kept symbols n s is left)
   | inr stays ↦ rw stays (ap suc (next_kept symbols n s is left))
 ]
@@ -66,7 +66,7 @@ next_gone (z ∷ symbols) zero s is left =
     let same : z ≡ s = cc in
     let gone : is_optional z ≡ true = subst (λ (y : Symbol). is_optional y ≡ true) (sym same) left in
     rw gone refl
-next_gone (z ∷ symbols) (suc n) s is left = elim (true_or_false (is_optional z)) [
+next_gone (z ∷ symbols) (suc n) s is left = elim (cases_Bool (is_optional z)) [
   | inl gone ↦ rw gone (next_gone symbols n s is left)
   | inr stays ↦ rw stays (ap suc (next_gone symbols n s is left))
 ]
@@ -75,7 +75,7 @@ next_past : (symbols : List Symbol) (n : ℕ) → slice_get symbols n ≡ None �
 next_past [] zero is = refl
 next_past [] (suc n) is = refl
 next_past (z ∷ symbols) zero is = absurd (cc)
-next_past (z ∷ symbols) (suc n) is = elim (true_or_false (is_optional z)) [
+next_past (z ∷ symbols) (suc n) is = elim (cases_Bool (is_optional z)) [
   | inl gone ↦ rw gone (next_past symbols n is)
   | inr stays ↦ rw stays (ap suc (next_past symbols n is))
 ]
@@ -94,7 +94,7 @@ pub place_up : (symbols : List Symbol) (m n : ℕ) → m ≤ n → place_of symb
 place_up symbols zero n le = omega arith
 place_up [] (suc m) n le = omega arith
 place_up (z ∷ symbols) (suc m) zero le = absurd (omega arith)
-place_up (z ∷ symbols) (suc m) (suc n) le = elim (true_or_false (is_optional z)) [
+place_up (z ∷ symbols) (suc m) (suc n) le = elim (cases_Bool (is_optional z)) [
   | inl gone ↦ rw gone (place_up symbols m n (omega arith))
   | inr stays ↦ rw stays (omega (arith, place_up symbols m n (omega arith)))
 ]
@@ -102,7 +102,7 @@ place_up (z ∷ symbols) (suc m) (suc n) le = elim (true_or_false (is_optional z
 pub place_small : (symbols : List Symbol) (n : ℕ) → place_of symbols n ≤ n
 place_small symbols zero = omega arith
 place_small [] (suc n) = omega arith
-place_small (z ∷ symbols) (suc n) = elim (true_or_false (is_optional z)) [
+place_small (z ∷ symbols) (suc n) = elim (cases_Bool (is_optional z)) [
   | inl gone ↦ rw gone (omega (arith, place_small symbols n))
   | inr stays ↦ rw stays (omega (arith, place_small symbols n))
 ]
@@ -113,7 +113,7 @@ place_behind symbols s n is left = omega (arith, place_kept symbols 0 s is left,
 
 pub place_end : (symbols : List Symbol) → place_of symbols (length symbols) ≡ length (kept symbols symbols)
 place_end [] = refl
-place_end (z ∷ symbols) = elim (true_or_false (is_optional z)) [
+place_end (z ∷ symbols) = elim (cases_Bool (is_optional z)) [
   | inl gone ↦ rw gone (place_end symbols)
   | inr stays ↦ rw stays (ap suc (place_end symbols))
 ]
@@ -121,14 +121,14 @@ place_end (z ∷ symbols) = elim (true_or_false (is_optional z)) [
 pub drop_kept : (symbols : List Symbol) (n : ℕ) → drop (place_of symbols n) (kept symbols symbols) ≡ kept (drop n symbols) (drop n symbols)
 drop_kept symbols zero = refl
 drop_kept [] (suc n) = refl
-drop_kept (z ∷ symbols) (suc n) = elim (true_or_false (is_optional z)) [
+drop_kept (z ∷ symbols) (suc n) = elim (cases_Bool (is_optional z)) [
   | inl gone ↦ rw gone (drop_kept symbols n)
   | inr stays ↦ rw stays (drop_kept symbols n)
 ]
 
 pub replicate_kept : {X : Type 0} (symbols : List Symbol) (v : X) → kept symbols (replicate (length symbols) v) ≡ replicate (length (kept symbols symbols)) v
 replicate_kept [] v = refl
-replicate_kept {X = X} (z ∷ symbols) v = elim (true_or_false (is_optional z)) [
+replicate_kept {X = X} (z ∷ symbols) v = elim (cases_Bool (is_optional z)) [
   | inl gone ↦ rw gone (replicate_kept symbols v)
   | inr stays ↦ rw stays (ap (λ (ys : List X). v ∷ ys) (replicate_kept symbols v))
 ]

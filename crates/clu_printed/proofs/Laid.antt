@@ -1,6 +1,7 @@
 -- The tokens of a printed text are its pieces.
 use Rattle.std.proofs.Common.{◌≡◌, ℕ, zero, suc, ◌+◌, ◌-◌, ◌<◌, ◌≤◌, true, false, not, ◌&&◌, ◌==◌, List, [], ◌∷◌, ◌++◌, length, take, drop, Some, None, refl, sym, ap, ◌∙◌, subst, inl, inr, ◌⊎◌, arith, append_assoc, length-append, eqb-true, leb-true, nat_le}
-use Rattle.std.proofs.lemmas.Bool.{cases_order}
+use Rattle.std.proofs.Math.Seq.{take-append_seam, drop-append_seam}
+use Rattle.std.proofs.lemmas.Bool.{cases_order, or_cases, cases_Bool}
 use Rattle.clu_base.specs.declared.tokens.Kind.{Kind}
 use Rattle.clu_lexer.specs.declared.scanner.State.{State}
 use Rattle.clu_lexer.specs.declared.scanner.State.TheVariants as state
@@ -8,20 +9,12 @@ use Rattle.clu_lexer.specs.Places.{place_at}
 use Rattle.clu_lexer.specs.Scanner.{begin, next, accepts, run, class_of, IsLongest}
 use Rattle.clu_lexer.specs.Separators.{gap_len, is_separator}
 use Rattle.clu_lexer.specs.Tokens.{kind_of, IsToken, Cut, Tokens}
-use Rattle.clu_grammar.proofs.Flags.{and_left, and_right, or_cases, true_or_false}
+use Rattle.clu_grammar.proofs.Flags.{and_left, and_right}
 use Rattle.clu_printer.specs.Printed.{Made, nothing_made}
 use Rattle.clu_printer.specs.Blanks.{blank_between}
 use Rattle.clu_printed.proofs.Joints.{blank_stops}
 use Rattle.clu_printed.proofs.Lowered.{run_stopped, class_behind}
 use Rattle.clu_printed.proofs.Pieces.{Piece, gap_before, added, added_text, shown, more_text, shown_text, laid, is_white, is_blank, space_blank, joined_gap}
-
-pub drop_length : {X : Type 0} (xs ys : List X) → drop (length xs) (xs ++ ys) ≡ ys
-drop_length [] ys = refl
-drop_length (x ∷ xs) ys = drop_length xs ys
-
-pub take_length : {X : Type 0} (xs ys : List X) → take (length xs) (xs ++ ys) ≡ xs
-take_length [] ys = refl
-take_length {X = X} (x ∷ xs) ys = ap (λ (zs : List X). x ∷ zs) (take_length xs ys)
 
 -- more of the text than a first part
 record IsMore (xs : List ℕ) (b : ℕ) (ys : List ℕ) (m : ℕ) : Type 0 where
@@ -48,7 +41,7 @@ no_more text b rest stops =
 longest_laid : (text : List ℕ) (k : Kind) (b : ℕ) (rest : List ℕ) → kind_of text ≡ Some k → next (run state.Start text) b ≡ state.Stop → IsLongest kind_of (text ++ b ∷ rest) k (length text)
 longest_laid text k b rest is stops = record {
   within = omega (arith, length-append text (b ∷ rest));
-  is = ap kind_of (take_length text (b ∷ rest)) ∙ is;
+  is = ap kind_of (take-append_seam text (b ∷ rest)) ∙ is;
   longest = λ m above within. (let r = take_more_than text b rest m above in ap kind_of r.is ∙ no_more text b r.rest stops);
 }
 
@@ -106,9 +99,9 @@ first_of text k h = (let c = class_behind text k h in next text c.class c.class_
     next (b ∷ bs) class is = record { first = b; rest = bs; is = refl; no_gap = λ more. none more }
       where
         none : (more : List ℕ) → gap_len false (b ∷ (bs ++ more)) ≡ 0
-        none more = elim (true_or_false (b == 37)) [
+        none more = elim (cases_Bool (b == 37)) [
           | inl is_so ↦ absurd (never bs class (subst (λ (n : ℕ). accepts (run (begin n) bs) ≡ Some class) (eqb-true b 37 is_so) is))
-          | inr is_not ↦ elim (true_or_false (is_separator b)) [
+          | inr is_not ↦ elim (cases_Bool (is_separator b)) [
             | inl is_so ↦ absurd (no_separator b bs class is is_so)
             | inr is_not' ↦ rw (is_not, is_not') refl
           ]
@@ -176,14 +169,14 @@ pub drop_start : (text : List ℕ) (p : Piece) (m : Made) (st : List ℕ) → te
 drop_start text p m st is =
     let e : length m.text + length (gap_before p m) ≡ length (m.text ++ gap_before p m) = sym (length-append m.text (gap_before p m)) in
     ap (λ (n : ℕ). drop n text) e ∙ ap (drop (length (m.text ++ gap_before p m))) (is ∙ sym (append_assoc m.text (gap_before p m) (p.text ++ st)))
-    ∙ drop_length (m.text ++ gap_before p m) (p.text ++ st)
+    ∙ drop-append_seam (m.text ++ gap_before p m) (p.text ++ st)
 
 -- the first piece is the token there
 token_laid : (text : List ℕ) (p : Piece) (m : Made) (st : List ℕ) → IsWhole p → text ≡ m.text ++ (gap_before p m ++ (p.text ++ st)) → Stops (run state.Start p.text) st → IsToken text (length m.text) (record { kind = p.kind; start = length m.text + length (gap_before p m); end = length m.text + length (gap_before p m) + length p.text; place = place_at text (length m.text + length (gap_before p m)) })
 token_laid text p m st whole is stops =
     let f = first_of p.text p.kind whole.kind_is in
     let start : drop (length m.text + length (gap_before p m)) text ≡ p.text ++ st = drop_start text p m st is in
-    let from : drop (length m.text) text ≡ gap_before p m ++ (p.text ++ st) = ap (drop (length m.text)) is ∙ drop_length m.text (gap_before p m ++ (p.text ++ st)) in
+    let from : drop (length m.text) text ≡ gap_before p m ++ (p.text ++ st) = ap (drop (length m.text)) is ∙ drop-append_seam m.text (gap_before p m ++ (p.text ++ st)) in
     let size : length m.text + length (gap_before p m) + length p.text - (length m.text + length (gap_before p m)) ≡ length p.text = omega arith in
     let some : 0 < length p.text = subst (λ (xs : List ℕ). 0 < length xs) (sym f.is) (omega arith) in
     let longest : IsLongest kind_of (p.text ++ st) p.kind (length p.text) = subst (λ (xs : List ℕ). IsLongest kind_of (p.text ++ xs) p.kind (length p.text)) (sym stops.is) (longest_laid p.text p.kind stops.first stops.rest whole.kind_is stops.stops) in
@@ -222,7 +215,7 @@ tokens_laid ps h =
     let all = (shown ps nothing_made).text in
     let is : whole_text ps ≡ more_text ps nothing_made ++ 10 ∷ [] = ap (λ (xs : List ℕ). xs ++ 10 ∷ []) (shown_text ps nothing_made) in
     let gap : length all + gap_len false (drop (length all) (all ++ 10 ∷ [])) ≡ length (all ++ 10 ∷ []) =
-    ap (λ (xs : List ℕ). length all + gap_len false xs) (drop_length all (10 ∷ [])) ∙ sym (length-append all (10 ∷ [])) in
+    ap (λ (xs : List ℕ). length all + gap_len false xs) (drop-append_seam all (10 ∷ [])) ∙ sym (length-append all (10 ∷ [])) in
     (length all, cut_laid (whole_text ps) ps nothing_made h is, gap)
 
 -- the bytes of each of them are those of its piece
@@ -230,4 +223,4 @@ pub bytes_laid : (text : List ℕ) (p : Piece) (ps : List Piece) (m : Made) → 
 bytes_laid text p ps m is =
     let size : length m.text + length (gap_before p m) + length p.text - (length m.text + length (gap_before p m)) ≡ length p.text = omega arith in
     let start = drop_start text p m (more_text ps (added p m) ++ 10 ∷ []) (rest_laid text p ps m is) in
-    rw (size, start) (take_length p.text (more_text ps (added p m) ++ 10 ∷ []))
+    rw (size, start) (take-append_seam p.text (more_text ps (added p m) ++ 10 ∷ []))

@@ -1,14 +1,14 @@
 -- The lines of the second tree are those of the first, without what stands at an optional `;`.
 use Rattle.std.proofs.Common.{◌≡◌, ℕ, zero, suc, ◌+◌, ◌-◌, ◌<◌, ◌≤◌, Bool, true, false, not, ◌&&◌, if◌then◌else◌, ◌^◌, List, [], ◌∷◌, length, set, replicate, get_or, Option, Some, None, slice_get, refl, sym, ap, ◌∙◌, subst, inl, inr, arith}
 use Rattle.std.specs.List.{AllZip}
-use Rattle.std.proofs.lemmas.Bool.{cases_lt}
+use Rattle.std.proofs.lemmas.Bool.{cases_lt, cases_Bool}
+use Rattle.std.proofs.lemmas.Slice.Zip.{AllZip-long}
 use Rattle.clu_lexer.specs.declared.symbols.Symbol.{Symbol}
 use Rattle.clu_tree.specs.declared.node.Node.{Node}
 use Rattle.clu_tree.specs.declared.node.NodeKind.{NodeKind}
-use Rattle.clu_grammar.proofs.Flags.{true_or_false}
 use Rattle.clu_printer.specs.Lines.{begins_line, word_begins_line, inner_indent, is_type_set, is_prefix, next, word_at, with_word, with_words, with_child, last_of, before_child, with_children, child_indent, with_indents, Lines, Marked, with_prefix, with_node, with_nodes, no_lines, lines_of}
 use Rattle.clu_printed.proofs.Kept.{is_optional, kept, place_of, got_kept, set_kept, place_kept, place_gone, place_past, place_up, place_small, place_behind, replicate_kept}
-use Rattle.clu_printed.proofs.Rebuilt.{IsMoved, zip_got, zip_past, zip_length}
+use Rattle.clu_printed.proofs.Rebuilt.{IsMoved, zip_got, zip_past}
 use Rattle.clu_printed.proofs.Stripped.{semicolon_is}
 
 module _ (symbols : List Symbol) where
@@ -46,7 +46,7 @@ module _ (symbols : List Symbol) where
 
       by_symbol : (o : Option Symbol) → slice_get symbols at ≡ o → kept symbols (with_words symbols indent count (at + 1) (with_word symbols indent begins at)) ≡ with_words (kept symbols symbols) indent (place_of symbols to - place_of symbols (at + 1)) (place_of symbols (at + 1)) (kept symbols (with_word symbols indent begins at)) → kept symbols (with_words symbols indent count (at + 1) (with_word symbols indent begins at)) ≡ with_words (kept symbols symbols) indent (place_of symbols to - place_of symbols at) (place_of symbols at) (kept symbols begins)
       by_symbol None is h = rest h (place_past symbols at is) (ap word_at is)
-      by_symbol (Some x) is h = elim (true_or_false (is_optional x)) [
+      by_symbol (Some x) is h = elim (cases_Bool (is_optional x)) [
         | inl gone ↦ rest h (place_gone symbols at x is gone) (ap word_at is ∙ gone_word x gone)
         | inr left ↦ (
             let p : place_of symbols (at + 1) ≡ place_of symbols at + 1 = place_kept symbols at x is left in
@@ -192,12 +192,12 @@ module _ (symbols : List Symbol) (nodes again : List Node) (moved : AllZip (IsMo
   start = record {
     begins = ap (λ (bs : List (Option ℕ)). set bs 0 (Some 0)) (sym (replicate_kept symbols None)) ∙ sym (set_kept symbols (replicate (length symbols) None) 0 (Some 0) first is_first first_left);
     prefix = sym (replicate_kept symbols false);
-    indents = ap (λ (n : ℕ). replicate n 0) (zip_length (IsMoved symbols) nodes again moved);
+    indents = ap (λ (n : ℕ). replicate n 0) (AllZip-long (IsMoved symbols) nodes again moved);
   }
 
   pub lined : AreLined
   lined =
       let all = nodes_marked (length nodes) (no_lines symbols nodes) (no_lines (kept symbols symbols) again) start in
       let same : lines_of (kept symbols symbols) again ≡ (with_nodes again (kept symbols symbols) (length nodes) (no_lines (kept symbols symbols) again)).lines =
-      ap (λ (n : ℕ). (with_nodes again (kept symbols symbols) n (no_lines (kept symbols symbols) again)).lines) (zip_length (IsMoved symbols) nodes again moved) in
+      ap (λ (n : ℕ). (with_nodes again (kept symbols symbols) n (no_lines (kept symbols symbols) again)).lines) (AllZip-long (IsMoved symbols) nodes again moved) in
       record { begins = ap (λ (l : Lines). l.begins) same ∙ all.begins; prefix = ap (λ (l : Lines). l.prefix) same ∙ all.prefix }

@@ -1,7 +1,8 @@
 -- Words and identifiers in lower case are the same words and identifiers.
 use Rattle.std.proofs.Common.{◌≡◌, ℕ, ◌+◌, ◌<◌, ◌≤◌, Bool, true, false, ◌&&◌, ◌||◌, ◌==◌, List, [], ◌∷◌, map, Option, Some, None, is_some, refl, sym, ap, ◌∙◌, inl, inr, ◌⊎◌, arith, le-ltb, lt-ltb, le-leb, if◌then◌else◌, unwrap_or}
-use Rattle.std.proofs.lemmas.Bool.{lt-leb, cases_lt}
+use Rattle.std.proofs.lemmas.Bool.{lt-leb, cases_lt, cases_Bool}
 use Rattle.std.proofs.lemmas.Option.{same_Some}
+use Rattle.std.proofs.lemmas.Str.Ascii.{lowercase-lowercase}
 use Rattle.std.specs.Option.{option_map}
 use Rattle.std.specs.Char.{to_ascii_lowercase}
 use Rattle.clu_base.specs.declared.tokens.Kind.{Kind}
@@ -15,7 +16,7 @@ use Rattle.clu_lexer.specs.Scanner.{begin, next, accepts, run, only_if, class_of
 use Rattle.clu_lexer.specs.Symbols.{spells, symbol_named}
 use Rattle.clu_lexer.specs.Tokens.{kind_in, kind_of}
 use Rattle.clu_lexer.specs.Words.{words, symbol_of}
-use Rattle.clu_grammar.proofs.Flags.{true_or_false, true_is_false}
+use Rattle.clu_grammar.proofs.Flags.{true_is_false}
 use Rattle.clu_parser.specs.Spellings.{spelled}
 use Rattle.clu_printer.specs.Printed.{token_text}
 
@@ -32,16 +33,10 @@ cases_lower b = elim (cases_lt b 65) [
 lower_above : (b : ℕ) → 91 ≤ b → to_ascii_lowercase b ≡ b
 lower_above b le = rw (le-ltb b 65 (omega arith), le-ltb b 91 le) refl
 
-pub lower_again : (b : ℕ) → to_ascii_lowercase (to_ascii_lowercase b) ≡ to_ascii_lowercase b
-lower_again b = elim (cases_lower b) [
-  | inl same ↦ ap to_ascii_lowercase same
-  | inr up ↦ ap to_ascii_lowercase up.2 ∙ lower_above (b + 32) (omega (arith, up.0)) ∙ sym up.2
-]
-
 pub text_again : (text : List ℕ) → map to_ascii_lowercase (map to_ascii_lowercase text) ≡ map to_ascii_lowercase text
 text_again [] = refl
 text_again (b ∷ text) =
-    ap (λ (n : ℕ). n ∷ map to_ascii_lowercase (map to_ascii_lowercase text)) (lower_again b) ∙ ap (λ (ns : List ℕ). to_ascii_lowercase b ∷ ns) (text_again text)
+    ap (λ (n : ℕ). n ∷ map to_ascii_lowercase (map to_ascii_lowercase text)) (lowercase-lowercase b) ∙ ap (λ (ns : List ℕ). to_ascii_lowercase b ∷ ns) (text_again text)
 
 -- both letters begin a name, and go on with one
 upper_begins : (b : ℕ) → 65 ≤ b → b < 91 → begins_name b ≡ true
@@ -138,7 +133,7 @@ begin_name b is_so = rw is_so refl
 class_lower : (bs : List ℕ) → class_of bs ≡ Some kind.Idn → class_of (map to_ascii_lowercase bs) ≡ Some kind.Idn
 unfolding class_of
 class_lower [] h = absurd (cc)
-class_lower (b ∷ bs) h = elim (true_or_false (begins_name b)) [
+class_lower (b ∷ bs) h = elim (cases_Bool (begins_name b)) [
   | inl is_so ↦ (
       let is_so' : begins_name (to_ascii_lowercase b) ≡ true = begins_same b ∙ is_so in
       ap (λ (st : State). accepts (run st (map to_ascii_lowercase bs))) (begin_name (to_ascii_lowercase b) is_so')
@@ -154,7 +149,7 @@ spells_lower [] [] = refl
 spells_lower [] (t ∷ text) = refl
 spells_lower (w ∷ word) [] = refl
 spells_lower (w ∷ word) (t ∷ text) =
-    ap (λ (n : ℕ). (w == n) && spells word (map to_ascii_lowercase text)) (lower_again t) ∙ ap (λ (b : Bool). (w == to_ascii_lowercase t) && b) (spells_lower word text)
+    ap (λ (n : ℕ). (w == n) && spells word (map to_ascii_lowercase text)) (lowercase-lowercase t) ∙ ap (λ (b : Bool). (w == to_ascii_lowercase t) && b) (spells_lower word text)
 
 pub named_lower : (table : List (List ℕ × Symbol)) (text : List ℕ) → symbol_named table (map to_ascii_lowercase text) ≡ symbol_named table text
 named_lower [] text = refl

@@ -1,11 +1,12 @@
 -- A printed text in pieces: each token with its line and its text, and the tokens of that text.
 use Rattle.std.proofs.Common.{◌≡◌, ℕ, zero, suc, ◌+◌, Bool, true, false, not, ◌&&◌, ◌||◌, ◌==◌, if◌then◌else◌, List, [], ◌∷◌, ◌++◌, length, Option, Some, None, refl, sym, ap, ◌∙◌, subst, append_assoc, append-nil}
 use Rattle.std.specs.List.{list_all}
+use Rattle.std.proofs.lemmas.Bool.{and_from}
 use Rattle.clu_base.specs.declared.tokens.Kind.{Kind}
 use Rattle.clu_base.specs.declared.tokens.Token.{Token}
 use Rattle.clu_lexer.specs.declared.symbols.Symbol.{Symbol}
 use Rattle.clu_lexer.specs.Places.{place_at}
-use Rattle.clu_grammar.proofs.Flags.{and_left, and_right, and_both}
+use Rattle.clu_grammar.proofs.Flags.{and_left, and_right}
 use Rattle.clu_printer.specs.Blanks.{blank_between}
 use Rattle.clu_printer.specs.Printed.{Made, indentation, line_end, blank_behind, space}
 
@@ -58,7 +59,7 @@ is_blank xs = list_all is_white xs
 
 pub blank-append : (xs ys : List ℕ) → is_blank xs ≡ true → is_blank ys ≡ true → is_blank (xs ++ ys) ≡ true
 blank-append [] ys h k = k
-blank-append (x ∷ xs) ys h k = and_both (is_white x) (is_blank (xs ++ ys)) (and_left _ _ h) (blank-append xs ys (and_right _ _ h) k)
+blank-append (x ∷ xs) ys h k = and_from (is_white x) (is_blank (xs ++ ys)) (and_left _ _ h) (blank-append xs ys (and_right _ _ h) k)
 
 indentation_blank : (n : ℕ) → is_blank (indentation n) ≡ true
 indentation_blank zero = refl

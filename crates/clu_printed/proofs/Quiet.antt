@@ -2,6 +2,7 @@
 -- grammar's table.
 use Rattle.std.proofs.Common.{◌≡◌, Bool, true, false, not, ◌&&◌, List, [], ◌∷◌, ◌++◌, refl, sym, subst, inl, inr}
 use Rattle.std.specs.List.{list_all}
+use Rattle.std.proofs.lemmas.Bool.{and_from}
 use Rattle.clu_grammar.specs.declared.items.Action.{Action}
 use Rattle.clu_grammar.specs.declared.items.Action.TheVariants as action
 use Rattle.clu_grammar.specs.declared.items.Item.{Item}
@@ -11,7 +12,7 @@ use Rattle.clu_grammar.specs.declared.items.Nonterminal.TheVariants as r
 use Rattle.clu_grammar.specs.Grammar.{productions}
 use Rattle.clu_grammar.specs.Language.{IsOneOf}
 use Rattle.clu_grammar.specs.Rows.{Production, take, peek, otherwise}
-use Rattle.clu_grammar.proofs.Flags.{and_left, and_right, and_both, implied}
+use Rattle.clu_grammar.proofs.Flags.{and_left, and_right, implied}
 use Rattle.clu_grammar.proofs.Tests.{implies}
 use Rattle.clu_printed.proofs.Neighbours.{all_has}
 use Rattle.clu_printed.proofs.Kept.{is_optional}
@@ -49,8 +50,8 @@ implied_more false b h = refl
 quiet_more : (known : Bool) (items : List Item) → quiet false items ≡ true → quiet known items ≡ true
 quiet_more known [] h = refl
 quiet_more known (item.Terminal x ∷ items) h = h
-quiet_more known (item.Action a ∷ items) h = and_both _ _ (implied_more (asks a) known (and_left _ _ h)) (quiet_more known items (and_right _ _ h))
-quiet_more known (item.Nonterminal n ∷ items) h = and_both _ _ (implied_more (wants n) known (and_left _ _ h)) (and_right _ _ h)
+quiet_more known (item.Action a ∷ items) h = and_from _ _ (implied_more (asks a) known (and_left _ _ h)) (quiet_more known items (and_right _ _ h))
+quiet_more known (item.Nonterminal n ∷ items) h = and_from _ _ (implied_more (wants n) known (and_left _ _ h)) (and_right _ _ h)
 
 quiet_known : (want known : Bool) (items : List Item) → implies want known ≡ true → quiet want items ≡ true → quiet known items ≡ true
 quiet_known true known items h k = subst (λ (b : Bool). quiet b items ≡ true) (sym (implied true known h refl)) k
@@ -59,8 +60,8 @@ quiet_known false known items h k = quiet_more known items k
 quiet-append : (known : Bool) (row items : List Item) → quiet known row ≡ true → quiet false items ≡ true → quiet known (row ++ items) ≡ true
 quiet-append known [] items h k = quiet_more known items k
 quiet-append known (item.Terminal x ∷ row) items h k = quiet-append (not (is_optional x)) row items h k
-quiet-append known (item.Action a ∷ row) items h k = and_both _ _ (and_left _ _ h) (quiet-append known row items (and_right _ _ h) k)
-quiet-append known (item.Nonterminal n ∷ row) items h k = and_both _ _ (and_left _ _ h) (quiet-append false row items (and_right _ _ h) k)
+quiet-append known (item.Action a ∷ row) items h k = and_from _ _ (and_left _ _ h) (quiet-append known row items (and_right _ _ h) k)
+quiet-append known (item.Nonterminal n ∷ row) items h k = and_from _ _ (and_left _ _ h) (quiet-append false row items (and_right _ _ h) k)
 
 alternative_quiet : (known : Bool) (ps : List Production) (alternative : List Item) → list_all (production_quiet known) ps ≡ true → IsOneOf ps alternative → quiet known alternative ≡ true
 alternative_quiet known [] alternative h one = absurd one

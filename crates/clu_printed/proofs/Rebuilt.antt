@@ -3,8 +3,9 @@
 use Rattle.std.proofs.Common.{◌≡◌, ℕ, zero, suc, ◌+◌, ◌-◌, ◌<◌, ◌≤◌, Bool, true, false, not, List, [], ◌∷◌, ◌++◌, length, map, take, drop, Option, Some, None, slice_get, refl, sym, ap, ◌∙◌, subst, inl, inr, arith}
 use Rattle.std.specs.List.{AllZip}
 use Rattle.std.proofs.lemmas.List.Elements.{AllZip-push}
-use Rattle.std.proofs.lemmas.Bool.{not-true}
+use Rattle.std.proofs.lemmas.Bool.{not-true, cases_Bool}
 use Rattle.std.proofs.lemmas.Option.{slice_get_within, same_Some}
+use Rattle.std.proofs.lemmas.Slice.Zip.{AllZip-long}
 use Rattle.clu_lexer.specs.declared.symbols.Symbol.{Symbol}
 use Rattle.clu_tree.specs.declared.node.Node.{Node}
 use Rattle.clu_tree.specs.declared.node.NodeKind.{NodeKind}
@@ -12,7 +13,7 @@ use Rattle.clu_tree.specs.declared.node.NodeKind.TheVariants as kind
 use Rattle.clu_grammar.specs.declared.items.Action.{Action}
 use Rattle.clu_grammar.specs.declared.items.Action.TheVariants as action
 use Rattle.clu_grammar.specs.declared.items.Item.{Item}
-use Rattle.clu_grammar.proofs.Flags.{and_left, and_right, implied, true_or_false}
+use Rattle.clu_grammar.proofs.Flags.{and_left, and_right, implied}
 use Rattle.clu_parser.specs.declared.begun.Begun.{Begun}
 use Rattle.clu_parser.specs.Spellings.{is_idn, closes}
 use Rattle.clu_parser.specs.Trees.{Text, Built, spelling_at, value_of, end_at, end_in, last_of, node_of, closed_in, closed, opened, wrapped_on, wrapped_in, wrapped, noted, noted_in, given_in, then_wrapped, acted, Builds, finished, terminal, act, chosen, nothing_built}
@@ -34,12 +35,6 @@ zip_past R [] (b ∷ ys) i z is = absurd z
 zip_past R (a ∷ xs) [] i z is = refl
 zip_past R (a ∷ xs) (b ∷ ys) zero z is = absurd (cc)
 zip_past R (a ∷ xs) (b ∷ ys) (suc i) z is = zip_past R xs ys i z.1 is
-
-pub zip_length : {A B : Type 0} (R : A → B → Type 0) (xs : List A) (ys : List B) → AllZip R xs ys → length ys ≡ length xs
-zip_length R [] [] z = refl
-zip_length R [] (b ∷ ys) z = absurd z
-zip_length R (a ∷ xs) [] z = absurd z
-zip_length R (a ∷ xs) (b ∷ ys) z = ap suc (zip_length R xs ys z.1)
 
 -- a node of the first tree, and of the second
 pub record IsMoved (symbols : List Symbol) (m n : Node) : Type 0 where
@@ -166,7 +161,7 @@ module _ (s t : Text) (without : t.symbols ≡ kept s.symbols s.symbols) (spelle
             is = ap (closed_in t k last' c) is';
             moved = subst (λ (y : Built). AreMoved y (record { nodes = c.nodes ++ node_of t k last' c.nodes (drop p.height c.tops) p ∷ []; tops = take p.height c.tops ++ length c.nodes ∷ []; begun = ps })) e (record {
               nodes = AllZip-push (IsMoved s.symbols) b.nodes c.nodes _ _ known.nodes node;
-              tops = rw (z.0.height_is, known.tops, zip_length (IsMoved s.symbols) b.nodes c.nodes known.nodes) refl;
+              tops = rw (z.0.height_is, known.tops, AllZip-long (IsMoved s.symbols) b.nodes c.nodes known.nodes) refl;
               begun = z.1;
             });
           }
@@ -290,7 +285,7 @@ module _ (s t : Text) (without : t.symbols ≡ kept s.symbols s.symbols) (spelle
       let inside : at < length s.symbols = slice_get_within s.symbols at x is in
       let e : at + 1 - 1 ≡ at = omega arith in
       let h = rebuilt (not (is_optional x)) items (at + 1) b to z d c moved still (λ stays. subst (IsKept s.symbols) (sym e) (x, is, not-true (is_optional x) stays)) (omega arith) in
-      elim (true_or_false (is_optional x)) [
+      elim (cases_Bool (is_optional x)) [
         | inl gone ↦ (
             let p = place_gone s.symbols at x is gone in
             record { made = h.made; builds = subst (λ (xs : List Item). Builds t xs (place_of s.symbols at) c (place_of s.symbols to) h.made) (sym (stripped_gone x items gone)) (subst (λ (k : ℕ). Builds t (stripped items) k c (place_of s.symbols to) h.made) p h.builds); moved = h.moved }

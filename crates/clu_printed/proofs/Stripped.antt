@@ -12,9 +12,10 @@ use Rattle.clu_grammar.specs.Choice.{has}
 use Rattle.clu_grammar.specs.Grammar.{productions}
 use Rattle.clu_grammar.specs.Language.{IsAlternative, IsOneOf}
 use Rattle.clu_grammar.specs.Rows.{Production, take, peek, otherwise}
-use Rattle.clu_grammar.proofs.Flags.{and_left, and_right, true_or_false, denied}
+use Rattle.clu_grammar.proofs.Flags.{and_left, and_right, denied}
 use Rattle.clu_printed.proofs.Kept.{is_optional}
 use denote.Enum.Bare.{sameb, same_true}
+use Rattle.std.proofs.lemmas.Bool.{cases_Bool}
 
 abbrev pub stripped : List Item → List Item
 stripped [] = []
@@ -30,7 +31,7 @@ stripped_left x items left = rw left refl
 
 pub stripped-append : (xs ys : List Item) → stripped (xs ++ ys) ≡ stripped xs ++ stripped ys
 stripped-append [] ys = refl
-stripped-append (item.Terminal x ∷ xs) ys = elim (true_or_false (is_optional x)) [
+stripped-append (item.Terminal x ∷ xs) ys = elim (cases_Bool (is_optional x)) [
   | inl gone ↦ rw gone (stripped-append xs ys)
   | inr stays ↦ rw stays (ap (λ (zs : List Item). item.Terminal x ∷ zs) (stripped-append xs ys))
 ]
@@ -53,7 +54,7 @@ semicolon_is x h = same_true the_type (search rules) x s.Semicolon h
 
 plain_stripped : (items : List Item) → is_plain items ≡ true → stripped items ≡ items
 plain_stripped [] h = refl
-plain_stripped (item.Terminal x ∷ items) h = elim (true_or_false (is_optional x)) [
+plain_stripped (item.Terminal x ∷ items) h = elim (cases_Bool (is_optional x)) [
   | inl gone ↦ absurd (denied (is_optional x) (and_left _ _ h) gone)
   | inr stays ↦ rw stays (ap (λ (zs : List Item). item.Terminal x ∷ zs) (plain_stripped items (and_right _ _ h)))
 ]
@@ -61,7 +62,7 @@ plain_stripped (item.Action a ∷ items) h = ap (λ (zs : List Item). item.Actio
 plain_stripped (item.Nonterminal n ∷ items) h = ap (λ (zs : List Item). item.Nonterminal n ∷ zs) (plain_stripped items h)
 
 taken_stripped : (heads : List Symbol) (x : Symbol) (row : List Item) → (not (has heads s.Semicolon) && is_plain row) ≡ true → has heads x ≡ true → stripped (item.Terminal x ∷ row) ≡ item.Terminal x ∷ row
-taken_stripped heads x row h one = elim (true_or_false (is_optional x)) [
+taken_stripped heads x row h one = elim (cases_Bool (is_optional x)) [
   | inl gone ↦ absurd (denied (has heads s.Semicolon) (and_left _ _ h) (subst (λ (y : Symbol). has heads y ≡ true) (semicolon_is x gone) one))
   | inr stays ↦ rw stays (ap (λ (zs : List Item). item.Terminal x ∷ zs) (plain_stripped row (and_right _ _ h)))
 ]

@@ -3,7 +3,8 @@ use Rattle.std.proofs.Common.{◌≡◌, ◌∙◌, ℕ, zero, suc, ◌<◌, ◌
 use Rattle.std.specs.Prelude.{slice_get, nat_lt}
 use Rattle.std.specs.List.{All}
 use Rattle.std.proofs.lemmas.List.Elements.{All-append, All-nil, All-cons, All-head, All-tail}
-use Rattle.std.proofs.lemmas.Option.{none-some, same_Some, slice_get_within}
+use Rattle.std.proofs.lemmas.Option.{slice_get_within}
+use Rattle.clu_base.proofs.Lists.{all_got}
 use Rattle.clu_tree.specs.declared.node.Node.{Node}
 use Rattle.clu_tree.specs.Nodes.{IsTree}
 use Rattle.clu_syntax.specs.Splits.{children_of}
@@ -21,11 +22,6 @@ use Rattle.clu_settle.specs.Graph.{named_target, targets_at, targets_to, spans_t
 abbrev pub IsBelow : ℕ → Option ℕ → Type 0
 IsBelow n None = Unit {0}
 IsBelow n (Some t) = t < n
-
-all_got : {X : Type 0} (P : X → Type 0) (xs : List X) (k : ℕ) (x : X) → All P xs → slice_get xs k ≡ Some x → P x
-all_got P [] k x all e = absurd (none-some x e)
-all_got P (y ∷ ys) zero x all e = subst P (same_Some y x e) (All-head P y ys all)
-all_got P (y ∷ ys) (suc k) x all e = all_got P ys k x (All-tail P y ys all) e
 
 pub all_inside : (targets : List (Option ℕ)) (spans : List Span) (n : ℕ) → n ≡ length spans → All (IsBelow n) targets → AreInside targets spans
 all_inside targets spans n e all at t there = let below : t < n = all_got (IsBelow n) targets at (Some t) all there in omega (arith, below, e)

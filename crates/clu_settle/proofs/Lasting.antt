@@ -4,6 +4,7 @@ use Rattle.std.specs.Prelude.{slice_get, nat_lt}
 use Rattle.std.specs.List.{list_any}
 use Rattle.std.proofs.lemmas.Bool.{cases_eq, cases_lt, lt-ltb, and_from}
 use Rattle.std.proofs.lemmas.Option.{none-some, same_Some, slice_get_within, slice_get-get_or, slice_get_past}
+use Rattle.clu_base.proofs.Lists.{got_front, get_shifted}
 use Rattle.clu_tree.specs.declared.node.Node.{Node}
 use Rattle.clu_tree.specs.Nodes.{IsTree}
 use Rattle.clu_parser.specs.Shape.{HaveForms}
@@ -26,20 +27,6 @@ use Rattle.clu_settle.proofs.Passing.{set_here, set_other, lost_at}
 use Rattle.clu_settle.proofs.Reading.{one_read, none_more_read, none_read}
 
 -- ---- places in lists that are joined
-
-get_first : {X : Type 0} (xs ys : List X) (i : ℕ) (x : X) → slice_get xs i ≡ Some x → slice_get (xs ++ ys) i ≡ Some x
-get_first [] ys i x e = absurd (none-some x e)
-get_first (y ∷ xs) ys zero x e = e
-get_first (y ∷ xs) ys (suc i) x e = get_first xs ys i x e
-
-get_shifted : {X : Type 0} (xs ys : List X) (i : ℕ) → slice_get (xs ++ ys) (length xs + i) ≡ slice_get ys i
-get_shifted [] ys i = ap (λ (k : ℕ). slice_get ys k) (no_more i)
-  where
-    no_more : (i : ℕ) → 0 + i ≡ i
-    no_more i = omega arith
-get_shifted (x ∷ xs) ys i =
-    let e : suc (length xs) + i ≡ suc (length xs + i) = omega arith in
-    ap (λ (k : ℕ). slice_get (x ∷ (xs ++ ys)) k) e ∙ get_shifted xs ys i
 
 get_last : {X : Type 0} (xs : List X) (x : X) (n : ℕ) → length xs ≡ n → slice_get (xs ++ x ∷ []) n ≡ Some x
 get_last [] x n e = ap (λ (k : ℕ). slice_get (x ∷ []) k) (sym e)
@@ -108,7 +95,7 @@ module _ (nodes : List Node) (meanings : List Meaning) where
   span_there zero k l = absurd (omega (arith, l))
   span_there (suc n) k l = elim (cases_eq k n) [
     | inl same ↦ subst (λ (x : ℕ). slice_get (spans_to nodes meanings n ++ span_of n ∷ []) k ≡ Some (span_of x)) (sym same) (get_last (spans_to nodes meanings n) (span_of n) k (spans_size nodes meanings n ∙ sym same))
-    | inr apart ↦ get_first (spans_to nodes meanings n) (span_of n ∷ []) k (span_of k) (span_there n k (omega (arith, l, apart)))
+    | inr apart ↦ got_front (spans_to nodes meanings n) (span_of n ∷ []) k (span_of k) (span_there n k (omega (arith, l, apart)))
   ]
 
   target_there : (n k i : ℕ) (o : Option ℕ) → k < n → slice_get (targets_at nodes meanings k) i ≡ Some o → slice_get (targets_to nodes meanings n) (length (targets_to nodes meanings k) + i) ≡ Some o
@@ -117,7 +104,7 @@ module _ (nodes : List Node) (meanings : List Meaning) where
   target_there (suc n) k i o l e = elim (cases_eq k n) [
     | inl same ↦ subst (λ (x : ℕ). slice_get (targets_to nodes meanings n ++ targets_at nodes meanings n) (length (targets_to nodes meanings x) + i) ≡ Some o) (sym same)
         (get_shifted (targets_to nodes meanings n) (targets_at nodes meanings n) i ∙ subst (λ (x : ℕ). slice_get (targets_at nodes meanings x) i ≡ Some o) same e)
-    | inr apart ↦ get_first (targets_to nodes meanings n) (targets_at nodes meanings n) (length (targets_to nodes meanings k) + i) o (target_there n k i o (omega (arith, l, apart)) e)
+    | inr apart ↦ got_front (targets_to nodes meanings n) (targets_at nodes meanings n) (length (targets_to nodes meanings k) + i) o (target_there n k i o (omega (arith, l, apart)) e)
   ]
 
   -- ---- what a node leads to is what it is made from

@@ -1,11 +1,13 @@
 -- The equates that are named in an equate are those at whose places the search looks.
-use Rattle.std.proofs.Common.{◌≡◌, ◌∙◌, ℕ, zero, suc, ◌+◌, ◌-◌, ◌<◌, ◌≤◌, Bool, true, false, ◌||◌, if◌then◌else◌, List, [], ◌∷◌, ◌++◌, length, map, Option, Some, None, refl, ap, sym, subst, inl, inr, ◌⊎◌, arith, length-append, add-one}
+use Rattle.std.proofs.Common.{◌≡◌, ◌∙◌, ℕ, zero, suc, ◌+◌, ◌-◌, ◌<◌, ◌≤◌, Bool, true, false, ◌||◌, if◌then◌else◌, List, [], ◌∷◌, ◌++◌, length, map, Option, Some, None, refl, ap, sym, subst, inl, inr, arith, length-append, add-one}
 use Rattle.std.specs.Prelude.{◌↔◌, slice_get}
 use Rattle.std.specs.List.{list_any, range_with_len}
 use Rattle.std.specs.Option.{option_map}
 use Rattle.std.proofs.lemmas.Bool.{cases_eq, cases_lt, true≢false, or_cases}
 use Rattle.std.proofs.lemmas.List.{append-nil, length-map}
+use Rattle.std.proofs.lemmas.Map.Keys.{any_passes_from_place}
 use Rattle.std.proofs.lemmas.Option.{none-some, same_Some, slice_get_within, slice_get-get_or, slice_get_past, slice_get-map}
+use Rattle.clu_base.proofs.Lists.{got_front, get_shifted, split}
 use Rattle.clu_tree.specs.declared.node.Node.{Node}
 use Rattle.clu_tree.specs.declared.node.NodeKind.{NodeKind}
 use Rattle.clu_tree.specs.declared.node.NodeKind.TheVariants as kind
@@ -20,15 +22,6 @@ use Rattle.clu_settle.specs.Graph.{is_equate_kind, is_equate_at, equate_of, if_u
 use Rattle.clu_settle.specs.Circular.{nodes_of, nodes_in, goes_on, goes_far, is_circular, unfolded_starts, start_in, span_if, span_in}
 
 -- ---- lists
-
-any_in : {X : Type 0} (f : X → Bool) (xs : List X) (i : ℕ) (x : X) → slice_get xs i ≡ Some x → f x ≡ true → list_any f xs ≡ true
-any_in f [] i x e h = absurd (none-some x e)
-any_in f (y ∷ xs) zero x e h = ap (λ (b : Bool). b || list_any f xs) (ap f (same_Some y x e) ∙ h)
-any_in f (y ∷ xs) (suc i) x e h = or_true (f y) (any_in f xs i x e h)
-  where
-    or_true : (b : Bool) → list_any f xs ≡ true → (b || list_any f xs) ≡ true
-    or_true true h = refl
-    or_true false h = h
 
 record Passes {X : Type 0} (f : X → Bool) (xs : List X) : Type 0 where
   place : ℕ
@@ -72,34 +65,10 @@ range_out f from (suc count) e = elim (or_cases (f from) (list_any f (range_with
       record { number = more.number; least = omega (arith, least); most = omega (arith, most); passes = more.passes }
 ]
 
-get_first : {X : Type 0} (xs ys : List X) (i : ℕ) (x : X) → slice_get xs i ≡ Some x → slice_get (xs ++ ys) i ≡ Some x
-get_first [] ys i x e = absurd (none-some x e)
-get_first (y ∷ xs) ys zero x e = e
-get_first (y ∷ xs) ys (suc i) x e = get_first xs ys i x e
-
-no_more : (i : ℕ) → 0 + i ≡ i
-no_more i = omega arith
-
-one_more : (n i : ℕ) → suc n + i ≡ suc (n + i)
-one_more n i = omega arith
-
-get_shifted : {X : Type 0} (xs ys : List X) (i : ℕ) → slice_get (xs ++ ys) (length xs + i) ≡ slice_get ys i
-get_shifted [] ys i = ap (λ (k : ℕ). slice_get ys k) (no_more i)
-get_shifted (x ∷ xs) ys i = ap (λ (k : ℕ). slice_get (x ∷ (xs ++ ys)) k) (one_more (length xs) i) ∙ get_shifted xs ys i
-
 get_last : {X : Type 0} (xs : List X) (x : X) (n : ℕ) → length xs ≡ n → slice_get (xs ++ x ∷ []) n ≡ Some x
 get_last [] x n e = ap (λ (k : ℕ). slice_get (x ∷ []) k) (sym e)
 get_last (y ∷ xs) x zero e = absurd (omega (arith, e))
 get_last (y ∷ xs) x (suc n) e = get_last xs x n (omega (arith, e))
-
--- in the first list, or in the second
-split : {X : Type 0} (xs ys : List X) (i : ℕ) (x : X) → slice_get (xs ++ ys) i ≡ Some x → (slice_get xs i ≡ Some x) ⊎ ((j : ℕ) × (i ≡ length xs + j) × (slice_get ys j ≡ Some x))
-split [] ys i x e = inr (i, sym (no_more i), e)
-split (y ∷ xs) ys zero x e = inl e
-split (y ∷ xs) ys (suc i) x e = elim (split xs ys i x e) [
-  | inl front ↦ inl front
-  | inr behind ↦ inr (behind.0, ap suc behind.1 ∙ sym (one_more (length xs) behind.0), behind.2)
-]
 
 module _ (nodes : List Node) (ds : List Declared) where
   -- ---- the names of nodes, one after the other
@@ -110,7 +79,7 @@ module _ (nodes : List Node) (ds : List Declared) where
   there (suc n) k i o l e = elim (cases_eq k n) [
     | inl same ↦ subst (λ (x : ℕ). slice_get (unfolded_to nodes ds n ++ unfolded_at nodes ds n) (length (unfolded_to nodes ds x) + i) ≡ Some o) (sym same)
         (get_shifted (unfolded_to nodes ds n) (unfolded_at nodes ds n) i ∙ subst (λ (x : ℕ). slice_get (unfolded_at nodes ds x) i ≡ Some o) same e)
-    | inr apart ↦ get_first (unfolded_to nodes ds n) (unfolded_at nodes ds n) (length (unfolded_to nodes ds k) + i) o (there n k i o (omega (arith, l, apart)) e)
+    | inr apart ↦ got_front (unfolded_to nodes ds n) (unfolded_at nodes ds n) (length (unfolded_to nodes ds k) + i) o (there n k i o (omega (arith, l, apart)) e)
   ]
 
   record Place (n place : ℕ) (o : Option ℕ) : Type 0 where
@@ -178,7 +147,7 @@ module _ (nodes : List Node) (ds : List Declared) where
   start_there zero k l = absurd (omega (arith, l))
   start_there (suc n) k l = elim (cases_eq k n) [
     | inl same ↦ subst (λ (x : ℕ). slice_get (unfolded_starts nodes ds n ++ length (unfolded_to nodes ds n) ∷ []) k ≡ Some (length (unfolded_to nodes ds x))) (sym same) (get_last (unfolded_starts nodes ds n) (length (unfolded_to nodes ds n)) k (starts_size n ∙ sym same))
-    | inr apart ↦ get_first (unfolded_starts nodes ds n) (length (unfolded_to nodes ds n) ∷ []) k (length (unfolded_to nodes ds k)) (start_there n k (omega (arith, l, apart)))
+    | inr apart ↦ got_front (unfolded_starts nodes ds n) (length (unfolded_to nodes ds n) ∷ []) k (length (unfolded_to nodes ds k)) (start_there n k (omega (arith, l, apart)))
   ]
 
   start_is : (starts : List ℕ) (all n : ℕ) → starts ≡ unfolded_starts nodes ds (length nodes) → all ≡ length (unfolded_to nodes ds (length nodes)) → start_in all (slice_get starts n) ≡ length (unfolded_to nodes ds n)
@@ -248,7 +217,7 @@ module _ (nodes : List Node) (ds : List Declared) where
           | inr more ↦ let behind : length (unfolded_to nodes ds d.node) ≤ length (unfolded_to nodes ds p.node) = longer p.node d.node more in absurd (omega (arith, to, before, place, behind))
         ] in
         range_in (named_on steps) (round_at rounds d.node).first (suc d.node - (round_at rounds d.node).first) p.node least (omega (arith, least, most))
-        (any_in (goes_on nodes rounds ds (goes_far nodes rounds ds steps)) (unfolded_at nodes ds p.node) p.index (Some t) p.at h)
+        (any_passes_from_place (goes_on nodes rounds ds (goes_far nodes rounds ds steps)) (unfolded_at nodes ds p.node) p.index (Some t) p.at h)
 
     onward : (steps k t : ℕ) → Leads targets spans k t → far steps t ≡ true → far (suc steps) k ≡ true
     unfolding goes_far

@@ -84,7 +84,7 @@ pub fn graph_of(alloc: Global, tree: &Tree, meanings: &[Meaning]) -> Result<Grap
     ensures inside { IfOk result (λ graph. AreInside graph.targets.items graph.spans.items) }
 {
     let mut targets = Vec::new(alloc);
-    let mut spans = Vec::new(alloc);
+    let mut spans = Vec::with_capacity(alloc, tree.len() as usize)?;
     push_all(&mut targets, &mut spans, tree, meanings)?;
     Ok(Graph { targets, spans })
 }

@@ -202,7 +202,7 @@ fn of_nodes(
     requires starts { names.now.starts.items ≡ starts_to tree.now names.now.declared.items (length tree.now) }
     ensures { IfOk result (λ all. all.items ≡ meant_to tree.now names.now.declared.items declared.now (length tree.now)) }
 {
-    let mut all = Vec::new(alloc);
+    let mut all = Vec::with_capacity(alloc, tree.len() as usize)?;
     for n in 0..tree.len() {
         all.push(of_node(tree, names, declared, n))?;
     }

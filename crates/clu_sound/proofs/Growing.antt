@@ -5,6 +5,7 @@ use Rattle.std.proofs.lemmas.List.{append-nil}
 use Rattle.std.proofs.lemmas.List.Sums.{fold-append}
 use Rattle.std.proofs.lemmas.List.Elements.{Contains-append_left, Contains-push, Contains-push_cases}
 use Rattle.indexmap.proofs.CallerLemmas.{Contains-list_any}
+use Rattle.clu_base.proofs.Lists.{head_or_tail, in_head, in_tail, in_none}
 use Rattle.clu_types.specs.Arena.{AreBelow, FieldsBelow, SignalsBelow, ActualsBelow, HeadingBelow, PartsBelow}
 use Rattle.clu_types.specs.declared.spec.Demand.{Demand}
 use Rattle.clu_types.specs.declared.spec.OpSpec.{OpSpec}
@@ -19,7 +20,6 @@ use Rattle.clu_types.specs.declared.term.Term.TheVariants as term
 use Rattle.clu_types.proofs.Equality.{same_id}
 use Rattle.clu_specs.specs.Specifications.{DemandsBelow, OpBelow}
 use Rattle.clu_sound.specs.Parts.{field_types, object_types, type_actuals, heading_types, wanted_types, op_types, part_types, with_id, with_field, with_objects, with_actual, with_heading, with_wanted, with_op, with_parts}
-use Rattle.clu_demands.proofs.Lists.{head_or_tail, in_head, in_tail, in_none}
 
 -- ---- a list with some is one with the numbers of their types
 

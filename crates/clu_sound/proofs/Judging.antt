@@ -3,9 +3,10 @@ use Rattle.std.proofs.Common.{◌≡◌, ◌↔◌, ◌⊎◌, inl, inr, ℕ, �
 use Rattle.std.specs.Str.{bytes_eq}
 use Rattle.std.proofs.Math.Dec.{ltb}
 use borrow.Author.Tests.{ltb-true, ltb-false}
-use Rattle.std.proofs.lemmas.Option.{slice_get_within}
+use Rattle.std.proofs.lemmas.Option.{slice_get_within, same_Some}
 use Rattle.std.proofs.lemmas.List.{append-nil, drop_all}
 use Rattle.clu_base.specs.declared.errors.Memory.{Memory}
+use Rattle.clu_base.proofs.Lists.{none_is_not, in_none}
 use Rattle.clu_types.specs.CluType.{CluType, CluTypes, Signals, Actuals}
 use Rattle.clu_types.specs.Arena.{type_at, actuals_at, type_of, types_of, AreBelow, PartsBelow, Grows}
 use Rattle.clu_types.specs.declared.spec.Demand.{Demand}
@@ -32,7 +33,6 @@ use Rattle.clu_demands.specs.Meeting.{Meets, all_demanded, op_type, routine_type
 use Rattle.clu_sound.specs.Parts.{part_types, op_types, wanted_types, with_id, with_wanted, with_op}
 use Rattle.clu_sound.specs.Sound.{IsInstanceOf, IsInstance, IsFormed, AreFormed, AreDemandsMet, IsFormInstanceMet, IsInstanceMet, IsTypeMet, AreTypesMet, IsRoutineMet, AreRoutinesMet, IsFormMet, IsSound}
 use Rattle.clu_sound.specs.Visiting.{IsOwnMet, AreIdsMet, AreAllMet, DemandsNothing, FormDemandsNothing, TermDemandsNothing, NothingDemanded}
-use Rattle.clu_demands.proofs.Lists.{none_is_not, same_item, in_none}
 use Rattle.clu_demands.proofs.Seen.{demands_same, demands_more}
 use Rattle.clu_demands.proofs.Answering.{instance_type}
 use Rattle.clu_sound.proofs.Growing.{op_folded, demands_folded, all_here, all_from, below_all, below_in, parts_below, op_below, wanted_below}
@@ -77,7 +77,7 @@ module _ (given : List Demand) (specs : List Spec) (s : Spec) (demands : List De
 
       from : AreDemandsMet then_given specs s demands params → AreAllMet now_given specs (types_of now) asked
       from m =
-          let same : m.1.0 ≡ all_seen (types_of now) asked = same_item m.1.0 (all_seen (types_of now) asked) (sym m.1.1 ∙ sym is) in
+          let same : m.1.0 ≡ all_seen (types_of now) asked = same_Some m.1.0 (all_seen (types_of now) asked) (sym m.1.1 ∙ sym is) in
           each_all now_given specs (types_of now) asked
           (λ a c. subst (λ (gs : List Demanded). Meets gs specs a) (sym same_given) (m.1.2 a (subst (λ (l : List Needed). Contains l a) (sym same) c)))
 
@@ -287,7 +287,7 @@ module _ (specs : List Spec) (own : List ParamKind) (terms : List Term) (n : ℕ
       by true less = h k u (omega (arith, ltb-true)) e
       by false last =
           let here : k ≡ n = omega (arith, ltb-false, lt) in
-          subst (IsFormed specs own) (same_item t u (sym at ∙ ap (slice_get terms) (sym here) ∙ e)) this
+          subst (IsFormed specs own) (same_Some t u (sym at ∙ ap (slice_get terms) (sym here) ∙ e)) this
 
   pub formed_all : length terms ≤ n → ((k : ℕ) (u : Term) → k < n → slice_get terms k ≡ Some u → IsFormed specs own u) → (k : ℕ) (u : Term) → slice_get terms k ≡ Some u → IsFormed specs own u
   formed_all le h k u e = h k u (omega (arith, slice_get_within terms k u e, le)) e

@@ -2,6 +2,7 @@
 use Rattle.std.proofs.Common.{◌≡◌, ◌⊎◌, inl, inr, ℕ, ◌<◌, zero, suc, Bool, true, false, List, [], ◌∷◌, ◌++◌, Contains, map, find, None, refl, sym, subst, arith}
 use Rattle.std.specs.Str.{bytes_eq}
 use Rattle.std.proofs.lemmas.List.Elements.{Contains-append_left, Contains-append_right, Contains-append_cases}
+use Rattle.clu_base.proofs.Lists.{none_is_not, head_or_tail, in_head, in_tail, in_none}
 use Rattle.clu_types.specs.CluType.{CluType, Actuals}
 use Rattle.clu_types.specs.Arena.{type_at, types_at, fields_at, signals_at, actuals_at, type_of, PartsBelow}
 use Rattle.clu_types.specs.declared.spec.Demand.{Demand}
@@ -21,7 +22,6 @@ use Rattle.clu_demands.specs.Meeting.{routine_type}
 use Rattle.clu_sound.specs.Parts.{field_types, object_types, type_actuals, heading_types, wanted_types, op_types, part_types}
 use Rattle.clu_sound.specs.Sound.{clusters_in, clusters_of_types, clusters_of_fields, clusters_of_signals, clusters_of_actuals, IsInstanceMet, IsTypeMet, AreTypesMet, IsRoutineMet}
 use Rattle.clu_sound.specs.Visiting.{IsOwnMet, AreIdsMet}
-use Rattle.clu_demands.proofs.Lists.{none_is_not, head_or_tail, in_head, in_tail, in_none}
 use Rattle.clu_sound.proofs.Growing.{below_in, parts_below}
 
 module _ (given : List Demanded) (specs : List Spec) where

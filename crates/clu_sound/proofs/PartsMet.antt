@@ -1,9 +1,12 @@
 -- Types that are looked at one after the other, each of which adds its parts.
 use Rattle.std.proofs.Common.{◌≡◌, ◌↔◌, ◌⊎◌, inl, inr, ℕ, ◌+◌, ◌<◌, ◌≤◌, zero, suc, Bool, true, false, true≢false, List, [], ◌∷◌, ◌++◌, Contains, map, fold, length, drop, get_or, slice_get, Some, Result, Ok, Err, IfOk, OnOk, IsTrue, refl, sym, ap, ◌∙◌, subst, arith}
 use Rattle.std.proofs.Math.Dec.{ltb}
+use Rattle.std.proofs.Math.Seq.{drop-cons}
 use borrow.Author.Tests.{ltb-true, ltb-false}
 use Rattle.std.proofs.lemmas.List.{append-nil, drop_all}
+use Rattle.std.proofs.lemmas.Option.{same_Some}
 use Rattle.clu_base.specs.declared.errors.Memory.{Memory}
+use Rattle.clu_base.proofs.Lists.{front_of, head_or_tail, in_head, in_tail, in_none, place_in, is_there}
 use Rattle.clu_types.specs.CluType.{CluType}
 use Rattle.clu_types.specs.Arena.{type_at, type_of, types_of, AreBelow, PartsBelow, Grows}
 use Rattle.clu_types.specs.declared.spec.Demand.{Demand}
@@ -22,7 +25,6 @@ use Rattle.clu_demands.specs.Meeting.{Meets, IsClosed}
 use Rattle.clu_sound.specs.Parts.{part_types, with_id, with_parts}
 use Rattle.clu_sound.specs.Sound.{IsTypeMet}
 use Rattle.clu_sound.specs.Visiting.{HoldsMet, AreAllMet, IsOwnMet, AreIdsMet, HasVisited}
-use Rattle.clu_demands.proofs.Lists.{same_item, head_or_tail, in_head, in_tail, in_none, front_of, place_in, is_there}
 use Rattle.clu_demands.proofs.Seen.{one_same, all_same, demands_same, more_below}
 use Rattle.clu_demands.proofs.Closing.{none_closed, none_below}
 use Rattle.clu_sound.proofs.Growing.{parts_folded, all_front, all_kept, all_here, all_from, below_all, below_in, parts_below}
@@ -54,15 +56,10 @@ holds_none given specs start none is = (none_below (length start) none is, none_
 
 -- ---- needs, one after the other
 
-left_here : {X : Type 0} (xs : List X) (i : ℕ) (d : X) → i < length xs → drop i xs ≡ get_or xs i d ∷ drop (suc i) xs
-left_here [] i d lt = absurd (omega arith)
-left_here (x ∷ xs) zero d lt = refl
-left_here (x ∷ xs) (suc i) d lt = left_here xs i d (omega arith)
-
 pub next_here : {X : Type 0} (xs : List X) (i : ℕ) (d : X) → d ≡ get_or xs i d → i < length xs → drop i xs ≡ d ∷ drop (i + 1) xs
 next_here xs i d is lt =
     let next : suc i ≡ i + 1 = omega arith in
-    left_here xs i d lt ∙ ap (λ x. x ∷ drop (suc i) xs) (sym is) ∙ ap (λ (n : ℕ). d ∷ drop n xs) next
+    drop-cons xs i d lt ∙ ap (λ x. x ∷ drop (suc i) xs) (sym is) ∙ ap (λ (n : ℕ). d ∷ drop n xs) next
 
 need_below : (n : ℕ) (xs : List Asked) (i : ℕ) (d : Asked) → AreBelowAll n xs → i < length xs → IsBelow n (get_or xs i d)
 need_below n [] i d b lt = absurd (omega arith)
@@ -250,7 +247,7 @@ module _ (given : List Demand) (specs : List Spec) (start : List Term) (first : 
           seen k p less e false last =
               let here : k ≡ n = omega (arith, ltb-false, less) in
               let there : slice_get ids k ≡ Some p = at_front k p (omega (arith, lt, here)) e in
-              subst (IsSeen new) (same_item id p (sym at ∙ ap (slice_get ids) (sym here) ∙ there)) this_one
+              subst (IsSeen new) (same_Some id p (sym at ∙ ap (slice_get ids) (sym here) ∙ there)) this_one
 
     -- when all were looked at, those of the beginning are met
     pub visiting_all : length ids ≤ n → AreIdsMet put specs (types_of start) first
@@ -272,7 +269,7 @@ visited_ok given specs terms old new id t at low is added (Err e) h = h
 
 pub visited_at : (given : List Demanded) (specs : List Spec) (terms : List Term) (old new : List TypeId) (n : ℕ) (id : TypeId) → Some id ≡ slice_get old n → (r : Result Bool Memory) → IfOk r (HasVisited given specs terms old new id)
     → IfOk r (λ met. (p : TypeId) → slice_get old n ≡ Some p → HasVisited given specs terms old new p met)
-visited_at given specs terms old new n id is (Ok b) h = λ p e. subst (λ (q : TypeId). HasVisited given specs terms old new q b) (same_item id p (is ∙ e)) h
+visited_at given specs terms old new n id is (Ok b) h = λ p e. subst (λ (q : TypeId). HasVisited given specs terms old new q b) (same_Some id p (is ∙ e)) h
 visited_at given specs terms old new n id is (Err e) h = h
 
 -- what is so of one type is so of the other

@@ -4,6 +4,8 @@ use Rattle.std.specs.Char.{to_ascii_lowercase}
 use Rattle.std.specs.Str.{bytes_eq}
 use Rattle.std.proofs.lemmas.Bool.{cases_Bool, cases_lt, both_ways, eqb-true, eq-eqb, ne_eqb, ltb-true, ltb-false, lt-ltb, le-ltb, not-true, not-false, and_parts, false_from_ne_true}
 use Rattle.std.proofs.lemmas.List.{take-append-drop, length-take}
+use Rattle.std.proofs.lemmas.Option.{same_Some}
+use Rattle.clu_base.proofs.Lists.{same_bytes}
 use Rattle.clu_lexer.specs.declared.symbols.Symbol.{Symbol}
 use Rattle.clu_lexer.specs.declared.symbols.Symbol.TheVariants as symbol
 use Rattle.clu_lexer.specs.Symbols.{spells, symbol_named}
@@ -17,9 +19,9 @@ use Rattle.clu_specs.specs.Names.{word_len, first_word, behind_word, is_word, is
 use Rattle.clu_specs.specs.Keywords.{keyword_of}
 use Rattle.clu_specs.specs.TypeReading.{signal_name_after}
 use Rattle.clu_specs.specs.Grammar.{IsName}
-use Rattle.clu_specs.proofs.Outcomes.{either, found, some_same}
+use Rattle.clu_specs.proofs.Outcomes.{either, found}
 use Rattle.clu_specs.proofs.Words.{word_goes_on, take_all}
-use Rattle.clu_specs.proofs.Spelled.{name_read, first_goes_on, word_spelled, word_is, keyword_text, keyword_spelled}
+use Rattle.clu_specs.proofs.Spelled.{name_read, first_goes_on, word_spelled, keyword_text, keyword_spelled}
 use Rattle.clu_specs.proofs.LocalNames.{word_over, word_take}
 use Rattle.clu_specs.proofs.Fronts.{Front, Fronts, same_left, never, at_once, front_as, and_fails, shown_before}
 
@@ -139,7 +141,7 @@ record Replaced (name : List ℕ) (i : ℕ) : Type 0 where
 
 below_found : (b : ℕ) (o : Option ℕ) (i : ℕ) → below_z b o ≡ Some i → ((b < 122) × (i ≡ 0)) ⊎ ((j : ℕ) × (o ≡ Some j) × (i ≡ suc j))
 below_found b None i e = let h = found (nat_lt b 122) 0 i e in inl (ltb-true b 122 h.0, sym h.1)
-below_found b (Some j) i e = inr (j, refl, sym (some_same (suc j) i e))
+below_found b (Some j) i e = inr (j, refl, sym (same_Some (suc j) i e))
 
 replaced : (name : List ℕ) (i : ℕ) → last_below_z name ≡ Some i → Replaced name i
 replaced [] i e = absurd (cc)
@@ -332,10 +334,10 @@ pub record OtherBegun (word previous q : List ℕ) : Type 0 where
 pub avoiding : (word previous q : List ℕ) → length word < 200 → NameBegun previous 200 q → OtherBegun word previous q
 unfolding longer_begun
 avoiding word previous q short n = elim (cases_Bool (bytes_eq n.name word)) [
-  | inl holds ↦ (let same : length n.name ≡ length word = ap length (word_is n.name word holds) in
+  | inl holds ↦ (let same : length n.name ≡ length word = ap length (same_bytes n.name word holds) in
       record {
         begun = longer_begun previous q n (omega (arith, same, short));
-        other = false_from_ne_true (bytes_eq (n.name ++ 95 ∷ []) word) (λ e. absurd (omega (arith, same, ap length (word_is (n.name ++ 95 ∷ []) word e), length-append n.name (95 ∷ []))));
+        other = false_from_ne_true (bytes_eq (n.name ++ 95 ∷ []) word) (λ e. absurd (omega (arith, same, ap length (same_bytes (n.name ++ 95 ∷ []) word e), length-append n.name (95 ∷ []))));
       })
   | inr fails ↦ record { begun = n; other = fails }
 ]

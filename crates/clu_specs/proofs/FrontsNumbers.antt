@@ -2,7 +2,7 @@
 use Rattle.std.proofs.Common.{◌≡◌, ℕ, zero, suc, ◌+◌, ◌-◌, ◌*◌, ◌/◌, ◌%◌, ◌^◌, ◌<◌, ◌≤◌, ◌⊎◌, ℤ, pos, negsuc, ◌==◌, not, ◌&&◌, ◌||◌, Bool, true, false, nat_lt, nat_le, List, [], ◌∷◌, ◌++◌, length, decimal, slice_get, flat_map, Option, Some, None, Result, Ok, Err, if◌then◌else◌, refl, sym, ap, subst, ◌∙◌, arith, append_assoc, append-nil, inl, inr}
 use Rattle.std.specs.Fmt.{signed_decimal}
 use Rattle.std.specs.Char.{is_ascii_digit}
-use Rattle.std.proofs.lemmas.Bool.{cases_Bool, cases_lt, eqb-true, eqb-false, leb-true, ltb-true, ltb-false, not-true, not-false, and_parts}
+use Rattle.std.proofs.lemmas.Bool.{cases_Bool, cases_lt, eqb-true, eqb-false, leb-true, ltb-true, ltb-false, not-true, not-false, and_parts, or_parts}
 use Rattle.std.proofs.lemmas.Fmt.{decimal_step, decimal_digit}
 use Rattle.clu_types.specs.declared.spec.ParamKind.{ParamKind}
 use Rattle.clu_specs.specs.declared.scope.Sort.{Sort}
@@ -101,10 +101,6 @@ pub record Reached (scope : Scope) (of : Sort) (least m : ℕ) : Type 0 where
   pub more : List ℕ
   pub text : decimal n ≡ decimal m ++ more
 
-pub neither : (a b : Bool) → (a || b) ≡ false → (a ≡ false) × (b ≡ false)
-neither true b e = absurd (cc)
-neither false b e = (refl, e)
-
 module _ (scope : Scope) (of : Sort) (least : ℕ) (some : ParameterBegun scope of least []) (goes : (m : ℕ) → begins_number scope of least m ≡ true → Reached scope of least m) where
   -- what was read, and its value
   abbrev Stands : ℕ → List ℕ → Type 0
@@ -141,7 +137,7 @@ module _ (scope : Scope) (of : Sort) (least : ℕ) (some : ParameterBegun scope 
       elim (cases_Bool (not (is_ascii_digit b) || nat_lt 4294967295 read)) [
         | inl holds ↦ rw holds (at_once (b ∷ bytes) (suc (length bytes)) refl (stands_now read done st))
         | inr fails ↦ rw fails (elim (cases_Bool (begins_number scope of least (10 * read + (b - 48)))) [
-          | inl begun ↦ (let n = neither (not (is_ascii_digit b)) (nat_lt 4294967295 read) fails in
+          | inl begun ↦ (let n = or_parts (not (is_ascii_digit b)) (nat_lt 4294967295 read) fails in
               let on : Stands m (done ++ b ∷ []) = stands_on read b done st (not-false (is_ascii_digit b) n.0) (ltb-false 4294967295 read n.1) begun in
               let inner : Front (λ q. ParameterBegun scope of least ((done ++ b ∷ []) ++ q)) bytes (left_of_number scope of least m bytes) = left_front bytes m (done ++ b ∷ []) on in
               rw begun (front_on (b ∷ []) (b ∷ bytes) bytes (left_of_number scope of least m bytes) refl inner (λ q x. subst (ParameterBegun scope of least) (append_assoc done (b ∷ []) q) x)))

@@ -1,6 +1,6 @@
 -- Parameters, where clauses and operations: where one is refused, the bytes before that begin one of the grammar.
 use Rattle.std.proofs.Common.{◌≡◌, ℕ, ◌+◌, ◌<◌, ◌≤◌, ◌⊎◌, ◌==◌, nat_le, not, ◌||◌, Bool, true, false, List, [], ◌∷◌, ◌++◌, length, map, codes, decimal, Option, Some, None, Ok, Err, if◌then◌else◌, refl, sym, ap, subst, ◌∙◌, arith, length-append, append_assoc, append-nil, inl, inr}
-use Rattle.std.proofs.lemmas.Bool.{cases_Bool, eqb-true, leb-true, le-leb, not-false}
+use Rattle.std.proofs.lemmas.Bool.{cases_Bool, eqb-true, leb-true, le-leb, not-false, or_parts}
 use Rattle.clu_types.specs.declared.spec.ParamKind.{ParamKind}
 use Rattle.clu_types.specs.declared.spec.ParamKind.TheVariants as kind
 use Rattle.clu_types.specs.CluType.{CluType, any_type}
@@ -21,7 +21,7 @@ use Rattle.clu_specs.proofs.KindsSpelled.{joined_some, worded, listed, led, list
 use Rattle.clu_specs.proofs.SpecsSpelled.{Follows, last_demand, demands_joined, at_least, follows_by, asked_spelled, State, DemandsAfter, DemandsBefore, demands_on, demands_more, demands_spelled, demands_shown}
 use Rattle.clu_specs.proofs.Fronts.{Front, Fronts, Part, same_left, never, at_once, front_on, front_as, and_fails, shown, shown_on, shown_before, literal_front, closing_front, row_front}
 use Rattle.clu_specs.proofs.FrontsNames.{NameBegun, Earlier, earlier_none, name_front}
-use Rattle.clu_specs.proofs.FrontsNumbers.{ParameterBegun, neither, spec_goes, spec_some, number_front}
+use Rattle.clu_specs.proofs.FrontsNumbers.{ParameterBegun, spec_goes, spec_some, number_front}
 use Rattle.clu_specs.proofs.FrontsTypes.{TypeBegun, first_name, earlier_by}
 
 -- proc and iter
@@ -358,7 +358,7 @@ module _ (kinds : List ParamKind) (few : length kinds ≤ 4294967295) where
         let by : List ℕ → Read (List Demanded) = λ (rest : List ℕ). demands_read scope part rest >>= λ ds. literal_at (32 ∷ []) ds.1 >>= λ rest. Ok (ds.0, rest) in
         elim (either (not (begins_with 32 bytes) || not (nat_le 1 (last_in scope sort.Type))) (Ok ([], bytes)) (literal_at (codes " where ") bytes >>= by) (Err left) e) [
           | inl h ↦ absurd (never ([], bytes) left h.1)
-          | inr h ↦ (let one = not-false (nat_le 1 (last_in scope sort.Type)) (neither (not (begins_with 32 bytes)) (not (nat_le 1 (last_in scope sort.Type))) h.0).1 in
+          | inr h ↦ (let one = not-false (nat_le 1 (last_in scope sort.Type)) (or_parts (not (begins_with 32 bytes)) (not (nat_le 1 (last_in scope sort.Type))) h.0).1 in
               elim (and_fails (literal_at (codes " where ") bytes) by left h.1) [
                 | inl a ↦ front_as bytes left (literal_front (codes " where ") bytes left a) (where_part one)
                 | inr a ↦ (let word = literal_spelled (codes " where ") bytes a.0 a.1 in

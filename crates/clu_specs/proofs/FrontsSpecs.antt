@@ -1,7 +1,8 @@
 -- Specifications: where one is refused, the bytes before that begin one of the grammar.
 use Rattle.std.proofs.Common.{◌≡◌, ℕ, ◌<◌, ◌≤◌, ◌⊎◌, not, ◌||◌, Bool, true, false, List, [], ◌∷◌, ◌++◌, length, codes, flat_map, Some, None, Result, Ok, Err, if◌then◌else◌, refl, sym, ap, subst, ◌∙◌, arith, append_assoc, append-nil, inl, inr}
 use Rattle.std.specs.Str.{bytes_eq}
-use Rattle.std.proofs.lemmas.Bool.{not-false}
+use Rattle.std.proofs.lemmas.Bool.{not-false, or_parts}
+use Rattle.std.proofs.lemmas.Option.{none-some}
 use Rattle.clu_types.specs.declared.spec.ParamKind.{ParamKind}
 use Rattle.clu_types.specs.CluType.{CluType, CluTypes, no_types, Signals, no_signals}
 use Rattle.clu_specs.specs.declared.scope.Scope.{Scope}
@@ -13,7 +14,7 @@ use Rattle.clu_specs.specs.TypeReading.{Reader, type_read, heading_read}
 use Rattle.clu_specs.specs.Seen.{Demanded, Operation, Shape, routine, cluster, Specification, kinds_text, demands_text, routine_word, routine_text, op_text, shape_text, spec_text}
 use Rattle.clu_specs.specs.SpecReading.{routine_word_read, parameters_read, all_demands_read, operation_read, operation_word_read, next_operation, named_operation_read, operations_step, operations_next, operations_read, cluster_form_read, routine_read, cluster_read, whole_spec}
 use Rattle.clu_specs.specs.Grammar.{IsName, AreDemands, IsOperation, AreOperations, IsShape, IsSpecification}
-use Rattle.clu_specs.proofs.Outcomes.{none_some, either, literal_spelled}
+use Rattle.clu_specs.proofs.Outcomes.{either, literal_spelled}
 use Rattle.clu_specs.proofs.Spelled.{name_read}
 use Rattle.clu_specs.proofs.TypesSpelled.{Sound, heading_spelled}
 use Rattle.clu_specs.proofs.ActualsSpelled.{type_spelled}
@@ -21,7 +22,7 @@ use Rattle.clu_specs.proofs.KindsSpelled.{joined_some, word_spelled, parameters_
 use Rattle.clu_specs.proofs.SpecsSpelled.{all_demands_spelled, operation_spelled, operation_word_spelled, last_name, operations_joined, ops_joined_text, OpsBefore, OpsAfter, ops_on, ops_more, form_spelled}
 use Rattle.clu_specs.proofs.Fronts.{Front, Fronts, Part, same_left, never, at_once, front_on, front_as, and_fails, shown, shown_on, shown_before, literal_front, ended_front, row_front}
 use Rattle.clu_specs.proofs.FrontsNames.{NameBegun, Earlier, earlier_none, OtherBegun, avoiding, read_begun, name_front}
-use Rattle.clu_specs.proofs.FrontsNumbers.{neither, spec_leads}
+use Rattle.clu_specs.proofs.FrontsNumbers.{spec_leads}
 use Rattle.clu_specs.proofs.FrontsTypes.{TypeBegun, first_name, earlier_by, heading_front}
 use Rattle.clu_specs.proofs.FrontsActuals.{type_front}
 use Rattle.clu_specs.proofs.FrontsRoutines.{word_front, parameters_front, where_front}
@@ -71,8 +72,8 @@ first_op scope previous p =
 
 next_name : (name bytes rest : List ℕ) → next_operation name bytes ≡ Some rest → has_later name ≡ true
 next_name name bytes rest e = elim (either (not (has_later name) || not (begins_with 59 bytes)) None (Some bytes) (Some rest) e) [
-  | inl h ↦ absurd (none_some rest h.1)
-  | inr h ↦ not-false (has_later name) (neither (not (has_later name)) (not (begins_with 59 bytes)) h.0).0
+  | inl h ↦ absurd (none-some rest h.1)
+  | inr h ↦ not-false (has_later name) (or_parts (not (has_later name)) (not (begins_with 59 bytes)) h.0).0
 ]
 
 module _ (scope : Scope) (previous : List ℕ) where

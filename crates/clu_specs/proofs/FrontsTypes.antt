@@ -1,6 +1,7 @@
 -- Lists of types, selectors, signals and headings: where one is refused, the bytes before that begin one of the grammar, where this is so of the types in it.
 use Rattle.std.proofs.Common.{◌≡◌, ℕ, Bool, true, false, ◌⊎◌, List, [], ◌∷◌, ◌++◌, length, codes, Option, Some, None, Ok, Err, refl, sym, ap, subst, ◌∙◌, arith, append_assoc, append-nil, inl, inr}
 use Rattle.std.specs.Str.{bytes_eq}
+use Rattle.std.proofs.lemmas.Option.{none-some}
 use Rattle.clu_types.specs.CluType.{CluType, any_type, CluTypes, no_types, type_and, Fields, no_fields, field_and, Signals, no_signals, signal_and}
 use Rattle.clu_specs.specs.declared.scope.Scope.{Scope}
 use Rattle.clu_specs.specs.Reading.{◌>>=◌, literal_at, behind, begins_with, several}
@@ -8,7 +9,7 @@ use Rattle.clu_specs.specs.Names.{is_before, name_after, has_later}
 use Rattle.clu_specs.specs.Texts.{type_text, types_text, closed_text, fields_text, all_signals_text, heading_text, results_word}
 use Rattle.clu_specs.specs.TypeReading.{Reader, types_joined, fields_joined, signals_joined, types_step, fields_step, signals_step, next_after, signal_name_after, types_read, closed_types_read, field_read, fields_read, signal_read, objects_by, objects_read, signals_read, arguments_by, arguments_read, results_read, all_signals_read, heading_read}
 use Rattle.clu_specs.specs.Grammar.{IsName, HasFields, IsType, AreTypes, AreFields, AreSignals}
-use Rattle.clu_specs.proofs.Outcomes.{none_some, either, literal_spelled, behind_spelled}
+use Rattle.clu_specs.proofs.Outcomes.{either, literal_spelled, behind_spelled}
 use Rattle.clu_specs.proofs.Spelled.{name_read}
 use Rattle.clu_specs.proofs.TypesSpelled.{Sound, types_led, HasTypes, types_joined_text, types_joined_some, types_joined_are, fields_led, last_field, fields_joined_text, fields_joined_some, fields_joined_are, signal_spelled, signals_text, signals_led, HasSignals, last_signal, signals_joined_text, signals_joined_some, signals_joined_are, all_signals_shown, closed_shown, TypesRead, TypesBefore, types_on, types_next, types_spelled, FieldsBefore, FieldsAfter, fields_on, fields_next, signal_named, SignalsBefore, SignalsAfter, signals_on, signals_next, signals_spelled, results_spelled, arguments_spelled}
 use Rattle.clu_specs.proofs.Fronts.{Front, Fronts, Part, never, at_once, front_on, front_as, and_fails, shown, shown_on, shown_before, literal_front, closing_front, fixed_front, row_front}
@@ -105,7 +106,7 @@ pub record HeadingBegun (scope : Scope) (iter : Bool) (q : List ℕ) : Type 0 wh
 
 -- a name comes after another where a comma was taken
 pub next_later : (name bytes rest : List ℕ) → next_after name bytes ≡ Some rest → has_later name ≡ true
-next_later name bytes rest e = elim (either (has_later name) (behind 44 bytes) None (Some rest) e) [ inl h ↦ h.0 | inr h ↦ absurd (none_some rest h.1) ]
+next_later name bytes rest e = elim (either (has_later name) (behind 44 bytes) None (Some rest) e) [ inl h ↦ h.0 | inr h ↦ absurd (none-some rest h.1) ]
 
 pub first_name : (previous : List ℕ) → Earlier previous → NameBegun previous 200 []
 first_name previous p = later_name previous 200 [] previous p (omega arith) refl (omega arith)

@@ -2,6 +2,7 @@
 use Rattle.std.proofs.Common.{◌≡◌, ℕ, ◌==◌, true, List, [], ◌∷◌, ◌++◌, length, codes, Ok, Err, if◌then◌else◌, refl, sym, ap, ◌∙◌, arith, append-nil, inl, inr}
 use Rattle.std.specs.Str.{bytes_eq}
 use Rattle.std.proofs.lemmas.Bool.{eqb-true}
+use Rattle.clu_base.proofs.Lists.{same_bytes}
 use Rattle.clu_types.specs.CluType.{CluType, cluster_of}
 use Rattle.clu_specs.specs.Reading.{◌>>=◌, literal_at, end_at}
 use Rattle.clu_specs.specs.Names.{first_word, behind_word, name_after}
@@ -14,7 +15,7 @@ use Rattle.clu_specs.specs.declared.read_uses.Operation.{Operation}
 use Rattle.clu_specs.specs.declared.read_uses.Operation.TheVariants as operation
 use Rattle.clu_specs.specs.Grammar.{IsType, IsUse}
 use Rattle.clu_specs.proofs.Outcomes.{either, literal_spelled}
-use Rattle.clu_specs.proofs.Spelled.{word_is, word_spelled, name_read}
+use Rattle.clu_specs.proofs.Spelled.{word_spelled, name_read}
 use Rattle.clu_specs.proofs.ActualsSpelled.{type_spelled}
 use Rattle.clu_specs.proofs.Fronts.{Front, Fronts, same_left, never, front_on, front_as, and_fails, shown, shown_on, shown_before, literal_front, ended_front}
 use Rattle.clu_specs.proofs.FrontsNames.{earlier_none, name_front}
@@ -57,7 +58,7 @@ module _ (t : CluType) (is : IsType any_scope t) where
   word_front rest word u op left made text same e = record {
     front = word;
     back = behind_word rest;
-    whole = word_spelled rest ∙ ap (λ (x : List ℕ). x ++ behind_word rest) (word_is (first_word rest) word same);
+    whole = word_spelled rest ∙ ap (λ (x : List ℕ). x ++ behind_word rest) (same_bytes (first_word rest) word same);
     rest = ended_front op (behind_word rest) left e;
     begun = record { u = u; rest = []; is = made; spelled = text ∙ sym (append-nil (type_text t ++ 36 ∷ word)) };
   }

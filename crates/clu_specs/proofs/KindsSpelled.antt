@@ -1,12 +1,13 @@
 -- Items in a row, words and parameters: what was read is of the grammar, and spelled by the bytes that were read.
 use Rattle.std.proofs.Common.{◌≡◌, ℕ, ◌<◌, ◌≤◌, ◌⊎◌, ◌==◌, nat_lt, Bool, true, false, List, [], ◌∷◌, ◌++◌, length, map, codes, flat_map, Option, Some, None, Ok, if◌then◌else◌, refl, sym, ap, subst, ◌∙◌, arith, length-append, append_assoc, append-nil, inl, inr}
 use Rattle.std.proofs.lemmas.Bool.{cases_order, eqb-false, ltb-true}
+use Rattle.std.proofs.lemmas.Option.{none-some}
 use Rattle.clu_types.specs.declared.spec.ParamKind.{ParamKind}
 use Rattle.clu_specs.specs.declared.read_kinds.TheConstants.{KINDS}
 use Rattle.clu_specs.specs.Reading.{◌>>=◌, Read, literal_at, behind, begins_with}
 use Rattle.clu_specs.specs.Seen.{kind_text, kinds_text, routine_word}
 use Rattle.clu_specs.specs.SpecReading.{routine_word_read, begin_alike, kind_in, kind_read, kinds_step, kinds_next, kinds_read, parameters_by}
-use Rattle.clu_specs.proofs.Outcomes.{and_then, none_some, ok_same, either, literal_spelled, behind_spelled, closed_spelled, row_spelled}
+use Rattle.clu_specs.proofs.Outcomes.{and_then, ok_same, either, literal_spelled, behind_spelled, closed_spelled, row_spelled}
 
 -- items with commas between them
 module _ {X : Type 0} (text : X → List ℕ) where
@@ -95,7 +96,7 @@ kinds_on whole made bytes all after b e =
 -- what follows a comma where a test holds
 pub tested : (c : Bool) (bytes rest : List ℕ) → (if c then behind 44 bytes else None) ≡ Some rest → (c ≡ true) × (bytes ≡ 44 ∷ rest)
 tested true bytes rest e = (refl, behind_spelled 44 bytes rest e)
-tested false bytes rest e = absurd (none_some rest e)
+tested false bytes rest e = absurd (none-some rest e)
 
 pub kinds_more : (whole : List ℕ) (made : List ParamKind) (bytes rest : List ℕ) → KindsRead whole made bytes → kinds_next made bytes ≡ Some rest → KindsBefore whole made rest
 kinds_more whole made bytes rest r e =

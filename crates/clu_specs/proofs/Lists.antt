@@ -1,7 +1,8 @@
 -- Lists of types, selectors, signals and actual parameters: what is written of them is read again, where this is so of
 -- the types in them.
-use Rattle.std.proofs.Common.{◌≡◌, ℕ, zero, suc, ◌+◌, ◌≤◌, Bool, true, false, ◌==◌, List, [], ◌∷◌, ◌++◌, length, codes, Option, Some, None, Ok, if◌then◌else◌, refl, sym, ap, subst, ◌∙◌, arith, length-append, append_assoc}
+use Rattle.std.proofs.Common.{◌≡◌, ℕ, zero, suc, ◌+◌, ◌≤◌, Bool, true, false, ◌==◌, List, [], ◌∷◌, ◌++◌, length, codes, Option, Some, None, Ok, refl, sym, ap, subst, ◌∙◌, arith, length-append, append_assoc}
 use Rattle.std.specs.Str.{bytes_eq}
+use Rattle.clu_base.proofs.Bools.{same_either}
 use Rattle.clu_types.specs.CluType.{CluType, CluTypes, no_types, type_and, Fields, no_fields, field_and, Signals, no_signals, signal_and}
 use Rattle.clu_specs.specs.declared.scope.Scope.{Scope}
 use Rattle.clu_specs.specs.Reading.{◌>>=◌, Read, behind, begins_with, literal_at, several}
@@ -11,10 +12,6 @@ use Rattle.clu_specs.specs.TypeReading.{Reader, types_joined, fields_joined, sig
 use Rattle.clu_specs.specs.Grammar.{IsName, HasFields, AreTypes, AreFields, AreSignals}
 use Rattle.clu_specs.proofs.Words.{name_again, later_some}
 use Rattle.clu_specs.proofs.Heads.{is_stop, stop_word, stop_begins, types_joined_assoc, fields_joined_assoc, signals_joined_assoc, types_joined_none, fields_joined_none, signals_joined_none, behind_item, item, Head, head_of, head_no_mark}
-
-pub same_either : {A : Type 0} (c : Bool) (x : A) → (if c then x else x) ≡ x
-same_either true x = refl
-same_either false x = refl
 
 -- no mark but a comma goes on
 next_none : (name rest : List ℕ) (b : ℕ) → (b == 44) ≡ false → next_after name (b ∷ rest) ≡ None

@@ -5,6 +5,7 @@ use Rattle.std.specs.Str.{bytes_eq}
 use Rattle.std.proofs.lemmas.Bool.{cases_Bool, both_ways, ne_eqb}
 use Rattle.clu_base.specs.declared.constants.Const.{Const}
 use Rattle.clu_base.specs.declared.constants.Const.TheVariants as const
+use Rattle.clu_base.proofs.Lists.{same_bytes}
 use Rattle.clu_types.specs.CluType.{CluType, no_actuals, actual_type, actual_const, actual_param, cluster_of, parameter}
 use Rattle.clu_specs.specs.declared.actuals.Lead.{Lead}
 use Rattle.clu_specs.specs.declared.actuals.Lead.TheVariants as lead
@@ -24,7 +25,7 @@ use Rattle.clu_specs.specs.Constants.{word_constant, byte_at, string_at, integer
 use Rattle.clu_specs.specs.TypeReading.{Reader, actuals_joined, simple_type, listing_type, selecting_type, routine_type, fields_read, heading_read, lead_of, word_actual_by, word_actual_read, marked_actual_read, actual_by, actual_read, actuals_step, actuals_read, all_actuals_by, all_actuals_read, cluster_type_read, keyword_type_read, word_type_by, word_type_read, one_type_by, one_type_read, type_read}
 use Rattle.clu_specs.proofs.Words.{word_first, word_behind, word_goes_on}
 use Rattle.clu_specs.proofs.Outcomes.{closing, behind_spelled, either, found}
-use Rattle.clu_specs.proofs.Spelled.{word_is, keyword_text, keyword_spelled}
+use Rattle.clu_specs.proofs.Spelled.{keyword_text, keyword_spelled}
 use Rattle.clu_specs.proofs.Local.{left_of, Like, Local, local_from, just, then_on, thens, fixed_then}
 use Rattle.clu_specs.proofs.LocalNames.{ends, stops_here, NameFault, name_fault, first_over, behind_over, name_consumes, name_local}
 use Rattle.clu_specs.proofs.LocalNumbers.{number_local, byte_local, whole_string_local, integer_local}
@@ -55,10 +56,10 @@ constant_short : (text : List ℕ) (c : Const) → word_constant text ≡ Some c
 unfolding word_constant
 constant_short text c e =
     elim (either (bytes_eq text (codes "nil")) (Some const.Null) (if bytes_eq text (codes "true") then Some (const.Bool true) else if bytes_eq text (codes "false") then Some (const.Bool false) else None) (Some c) e) [
-      | inl h ↦ subst Short (sym (word_is text (codes "nil") h.0)) (refl, omega arith)
+      | inl h ↦ subst Short (sym (same_bytes text (codes "nil") h.0)) (refl, omega arith)
       | inr h ↦ elim (either (bytes_eq text (codes "true")) (Some (const.Bool true)) (if bytes_eq text (codes "false") then Some (const.Bool false) else None) (Some c) h.1) [
-        | inl q ↦ subst Short (sym (word_is text (codes "true") q.0)) (refl, omega arith)
-        | inr q ↦ (let r = found (bytes_eq text (codes "false")) (const.Bool false) c q.1 in subst Short (sym (word_is text (codes "false") r.0)) (refl, omega arith))
+        | inl q ↦ subst Short (sym (same_bytes text (codes "true") q.0)) (refl, omega arith)
+        | inr q ↦ (let r = found (bytes_eq text (codes "false")) (const.Bool false) c q.1 in subst Short (sym (same_bytes text (codes "false") r.0)) (refl, omega arith))
       ]
     ]
 

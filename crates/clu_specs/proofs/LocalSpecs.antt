@@ -1,6 +1,7 @@
 -- Uses and specifications go by the bytes up to where they stop.
 use Rattle.std.proofs.Common.{◌≡◌, ℕ, suc, ◌<◌, ◌≤◌, ◌==◌, nat_le, nat_lt, not, ◌||◌, Bool, true, false, List, [], ◌∷◌, ◌++◌, length, map, codes, Some, None, Ok, if◌then◌else◌, refl, ap, ◌∙◌, arith, inl, inr}
 use Rattle.std.proofs.lemmas.Bool.{cases_Bool}
+use Rattle.std.proofs.lemmas.Option.{none-some}
 use Rattle.clu_types.specs.declared.spec.ParamKind.{ParamKind}
 use Rattle.clu_types.specs.CluType.{CluType, CluTypes, Signals}
 use Rattle.clu_specs.specs.declared.read_kinds.TheConstants.{KINDS}
@@ -93,9 +94,6 @@ operation_word_local m n previous =
     fixed_then (behind_semicolon previous) (behind_semicolon previous) (59 ∷ []) m n m n (omega arith) (omega arith)
     (word_rest m n previous)
 
-no_rest : (rest : List ℕ) → None ≡ Some rest → ⊥
-no_rest rest e = cc
-
 -- demands and operations, over two readers of types
 module _ (scope : Scope) (part other : Reader CluType) (m n : ℕ) (parts : Local m n part other) where
   demand_local : (param : ℕ) (previous : List ℕ) → Local m n (demand_read scope part param previous) (demand_read scope other param previous)
@@ -151,7 +149,7 @@ module _ (scope : Scope) (part other : Reader CluType) (m n : ℕ) (parts : Loca
   ops_step_local made = then_on (λ op b. Ok ((made.0 ++ op ∷ [], op.name), b)) (λ op b. Ok ((made.0 ++ op ∷ [], op.name), b)) (named_operation_read scope part made.1) (named_operation_read scope other made.1) (suc m) (suc n) (named_local made.1) (λ op. just (suc m) (suc n) (made.0 ++ op ∷ [], op.name))
 
   same_rest : (stop : Bool) (bytes rest : List ℕ) → (if stop then None else Some bytes) ≡ Some rest → bytes ≡ rest
-  same_rest true bytes rest e = absurd (no_rest rest e)
+  same_rest true bytes rest e = absurd (none-some rest e)
   same_rest false bytes rest e = cc
 
   stop_like : (later semicolon : Bool) (c : ℕ) (q s t : List ℕ) → NextLike s t (if not later || not semicolon then None else Some (c ∷ (q ++ s))) (if not later || not semicolon then None else Some (c ∷ (q ++ t)))

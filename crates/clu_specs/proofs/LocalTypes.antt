@@ -2,6 +2,7 @@
 use Rattle.std.proofs.Common.{◌≡◌, ℕ, suc, ◌<◌, ◌≤◌, ◌==◌, Bool, true, false, List, [], ◌∷◌, ◌++◌, length, codes, Option, Some, None, Ok, Err, if◌then◌else◌, refl, ap, subst, arith, inl, inr}
 use Rattle.std.specs.Str.{bytes_eq}
 use Rattle.std.proofs.lemmas.Bool.{cases_Bool}
+use Rattle.std.proofs.lemmas.Option.{none-some}
 use Rattle.clu_types.specs.CluType.{CluType, no_types, type_and, no_fields, field_and, no_signals, signal_and}
 use Rattle.clu_specs.specs.Reading.{◌>>=◌, Read, literal_at, behind, begins_with, several}
 use Rattle.clu_specs.specs.Names.{name_after, has_later}
@@ -10,9 +11,6 @@ use Rattle.clu_specs.proofs.Outcomes.{closing, behind_spelled}
 use Rattle.clu_specs.proofs.Local.{left_of, Local, NextLike, NextLocal, left_ok, local_from, just, then_on, fixed_then, rows_local}
 use Rattle.clu_specs.proofs.LocalNames.{name_local}
 
-no_rest : (rest : List ℕ) → None ≡ Some rest → ⊥
-no_rest rest e = cc
-
 -- a test, and then a comma
 module _ {A : Type 0} (f : A → Bool) where
   abbrev tested : A → List ℕ → Option (List ℕ)
@@ -20,7 +18,7 @@ module _ {A : Type 0} (f : A → Bool) where
 
   test_some : (c : Bool) (bytes rest : List ℕ) → (if c then behind 44 bytes else None) ≡ Some rest → bytes ≡ 44 ∷ rest
   test_some true bytes rest e = behind_spelled 44 bytes rest e
-  test_some false bytes rest e = absurd (no_rest rest e)
+  test_some false bytes rest e = absurd (none-some rest e)
 
   test_like : (b : Bool) (c : ℕ) (q s t : List ℕ) → NextLike s t (if b then behind 44 (c ∷ (q ++ s)) else None) (if b then behind 44 (c ∷ (q ++ t)) else None)
   test_like false c q s t = refl

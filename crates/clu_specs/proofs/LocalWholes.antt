@@ -2,6 +2,7 @@
 use Rattle.std.proofs.Common.{◌≡◌, ℕ, suc, ◌<◌, ◌≤◌, ◌==◌, Bool, true, false, List, [], ◌∷◌, ◌++◌, length, codes, Result, Ok, Err, if◌then◌else◌, refl, sym, ap, subst, ◌∙◌, arith, length-append, append_assoc, inl, inr}
 use Rattle.std.specs.Str.{bytes_eq}
 use Rattle.std.proofs.lemmas.Bool.{cases_Bool, ne_eqb, false_from_ne_true}
+use Rattle.clu_base.proofs.Lists.{same_bytes}
 use Rattle.clu_types.specs.declared.spec.ParamKind.{ParamKind}
 use Rattle.clu_types.specs.CluType.{CluType, cluster_of}
 use Rattle.clu_specs.specs.Reading.{◌>>=◌, Read, literal_at, begins_with, end_at}
@@ -15,7 +16,6 @@ use Rattle.clu_specs.specs.declared.read_uses.Operation.TheVariants as operation
 use Rattle.clu_specs.specs.SpecReading.{routine_word_read, parameters_read, cluster_form_read, routine_read, cluster_read, whole_spec}
 use Rattle.clu_specs.specs.SpecReading as specs
 use Rattle.clu_specs.proofs.Words.{word_first, word_behind}
-use Rattle.clu_specs.proofs.Spelled.{word_is}
 use Rattle.clu_specs.proofs.Local.{left_of, Like, Local, local_less}
 use Rattle.clu_specs.proofs.LocalNames.{ends, stops_here, name_fault_at, first_over, behind_over, name_local}
 use Rattle.clu_specs.proofs.LocalActuals.{Short, no_short, behind_short, type_local}
@@ -194,7 +194,7 @@ over false true b p s u all less = absurd (omega (arith, less, end_bound operati
 over false false b p s u all less =
     let fault = name_fault_at 203 (omega arith) b p s all (name_left (name_after [] 204 ((b ∷ p) ++ s)) (length s) less) in
     let free : (word : List ℕ) → Short word → bytes_eq (first_word ((b ∷ p) ++ u)) word ≡ false = λ word short.
-    ap (λ (z : List ℕ). bytes_eq z word) (first_over (b ∷ p) u all) ∙ false_from_ne_true (bytes_eq ((b ∷ p) ++ first_word u) word) (λ same. no_short b p (first_word u) fault (subst Short (sym (word_is ((b ∷ p) ++ first_word u) word same)) short)) in
+    ap (λ (z : List ℕ). bytes_eq z word) (first_over (b ∷ p) u all) ∙ false_from_ne_true (bytes_eq ((b ∷ p) ++ first_word u) word) (λ same. no_short b p (first_word u) fault (subst Short (sym (same_bytes ((b ∷ p) ++ first_word u) word same)) short)) in
     let l = (named_alike (length ((b ∷ p) ++ s)) (length ((b ∷ p) ++ u))).alike (b ∷ p) s u (omega arith) (omega arith) less in
     (l.0, rw (free (codes "own") (refl, omega arith), free (codes "force") (refl, omega arith)) l.1)
 

@@ -11,12 +11,6 @@ pub and_then : {A B : Type 0} (r : Result A ℕ) (f : A → Result B ℕ) (y : B
 and_then (Ok x) f y e = (x, refl, e)
 and_then (Err left) f y e = absurd (cc)
 
-pub some_same : {A : Type 0} (x y : A) → Some x ≡ Some y → x ≡ y
-some_same x y e = cc
-
-pub none_some : {A : Type 0} (y : A) → None ≡ Some y → ⊥
-none_some y e = cc
-
 pub ok_same : {A : Type 0} (r : Result A ℕ) (x y : A) → r ≡ Ok x → r ≡ Ok y → x ≡ y
 ok_same r x y p q = cc
 

@@ -1,5 +1,6 @@
 -- Demands and operations in a row, as a loop reads them while its arena grows.
-use Rattle.std.proofs.Common.{◌≡◌, ℕ, ◌<◌, Bool, List, [], ◌∷◌, ◌++◌, length, map, Option, Ok, subst, refl, ap}
+use Rattle.std.proofs.Common.{◌≡◌, ℕ, ◌<◌, Bool, List, [], ◌∷◌, ◌++◌, length, map, Option, Ok, subst, refl}
+use Rattle.std.proofs.lemmas.List.{map_push}
 use Rattle.clu_types.specs.CluType.{CluType}
 use Rattle.clu_types.specs.Arena.{types_at, signals_at, types_of, HeadingBelow, Grows}
 use Rattle.clu_types.specs.declared.term.Heading.{Heading}
@@ -15,10 +16,6 @@ use Rattle.clu_specs.specs.TypeReading.{Reader, heading_read}
 use Rattle.clu_specs.specs.Seen.{cluster, demand_seen, op_seen}
 use Rattle.clu_specs.specs.Specifications.{DemandsBelow, OpBelow, OpsBelow}
 use Rattle.clu_specs.specs.SpecReading.{kind_read, kinds_step, next_kind, demand_read, demands_step, all_demands_read, operation_read, named_operation_read, operations_step, operations_read, cluster_form_read}
-
-map_push : {X Y : Type 0} (f : X → Y) (xs : List X) (y : X) → map f (xs ++ y ∷ []) ≡ map f xs ++ f y ∷ []
-map_push f [] y = refl
-map_push {X} {Y} f (x ∷ xs) y = ap (λ (t : List Y). f x ∷ t) (map_push f xs y)
 
 pub kinds_made : (made : List ParamKind) (k : ParamKind) (bytes after : List ℕ) → kind_read bytes ≡ Ok (k, after) → kinds_step made bytes ≡ Ok (made ++ k ∷ [], after)
 kinds_made made k bytes after e = rw e refl

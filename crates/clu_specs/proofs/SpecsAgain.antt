@@ -2,6 +2,7 @@
 use Rattle.std.proofs.Common.{◌≡◌, ℕ, zero, suc, ◌+◌, ◌-◌, ◌<◌, ◌≤◌, ◌⊎◌, ◌==◌, nat_le, nat_lt, not, Bool, true, false, List, [], ◌∷◌, ◌++◌, length, codes, decimal, flat_map, slice_get, Option, Some, None, Ok, if◌then◌else◌, refl, sym, ap, ◌∙◌, arith, length-append, append_assoc, append-nil, inl, inr}
 use Rattle.std.specs.Str.{bytes_eq}
 use Rattle.std.proofs.lemmas.Bool.{ne_eqb, eq-eqb, lt-ltb, le-leb, cases_Bool, or_right}
+use Rattle.clu_base.proofs.Bools.{same_either}
 use Rattle.clu_types.specs.declared.spec.ParamKind.{ParamKind}
 use Rattle.clu_types.specs.declared.spec.ParamKind.TheVariants as kind
 use Rattle.clu_types.specs.CluType.{CluType}
@@ -19,7 +20,7 @@ use Rattle.clu_specs.specs.Grammar.{IsName, IsParameter, IsType, AreDemands, IsO
 use Rattle.clu_specs.proofs.Words.{name_again, later_some}
 use Rattle.clu_specs.proofs.Decimals.{number_again}
 use Rattle.clu_specs.proofs.Heads.{is_stop, behind_item, item}
-use Rattle.clu_specs.proofs.Lists.{without_name, heading_again, same_either}
+use Rattle.clu_specs.proofs.Lists.{without_name, heading_again}
 use Rattle.clu_specs.proofs.TypesAgain.{type_again, types_all, signals_all, heading_parts, before_any}
 
 -- proc and iter

@@ -2,6 +2,7 @@
 use Rattle.std.proofs.Common.{◌≡◌, ℕ, ◌+◌, ◌<◌, ◌≤◌, ◌⊎◌, ◌==◌, nat_le, not, ◌||◌, Bool, true, false, List, [], ◌∷◌, ◌++◌, length, codes, decimal, flat_map, Some, None, Result, Ok, Err, if◌then◌else◌, refl, sym, ap, subst, ◌∙◌, arith, append_assoc, append-nil, inl, inr}
 use Rattle.std.specs.Str.{bytes_eq}
 use Rattle.std.proofs.lemmas.Bool.{cases_Bool, eqb-true}
+use Rattle.std.proofs.lemmas.Option.{same_Some, none-some}
 use Rattle.clu_types.specs.declared.spec.ParamKind.{ParamKind}
 use Rattle.clu_types.specs.CluType.{CluType, CluTypes, Signals}
 use Rattle.clu_specs.specs.declared.scope.Sort.TheVariants as sort
@@ -14,7 +15,7 @@ use Rattle.clu_specs.specs.TypeReading.{Reader, type_read, heading_read}
 use Rattle.clu_specs.specs.Seen.{Demanded, Operation, Shape, routine, cluster, Specification, kinds_text, demand_text, demands_text, routine_word, routine_text, op_text, shape_text, spec_text}
 use Rattle.clu_specs.specs.SpecReading.{routine_word_read, parameters_read, least_behind, asked_read, demand_read, demands_step, demands_next, demands_read, all_demands_read, operation_read, operation_word_read, named_operation_read, operations_step, operations_next, operations_read, cluster_form_read, routine_read, cluster_read, whole_spec}
 use Rattle.clu_specs.specs.Grammar.{IsName, IsParameter, IsType, AreDemands, IsOperation, AreOperations, IsShape, IsSpecification}
-use Rattle.clu_specs.proofs.Outcomes.{and_then, some_same, none_some, ok_same, not_refused, either, literal_spelled, closed_spelled, ended_spelled, row_spelled}
+use Rattle.clu_specs.proofs.Outcomes.{and_then, ok_same, not_refused, either, literal_spelled, closed_spelled, ended_spelled, row_spelled}
 use Rattle.clu_specs.proofs.Spelled.{name_read, parameter_number}
 use Rattle.clu_specs.proofs.TypesSpelled.{Sound, heading_spelled}
 use Rattle.clu_specs.proofs.ActualsSpelled.{type_spelled}
@@ -280,8 +281,8 @@ module _ (scope : Scope) (part : Reader CluType) (sound : Sound scope part) wher
       })
 
   pub next_is : (stop : Bool) (bytes rest : List ℕ) → (if stop then None else Some bytes) ≡ Some rest → bytes ≡ rest
-  next_is true bytes rest e = absurd (none_some rest e)
-  next_is false bytes rest e = some_same bytes rest e
+  next_is true bytes rest e = absurd (none-some rest e)
+  next_is false bytes rest e = same_Some bytes rest e
 
   pub ops_more : (whole : List ℕ) (made : List Operation × List ℕ) (bytes rest : List ℕ) → OpsAfter whole made bytes → operations_next scope part made bytes ≡ Some rest → OpsBefore whole made rest
   ops_more whole made bytes rest r e = subst (OpsBefore whole made) (next_is (not (has_later made.1) || not (begins_with 59 bytes)) bytes rest e) r.before

@@ -6,9 +6,10 @@ use Rattle.std.specs.Str.{bytes_eq}
 use Rattle.std.proofs.lemmas.Bool.{ltb-false, leb-true, eqb-true, not-true, not-false, and_parts, and_from, le-leb, lt-ltb, le-ltb, both_ways, cases_Bool}
 use Rattle.std.proofs.lemmas.List.{take-append-drop}
 use Rattle.std.proofs.lemmas.Fmt.{decimal_step, decimal_digit}
-use Rattle.std.proofs.lemmas.Slice.Eq.{bytes_eq-Decides}
+use Rattle.std.proofs.lemmas.Option.{same_Some}
 use Rattle.clu_base.specs.declared.constants.Const.{Const}
 use Rattle.clu_base.specs.declared.constants.Const.TheVariants as const
+use Rattle.clu_base.proofs.Lists.{same_bytes}
 use Rattle.clu_specs.specs.declared.keywords.Simple.TheVariants as simple
 use Rattle.clu_specs.specs.declared.keywords.Listing.TheVariants as listing
 use Rattle.clu_specs.specs.declared.keywords.Selecting.TheVariants as selecting
@@ -24,7 +25,7 @@ use Rattle.clu_specs.specs.Numbers.{digits_from, digits_at}
 use Rattle.clu_specs.specs.Scopes.{names, last_in, accepted, left_of_number, number_at, parameter_at}
 use Rattle.clu_specs.specs.Constants.{hex_digit, hex_byte, hex_value, digit_by, digit_at, byte_at, string_step, string_at, negative_at, integer_at, constant_text, word_constant}
 use Rattle.clu_specs.specs.Grammar.{IsName, IsParameter, IsInteger, IsConstant, AreBytes}
-use Rattle.clu_specs.proofs.Outcomes.{SameRead, and_then, some_same, ok_same, not_refused, passed, found, either, behind_spelled}
+use Rattle.clu_specs.proofs.Outcomes.{SameRead, and_then, ok_same, not_refused, passed, found, either, behind_spelled}
 use Rattle.clu_specs.proofs.Words.{take_all}
 
 -- words
@@ -280,23 +281,20 @@ integer_read (b ∷ bytes) n rest e =
     ]
 
 -- the words of constants and types
-pub word_is : (text word : List ℕ) → bytes_eq text word ≡ true → text ≡ word
-word_is text word e = (bytes_eq-Decides text word).0 e
-
 abbrev pub ConstantRead : List ℕ → Const → Type 0
 ConstantRead text c = IsConstant c × (text ≡ constant_text c)
 
 shown : (text : List ℕ) (x c : Const) → Some x ≡ Some c → ConstantRead text x → ConstantRead text c
-shown text x c same h = subst (ConstantRead text) (some_same x c same) h
+shown text x c same h = subst (ConstantRead text) (same_Some x c same) h
 
 pub constant_word : (text : List ℕ) (c : Const) → word_constant text ≡ Some c → ConstantRead text c
 unfolding word_constant
 constant_word text c e =
     elim (either (bytes_eq text (codes "nil")) (Some const.Null) (if bytes_eq text (codes "true") then Some (const.Bool true) else if bytes_eq text (codes "false") then Some (const.Bool false) else None) (Some c) e) [
-      | inl h ↦ shown text const.Null c h.1 (tt, word_is text (codes "nil") h.0)
+      | inl h ↦ shown text const.Null c h.1 (tt, same_bytes text (codes "nil") h.0)
       | inr h ↦ elim (either (bytes_eq text (codes "true")) (Some (const.Bool true)) (if bytes_eq text (codes "false") then Some (const.Bool false) else None) (Some c) h.1) [
-        | inl q ↦ shown text (const.Bool true) c q.1 (tt, word_is text (codes "true") q.0)
-        | inr q ↦ (let r = found (bytes_eq text (codes "false")) (const.Bool false) c q.1 in shown text (const.Bool false) c (ap Some r.1) (tt, word_is text (codes "false") r.0))
+        | inl q ↦ shown text (const.Bool true) c q.1 (tt, same_bytes text (codes "true") q.0)
+        | inr q ↦ (let r = found (bytes_eq text (codes "false")) (const.Bool false) c q.1 in shown text (const.Bool false) c (ap Some r.1) (tt, same_bytes text (codes "false") r.0))
       ]
     ]
 
@@ -324,7 +322,7 @@ AllSpelled (entry ∷ table) = (entry.0 ≡ keyword_text entry.1) × AllSpelled 
 keyword_found : (table : List (List ℕ × Keyword)) (text : List ℕ) (k : Keyword) → AllSpelled table → keyword_in table text ≡ Some k → text ≡ keyword_text k
 keyword_found [] text k all e = absurd (cc)
 keyword_found (entry ∷ table) text k all e = elim (either (bytes_eq entry.0 text) (Some entry.1) (keyword_in table text) (Some k) e) [
-  | inl h ↦ (let same : entry.1 ≡ k = some_same entry.1 k h.1 in sym (word_is entry.0 text h.0) ∙ all.0 ∙ ap keyword_text same)
+  | inl h ↦ (let same : entry.1 ≡ k = same_Some entry.1 k h.1 in sym (same_bytes entry.0 text h.0) ∙ all.0 ∙ ap keyword_text same)
   | inr h ↦ keyword_found table text k all.1 h.1
 ]
 

@@ -1,6 +1,7 @@
 -- Types: what was read is of the grammar, and spelled by the bytes that were read, where this is so of its parts.
 use Rattle.std.proofs.Common.{◌≡◌, ℕ, Bool, true, false, List, [], ◌∷◌, ◌++◌, length, codes, Option, Some, None, Ok, Err, if◌then◌else◌, refl, sym, ap, subst, ◌∙◌, append_assoc, append-nil, inl, inr}
 use Rattle.std.specs.Str.{bytes_eq}
+use Rattle.std.proofs.lemmas.Option.{none-some}
 use Rattle.clu_types.specs.CluType.{CluType, CluTypes, no_types, type_and, Fields, no_fields, field_and, Signals, no_signals, signal_and}
 use Rattle.clu_specs.specs.declared.scope.Scope.{Scope}
 use Rattle.clu_specs.specs.Reading.{◌>>=◌, literal_at, behind, begins_with, several}
@@ -8,7 +9,7 @@ use Rattle.clu_specs.specs.Names.{is_before, name_after, has_later}
 use Rattle.clu_specs.specs.Texts.{type_text, types_text, more_types_text, closed_text, fields_text, more_fields_text, more_signals_text, all_signals_text, heading_text, results_word}
 use Rattle.clu_specs.specs.TypeReading.{Reader, types_joined, fields_joined, signals_joined, types_step, fields_step, signals_step, next_after, signal_name_after, types_read, closed_types_read, field_read, fields_read, signal_read, objects_by, objects_read, signals_read, arguments_by, arguments_read, results_read, all_signals_read, heading_read}
 use Rattle.clu_specs.specs.Grammar.{IsName, HasFields, IsType, AreTypes, AreFields, AreSignals}
-use Rattle.clu_specs.proofs.Outcomes.{SameRead, and_then, ok_same, none_some, not_refused, either, literal_spelled, behind_spelled, closed_spelled, row_spelled}
+use Rattle.clu_specs.proofs.Outcomes.{SameRead, and_then, ok_same, not_refused, either, literal_spelled, behind_spelled, closed_spelled, row_spelled}
 use Rattle.clu_specs.proofs.Spelled.{NameRead, name_read}
 
 pub record TypeRead (scope : Scope) (bytes : List ℕ) (t : CluType) (rest : List ℕ) : Type 0 where
@@ -181,7 +182,7 @@ pub record HeadingRead (scope : Scope) (iter : Bool) (whole : List ℕ) (args re
   pub spelled : whole ≡ heading_text iter args results signals ++ rest
 
 pub next_spelled : (name bytes rest : List ℕ) → next_after name bytes ≡ Some rest → bytes ≡ 44 ∷ rest
-next_spelled name bytes rest e = elim (either (has_later name) (behind 44 bytes) None (Some rest) e) [ inl h ↦ behind_spelled 44 bytes rest h.1 | inr h ↦ absurd (none_some rest h.1) ]
+next_spelled name bytes rest e = elim (either (has_later name) (behind 44 bytes) None (Some rest) e) [ inl h ↦ behind_spelled 44 bytes rest h.1 | inr h ↦ absurd (none-some rest h.1) ]
 
 -- the name of a signal
 pub signal_named : (previous bytes name rest : List ℕ) → signal_name_after previous bytes ≡ Ok (name, rest) → NameRead previous 200 bytes name rest × (bytes_eq name (codes "failure") ≡ false)

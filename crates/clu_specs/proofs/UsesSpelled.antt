@@ -1,6 +1,7 @@
 -- Uses: what was read is of the grammar, and spelled by the bytes that were read.
 use Rattle.std.proofs.Common.{◌≡◌, ℕ, ◌==◌, List, [], ◌∷◌, ◌++◌, length, codes, Ok, if◌then◌else◌, refl, ap, subst, ◌∙◌, append-nil, inl, inr}
 use Rattle.std.specs.Str.{bytes_eq}
+use Rattle.clu_base.proofs.Lists.{same_bytes}
 use Rattle.clu_types.specs.CluType.{CluType, cluster_of}
 use Rattle.clu_specs.specs.Reading.{◌>>=◌, literal_at, end_at}
 use Rattle.clu_specs.specs.Names.{first_word, behind_word, name_after}
@@ -13,7 +14,7 @@ use Rattle.clu_specs.specs.declared.read_uses.Operation.{Operation}
 use Rattle.clu_specs.specs.declared.read_uses.Operation.TheVariants as operation
 use Rattle.clu_specs.specs.Grammar.{IsType, IsUse}
 use Rattle.clu_specs.proofs.Outcomes.{and_then, ok_same, either, literal_spelled, none_left, ended_spelled}
-use Rattle.clu_specs.proofs.Spelled.{word_is, word_spelled, name_read}
+use Rattle.clu_specs.proofs.Spelled.{word_spelled, name_read}
 use Rattle.clu_specs.proofs.ActualsSpelled.{type_spelled}
 
 word_alone : (bytes word : List ℕ) → first_word bytes ≡ word → behind_word bytes ≡ [] → bytes ≡ word
@@ -39,10 +40,10 @@ operation_spelled t bytes op is e =
     elim (either (bytes_eq (first_word rest) (codes "own")) (end_at operation.Own (behind_word rest))
     (if bytes_eq (first_word rest) (codes "force") then end_at operation.Force (behind_word rest) else name_after [] 204 rest >>= λ name. end_at (operation.Named name.0) name.1) (Ok op) a.2) [
       | inl h ↦ (let ended = ended_spelled operation.Own (behind_word rest) op h.1 in
-          given operation.Own (codes "own") is (word_alone rest (codes "own") (word_is (first_word rest) (codes "own") h.0) ended.1) refl ended.0)
+          given operation.Own (codes "own") is (word_alone rest (codes "own") (same_bytes (first_word rest) (codes "own") h.0) ended.1) refl ended.0)
       | inr h ↦ elim (either (bytes_eq (first_word rest) (codes "force")) (end_at operation.Force (behind_word rest)) (name_after [] 204 rest >>= λ name. end_at (operation.Named name.0) name.1) (Ok op) h.1) [
         | inl q ↦ (let ended = ended_spelled operation.Force (behind_word rest) op q.1 in
-            given operation.Force (codes "force") is (word_alone rest (codes "force") (word_is (first_word rest) (codes "force") q.0) ended.1) refl ended.0)
+            given operation.Force (codes "force") is (word_alone rest (codes "force") (same_bytes (first_word rest) (codes "force") q.0) ended.1) refl ended.0)
         | inr q ↦ (let b = and_then (name_after [] 204 rest) (λ (name : List ℕ × List ℕ). end_at (operation.Named name.0) name.1) op q.1 in
             let named = name_read [] 204 rest b.0.0 b.0.1 b.1 in
             let ended = ended_spelled (operation.Named b.0.0) b.0.1 op b.2 in

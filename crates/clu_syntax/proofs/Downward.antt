@@ -2,7 +2,7 @@
 use Rattle.std.proofs.Common.{◌≡◌, ◌≢◌, ◌∙◌, ℕ, suc, ◌<◌, ◌≤◌, List, [], ◌∷◌, length, get_or, set, map, Some, refl, ap, sym, subst, inl, inr, arith, length-set, get_or-set_same, get_or-set_other}
 use Rattle.std.specs.Prelude.{All, AllPairs, Contains, slice_get, replicate}
 use Rattle.std.proofs.lemmas.List.{get_or-replicate, get_or_past, get_or_read, length-replicate, get_or_default}
-use Rattle.std.proofs.lemmas.Option.{slice_get_within}
+use Rattle.std.proofs.lemmas.Option.{slice_get_within, same_Some}
 use Rattle.std.proofs.lemmas.Bool.{cases_lt}
 use Rattle.clu_tree.specs.declared.node.Node.{Node}
 use Rattle.clu_tree.specs.Nodes.{IsTree}
@@ -50,21 +50,15 @@ pub record Done (nodes : List Node) (n : ℕ) (rounds : List Round) : Type 0 whe
   pub children_are : (i : ℕ) (m : Node) → n ≤ i → slice_get nodes i ≡ Some m → map (round_at rounds) m.children ≡ rounds_of nodes i m (round_at rounds i)
   pub others_are : (c : ℕ) → ((i : ℕ) (m : Node) → n ≤ i → slice_get nodes i ≡ Some m → Contains m.children c → ⊥) → round_at rounds c ≡ outside
 
-within : (nodes : List Node) (i : ℕ) (m : Node) → slice_get nodes i ≡ Some m → i < length nodes
-within nodes i m e = slice_get_within nodes i m e
-
 replicated : (n c : ℕ) → get_or (replicate n outside) c outside ≡ outside
 replicated n c = elim (cases_lt c n) [ inl l ↦ get_or-replicate n c outside outside l | inr l ↦ get_or_past (replicate n outside) c outside (rw (length-replicate n outside) l) ]
 
 pub started : (nodes : List Node) → Done nodes (length nodes) (replicate (length nodes) outside)
 started nodes = record {
   size = length-replicate _ _;
-  children_are = λ i m l e. let h : i < length nodes = within nodes i m e in absurd (omega arith);
+  children_are = λ i m l e. let h : i < length nodes = slice_get_within nodes i m e in absurd (omega arith);
   others_are = λ c out. replicated (length nodes) c;
 }
-
-same_some : {A : Type 0} (x y : A) → Some x ≡ Some y → x ≡ y
-same_some x y e = cc
 
 pub stepped : (nodes : List Node) → IsTree nodes → (n : ℕ) (m : Node) (rounds vs : List Round) → slice_get nodes n ≡ Some m → Done nodes (suc n) rounds →
     vs ≡ rounds_of nodes n m (round_at rounds n) → Done nodes n (set_all rounds m.children vs)
@@ -94,7 +88,7 @@ stepped nodes tree n m rounds vs e done is = record {
     here : (i : ℕ) (o : Node) → i ≡ n → slice_get nodes i ≡ Some o → map (round_at (set_all rounds m.children vs)) o.children ≡ rounds_of nodes i o (round_at (set_all rounds m.children vs) i)
     here i o at there =
         let twice : slice_get nodes n ≡ Some o = rw at at there in
-        let who : m ≡ o = same_some m o (sym e ∙ twice) in
+        let who : m ≡ o = same_Some m o (sym e ∙ twice) in
         subst (λ (j : ℕ). map (round_at (set_all rounds m.children vs)) o.children ≡ rounds_of nodes j o (round_at (set_all rounds m.children vs) j)) (sym at)
         (subst (λ (x : Node). map (round_at (set_all rounds m.children vs)) x.children ≡ rounds_of nodes n x (round_at (set_all rounds m.children vs) n)) who same)
 

@@ -1,5 +1,6 @@
 -- A node of the grammar has as many children and names as its kind wants.
-use Rattle.std.proofs.Common.{◌≡◌, ◌∙◌, ℕ, suc, ◌+◌, ◌≤◌, ◌&&◌, Bool, true, false, List, [], ◌∷◌, ◌++◌, length, nat_le, Some, slice_get, refl, ap, sym, subst, inl, inr, arith, leb-true}
+use Rattle.std.proofs.Common.{◌≡◌, ◌∙◌, ℕ, suc, ◌+◌, ◌≤◌, ◌&&◌, Bool, true, List, [], ◌∷◌, ◌++◌, length, nat_le, Some, slice_get, refl, ap, sym, subst, inl, inr, arith, leb-true}
+use Rattle.std.proofs.lemmas.Bool.{and_parts}
 use Rattle.std.proofs.lemmas.List.{length-append}
 use Rattle.clu_tree.specs.declared.node.Node.{Node}
 use Rattle.clu_tree.specs.declared.node.NodeKind.{NodeKind}
@@ -72,19 +73,15 @@ unfolding all_enough children_in names_of
 tested k.File = refl
 tested _ = refl
 
-both : (a b : Bool) → (a && b) ≡ true → (a ≡ true) × (b ≡ true)
-both true b h = (refl, h)
-both false b h = absurd (cc)
-
 one_enough : (children names : ℕ) (form : List Part) (fs : List (List Part)) → IsFormOf form fs → all_enough children names fs ≡ true → (children ≤ children_in form) × (names ≤ names_of form)
 unfolding all_enough
 one_enough children names form [] at h = absurd at
 one_enough children names form (f ∷ fs) (inl e) h =
-    let parts = both (nat_le children (children_in f) && nat_le names (names_of f)) (all_enough children names fs) h in
-    let counts = both (nat_le children (children_in f)) (nat_le names (names_of f)) parts.0 in
+    let parts = and_parts (nat_le children (children_in f) && nat_le names (names_of f)) (all_enough children names fs) h in
+    let counts = and_parts (nat_le children (children_in f)) (nat_le names (names_of f)) parts.0 in
     subst (λ (g : List Part). (children ≤ children_in g) × (names ≤ names_of g)) (sym e) (leb-true children (children_in f) counts.0, leb-true names (names_of f) counts.1)
 one_enough children names form (f ∷ fs) (inr more) h =
-    one_enough children names form fs more (both (nat_le children (children_in f) && nat_le names (names_of f)) (all_enough children names fs) h).1
+    one_enough children names form fs more (and_parts (nat_le children (children_in f) && nat_le names (names_of f)) (all_enough children names fs) h).1
 
 kinds_length : (nodes : List Node) (cs : List ℕ) (kinds : List NodeKind) → HaveKinds nodes cs kinds → length cs ≡ length kinds
 kinds_length nodes [] [] h = refl

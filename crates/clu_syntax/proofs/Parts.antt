@@ -1,7 +1,8 @@
 -- The modules of a tree are nodes of their kind.
-use Rattle.std.proofs.Common.{◌≡◌, ◌∙◌, ℕ, zero, suc, ◌+◌, ◌<◌, List, [], ◌∷◌, ◌++◌, length, slice_get, Some, refl, ap, subst, arith}
+use Rattle.std.proofs.Common.{◌≡◌, ◌∙◌, ℕ, suc, ◌+◌, ◌<◌, List, [], ◌∷◌, ◌++◌, length, slice_get, Some, refl, ap, subst, arith}
 use Rattle.std.specs.Prelude.{All}
 use Rattle.std.proofs.lemmas.List.Elements.{All-nil, All-cons}
+use Rattle.std.proofs.lemmas.Option.{slice_get_within}
 use Rattle.clu_tree.specs.declared.node.Node.{Node}
 use Rattle.clu_tree.specs.declared.node.NodeKind.{NodeKind}
 use Rattle.clu_tree.specs.declared.node.NodeKind.TheVariants as k
@@ -21,14 +22,9 @@ all_modules P at (n ∷ ns) h =
     one_more P at n.kind (modules_from (at + 1) ns) (λ is. subst P here (h 0 n refl is))
     (all_modules P (at + 1) ns (λ i m e is. let later : at + suc i ≡ at + 1 + i = omega arith in subst P later (h (suc i) m e is)))
 
-there : (ns : List Node) (i : ℕ) (n : Node) → slice_get ns i ≡ Some n → i < length ns
-there [] i n e = absurd (cc)
-there (x ∷ ns) zero n e = omega arith
-there (x ∷ ns) (suc i) n e = let less : i < length ns = there ns i n e in omega (arith, less)
-
 pub modules_are : (nodes : List Node) → AreOf nodes k.Module (length nodes) (modules nodes)
 modules_are nodes = (
-  all_modules (λ c. c < length nodes) 0 nodes (λ i n e is. let less : i < length nodes = there nodes i n e in omega (arith, less)),
+  all_modules (λ c. c < length nodes) 0 nodes (λ i n e is. let less : i < length nodes = slice_get_within nodes i n e in omega (arith, less)),
   all_modules (λ c. kind_at nodes c ≡ k.Module) 0 nodes (λ i n e is.
       let here : i ≡ 0 + i = omega arith in
       subst (λ (j : ℕ). kind_at nodes j ≡ k.Module) here (ap kind_of e ∙ is)),

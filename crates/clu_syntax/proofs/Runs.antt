@@ -1,6 +1,7 @@
 -- The children of a run are of its kind, and the clauses of an If fall where its conditions stand.
-use Rattle.std.proofs.Common.{◌≡◌, ◌∙◌, ◌⊎◌, ℕ, suc, ◌+◌, Bool, true, false, ◌-◌, ◌<◌, ◌≤◌, List, [], ◌∷◌, length, get_or, take, drop, if◌then◌else◌, slice_get, Some, refl, ap, ap₂, sym, subst, inl, inr, rules, arith}
+use Rattle.std.proofs.Common.{◌≡◌, ◌∙◌, ℕ, suc, ◌+◌, Bool, true, false, ◌-◌, ◌<◌, ◌≤◌, List, [], ◌∷◌, length, get_or, take, drop, if◌then◌else◌, slice_get, Some, refl, ap, ap₂, sym, subst, inl, inr, rules, arith}
 use Rattle.std.specs.Prelude.{All}
+use Rattle.std.proofs.lemmas.Bool.{cases_Bool}
 use Rattle.std.proofs.lemmas.List.{take_all}
 use Rattle.std.proofs.lemmas.List.Elements.{All-nil, All-cons}
 use Rattle.clu_tree.specs.declared.node.Node.{Node}
@@ -16,10 +17,6 @@ use denote.Enum.Bare.{sameb, same_true}
 pub node_kind : (nodes : List Node) (n : ℕ) (node : Node) (kind : NodeKind) → slice_get nodes n ≡ Some node → kind_at nodes n ≡ kind → node.kind ≡ kind
 node_kind nodes n node kind at is = sym (ap kind_of at) ∙ is
 
-true_or_false : (b : Bool) → (b ≡ true) ⊎ (b ≡ false)
-true_or_false true = inl refl
-true_or_false false = inr refl
-
 take_more : (m : ℕ) (c : ℕ) (cs : List ℕ) → take (m + 1) (c ∷ cs) ≡ c ∷ take m cs
 take_more m c cs = let e : m + 1 ≡ suc m = omega arith in ap (λ (k : ℕ). take k (c ∷ cs)) e
 
@@ -29,7 +26,7 @@ drop_more m c cs = let e : m + 1 ≡ suc m = omega arith in ap (λ (k : ℕ). dr
 pub leading_kinds : (nodes : List Node) (kind : NodeKind) (cs : List ℕ) → All (λ c. kind_at nodes c ≡ kind) (take (leading nodes kind cs) cs)
 unfolding leading
 leading_kinds nodes kind [] = All-nil (λ c. kind_at nodes c ≡ kind)
-leading_kinds nodes kind (c ∷ cs) = elim (true_or_false (is_of kind (kind_at nodes c))) [
+leading_kinds nodes kind (c ∷ cs) = elim (cases_Bool (is_of kind (kind_at nodes c))) [
   | inl e ↦
       let same : kind_at nodes c ≡ kind = same_true kind_type (search rules) (kind_at nodes c) kind e in
       rw (e, take_more (leading nodes kind cs) c cs) (All-cons (λ c. kind_at nodes c ≡ kind) c (take (leading nodes kind cs) cs) same (leading_kinds nodes kind cs))
@@ -40,7 +37,7 @@ module _ (items : ℕ → Item) (nodes : List Node) where
   items_are : (cs : List ℕ) → (split_clauses items nodes cs).0 ≡ take (leading_items nodes cs) cs
   unfolding leading_items
   items_are [] = refl
-  items_are (c ∷ cs) = elim (true_or_false (is_expression (kind_at nodes c))) [
+  items_are (c ∷ cs) = elim (cases_Bool (is_expression (kind_at nodes c))) [
     | inl e ↦ rw e refl
     | inr e ↦ rw (e, take_more (leading_items nodes cs) c cs) (ap (λ xs. c ∷ xs) (items_are cs))
   ]
@@ -71,7 +68,7 @@ module _ (items : ℕ → Item) (nodes : List Node) where
   pub clauses_after : (cs : List ℕ) → clauses_of items nodes cs ≡ clauses_of items nodes (drop (leading_items nodes cs) cs)
   unfolding leading_items
   clauses_after [] = refl
-  clauses_after (c ∷ cs) = elim (true_or_false (is_expression (kind_at nodes c))) [
+  clauses_after (c ∷ cs) = elim (cases_Bool (is_expression (kind_at nodes c))) [
     | inl e ↦ ap (clauses_of items nodes) (sym (none_before c cs e))
     | inr e ↦ skip_one c cs e ∙ clauses_after cs ∙ ap (clauses_of items nodes) (sym (past_one c cs e))
   ]
@@ -79,7 +76,7 @@ module _ (items : ℕ → Item) (nodes : List Node) where
   first_is : (cs : List ℕ) (c : ℕ) (rest : List ℕ) → drop (leading_items nodes cs) cs ≡ c ∷ rest → is_expression (kind_at nodes c) ≡ true
   unfolding leading_items
   first_is [] c rest e = absurd (cc)
-  first_is (d ∷ cs) c rest e = elim (true_or_false (is_expression (kind_at nodes d))) [
+  first_is (d ∷ cs) c rest e = elim (cases_Bool (is_expression (kind_at nodes d))) [
     | inl is ↦ let all : d ∷ cs ≡ c ∷ rest = rw is at e in let same : d ≡ c = cc in subst (λ (x : ℕ). is_expression (kind_at nodes x) ≡ true) same is
     | inr not ↦ first_is cs c rest (sym (drop_more (leading_items nodes cs) d cs) ∙ (rw not at e))
   ]

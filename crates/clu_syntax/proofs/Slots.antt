@@ -10,6 +10,7 @@ use Rattle.clu_syntax.specs.Kinds.{kind_of, kind_at}
 use Rattle.clu_syntax.specs.Slots.{Slot, one, any, slots, after, may_end, fit}
 use Rattle.clu_syntax.proofs.Enough.{kinds_append}
 use denote.Enum.Bare.{sameb, same_true}
+use Rattle.std.proofs.lemmas.Bool.{cases_Bool}
 
 -- sets of numbers
 mem : ℕ → List ℕ → Bool
@@ -27,29 +28,25 @@ within : List ℕ → List ℕ → Bool
 within [] ms = true
 within (n ∷ ns) ms = if mem n ms then within ns ms else false
 
-true_or_false : (b : Bool) → (b ≡ true) ⊎ (b ≡ false)
-true_or_false true = inl refl
-true_or_false false = inr refl
-
 mem_head : (n : ℕ) (ms : List ℕ) → mem n (n ∷ ms) ≡ true
 unfolding mem
 mem_head n ms = search rules
 
 mem_tail : (n m : ℕ) (ms : List ℕ) → mem n ms ≡ true → mem n (m ∷ ms) ≡ true
 unfolding mem
-mem_tail n m ms h = elim (true_or_false (m == n)) [ inl e ↦ rw e refl | inr e ↦ rw e h ]
+mem_tail n m ms h = elim (cases_Bool (m == n)) [ inl e ↦ rw e refl | inr e ↦ rw e h ]
 
 mem_cases : (n m : ℕ) (ms : List ℕ) → mem n (m ∷ ms) ≡ true → (m ≡ n) ⊎ (mem n ms ≡ true)
 unfolding mem
-mem_cases n m ms h = elim (true_or_false (m == n)) [ inl e ↦ inl (eqb-true m n e) | inr e ↦ inr (rw e at h) ]
+mem_cases n m ms h = elim (cases_Bool (m == n)) [ inl e ↦ inl (eqb-true m n e) | inr e ↦ inr (rw e at h) ]
 
 add_own : (n : ℕ) (ms : List ℕ) → mem n (add n ms) ≡ true
 unfolding add
-add_own n ms = elim (true_or_false (mem n ms)) [ inl e ↦ rw e e | inr e ↦ rw e (mem_head n ms) ]
+add_own n ms = elim (cases_Bool (mem n ms)) [ inl e ↦ rw e e | inr e ↦ rw e (mem_head n ms) ]
 
 add_kept : (x n : ℕ) (ms : List ℕ) → mem x ms ≡ true → mem x (add n ms) ≡ true
 unfolding add
-add_kept x n ms h = elim (true_or_false (mem n ms)) [ inl e ↦ rw e h | inr e ↦ rw e (mem_tail x n ms h) ]
+add_kept x n ms h = elim (cases_Bool (mem n ms)) [ inl e ↦ rw e h | inr e ↦ rw e (mem_tail x n ms h) ]
 
 join_right : (x : ℕ) (ns ms : List ℕ) → mem x ms ≡ true → mem x (join ns ms) ≡ true
 unfolding join
@@ -67,7 +64,7 @@ join_left x (n ∷ ns) ms h = elim (mem_cases x n ns h) [
 within_mem : (x : ℕ) (ns ms : List ℕ) → within ns ms ≡ true → mem x ns ≡ true → mem x ms ≡ true
 unfolding within mem
 within_mem x [] ms w h = absurd (cc)
-within_mem x (n ∷ ns) ms w h = elim (true_or_false (mem n ms)) [
+within_mem x (n ∷ ns) ms w h = elim (cases_Bool (mem n ms)) [
   | inl e ↦ elim (mem_cases x n ns h) [ inl same ↦ subst (λ (y : ℕ). mem y ms ≡ true) same e | inr later ↦ within_mem x ns ms (rw e at w) later ]
   | inr e ↦ absurd (let none : false ≡ true = rw e at w in cc)
 ]
@@ -142,13 +139,13 @@ module _ (base : List Slot) where
   one_target : (c : Child) (n : ℕ) (kinds : List NodeKind) (ms : List ℕ) (kind : NodeKind) → targets_of c n kinds ≡ Some ms → has_kind kind kinds ≡ true → is_child c kind ≡ true → (m : ℕ) × (after_from n (drop n base) kind ≡ Some m) × (mem m ms ≡ true)
   unfolding targets_of has_kind
   one_target c n [] ms kind t has is = absurd (cc)
-  one_target c n (it ∷ kinds) ms kind t has is = elim (true_or_false (is_child c it)) [
+  one_target c n (it ∷ kinds) ms kind t has is = elim (cases_Bool (is_child c it)) [
     | inl fits ↦
         let taken : option_and_then (λ m. option_and_then (λ ns. Some (add m ns)) (targets_of c n kinds)) (after_from n (drop n base) it) ≡ Some ms = rw fits at t in
         let first = bound (after_from n (drop n base) it) (λ m. option_and_then (λ ns. Some (add m ns)) (targets_of c n kinds)) ms taken in
         let rest = bound (targets_of c n kinds) (λ ns. Some (add first.0 ns)) ms first.2 in
         let all : add first.0 rest.0 ≡ ms = cc in
-        elim (true_or_false (sameb kind_type it kind)) [
+        elim (cases_Bool (sameb kind_type it kind)) [
           | inl same ↦
               let e : it ≡ kind = same_true kind_type (search rules) it kind same in
               (first.0, subst (λ (x : NodeKind). after_from n (drop n base) x ≡ Some first.0) e first.1, subst (λ (xs : List ℕ). mem first.0 xs ≡ true) all (add_own first.0 rest.0))
@@ -156,7 +153,7 @@ module _ (base : List Slot) where
               let found = one_target c n kinds rest.0 kind rest.1 (rw other at has) is in
               (found.0, found.1, subst (λ (xs : List ℕ). mem found.0 xs ≡ true) all (add_kept found.0 first.0 rest.0 found.2))
         ]
-    | inr none ↦ elim (true_or_false (sameb kind_type it kind)) [
+    | inr none ↦ elim (cases_Bool (sameb kind_type it kind)) [
       | inl same ↦
           let e : it ≡ kind = same_true kind_type (search rules) it kind same in
           absurd (let both : is_child c it ≡ true = subst (λ (x : NodeKind). is_child c x ≡ true) (sym e) is in cc)
@@ -201,7 +198,7 @@ module _ (base : List Slot) where
 
   closed_is : (more ns all : List ℕ) → closed more ns ≡ Some all → (within more ns ≡ true) × (ns ≡ all)
   unfolding closed
-  closed_is more ns all h = elim (true_or_false (within more ns)) [
+  closed_is more ns all h = elim (cases_Bool (within more ns)) [
     | inl e ↦ (e, let same : Some ns ≡ Some all = rw e at h in cc)
     | inr e ↦ absurd (let none : None ≡ Some all = rw e at h in cc)
   ]
@@ -225,7 +222,7 @@ module _ (base : List Slot) where
   join_same : (ns ms : List ℕ) → within ns ms ≡ true → join ns ms ≡ ms
   unfolding join within add
   join_same [] ms h = refl
-  join_same (n ∷ ns) ms h = elim (true_or_false (mem n ms)) [
+  join_same (n ∷ ns) ms h = elim (cases_Bool (mem n ms)) [
     | inl e ↦ let rest : join ns ms ≡ ms = join_same ns ms (rw e at h) in rw (rest, e) refl
     | inr e ↦ absurd (let none : false ≡ true = rw e at h in cc)
   ]
@@ -285,8 +282,8 @@ module _ (base : List Slot) where
   after_same : (n : ℕ) (ss : List Slot) (kind : NodeKind) → drop n base ≡ ss → after ss kind ≡ option_map (λ m. drop m base) (after_from n ss kind)
   unfolding after after_from
   after_same n [] kind e = refl
-  after_same n (one p ∷ ss) kind e = elim (true_or_false (p kind)) [ inl y ↦ rw y (ap Some (sym (drop_next n base (one p) ss e))) | inr y ↦ rw y refl ]
-  after_same n (any p ∷ ss) kind e = elim (true_or_false (p kind)) [ inl y ↦ rw y (ap Some (sym e)) | inr y ↦ rw y (after_same (suc n) ss kind (drop_next n base (any p) ss e)) ]
+  after_same n (one p ∷ ss) kind e = elim (cases_Bool (p kind)) [ inl y ↦ rw y (ap Some (sym (drop_next n base (one p) ss e))) | inr y ↦ rw y refl ]
+  after_same n (any p ∷ ss) kind e = elim (cases_Bool (p kind)) [ inl y ↦ rw y (ap Some (sym e)) | inr y ↦ rw y (after_same (suc n) ss kind (drop_next n base (any p) ss e)) ]
 
   fit_some : (ss rest : List Slot) (kind : NodeKind) (kinds : List NodeKind) → after ss kind ≡ Some rest → fit ss (kind ∷ kinds) ≡ fit rest kinds
   unfolding fit
@@ -308,7 +305,7 @@ module _ (base : List Slot) where
   ends_at : (n : ℕ) (ns : List ℕ) → all_end ns ≡ true → mem n ns ≡ true → may_end (drop n base) ≡ true
   unfolding all_end mem
   ends_at n [] a h = absurd (cc)
-  ends_at n (m ∷ ns) a h = elim (true_or_false (may_end (drop m base))) [
+  ends_at n (m ∷ ns) a h = elim (cases_Bool (may_end (drop m base))) [
     | inl e ↦ elim (mem_cases n m ns h) [ inl same ↦ subst (λ (x : ℕ). may_end (drop x base) ≡ true) same e | inr later ↦ ends_at n ns (rw e at a) later ]
     | inr e ↦ absurd (let none : false ≡ true = rw e at a in cc)
   ]
@@ -329,7 +326,7 @@ module _ (base : List Slot) where
   form_good : (form : List Part) (fs : List (List Part)) → IsFormOf form fs → all_good fs ≡ true → good (post 3 form (0 ∷ [])) ≡ true
   unfolding all_good
   form_good form [] at h = absurd at
-  form_good form (f ∷ fs) at h = elim (true_or_false (good (post 3 f (0 ∷ [])))) [
+  form_good form (f ∷ fs) at h = elim (cases_Bool (good (post 3 f (0 ∷ [])))) [
     | inl e ↦ elim at [ inl same ↦ subst (λ (x : List Part). good (post 3 x (0 ∷ [])) ≡ true) (sym same) e | inr more ↦ form_good form fs more (rw e at h) ]
     | inr e ↦ absurd (let none : false ≡ true = rw e at h in cc)
   ]

@@ -2,7 +2,7 @@
 use Rattle.std.proofs.Common.{◌≡◌, ◌∙◌, ◌⊎◌, ℕ, zero, suc, ◌+◌, ◌<◌, ◌≤◌, List, [], ◌∷◌, length, get_or, map, Option, Some, None, refl, ap, sym, subst, inl, inr, arith}
 use Rattle.std.specs.Prelude.{Contains, slice_get}
 use Rattle.std.proofs.lemmas.List.{get_or_past}
-use Rattle.std.proofs.lemmas.Option.{slice_get_within}
+use Rattle.std.proofs.lemmas.Option.{slice_get_within, same_Some}
 use Rattle.std.proofs.lemmas.Bool.{cases_lt, cases_eq}
 use Rattle.clu_tree.specs.declared.node.Node.{Node}
 use Rattle.clu_tree.specs.Nodes.{IsTree}
@@ -30,13 +30,10 @@ child_or_not (d ∷ ds) c = by (cases_eq d c) (child_or_not ds c)
     by (inr e) (inl h) = inl (suc h.0, omega (arith, h.1), h.2)
     by (inr e) (inr h) = inr (λ g. not_in d c ds e h g.0 g.1 g.2)
 
-same_some : {A : Type 0} (x y : A) → Some x ≡ Some y → x ≡ y
-same_some x y e = cc
-
 same_node : (nodes : List Node) (i n : ℕ) (m o : Node) (c : ℕ) → i ≡ n → slice_get nodes i ≡ Some m → slice_get nodes n ≡ Some o → Contains m.children c → Contains o.children c
 same_node nodes i n m o c at e f h =
     let there : slice_get nodes n ≡ Some m = rw at at e in
-    subst (λ (x : Node). Contains x.children c) (same_some m o (sym there ∙ f)) h
+    subst (λ (x : Node). Contains x.children c) (same_Some m o (sym there ∙ f)) h
 
 nothing_there : (nodes : List Node) (i n : ℕ) (m : Node) → i ≡ n → slice_get nodes i ≡ Some m → slice_get nodes n ≡ None → ⊥
 nothing_there nodes i n m at e f = let there : slice_get nodes n ≡ Some m = rw at at e in cc

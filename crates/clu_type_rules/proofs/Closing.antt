@@ -1,10 +1,12 @@
 -- Needs that are asked one after the other, each of which adds what it asks, in a world that changes on the way. What they ask
 -- is known of those of one kind, which ask others of that kind alone.
 use Rattle.std.proofs.Common.{◌≡◌, ℕ, ◌+◌, ◌<◌, ◌≤◌, Bool, true, false, List, [], ◌∷◌, ◌++◌, Contains, length, map, take, slice_get, Option, Some, None, refl, sym, ap, ◌∙◌, subst, append_assoc, arith, ltb, ltb-true, ltb-false}
-use Rattle.std.proofs.lemmas.Option.{slice_get_within}
+use Rattle.std.proofs.Math.Seq.{take-append_seam}
+use Rattle.std.proofs.lemmas.Option.{slice_get_within, same_Some}
 use Rattle.indexmap.specs.IndexSet.{insert_key}
+use Rattle.clu_base.proofs.Lists.{none_is_not, in_tail, place_in, is_there}
 use Rattle.clu_type_rules.specs.Closed.{IsAnswered, IsClosed, IsClosedFor, IsMet, IsFrontOf, HasAdded}
-use Rattle.clu_type_rules.proofs.Lists.{same_item, none_is_not, in_tail, place_in, is_there, take_front, in_mapped, from_mapped, those_of, to_those, from_those, kept_in, at_front, front_on, front_self, one_front, one_here, one_from}
+use Rattle.clu_type_rules.proofs.Lists.{in_mapped, from_mapped, those_of, to_those, from_those, kept_in, at_front, front_on, front_self, one_front, one_here, one_from}
 
 -- an answer stays
 pub answer_stays : {N : Type 0} (asks : N → Option (List N)) (few many : List N) → ((n : N) → Contains few n → Contains many n) → (n : N) → IsAnswered asks few n → IsAnswered asks many n
@@ -118,7 +120,7 @@ module _ {W A N : Type 0} (Later : W → W → Type 0) (There : W → A → Type
               let place : k ≡ n = omega (arith, ltb-false) in
               let short : k < length found = omega (arith, place, within) in
               let there_k : slice_get found k ≡ Some a = at_front found new added.front k a short e in
-              let is : need ≡ a = same_item need a (sym at ∙ ap (slice_get found) (sym place) ∙ there_k) in
+              let is : need ≡ a = same_Some need a (sym at ∙ ap (slice_get found) (sym place) ∙ there_k) in
               let its_of : is_of (seen now need) ≡ true = ap (λ (x : A). is_of (seen now x)) is ∙ sym (ap is_of (seen_now k a short e)) ∙ of in
               let that : IsAnswered asks (map (seen newer) new) (seen now need) = (map (seen newer) asked, its its_of, here) in
               subst (IsAnswered asks (map (seen newer) new)) (ap (seen now) is ∙ sym (seen_now k a short e)) that
@@ -136,7 +138,7 @@ module _ {W A N : Type 0} (Later : W → W → Type 0) (There : W → A → Type
           due of those closed has k a le e false later =
               let one : Contains asked a = added.from k a (omega (arith, ltb-false)) e in
               let that = closed (seen now need) (so_far.due of those closed has n need so_far.past at) in
-              let these : that.0 ≡ map (seen newer) asked = same_item that.0 (map (seen newer) asked) (sym that.1 ∙ its (so_far.all_of of n need so_far.past at)) in
+              let these : that.0 ≡ map (seen newer) asked = same_Some that.0 (map (seen newer) asked) (sym that.1 ∙ its (so_far.all_of of n need so_far.past at)) in
               that.2 (seen newer a) (subst (λ (l : List N). Contains l (seen newer a)) (sym these) (in_mapped (seen newer) asked a one))
 
       -- when all were asked, they are closed
@@ -198,7 +200,7 @@ module _ {W A N : Type 0} (Later : W → W → Type 0) (There : W → A → Type
     pub met_left : (before : ℕ) → before ≡ length met → (found : List A) → IsFrontOf first found → take before found ≡ met
     met_left before many found front =
         ap (λ (n : ℕ). take n found) many
-        ∙ ap (take (length met)) (front.1 ∙ ap (λ (l : List A). l ++ front.0) begun.1 ∙ append_assoc met begun.0 front.0) ∙ take_front met (begun.0 ++ front.0)
+        ∙ ap (take (length met)) (front.1 ∙ ap (λ (l : List A). l ++ front.0) begun.1 ∙ append_assoc met begun.0 front.0) ∙ take-append_seam met (begun.0 ++ front.0)
 
     pub left_closed : (now : W) → Later start now → (left : List A) → left ≡ met → IsClosedFor asks is_of (map (seen now) left)
     left_closed now late left same_left = subst (λ (ns : List N). IsClosedFor asks is_of ns) (sym (ap (map (seen now)) same_left ∙ all_same start now late met met_there)) closed

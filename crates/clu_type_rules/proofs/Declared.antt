@@ -2,6 +2,7 @@
 use Rattle.std.proofs.Common.{◌≡◌, ◌==◌, ◌∙◌, ℕ, ◌+◌, ◌-◌, ◌<◌, ◌≤◌, ◌&&◌, Bool, true, false, List, [], ◌∷◌, ◌++◌, length, map, drop, Option, Some, refl, sym, ap, arith}
 use Rattle.std.proofs.lemmas.Bool.Decides.{nat_tests}
 use Rattle.std.proofs.lemmas.List.{drop-map, drop_all, length-append, length-replicate}
+use Rattle.clu_base.proofs.Bools.{and_more}
 use Rattle.clu_types.specs.declared.term.TypeId.{TypeId}
 use Rattle.clu_syntax.specs.Items.{Item}
 use Rattle.clu_type_rules.specs.declared.known.Known.{Known}
@@ -18,10 +19,6 @@ none_after n xs within = drop_all n xs within
 pub and_true : (b : Bool) → (b && true) ≡ b
 and_true true = refl
 and_true false = refl
-
-and_more : (b x y z : Bool) → x ≡ (y && z) → (b && x) ≡ ((b && y) && z)
-and_more true x y z same = same
-and_more false x y z same = refl
 
 too_much : (m rest left : ℕ) → left < m → (m + rest == left) ≡ false
 too_much m rest left less = grind (arith, nat_tests)

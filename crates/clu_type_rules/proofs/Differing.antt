@@ -2,6 +2,7 @@
 use Rattle.std.proofs.Common.{◌≡◌, ◌∙◌, ◌⊎◌, inl, inr, ℕ, zero, suc, ◌+◌, ◌<◌, ◌≤◌, ◌==◌, ◌&&◌, ◌||◌, not, Bool, true, false, cond, if◌then◌else◌, List, [], ◌∷◌, length, fold, drop, set, replicate, get_or, slice_get, bytes_eq, Option, Some, None, Result, Ok, Err, OnOk, refl, sym, ap, subst, arith}
 use Rattle.std.specs.Bool.{Decides}
 use Rattle.std.specs.List.{list_any}
+use Rattle.std.proofs.Math.Bool.{and-false, or-false, or_self, or_assoc}
 use Rattle.std.proofs.lemmas.Bool.{eq-eqb, eqb-true, eqb-false}
 use Rattle.std.proofs.lemmas.Bool.Decides.{Decides-like, Decides-and, Decides-eqb}
 use Rattle.std.proofs.lemmas.List.{drop_all, length-set, length-replicate, get_or-set_same, get_or-set_other}
@@ -36,22 +37,6 @@ clause_noted (Err x) ds old new none notes = tt
 
 -- ---- tests
 
-or_false : (b : Bool) → (b || false) ≡ b
-or_false true = refl
-or_false false = refl
-
-and_false : (b : Bool) → (b && false) ≡ false
-and_false true = refl
-and_false false = refl
-
-or_self : (a : Bool) → (a || a) ≡ a
-or_self true = refl
-or_self false = refl
-
-or_assoc : (a b c : Bool) → ((a || b) || c) ≡ (a || (b || c))
-or_assoc true b c = refl
-or_assoc false b c = refl
-
 -- of two types that differ, each is another one than a third or the other is
 either_differs : (a b w : ℕ) → (b == a) ≡ false → true ≡ (not (a == w) || not (b == w))
 either_differs a b w differ = by (a == w) refl (b == w) refl
@@ -82,7 +67,7 @@ seen_says its wanted [] = refl
 seen_says its wanted (note ∷ before) = by (same note.operation its) refl (seen_says its wanted before)
   where
     one_more : (old : Option (Option TypeId)) → is_other_than wanted (Some (seen_with note.wanted old)) ≡ (not (note.wanted.0 == wanted.0) || is_other_than wanted old)
-    one_more None = sym (or_false (not (note.wanted.0 == wanted.0)))
+    one_more None = sym (or-false (not (note.wanted.0 == wanted.0)))
     one_more (Some None) = sym (or_true (not (note.wanted.0 == wanted.0)))
       where
         or_true : (b : Bool) → (b || true) ≡ true
@@ -113,7 +98,7 @@ none_disagrees : (d : Demanded) → d.wanted ≡ None → (before : List Demande
 none_disagrees d none [] = refl
 none_disagrees d none (e ∷ before) =
     ap (λ (b : Bool). b || list_any (disagrees d) before)
-    (ap (λ (o : Option TypeId). (e.parameter == d.parameter && bytes_eq e.operation d.operation) && are_other e.wanted o) none ∙ ap (λ (b : Bool). (e.parameter == d.parameter && bytes_eq e.operation d.operation) && b) (other e.wanted) ∙ and_false (e.parameter == d.parameter && bytes_eq e.operation d.operation))
+    (ap (λ (o : Option TypeId). (e.parameter == d.parameter && bytes_eq e.operation d.operation) && are_other e.wanted o) none ∙ ap (λ (b : Bool). (e.parameter == d.parameter && bytes_eq e.operation d.operation) && b) (other e.wanted) ∙ and-false (e.parameter == d.parameter && bytes_eq e.operation d.operation))
     ∙ none_disagrees d none before
   where
     other : (o : Option TypeId) → are_other o None ≡ false
@@ -133,7 +118,7 @@ notes_say d wanted is (e ∷ before) = by e.wanted refl (notes_say d wanted is b
     by : (o : Option TypeId) → e.wanted ≡ o → list_any (is_other (operation_of d) wanted) (notes_of before) ≡ list_any (disagrees d) before → list_any (is_other (operation_of d) wanted) (with_wanted e o (notes_of before)) ≡ (disagrees d e || list_any (disagrees d) before)
     by None at rest =
         rest
-        ∙ sym (ap (λ (b : Bool). b || list_any (disagrees d) before) (this None at ∙ and_false alike))
+        ∙ sym (ap (λ (b : Bool). b || list_any (disagrees d) before) (this None at ∙ and-false alike))
     by (Some v) at rest =
         ap (λ (b : Bool). (alike && not (v.0 == wanted.0)) || b) rest
         ∙ sym (ap (λ (b : Bool). b || list_any (disagrees d) before) (this (Some v) at))
@@ -159,7 +144,7 @@ notes_size [] bits = refl
 notes_size (note ∷ before) bits = marked_size (is_other_than note.wanted (seen_in before note.operation)) note.node (with_notes before bits) ∙ notes_size before bits
 
 marked_at : (is : Bool) (m n : ℕ) (bits : List Bool) → n < length bits → is_set (slice_get (marked is m bits) n) ≡ (is_set (slice_get bits n) || (m == n && is))
-marked_at false m n bits less = sym (ap (λ (b : Bool). is_set (slice_get bits n) || b) (and_false (m == n)) ∙ or_false (is_set (slice_get bits n)))
+marked_at false m n bits less = sym (ap (λ (b : Bool). is_set (slice_get bits n) || b) (and-false (m == n)) ∙ or-false (is_set (slice_get bits n)))
 marked_at true m n bits less = by (m == n) refl
   where
     or_true : (b : Bool) → (b || true) ≡ true
@@ -173,7 +158,7 @@ marked_at true m n bits less = by (m == n) refl
         ∙ get_or-set_same bits n true false less
         ∙ sym (or_true (is_set (slice_get bits n)))
     by false e =
-        bit_is (set bits m true) n ∙ get_or-set_other bits m n true false (λ is. eqb-false m n e (sym is)) ∙ sym (bit_is bits n) ∙ sym (or_false (is_set (slice_get bits n)))
+        bit_is (set bits m true) n ∙ get_or-set_other bits m n true false (λ is. eqb-false m n e (sym is)) ∙ sym (bit_is bits n) ∙ sym (or-false (is_set (slice_get bits n)))
 
 -- one demand more
 demand_at : (d : Demanded) (before : List Demanded) (bits : List Bool) (n : ℕ) → n < length bits
@@ -185,14 +170,14 @@ demand_at d before bits n less = by d.wanted refl
 
     by : (o : Option TypeId) → d.wanted ≡ o → is_set (slice_get (with_notes (with_wanted d o (notes_of before)) bits) n) ≡ (so_far || (d.node == n && list_any (disagrees d) before))
     by None is =
-        sym (ap (λ (b : Bool). so_far || (d.node == n && b)) (none_disagrees d is before) ∙ ap (λ (b : Bool). so_far || b) (and_false (d.node == n)) ∙ or_false so_far)
+        sym (ap (λ (b : Bool). so_far || (d.node == n && b)) (none_disagrees d is before) ∙ ap (λ (b : Bool). so_far || b) (and-false (d.node == n)) ∙ or-false so_far)
     by (Some wanted) is =
         marked_at (is_other_than wanted (seen_in (notes_of before) (operation_of d))) d.node n (with_notes (notes_of before) bits) (subst (λ (k : ℕ). n < k) (sym (notes_size (notes_of before) bits)) less)
         ∙ ap (λ (b : Bool). so_far || (d.node == n && b)) (seen_says (operation_of d) wanted (notes_of before) ∙ notes_say d wanted is before)
 
 demands_at : (ds before : List Demanded) (bits : List Bool) (n : ℕ) → n < length bits
     → is_set (slice_get (with_notes (fold with_demand (notes_of before) ds) bits) n) ≡ (is_set (slice_get (with_notes (notes_of before) bits) n) || disagrees_with n before ds)
-demands_at [] before bits n less = sym (or_false (is_set (slice_get (with_notes (notes_of before) bits) n)))
+demands_at [] before bits n less = sym (or-false (is_set (slice_get (with_notes (notes_of before) bits) n)))
 demands_at (d ∷ ds) before bits n less =
     demands_at ds (d ∷ before) bits n less
     ∙ ap (λ (b : Bool). b || disagrees_with n (d ∷ before) ds) (demand_at d before bits n less)
@@ -203,7 +188,7 @@ clauses_size asked zero bits = refl
 clauses_size asked (suc clause) bits = notes_size (fold with_demand [] (demands_in asked clause)) (with_clauses asked clause bits) ∙ clauses_size asked clause bits
 
 clauses_at : (asked : Asked) (many : ℕ) (bits : List Bool) (n : ℕ) → n < length bits → is_set (slice_get (with_clauses asked many bits) n) ≡ (is_set (slice_get bits n) || is_disagreeing asked many n)
-clauses_at asked zero bits n less = sym (or_false (is_set (slice_get bits n)))
+clauses_at asked zero bits n less = sym (or-false (is_set (slice_get bits n)))
 clauses_at asked (suc clause) bits n less =
     demands_at (demands_in asked clause) [] (with_clauses asked clause bits) n (subst (λ (k : ℕ). n < k) (sym (clauses_size asked clause bits)) less)
     ∙ ap (λ (b : Bool). b || disagrees_with n [] (demands_in asked clause)) (clauses_at asked clause bits n less)

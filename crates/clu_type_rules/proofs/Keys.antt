@@ -1,5 +1,5 @@
 -- That `==` of the keys of needs and of what asks decides.
-use Rattle.std.proofs.Common.{◌≡◌, ◌==◌, ℕ, Bool, true, true≢false, Option, Some, None, unwrap_or, refl, sym, ap}
+use Rattle.std.proofs.Common.{◌≡◌, ◌==◌, ℕ, Bool, true, true≢false, Option, Some, None, unwrap_or, refl, sym, ap, ap₂}
 use Rattle.std.specs.Bool.{Decides}
 use Rattle.std.specs.Option.{option_eq}
 use Rattle.std.proofs.lemmas.Bool.Decides.{Decides-like, Decides-and, Decides-eqb}
@@ -14,9 +14,6 @@ use Rattle.clu_type_rules.specs.declared.unmet.Need.{Need}
 use Rattle.clu_type_rules.specs.contracts.unmet.ClausesPartialEq.TheImpl as clauses
 use Rattle.clu_type_rules.specs.Askers.{same_asker}
 use Rattle.clu_type_rules.specs.Needs.{same_need}
-
-join : {A B C : Type 0} (f : A → B → C) {a a' : A} {b b' : B} → a ≡ a' → b ≡ b' → f a b ≡ f a' b'
-join f p q = cc
 
 join3 : {A B C D : Type 0} (f : A → B → C → D) {a a' : A} {b b' : B} {c c' : C} → a ≡ a' → b ≡ b' → c ≡ c' → f a b c ≡ f a' b' c'
 join3 f p q r = cc
@@ -62,7 +59,7 @@ need_equal a b e = (need_decided a b).0 e
 
 asker_decided : (a b : Asker) → Decides (same_asker a b) (a ≡ b)
 asker_decided a b =
-    Decides-like _ (λ e. join (λ (x : FoundId) (u : Clauses). let c : Asker = record { found = x; under = u } in c) e.0 e.1)
+    Decides-like _ (λ e. ap₂ (λ (x : FoundId) (u : Clauses). let c : Asker = record { found = x; under = u } in c) e.0 e.1)
     (λ e. (ap (λ (c : Asker). c.found) e, ap (λ (c : Asker). c.under) e))
     (Decides-and _ _ (found_decided a.found b.found) (clauses_decided a.under b.under))
 

@@ -1,8 +1,10 @@
 -- What is asked by numbers, in worlds that follow each other: one need is asked, and all that comes of it.
 use Rattle.std.proofs.Common.{◌≡◌, ◌∙◌, ◌⊎◌, inl, inr, ℕ, zero, suc, ◌+◌, ◌-◌, ◌<◌, ◌≤◌, ◌&&◌, nat_lt, nat_le, Bool, true, false, true≢false, if◌then◌else◌, List, [], ◌∷◌, ◌++◌, Contains, length, map, take, drop, get_or, slice_get, option_map, option_and_then, Option, Some, None, IfSome, Result, Ok, Err, IfOk, refl, sym, ap, subst, arith, ltb, ltb-true, ltb-false, lt-ltb}
-use Rattle.std.proofs.lemmas.List.{append-nil, drop_all}
+use Rattle.std.proofs.lemmas.List.{append-nil, drop_all, drop_more}
+use Rattle.std.proofs.lemmas.Option.{same_Some}
 use Rattle.indexmap.specs.IndexSet.{insert_key}
 use Rattle.clu_base.specs.declared.errors.Memory.{Memory}
+use Rattle.clu_base.proofs.Lists.{none_is_not, head_or_tail, in_head, in_tail, in_none}
 use Rattle.clu_types.specs.CluType.{CluType}
 use Rattle.clu_types.specs.Arena.{type_at, types_of, Grows}
 use Rattle.clu_types.specs.declared.term.Term.{Term}
@@ -31,7 +33,7 @@ use Rattle.clu_type_rules.specs.Included.{is_included, may_be}
 use Rattle.clu_type_rules.specs.Meeting.{may_fit, plain, asks_if, asks_of}
 use Rattle.clu_type_rules.specs.Needs.{clauses_at, told_shape, told_asked, World, Later, Due, due, seen, same_need, need_of, with_asked, with_asked_if, Setting, Looks, dues, is_fine, IsThere, AreThere, Asks, AreAnswered, AreUnder, Stands, Steps, Comes, Rests, MeetsOne}
 use Rattle.clu_type_rules.proofs.Keys.{need_equal, clauses_equal, same_clauses, clauses_self}
-use Rattle.clu_type_rules.proofs.Lists.{none_is_not, same_item, head_or_tail, in_head, in_tail, in_none, in_mapped, from_mapped, read_at, at_front, added_none, added_one}
+use Rattle.clu_type_rules.proofs.Lists.{in_mapped, from_mapped, at_front, added_none, added_one}
 use Rattle.clu_type_rules.proofs.Closing as closing
 use Rattle.clu_type_rules.proofs.Closing.{Asking}
 
@@ -158,7 +160,7 @@ pub with_next : (under : Clauses) (asked : List Asked) (i : ℕ) (other : Asked)
     → with_asked under (drop (i + 1) asked) new ≡ with_asked under (drop i asked) keys
 with_next under asked i other less keys new need inserted is =
     ap (with_asked under (drop (i + 1) asked)) (inserted ∙ ap (insert_key same_need keys) is)
-    ∙ sym (ap (λ (l : List Asked). with_asked under l keys) (read_at asked i other less))
+    ∙ sym (ap (λ (l : List Asked). with_asked under l keys) (drop_more asked i other less))
 
 pub with_all : (under : Clauses) (asked : List Asked) (i : ℕ) (keys : List Need) → length asked ≤ i → with_asked under (drop i asked) keys ≡ keys
 with_all under asked i keys past = ap (λ (l : List Asked). with_asked under l keys) (drop_all i asked past)
@@ -267,7 +269,7 @@ module _ (headed : Headed) (s : Setting) (looks : Looks headed s) where
     where
       among : (op : Told) → s.found d.under d.ask.of d.ask.operation ≡ Some op → (b : Bool) → option_map (map (due d.under)) (if b then Some (map plain op.asks) else None) ≡ Some more → is_fine s m ≡ true
       among op is true e =
-          let r = from_mapped (due d.under) (map plain op.asks) m (subst (λ (l : List Due). Contains l m) (sym (same_item (map (due d.under) (map plain op.asks)) more e)) h) in
+          let r = from_mapped (due d.under) (map plain op.asks) m (subst (λ (l : List Due). Contains l m) (sym (same_Some (map (due d.under) (map plain op.asks)) more e)) h) in
           let q = from_mapped plain op.asks r.0 r.1 in
           let its : s.fine r.0.of ≡ true = sym (ap (λ (a : Ask). s.fine a.of) q.2) ∙ looks.fine d.under d.ask.of d.ask.operation op fine is q.0 q.1 in
           subst (λ (x : Due). is_fine s x ≡ true) r.2 its
@@ -396,7 +398,7 @@ module _ (s : Setting) (u : Clauses) where
   to_answered those b answered = by (asks_of found b) refl
     where
       by : (o : Option (List Ask)) → asks_of found b ≡ o → IsAnswered (asks_of found) (asks_under those) b
-      by (Some asks) e = (asks, e, λ m h. to_under those m (answered.2 (due u m) (subst (λ (l : List Due). Contains l (due u m)) (same_item (map (due u) asks) answered.0 (sym (ap in_turn e) ∙ answered.1)) (in_mapped (due u) asks m h))))
+      by (Some asks) e = (asks, e, λ m h. to_under those m (answered.2 (due u m) (subst (λ (l : List Due). Contains l (due u m)) (same_Some (map (due u) asks) answered.0 (sym (ap in_turn e) ∙ answered.1)) (in_mapped (due u) asks m h))))
       by None e = none_is_not answered.0 (sym (ap in_turn e) ∙ answered.1)
 
   from_answered : (those : List Ask) (b : Ask) → IsAnswered (asks_of found) those b → IsAnswered (dues s) (map (due u) those) (due u b)

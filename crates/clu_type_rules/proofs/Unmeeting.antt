@@ -1,9 +1,11 @@
 -- What is asked and not met: of one that is asked, of several, and of askers that are kept.
-use Rattle.std.proofs.Common.{◌≡◌, ◌∙◌, ◌↔◌, ◌⊎◌, inl, inr, ℕ, ◌+◌, ◌<◌, ◌≤◌, ◌&&◌, ◌||◌, not, cond, Bool, true, false, true≢false, List, [], ◌∷◌, ◌++◌, Contains, length, map, drop, slice_get, Option, Some, None, IsTrue, refl, sym, ap, subst, arith, ltb, ltb-true, ltb-false, length-append}
+use Rattle.std.proofs.Common.{◌≡◌, ◌∙◌, ◌↔◌, ◌⊎◌, inl, inr, ℕ, ◌+◌, ◌<◌, ◌≤◌, ◌&&◌, ◌||◌, not, cond, Bool, true, false, true≢false, List, [], ◌∷◌, ◌++◌, Contains, length, map, drop, slice_get, Option, Some, None, IsTrue, refl, sym, ap, subst, arith, ltb, ltb-true, ltb-false, length-append, ap₂}
 use Rattle.std.specs.HashMap.{get}
+use Rattle.std.proofs.Math.Bool.{or-false, or_assoc}
 use Rattle.std.proofs.lemmas.List.{drop_all}
-use Rattle.std.proofs.lemmas.Option.{slice_get_within}
-use Rattle.std.proofs.lemmas.List.Elements.{Contains-append_left, Contains-append_right}
+use Rattle.std.proofs.lemmas.Option.{slice_get_within, same_Some}
+use Rattle.std.proofs.lemmas.List.Elements.{Contains-append_left, Contains-append_right, Contains-append_cases}
+use Rattle.clu_base.proofs.Lists.{none_is_not, front_of, at_seam, head_or_tail, in_head, in_tail, in_none, is_there}
 use Rattle.clu_types.specs.CluType.{CluType}
 use Rattle.clu_types.specs.Arena.{types_of}
 use Rattle.clu_bindings.specs.declared.file.Headed.{Headed}
@@ -26,7 +28,7 @@ use Rattle.clu_type_rules.specs.Meeting.{Meets, SomeUnmet, AreUnmet, plain}
 use Rattle.clu_type_rules.specs.Needs.{World, Later, Due, seen, need_of, clauses_at, Setting, Looks, is_fine, AreFine, AreUnmetIf, IsThere, AreThere, Rests, MeetsOne, MeetsAll}
 use Rattle.clu_type_rules.specs.Unmet.{all_met}
 use Rattle.clu_type_rules.proofs.Keys.{asker_equal}
-use Rattle.clu_type_rules.proofs.Lists.{same_item, none_is_not, head_or_tail, in_head, in_tail, in_none, in_either, in_flat, is_there, in_mapped, front_of, at_seam}
+use Rattle.clu_type_rules.proofs.Lists.{in_flat, in_mapped}
 use Rattle.clu_type_rules.proofs.Needing.{later_self, later_on, stays, same, needs_there}
 
 -- ---- one and several that are asked
@@ -48,7 +50,7 @@ module _ (found : CluType → List ℕ → Option Told) where
   right_unmet in_set xs ys h = (h.0, Contains-append_right xs ys h.0 h.1, h.2, h.3)
 
   which_unmet : (in_set : Bool) (xs ys : List Ask) → SomeUnmet found in_set (xs ++ ys) → SomeUnmet found in_set xs ⊎ SomeUnmet found in_set ys
-  which_unmet in_set xs ys h = elim (in_either xs ys h.0 h.1) [
+  which_unmet in_set xs ys h = elim (Contains-append_cases xs ys h.0 h.1) [
     | inl there ↦ inl (h.0, there, h.2, h.3)
     | inr there ↦ inr (h.0, there, h.2, h.3)
   ]
@@ -100,25 +102,14 @@ module _ (found : CluType → List ℕ → Option Told) where
     by_in = one_by a true is a.in_set refl met a.in_set (λ e. e) (λ e. e);
   }
 
-or_false : (b : Bool) → (b || false) ≡ b
-or_false true = refl
-or_false false = refl
-
-or_assoc : (a b c : Bool) → ((a || b) || c) ≡ (a || (b || c))
-or_assoc true b c = refl
-or_assoc false b c = refl
-
-join : {A B C : Type 0} (f : A → B → C) {a a' : A} {b b' : B} → a ≡ a' → b ≡ b' → f a b ≡ f a' b'
-join f p q = cc
-
 abbrev unmet_with : Bool → Bool → Unmet
 unmet_with a b = record { by_has = a; by_in = b }
 
 either_all : (u : Unmet) → either u all_met ≡ unmet_with u.by_has u.by_in
-either_all u = join unmet_with (or_false u.by_has) (or_false u.by_in)
+either_all u = ap₂ unmet_with (or-false u.by_has) (or-false u.by_in)
 
 either_assoc : (u v w : Unmet) → either (either u v) w ≡ either u (either v w)
-either_assoc u v w = join unmet_with (or_assoc u.by_has v.by_has w.by_has) (or_assoc u.by_in v.by_in w.by_in)
+either_assoc u v w = ap₂ unmet_with (or_assoc u.by_has v.by_has w.by_has) (or_assoc u.by_in v.by_in w.by_in)
 
 -- ---- several, one after the other: those that are left decide
 
@@ -236,7 +227,7 @@ module _ (headed : Headed) (s : Setting) where
 
     unmet : (b : Bool) (q : Asker) (x : Unmet) → same_asker asker q ≡ b → get same_asker new.askers q ≡ Some x → AreUnmetIf s q.under x (asks_by w q.found)
     unmet true q x e at =
-        let it : u ≡ x = same_item u x (sym (ap (λ (b : Bool). cond b (Some u) (get same_asker old.askers q)) e) ∙ sym (put q) ∙ at) in
+        let it : u ≡ x = same_Some u x (sym (ap (λ (b : Bool). cond b (Some u) (get same_asker old.askers q)) e) ∙ sym (put q) ∙ at) in
         let mine : AreUnmetIf s asker.under u (asks_by w asker.found) = subst (AreUnmetIf s asker.under u) (sym (asks_stay v w meets.later finding asker.found is)) meets.unmet in
         subst (λ (y : Unmet). AreUnmetIf s q.under y (asks_by w q.found)) it (subst (λ (a : Asker). AreUnmetIf s a.under u (asks_by w a.found)) (asker_equal asker q e) mine)
     unmet false q x e at =
@@ -308,6 +299,14 @@ module _ (headed : Headed) (s : Setting) (v : World) (under : Clauses) (ids : Li
     unmet = λ fine. left_none (s.found under) (asks_by_all v ids) u (subst (λ (l : List FoundId). Left (s.found under) (asks_by_all v ids) (asks_by_all v l) u) (drop_all i ids past) (asking.left fine));
   }
 
+-- who asks nothing has all that it asks
+pub nothing_asked : (headed : Headed) (s : Setting) (w : World) (meeting : Meeting) (under : Clauses) → Keeps headed s w meeting → Brings headed s w w meeting under [] all_met
+nothing_asked headed s w meeting under keeps = record {
+  keeps = keeps;
+  later = later_self w;
+  unmet = λ fine. unmet_none (s.found under);
+}
+
 -- ---- all nodes
 
 module _ (headed : Headed) (s : Setting) (v : World) (list : Invocations) where
@@ -330,7 +329,7 @@ module _ (headed : Headed) (s : Setting) (v : World) (list : Invocations) where
   all_stay : (w : World) → Later v w → IsFinding headed v.terms v.finding → (ids : List FoundId) → AreAskers v ids → asks_by_all w ids ≡ asks_by_all v ids
   all_stay w late was [] askers = refl
   all_stay w late was (id ∷ ids) askers =
-      join (λ (xs ys : List Ask). xs ++ ys) (asks_stay headed s v w late was id (askers id (is_there (id ∷ ids) 0 id refl))) (all_stay w late was ids (λ x h. askers x (in_tail id ids x h)))
+      ap₂ (λ (xs ys : List Ask). xs ++ ys) (asks_stay headed s v w late was id (askers id (is_there (id ∷ ids) 0 id refl))) (all_stay w late was ids (λ x h. askers x (in_tail id ids x h)))
 
   module _ (w : World) (meeting : Meeting) (all : List Unmet) (nodes : Nodes w meeting all) where
     pub nodes_askers : (n : ℕ) → AreAskers w (askers_at list n)

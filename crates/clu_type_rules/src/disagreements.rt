@@ -121,11 +121,21 @@ fn note_demands(
 }
 
 /// Marks the nodes of one clause or set of which a demand disagrees with one before it.
-fn note_clause(alloc: Global, bits: &mut Vec<bool>, demands: &[Demanded]) -> Result<(), Memory>
+fn note_together(alloc: Global, bits: &mut Vec<bool>, demands: &[Demanded]) -> Result<(), Memory>
     ensures { OnOk result (bits.new.items ≡ with_notes (fold with_demand [] demands.now) bits.old.items) }
 {
     let mut seen = HashMap::new(alloc);
     note_demands(alloc, &mut seen, bits, demands)
+}
+
+/// The same; most nodes are no clause and no set.
+fn note_clause(alloc: Global, bits: &mut Vec<bool>, demands: &[Demanded]) -> Result<(), Memory>
+    ensures { OnOk result (bits.new.items ≡ with_notes (fold with_demand [] demands.now) bits.old.items) }
+{
+    match demands {
+        [] => Ok(()),
+        [_, ..] => note_together(alloc, bits, demands),
+    }
 }
 
 /// For each of so many nodes whether a demand of it disagrees with one before it in its clause or set. The only error is that

@@ -359,7 +359,7 @@ fn unmet_by_all(
 }
 
 /// What is asked at the node n that isn't met.
-fn unmet_of_node(
+fn unmet_asked(
     headed: Headed<'_>,
     types: &mut TypeArena,
     finding: &mut Finding,
@@ -376,6 +376,25 @@ fn unmet_of_node(
         clauses: clauses_at(headed, n),
     };
     unmet_by_all(place, types, finding, meeting, askers)
+}
+
+/// The same; most nodes ask nothing.
+#[tactic(auto, using(crate::proofs::Unmeeting::nothing_asked))]
+fn unmet_of_node(
+    headed: Headed<'_>,
+    types: &mut TypeArena,
+    finding: &mut Finding,
+    meeting: &mut Meeting,
+    n: u32,
+    askers: &[FoundId],
+) -> Result<Unmet, Memory>
+    ensures asked { (s : Setting) → Keeps headed.entry s (world types.old finding.old) meeting.old → AreAskers (world types.old finding.old) askers.now → IfOk result (Brings headed.entry s (world types.old finding.old) (world types.new finding.new) meeting.new (clauses_at headed.entry n) (asks_by_all (world types.old finding.old) askers.now)) }
+    ensures kept { Grows types.old types.new }
+{
+    match askers {
+        [] => Ok(ALL_MET),
+        [_, ..] => unmet_asked(headed, types, finding, meeting, n, askers),
+    }
 }
 
 fn unmet_of_nodes(

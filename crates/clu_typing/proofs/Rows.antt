@@ -4,6 +4,7 @@ use Rattle.std.proofs.lemmas.Bool.{cases_eq}
 use Rattle.std.specs.List.{AllByRecursion}
 use Rattle.std.proofs.Math.ListN.{get_or-append}
 use Rattle.std.proofs.Math.Seq.{get_or-append_seam}
+use Rattle.clu_base.proofs.Lists.{front_get}
 use Rattle.clu_tree.specs.declared.node.NodeKind.{NodeKind}
 use Rattle.clu_tree.specs.declared.node.NodeKind.TheVariants as kind
 use Rattle.clu_types.specs.Arena.{Grows, IsArena}
@@ -29,7 +30,6 @@ use Rattle.clu_operations.specs.Told.{Told as ToldOf}
 use Rattle.clu_operations.specs.Wished.{IsFinding}
 use Rattle.clu_operations.proofs.Bundling.{option_more}
 use Rattle.clu_operations.proofs.Lasting.{follows_on}
-use Rattle.clu_operations.proofs.Once.{item_stays}
 use Rattle.clu_typing.specs.declared.applied.Applied.{Applied}
 use Rattle.clu_typing.specs.declared.applied.Applied.TheVariants as applied
 use Rattle.clu_typing.specs.declared.applied.Use.{Use}
@@ -229,7 +229,7 @@ module _ (h : Headed) (items : ℕ → Item) (n : ℕ) (old new : List Term) (be
   types_still : (c : ℕ) → c < n → type_of now c ≡ type_of before c
   types_still c lt =
       types_noted c ∙ ap (λ (l : List (Option TypeId)). optional (slice_get l c)) what.types
-      ∙ ap (λ (o : Option (Option TypeId)). optional o) (item_stays before.types.items (what.of ∷ []) c (omega (arith, lt, types_all)))
+      ∙ ap (λ (o : Option (Option TypeId)). optional o) (front_get before.types.items (what.of ∷ []) c (omega (arith, lt, types_all)))
 
   set_noted : (c : ℕ) → c < n → raised_at now c ≡ raised_at noted c
   set_noted c lt = ap (λ (l : List RaisesId). get_or l c nothing) raises.raises ∙ get_or-append noted.raises.items (raises.set ∷ []) nothing c (omega (arith, lt, sets_all))

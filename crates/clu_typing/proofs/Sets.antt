@@ -6,12 +6,8 @@ use Rattle.std.specs.Cmp.{IsEquivalence}
 use Rattle.std.proofs.lemmas.List.Filters.{dedup_is}
 use Rattle.std.proofs.lemmas.List.Kept.{Contains-dedup, Contains-from_dedup}
 use Rattle.std.proofs.lemmas.List.Sorted.{Contains-permutation, IsPermutation-sym}
+use Rattle.clu_base.proofs.Bools.{same_truth}
 use Rattle.clu_typing.specs.Sets.{Has, HaveSame}
-
-equal_tests : (a b : Bool) → (a ≡ true → b ≡ true) → (b ≡ true → a ≡ true) → a ≡ b
-equal_tests true b to from = sym (to refl)
-equal_tests false true to from = from refl
-equal_tests false false to from = refl
 
 module _ {A : Type 0} where
   -- ---- `Contains` of std
@@ -55,7 +51,7 @@ module _ {A : Type 0} where
   equal_laws : (E : A → A → Bool) → ((x y : A) → Decides (E x y) (x ≡ y)) → IsEquivalence E
   equal_laws E same = record {
     refl = λ x. (same x x).1 refl;
-    symm = λ x y. equal_tests (E x y) (E y x) (λ e. (same y x).1 (sym ((same x y).0 e))) (λ e. (same x y).1 (sym ((same y x).0 e)));
+    symm = λ x y. same_truth (E x y) (E y x) (λ e. (same y x).1 (sym ((same x y).0 e))) (λ e. (same x y).1 (sym ((same y x).0 e)));
     congr = λ x y z e. ap (λ (w : A). E w z) ((same x y).0 e);
   }
 

@@ -48,6 +48,26 @@ fn no_facts(alloc: Global) -> Result<Box<Facts>, Memory>
     Ok(Box::new(alloc, facts)?)
 }
 
+/// Takes the memory for where the invocations of so many nodes begin.
+fn reserve_starts(list: &mut Invocations, nodes: usize) -> Result<(), Memory>
+    ensures { lists_of list.new ≡ lists_of list.old }
+{
+    list.starts.reserve(nodes)?;
+    list.operation_starts.reserve(nodes)?;
+    list.asker_starts.reserve(nodes)?;
+    Ok(())
+}
+
+/// Takes the memory for the tables of so many nodes at once.
+fn reserve(facts: &mut Facts, nodes: usize) -> Result<(), Memory>
+    ensures { HasNothing facts.old → OnOk result (HasNothing facts.new) }
+{
+    facts.types.reserve(nodes)?;
+    facts.invoked.reserve(nodes)?;
+    facts.raises.reserve(nodes)?;
+    reserve_starts(&mut facts.invocations, nodes)
+}
+
 /// Notes the type of the node n, and what is invoked, named and asked there. Gives that for which it stands.
 fn note_known(
     headed: Headed<'_>,
@@ -123,6 +143,7 @@ fn note_all(headed: Headed<'_>, types: &mut TypeArena, facts: &mut Facts) -> Res
     ensures sound { HasNothing facts.old → HaveTypes headed.entry (length types.old) → IsArena types.new → OnOk result (IsSound headed.entry types.new facts.new) }
     ensures kept { Grows types.old types.new }
 {
+    reserve(facts, headed.file.syntax.tree().len() as usize)?;
     enter_first(headed, types, facts)?;
     note_nodes(headed, types, facts)
 }

@@ -1,4 +1,4 @@
-use Rattle.clu_build.proofs.Lists.{item_at}
+use Rattle.clu_base.proofs.Lists.{item_at}
 use Rattle.clu_build.proofs.Numbering.{numbered_all, numbered_more}
 use Rattle.clu_build.proofs.specifications.add_each.Goals as goal
 

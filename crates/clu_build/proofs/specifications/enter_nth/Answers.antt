@@ -1,5 +1,5 @@
+use Rattle.clu_base.proofs.Lists.{item_at}
 use Rattle.clu_build.proofs.Adding.{one_entered}
-use Rattle.clu_build.proofs.Lists.{item_at}
 use Rattle.clu_build.proofs.specifications.enter_nth.Goals as goal
 
 pub returns-clause-entered : goal.returns-clause-entered

@@ -1,4 +1,4 @@
-use Rattle.clu_build.proofs.Lists.{item_at}
+use Rattle.clu_base.proofs.Lists.{item_at}
 use Rattle.clu_build.proofs.Replacing.{replaced_more}
 use Rattle.clu_build.proofs.specifications.replace_each.Goals as goal
 

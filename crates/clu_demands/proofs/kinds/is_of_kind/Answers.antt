@@ -1,11 +1,12 @@
 use Rattle.std.proofs.Common.{Some, true≢false, sym, ap, ◌∙◌}
-use Rattle.clu_demands.proofs.Lists.{none_is_not, same_item}
+use Rattle.std.proofs.lemmas.Option.{same_Some}
+use Rattle.clu_base.proofs.Lists.{none_is_not}
 use Rattle.clu_demands.proofs.kinds.is_of_kind.Goals as goal
 
 pub returns-in-Some : goal.returns-in-Some
 returns-in-Some c = (
   λ t. sym c.in-Some.ensures ∙ ap Some (c.is_same.ensures.0 t),
-  λ e. c.is_same.ensures.1 (same_item c.in-Some.found c.args.kind (c.in-Some.ensures ∙ e)),
+  λ e. c.is_same.ensures.1 (same_Some c.in-Some.found c.args.kind (c.in-Some.ensures ∙ e)),
 )
 
 pub returns-in-None : goal.returns-in-None

@@ -1,7 +1,8 @@
 use Rattle.std.proofs.Common.{List, sym, subst, ◌∙◌}
 use Rattle.std.specs.Vec.Iter.{into_iter_items}
+use Rattle.clu_base.proofs.Lists.{next_item}
 use Rattle.clu_demands.specs.declared.needs.Asked.{Asked}
-use Rattle.clu_demands.proofs.Lists.{Adding, adding_first, adding_more, adding_all, next_item, none_left}
+use Rattle.clu_demands.proofs.Lists.{Adding, adding_first, adding_more, adding_all, none_left}
 use Rattle.clu_demands.proofs.meeting.add_all.Goals as goal
 
 pub loop-need-init : goal.loop-need-init

@@ -1,6 +1,6 @@
 use Rattle.std.proofs.Common.{◌∙◌, ℕ, ◌+◌, List, [], ◌∷◌, ◌++◌, drop, sym, ap}
+use Rattle.clu_base.proofs.Lists.{dropped}
 use Rattle.clu_name_rules.specs.Lengths.{term_length, lengths_behind}
-use Rattle.clu_name_rules.proofs.Reckoned.{dropped}
 use Rattle.clu_name_rules.proofs.lengths.lengths_of.Goals as goal
 
 pub loop-id-preserved : goal.loop-id-preserved

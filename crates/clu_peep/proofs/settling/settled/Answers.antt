@@ -1,8 +1,8 @@
 use Rattle.std.proofs.Common.{◌≡◌, ◌∙◌, ◌||◌, Bool, List, ap, sym, subst}
 use Rattle.std.specs.Vec.Iter.{into_iter_items}
+use Rattle.clu_base.proofs.Lists.{next_item}
 use Rattle.clu_frames.specs.declared.flat.Flat.{Flat}
 use Rattle.clu_peep.specs.Left.{Adds, begins}
-use Rattle.clu_peep.proofs.Items.{next_item}
 use Rattle.clu_peep.proofs.Passing.{SettlesSoFar, settles_next}
 use Rattle.clu_peep.proofs.settling.settled.Goals as goal
 use Rattle.clu_peep.proofs.settling.settled.Goals.{then-is_passed, else-is_passed}

@@ -1,6 +1,6 @@
 use Rattle.std.proofs.Common.{◌<◌, true≢false, arith, refl, sym, length}
+use Rattle.clu_base.proofs.Lists.{some_at}
 use Rattle.clu_types.proofs.Carrying.{ids_grown, grows_on}
-use Rattle.clu_demands.proofs.Lists.{some_at}
 use Rattle.clu_demands.proofs.Closing.{given_below}
 use Rattle.clu_sound.proofs.PartsMet.{visiting_first, visiting_more, visiting_not, visiting_all, holds_now}
 use Rattle.clu_sound.proofs.visiting.are_met_with.Goals as goal

@@ -1,7 +1,7 @@
 use Rattle.std.proofs.Common.{sym, map, ◌∙◌}
+use Rattle.clu_base.proofs.Lists.{none_is_not, is_there}
 use Rattle.clu_types.specs.Arena.{types_of}
 use Rattle.clu_specs.specs.Seen.{demand_seen}
-use Rattle.clu_demands.proofs.Lists.{is_there, none_is_not}
 use Rattle.clu_sound.proofs.Growing.{below_in}
 use Rattle.clu_sound.proofs.PartsMet.{visited_at}
 use Rattle.clu_sound.proofs.visiting.visit_nth.Goals as goal

@@ -1,7 +1,7 @@
 use Rattle.std.proofs.Common.{Bool, arith, subst}
+use Rattle.clu_base.proofs.Lists.{some_at}
 use Rattle.clu_types.proofs.Carrying.{grows_on}
 use Rattle.clu_type_rules.specs.Needs.{world, Steps}
-use Rattle.clu_type_rules.proofs.Lists.{some_at}
 use Rattle.clu_type_rules.proofs.Needing.{grows_self, goes_first, goes_stands, goes_under, goes_more, goes_all, goes_none}
 use Rattle.clu_type_rules.proofs.unmet.are_met_from.Goals as goal
 

@@ -1,9 +1,10 @@
 use Rattle.std.proofs.Common.{false, get_or, ap}
+use Rattle.std.proofs.lemmas.List.{drop_more}
+use Rattle.std.proofs.lemmas.List.Elements.{Contains-get_or}
 use Rattle.clu_types.proofs.Carrying.{grows_on}
 use Rattle.clu_operations.specs.declared.found.Asked.{Asked}
 use Rattle.clu_type_rules.specs.declared.unmet.Need.{Need}
 use Rattle.clu_type_rules.specs.Needs.{world}
-use Rattle.clu_type_rules.proofs.Lists.{read_at, read_in}
 use Rattle.clu_type_rules.proofs.Needing.{grows_self}
 use Rattle.clu_type_rules.proofs.Unmeeting.{among_first, among_is_there, among_next, among_all}
 use Rattle.clu_type_rules.proofs.unmet.unmet_among.Goals as goal
@@ -22,8 +23,8 @@ loop-one-preserved c = (
       (let among = c.loop-one.invariant.1 s place rests there in
       let none : Asked = record { of = record { 0 = 0 }; operation = record { 0 = 0 }; wanted = record { 0 = 0 }; in_set = false } in
       let one : Asked = get_or c.args.asked.now c.loop-one.one-index none in
-      let at = read_at c.args.asked.now c.loop-one.one-index none c.loop-one-test.true in
-      let has = read_in c.args.asked.now c.loop-one.one-index none c.loop-one-test.true in
+      let at = drop_more c.args.asked.now c.loop-one.one-index none c.loop-one-test.true in
+      let has = Contains-get_or c.args.asked.now c.loop-one.one-index none c.loop-one-test.true in
       among_next c.args.place.headed s (world c.args.types.now c.args.finding.now) c.args.place.clauses c.args.asked.now (world c.loop-one.types c.loop-one.finding) c.loop-one.met.keys c.loop-one.unmet c.loop-one.one-index among one at has
       c.need_of.result c.need_of.ensures (world c.is_met.new.types c.is_met.new.finding) c.is_met.new.met.keys c.in_ok-met_one.met_one
       (c.in_ok-met_one.ensures.asked s place (ap (λ (x : Need). x.under) c.need_of.ensures) among.rests

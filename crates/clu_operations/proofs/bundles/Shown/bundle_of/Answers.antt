@@ -1,5 +1,5 @@
 use Rattle.std.proofs.Common.{◌∙◌, sym}
-use Rattle.clu_demands.proofs.Lists.{none_is_not}
+use Rattle.clu_base.proofs.Lists.{none_is_not}
 use Rattle.clu_operations.specs.Bundles.{form_type}
 use Rattle.clu_operations.proofs.Bundling.{all_within, all_type}
 use Rattle.clu_operations.proofs.bundles.Shown.bundle_of.Goals as goal

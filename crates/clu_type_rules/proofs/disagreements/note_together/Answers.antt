@@ -2,7 +2,7 @@ use Rattle.std.proofs.Common.{refl}
 use Rattle.std.specs.HashMap.{get}
 use Rattle.clu_type_rules.specs.Disagreeing.{same, state}
 use Rattle.clu_type_rules.proofs.Differing.{clause_noted}
-use Rattle.clu_type_rules.proofs.disagreements.note_clause.Goals as goal
+use Rattle.clu_type_rules.proofs.disagreements.note_together.Goals as goal
 
 pub returns : goal.returns
 returns c =

@@ -2,7 +2,7 @@ use Rattle.std.proofs.Common.{IfOk, subst}
 use Rattle.clu_type_rules.specs.declared.unmet.Clauses.{Clauses}
 use Rattle.clu_type_rules.specs.Askers.{asks_by_all, Brings}
 use Rattle.clu_type_rules.specs.Needs.{world}
-use Rattle.clu_type_rules.proofs.unmet.unmet_of_node.Goals as goal
+use Rattle.clu_type_rules.proofs.unmet.unmet_asked.Goals as goal
 
 pub returns-clause-asked : goal.returns-clause-asked
 returns-clause-asked c = λ s keeps askers.
