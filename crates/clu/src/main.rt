@@ -4,7 +4,7 @@
 
 use clu_base::{Memory, Sink};
 use clu_driver::clu;
-use clu_host::{Disk, InputStream, OutputStream};
+use clu_host::{Disk, InputStream, Limited, OutputStream};
 use clu_outcome::{Outcome, report};
 use std::alloc::Global;
 use std::env;
@@ -14,8 +14,8 @@ use std::rt::Env;
 
 fn main(rt: HostRuntime) -> ExitCode {
     let mut input = InputStream::new(rt.stdin());
-    let mut output = OutputStream::new(rt.stdout());
-    let mut errors = OutputStream::new(rt.stderr());
+    let mut output = OutputStream::new(Limited::new(&rt, "/dev/stdout", rt.stdout()));
+    let mut errors = OutputStream::new(Limited::new(&rt, "/dev/stderr", rt.stderr()));
     let mut files = Disk::new(&rt);
     let status = match words(&rt) {
         Ok(words) => clu(
