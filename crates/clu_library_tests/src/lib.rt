@@ -1,26 +1,19 @@
-//! Tests of what is done with whole modules: the rules of the checker as tables of sources, each with the place and rule of its
-//! refusal or `ok`; lowering and the runtime's word code; objects, libraries and the linker. It has tests alone, so that no
-//! crate below is proved twice.
+//! Tests of the check, of libraries and of the linker: the rules asked of whole sources, specifications, files of objects and of
+//! libraries, scripts over a library, and the code of operations. It has tests alone, so that no crate below is proved twice.
 #![tactic(auto)]
 
 #[cfg(test)]
-mod arena_tests;
+mod checks;
 #[cfg(test)]
-mod fields;
+mod code_rows;
+#[cfg(test)]
+mod codes;
 #[cfg(test)]
 mod file_rows;
 #[cfg(test)]
-mod file_tests;
+mod files;
 #[cfg(test)]
 mod link_rows;
-#[cfg(test)]
-mod link_tests;
-#[cfg(test)]
-mod lower_tests;
-#[cfg(test)]
-mod refusals;
-#[cfg(test)]
-mod rt_data_tests;
 #[cfg(test)]
 mod rules_actuals;
 #[cfg(test)]
@@ -60,16 +53,10 @@ mod rules_signals;
 #[cfg(test)]
 mod rules_statements;
 #[cfg(test)]
-mod rules_tests;
-#[cfg(test)]
 mod script_rows;
-#[cfg(test)]
-mod script_tests;
 #[cfg(test)]
 mod scripts;
 #[cfg(test)]
-mod table_tests;
+mod spec_rows;
 #[cfg(test)]
 mod tables;
-#[cfg(test)]
-mod word_rows;

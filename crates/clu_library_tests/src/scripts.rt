@@ -1,18 +1,21 @@
-//! Scripts over a library: steps on lines of their own, each a letter, a blank and what it takes, and after a tab what
-//! comes of it. `s` enters a specification, `r` enters one in the place of a kept one, `b` enters a body with the names of
-//! its text (`*` for all), `o` one with the object of a procedure by its nodes, a constant (`#` and its number, or a string), a
-//! type that it names and its uses, `p` a program with its modules, `m` so many procedures; `f` reads a file by its fields; `t` asks
-//! why a body is stale, `u` which specification is not met besides these, `l` what comes of linking from a module; `w` tells all
-//! that is kept.
+//! Scripts over a library: lines with a step, and after a tab what comes of it. A step is a letter and what it takes:
+//!
+//! - `s` enters a specification, `r` replaces one.
+//! - `b NAME NAMES` enters a body without routines, whose text names these modules, or all for `*`; `o NAME FIELDS` one whose
+//!   object has these fields.
+//! - `p NAME MODULES` enters a program; `f FIELDS` reads the library of a file.
+//! - `t NAME` tells why a body is stale, `u NAMES` the least module besides these whose specification isn't sound, `l START` what
+//!   comes of linking, and `w` the revision, the modules, when each changed and its body was checked, and which of the
+//!   programs `f`, `g` and `h` are there.
 
-use crate::fields::Fields;
-use crate::file_tests::read_library;
-use crate::link_tests::{enter_object, tell_linked};
+use crate::files::read_library;
 use clu_base::{Bytes, Memory, Sequence};
-use clu_library::{Body, EnterError, Library, Program, StaleBy};
-use clu_object::Object;
+use clu_library::{Body, EnterError, Library, Program};
+use clu_link::{link, link_traced};
+use clu_object::{Object, read};
+use clu_reach::LinkError;
+use clu_rows::{Fields, parts};
 use clu_specs::read_spec;
-use clu_types::Spec;
 use rv_isa::Image;
 use std::alloc::Global;
 use std::fmt::Write;
@@ -22,7 +25,6 @@ fn bytes(alloc: Global, text: &str) -> Result<Bytes, Memory> {
     Bytes::from_slice(alloc, text.as_bytes())
 }
 
-/// The names, which have blanks between.
 fn names(alloc: Global, text: &str) -> Result<Vec<Bytes>, Memory> {
     let mut names = Vec::new(alloc);
     for name in text.split(' ') {
@@ -33,53 +35,38 @@ fn names(alloc: Global, text: &str) -> Result<Vec<Bytes>, Memory> {
     Ok(names)
 }
 
-fn name_error(error: EnterError) -> &'static str {
+fn put_text(found: &mut String, text: &Bytes) -> Result<(), Fail> {
+    Ok(found.push_str(str::from_utf8(text.as_slice()).unwrap_or("?"))?)
+}
+
+/// Writes why an entry is refused.
+fn put_error(found: &mut String, error: EnterError) -> Result<(), Fail> {
     match error {
-        EnterError::Differs => "differs",
-        EnterError::Full => "full",
-        EnterError::Memory => "memory",
+        EnterError::Differs => Ok(found.push_str("differs")?),
+        EnterError::Full => Ok(found.push_str("full")?),
+        EnterError::Memory => Err("out of memory")?,
     }
 }
 
-fn enter(library: &mut Library, alloc: Global, text: &str) -> Result<&'static str, Fail> {
-    match read_spec(alloc, text.as_bytes()) {
-        Ok(spec) => match library.enter_spec(alloc, spec) {
-            Ok(()) => Ok("ok"),
-            Err(error) => Ok(name_error(error)),
-        },
-        Err(_) => Err(format!(in alloc; "no specification: {text}")?)?,
+/// Enters a specification, or replaces one.
+fn put_spec(
+    alloc: Global,
+    found: &mut String,
+    library: &mut Library,
+    text: &str,
+    is_new: bool,
+) -> Result<(), Fail> {
+    let spec = read_spec(alloc, text.as_bytes())?;
+    if is_new {
+        return match library.enter_spec(alloc, spec) {
+            Ok(()) => Ok(found.push_str("ok")?),
+            Err(error) => put_error(found, error),
+        };
     }
-}
-
-fn enter_many(library: &mut Library, alloc: Global, count: &str) -> Result<&'static str, Fail> {
-    for n in 0..count.parse::<u32>()? {
-        let text = format!(in alloc; "m{n}=proc()")?;
-        if enter(library, alloc, text.as_str())? != "ok" {
-            return Ok("not all");
-        }
-    }
-    Ok("ok")
-}
-
-fn read_fields(library: &mut Library, alloc: Global, row: &str) -> Result<&'static str, Fail> {
-    let fields = Fields::of(alloc, row)?;
-    match read_library(alloc, fields.bytes.as_slice()) {
-        Ok(read) => {
-            *library = Box::into_inner(read);
-            Ok("ok")
-        }
-        Err(_) => Ok("bad"),
-    }
-}
-
-fn replace(library: &mut Library, alloc: Global, text: &str) -> Result<&'static str, Fail> {
-    match read_spec(alloc, text.as_bytes()) {
-        Ok(spec) => match library.replace_spec(alloc, spec) {
-            Ok(true) => Ok("true"),
-            Ok(false) => Ok("false"),
-            Err(error) => Ok(name_error(error)),
-        },
-        Err(_) => Err(format!(in alloc; "no specification: {text}")?)?,
+    match library.replace_spec(alloc, spec) {
+        Ok(true) => Ok(found.push_str("true")?),
+        Ok(false) => Ok(found.push_str("false")?),
+        Err(error) => put_error(found, error),
     }
 }
 
@@ -92,7 +79,7 @@ fn listed(alloc: Global, named: &str) -> Result<Option<Sequence<Bytes>>, Memory>
 }
 
 /// A body without routines, whose text names these modules.
-fn body(alloc: Global, name: &str, named: &str) -> Result<Box<Body>, Memory> {
+fn named_body(alloc: Global, name: &str, named: &str) -> Result<Box<Body>, Memory> {
     let module = bytes(alloc, name)?;
     let text = bytes(alloc, "text")?;
     let names = listed(alloc, named)?;
@@ -108,144 +95,200 @@ fn body(alloc: Global, name: &str, named: &str) -> Result<Box<Body>, Memory> {
     Ok(Box::new(alloc, body)?)
 }
 
-fn enter_body(library: &mut Library, alloc: Global, text: &str) -> Result<&'static str, Fail> {
-    let (name, named) = text.split_once(' ').unwrap_or((text, ""));
-    let module = bytes(alloc, name)?;
-    if library.spec(&module).is_none() {
-        return Ok("no specification");
-    }
-    let body = body(alloc, name, named)?;
-    library.enter_body(alloc, &module, Box::into_inner(body))?;
-    Ok("ok")
+/// A body with the object of these fields, whose text names all modules.
+fn object_body(alloc: Global, given: &str) -> Result<Box<Body>, Fail> {
+    let fields = Fields::of(alloc, given)?;
+    let text = bytes(alloc, "")?;
+    let object = Box::new(alloc, read(alloc, fields.bytes.as_slice())?)?;
+    let body = Body {
+        text,
+        names: None,
+        checked: 0,
+        object: Box::into_inner(object),
+    };
+    Ok(Box::new(alloc, body)?)
 }
 
-/// The image of one instruction and nothing else.
-fn image(alloc: Global) -> Result<Box<Image>, Fail> {
+fn enter_body(
+    alloc: Global,
+    found: &mut String,
+    library: &mut Library,
+    name: &str,
+    body: Box<Body>,
+) -> Result<(), Fail> {
+    let name = bytes(alloc, name)?;
+    if library.spec(&name).is_none() {
+        return Err("no specification")?;
+    }
+    library.enter_body(alloc, &name, Box::into_inner(body))?;
+    Ok(found.push_str("ok")?)
+}
+
+/// A program of these modules with the image of one instruction.
+fn program(alloc: Global, name: &str, modules: &str) -> Result<Box<Program>, Fail> {
     let code = vec![in alloc; 0x73]?;
+    let name = bytes(alloc, name)?;
+    let start = bytes(alloc, "p")?;
+    let modules = Sequence::from_vec(names(alloc, modules)?);
     match Image::new(0, code, Vec::new(alloc), Vec::new(alloc)) {
-        Some(image) => Ok(Box::new(alloc, image)?),
+        Some(image) => Ok(Box::new(
+            alloc,
+            Program {
+                name,
+                start,
+                modules,
+                image,
+            },
+        )?),
         None => Err("no image")?,
     }
 }
 
-fn program(alloc: Global, name: &str, listed: &str) -> Result<Box<Program>, Fail> {
-    let name = bytes(alloc, name)?;
-    let start = bytes(alloc, "p")?;
-    let modules = Sequence::from_vec(names(alloc, listed)?);
-    let image = image(alloc)?;
-    let program = Program {
-        name,
-        start,
-        modules,
-        image: Box::into_inner(image),
-    };
-    Ok(Box::new(alloc, program)?)
-}
-
-fn enter_program(library: &mut Library, alloc: Global, text: &str) -> Result<&'static str, Fail> {
-    let (name, listed) = text.split_once(' ').unwrap_or((text, ""));
-    let program = program(alloc, name, listed)?;
-    match library.enter_program(Box::into_inner(program)) {
-        Ok(()) => Ok("ok"),
-        Err(error) => Ok(name_error(error)),
-    }
-}
-
-fn tell(out: &mut String, name: &Bytes) -> Result<(), Fail> {
-    out.push_str(std::str::from_utf8(name.as_slice()).unwrap_or("?"))?;
-    Ok(())
-}
-
-fn tell_reason(out: &mut String, found: &Option<StaleBy>) -> Result<(), Fail> {
-    match found {
-        Some(stale) => {
-            tell(out, &stale.by)?;
-            Ok(write!(out, " {} {}", stale.changed, stale.checked)?)
-        }
-        None => Ok(out.push_str("-")?),
-    }
-}
-
-fn tell_stale(out: &mut String, library: &Library, alloc: Global, name: &str) -> Result<(), Fail> {
-    let name = bytes(alloc, name)?;
-    let found = library.stale(alloc, &name)?;
-    tell_reason(out, &found)
-}
-
-fn tell_unmet(
-    out: &mut String,
-    library: &Library,
+fn put_program(
     alloc: Global,
-    besides: &str,
+    found: &mut String,
+    library: &mut Library,
+    name: &str,
+    modules: &str,
 ) -> Result<(), Fail> {
-    let besides = names(alloc, besides)?;
-    match library.unmet(alloc, besides.as_slice())? {
-        Some(name) => tell(out, &name),
-        None => Ok(out.push_str("-")?),
+    let program = program(alloc, name, modules)?;
+    match library.enter_program(Box::into_inner(program)) {
+        Ok(()) => Ok(found.push_str("ok")?),
+        Err(error) => put_error(found, error),
     }
 }
 
-/// Tells of a module its name, when it changed, and when its body was checked.
-fn tell_module(out: &mut String, library: &Library, spec: &Spec) -> Result<(), Fail> {
-    tell(out, &spec.name)?;
-    write!(out, " {}", library.changed(&spec.name).unwrap_or(0))?;
-    if let Some(body) = library.body(&spec.name) {
-        write!(out, " {}", body.checked)?;
-    }
-    Ok(out.push_str(",")?)
+/// Reads the library of a file by its fields.
+fn read_fields(alloc: Global, library: &mut Library, row: &str) -> Result<(), Fail> {
+    let fields = Fields::of(alloc, row)?;
+    *library = Box::into_inner(read_library(alloc, fields.bytes.as_slice())?);
+    Ok(())
 }
 
-fn tell_modules(out: &mut String, library: &Library) -> Result<(), Fail> {
-    for n in 0..4096 {
-        match library.specs().at(n) {
-            Some(spec) => tell_module(out, library, spec)?,
-            None => return Ok(()),
+/// Writes what makes a body stale, and both revisions.
+fn put_stale(alloc: Global, found: &mut String, library: &Library, name: &str) -> Result<(), Fail> {
+    let name = bytes(alloc, name)?;
+    match &library.stale(alloc, &name)? {
+        Some(stale) => {
+            put_text(found, &stale.by)?;
+            Ok(write!(found, " {} {}", stale.changed, stale.checked)?)
         }
+        None => Ok(found.push_str("-")?),
+    }
+}
+
+fn put_unmet(alloc: Global, found: &mut String, library: &Library, left: &str) -> Result<(), Fail> {
+    let left = names(alloc, left)?;
+    match &library.unmet(alloc, left.as_slice())? {
+        Some(name) => put_text(found, name),
+        None => Ok(found.push_str("-")?),
+    }
+}
+
+/// Writes of each module its name, when it changed, and when its body was checked.
+fn put_modules(found: &mut String, library: &Library) -> Result<(), Fail> {
+    write!(found, "{} ", library.revision())?;
+    for n in 0..4096 {
+        let Some(spec) = library.specs().at(n) else {
+            return Ok(());
+        };
+        put_text(found, &spec.name)?;
+        write!(found, " {}", library.changed(&spec.name).unwrap_or(0))?;
+        if let Some(body) = library.body(&spec.name) {
+            write!(found, " {}", body.checked)?;
+        }
+        found.push_str(",")?;
     }
     Ok(())
 }
 
-/// Tells which of the programs `f`, `g` and `h` are there.
-fn tell_programs(out: &mut String, library: &Library, alloc: Global) -> Result<(), Fail> {
+fn put_all(alloc: Global, found: &mut String, library: &Library) -> Result<(), Fail> {
+    put_modules(found, library)?;
     for name in ["f", "g", "h"] {
         if library.program(&bytes(alloc, name)?).is_some() {
-            out.push_str(name)?;
+            found.push_str(name)?;
         }
     }
     Ok(())
 }
 
-fn tell_all(out: &mut String, library: &Library, alloc: Global) -> Result<(), Fail> {
-    write!(out, "{} ", library.revision())?;
-    tell_modules(out, library)?;
-    tell_programs(out, library, alloc)
+fn put_link_error(found: &mut String, error: &LinkError) -> Result<(), Fail> {
+    let (word, name) = match error {
+        LinkError::NoModule(name) => ("no module ", name.as_slice()),
+        LinkError::BadStart(name) => ("bad start ", name.as_slice()),
+        LinkError::NoBody(name) => ("no body ", name.as_slice()),
+        LinkError::Misfit(name) => ("misfit ", name.as_slice()),
+        LinkError::TooManyInstances => ("too many instances", b"".as_slice()),
+        LinkError::ProgramTooLarge => ("too large", b"".as_slice()),
+        _ => ("another", b"".as_slice()),
+    };
+    Ok(write!(found, "{word}{}", str::from_utf8(name).unwrap_or("?"))?)
 }
 
-fn tell_word(out: &mut String, word: Result<&'static str, Fail>) -> Result<(), Fail> {
-    out.push_str(word?)?;
+/// Writes what comes of linking from a start, which is the same with a map.
+fn put_linked(
+    alloc: Global,
+    found: &mut String,
+    library: &Library,
+    start: &str,
+) -> Result<(), Fail> {
+    let start = bytes(alloc, start)?;
+    let is_linked = match &link(alloc, library, &start) {
+        Ok(_) => true,
+        Err(error) => {
+            put_link_error(found, error)?;
+            false
+        }
+    };
+    let is_traced = link_traced(alloc, library, &start).is_ok();
+    if is_traced != is_linked {
+        return Err("another end with a map")?;
+    }
+    if is_linked {
+        found.push_str("linked")?;
+    }
     Ok(())
 }
 
-/// Does a step, and appends what comes of it.
-pub fn step(
-    out: &mut String,
-    library: &mut Library,
+/// Does a step, and writes what comes of it.
+fn put_step(
     alloc: Global,
+    found: &mut String,
+    library: &mut Library,
     sort: &str,
     text: &str,
 ) -> Result<(), Fail> {
-    match sort.as_bytes() {
-        [b's'] => tell_word(out, enter(library, alloc, text)),
-        [b'r'] => tell_word(out, replace(library, alloc, text)),
-        [b'b'] => tell_word(out, enter_body(library, alloc, text)),
-        [b'p'] => tell_word(out, enter_program(library, alloc, text)),
-        [b'm'] => tell_word(out, enter_many(library, alloc, text)),
-        [b'o'] => tell_word(out, enter_object(library, alloc, text)),
-        [b'f'] => tell_word(out, read_fields(library, alloc, text)),
-        [b't'] => tell_stale(out, library, alloc, text),
-        [b'u'] => tell_unmet(out, library, alloc, text),
-        [b'l'] => tell_linked(out, library, alloc, text),
-        [b'w'] => tell_all(out, library, alloc),
-        _ => Err("no step")?,
+    let (name, rest) = text.split_once(' ').unwrap_or((text, ""));
+    match sort {
+        "s" => put_spec(alloc, found, library, text, true),
+        "r" => put_spec(alloc, found, library, text, false),
+        "b" => enter_body(alloc, found, library, name, named_body(alloc, name, rest)?),
+        "o" => enter_body(alloc, found, library, name, object_body(alloc, rest)?),
+        "p" => put_program(alloc, found, library, name, rest),
+        "f" => {
+            read_fields(alloc, library, text)?;
+            Ok(found.push_str("ok")?)
+        }
+        "t" => put_stale(alloc, found, library, text),
+        "u" => put_unmet(alloc, found, library, text),
+        "l" => put_linked(alloc, found, library, text),
+        _ => put_all(alloc, found, library),
     }
+}
+
+/// Writes `kept` if what a script tells comes of each of its steps, and else what does.
+pub fn put_script(alloc: Global, found: &mut String, script: &str) -> Result<(), Fail> {
+    let mut library = Box::new(alloc, Library::empty(alloc))?;
+    for line in script.split_terminator('\n') {
+        let (step, _) = line.split_once('\t').unwrap_or((line, ""));
+        let (sort, text) = step.split_once(' ').unwrap_or((step, ""));
+        write!(found, "{step}\t")?;
+        put_step(alloc, found, &mut library, sort, text)?;
+        found.push_str("\n")?;
+    }
+    if found.as_str() == script {
+        found.clear();
+        found.push_str("kept")?;
+    }
+    Ok(())
 }

@@ -6,51 +6,10 @@ use std::alloc::Global;
 use std::test::Fail;
 
 /// The file that a call finds.
-pub const FILE: &str = "a";
+const FILE: &str = "a";
 
 /// The file that `go` puts.
 pub const IMAGE: &str = "b";
-
-/// The numbers of the calls that fail.
-#[derive(Drop)]
-struct Faults {
-    input: Vec<u64>,
-    output: Vec<u64>,
-    errors: Vec<u64>,
-    files: Vec<u64>,
-}
-
-impl Faults {
-    /// What fails is named by words with blanks between them: the first `read` of the input, the first `write` of the
-    /// output, the first line to `errors`, the `get` of the first file that the command reads, and the `put` after it; of a
-    /// command that reads two files `put` is the get of the second one, and `last` the put.
-    fn named(alloc: Global, words: &str) -> Result<Faults, Fail> {
-        let mut faults = Faults {
-            input: Vec::new(alloc),
-            output: Vec::new(alloc),
-            errors: Vec::new(alloc),
-            files: Vec::new(alloc),
-        };
-        for word in words.split(' ') {
-            faults.add(word)?;
-        }
-        Ok(faults)
-    }
-
-    /// Call 0 of the store is the put of `FILE`.
-    fn add(&mut self, word: &str) -> Result<(), Fail> {
-        match word {
-            "read" => Ok(self.input.push(0)?),
-            "write" => Ok(self.output.push(0)?),
-            "errors" => Ok(self.errors.push(0)?),
-            "get" => Ok(self.files.push(1)?),
-            "put" => Ok(self.files.push(2)?),
-            "last" => Ok(self.files.push(3)?),
-            "" => Ok(()),
-            _ => Err("no such fault")?,
-        }
-    }
-}
 
 /// The outside of a call.
 #[derive(Drop)]
@@ -61,40 +20,70 @@ pub struct Outside {
     pub files: MemStore,
 }
 
+/// `[0]`, if a word stands in a text of words with blanks between them.
+fn first_if(alloc: Global, words: &str, word: &str) -> Result<Vec<u64>, Memory> {
+    let mut calls = Vec::new(alloc);
+    for one in words.split(' ') {
+        if one == word {
+            calls.push(0)?;
+        }
+    }
+    Ok(calls)
+}
+
+/// The numbers of the calls of the store that fail, where call 0 is the put of `FILE`.
+fn failing_calls(alloc: Global, words: &str) -> Result<Vec<u64>, Fail> {
+    let mut calls = Vec::new(alloc);
+    for word in words.split(' ') {
+        match word {
+            "get" => calls.push(1)?,
+            "put" => calls.push(2)?,
+            "last" => calls.push(3)?,
+            "read" | "write" | "errors" | "" => {}
+            _ => return Err("no such fault")?,
+        }
+    }
+    Ok(calls)
+}
+
 impl Outside {
-    /// One with this input and this content of `FILE`, in which what is named fails.
+    /// One with this input, whose calls of the store fail that have these numbers; a put leaves so many bytes then. What else
+    /// fails is named by words with blanks between them: the first `read` of the input, the first `write` of the output, the
+    /// first line to `errors`.
+    pub fn failing(
+        alloc: Global,
+        input: &[u8],
+        faults: &str,
+        calls: Vec<u64>,
+        torn: usize,
+    ) -> Result<Box<Outside>, Memory> {
+        let input = Bytes::from_slice(alloc, input)?;
+        let outside = Outside {
+            input: MemSource::new(input, 64, first_if(alloc, faults, "read")?),
+            output: MemSink::new(alloc, 65_536, 64, first_if(alloc, faults, "write")?)?,
+            errors: MemSink::new(alloc, 1024, 64, first_if(alloc, faults, "errors")?)?,
+            files: MemStore::new(alloc, calls, torn),
+        };
+        Ok(Box::new(alloc, outside)?)
+    }
+
+    /// One with this content of `FILE`. Of the store there fail, by these words too, the `get` of the first file that the
+    /// command reads, and the `put` after it; of a command that reads two files `put` is the get of the second one, and `last`
+    /// the put.
     pub fn new(
         alloc: Global,
         input: &[u8],
         content: &[u8],
         faults: &str,
     ) -> Result<Box<Outside>, Fail> {
-        let faults = Faults::named(alloc, faults)?;
-        let mut outside = Outside::failing(alloc, input, faults)?;
+        let calls = failing_calls(alloc, faults)?;
+        let mut outside = Outside::failing(alloc, input, faults, calls, 5)?;
         outside.files.put(alloc, FILE, content)?;
         Ok(outside)
     }
 
-    /// One whose store call of this number fails; if it is a put it leaves so many bytes.
-    pub fn with_failing_call(alloc: Global, call: u64, torn: usize) -> Result<Box<Outside>, Fail> {
-        let mut outside = Outside::failing(alloc, b"", Faults::named(alloc, "")?)?;
-        outside.files = MemStore::new(alloc, vec![in alloc; call]?, torn);
-        Ok(outside)
-    }
-
-    fn failing(alloc: Global, input: &[u8], faults: Faults) -> Result<Box<Outside>, Memory> {
-        let input = Bytes::from_slice(alloc, input)?;
-        let outside = Outside {
-            input: MemSource::new(input, 64, faults.input),
-            output: MemSink::new(alloc, 65_536, 64, faults.output)?,
-            errors: MemSink::new(alloc, 1024, 64, faults.errors)?,
-            files: MemStore::new(alloc, faults.files, 5),
-        };
-        Ok(Box::new(alloc, outside)?)
-    }
-
     /// The status of a call with these words, which have blanks between them.
-    pub fn call(&mut self, alloc: Global, words: &str) -> Result<u8, Fail> {
+    pub fn call(&mut self, alloc: Global, words: &str) -> Result<u8, Memory> {
         let words = words_of(alloc, words)?;
         Ok(clu(
             alloc,
@@ -118,12 +107,14 @@ impl Outside {
         )
     }
 
-    /// Whether a call of this status left `IMAGE` as it was, if it is a refusal before the put.
-    pub fn is_kept(&self, status: u8) -> bool {
-        match status {
-            2 | 10..=21 | 25..=31 => self.files.file(IMAGE).is_none(),
-            _ => true,
-        }
+    /// What was written.
+    pub fn written(&self) -> &str {
+        str::from_utf8(self.output.bytes()).unwrap_or("?")
+    }
+
+    /// What was written on the errors.
+    pub fn told(&self) -> &str {
+        str::from_utf8(self.errors.bytes()).unwrap_or("?")
     }
 }
 

@@ -1,9 +1,9 @@
 //! Sessions of the commands on libraries.
 
-/// How many sessions `SESSIONS` has.
-pub const SESSION_COUNT: usize = 11;
+/// How many rows `SESSIONS` has.
+pub const SESSIONS_COUNT: usize = 11;
 
-/// Sessions in the form of `sessions`, each ended by byte 0.
+/// Sessions in the form of `sessions`.
 pub const SESSIONS: &str = "\
 file p.clu\n\
 |. p = proc () q() end p\n\
@@ -43,7 +43,7 @@ $ run L g\n\
 $ xref L\n\
 > p: q\n\
 > q:\n\
-\0\
+\tgives kept\0\
 file p.clu\n\
 |. p = proc () q() end p\n\
 file q.clu\n\
@@ -81,7 +81,7 @@ $ run L g\n\
 $ xref L\n\
 > p: q\n\
 > q:\n\
-\0\
+\tgives kept\0\
 file s.clu\n\
 |. s = cluster [t: type] is make rep = null make = proc () returns (cvt) return (nil) end make end s\n\
 file v.clu\n\
@@ -96,7 +96,7 @@ $ replace L v.clu\n\
 $ xref L\n\
 > s: -\n\
 > u: -\n\
-\0\
+\tgives kept\0\
 hex L 43 4c 55 4c 01 00 00 00 01 00 00 00 00 00 00 00 01 00 71 08 00 00 00 00 00 00 00 71 3d 70 72 6f 63 28 29 00\n\
 file r.clu\n\
 |. q = proc (x: int) end q\n\
@@ -107,10 +107,10 @@ $ spec L r.clu\n\
 = 13\n\
 $ replace L r.clu\n\
 head L\n\
-& 434c554c020000000100000001000000\n\
+& 43 4c 55 4c 02 00 00 00 01 00 00 00 01 00 00 00\n\
 $ xref L\n\
 > q: -\n\
-\0\
+\tgives kept\0\
 hex L 43 4c 55 4c 01 00 00 00 01 00 00 00 00 00 00 00 01 00 71 08 00 00 00 00 00 00 00 71 3d 70 72 6f 63 28 29\n\
 $ xref L\n\
 ! library bad at 35\n\
@@ -119,7 +119,7 @@ hex L 43 4c 55 4c 01 00 00 00 01 00 00 00 00 00 00 00 01 00 71 08 00 00 00 00 00
 $ xref L\n\
 ! library bad at 36\n\
 = 12\n\
-\0\
+\tgives kept\0\
 file both.clu\n\
 | tally = cluster [t: type] is note where t has equal: proctype (t, t) returns (bool)\n\
 |   rep = null\n\
@@ -155,7 +155,7 @@ $ run --store 65536 --stack=65536 L g\n\
 $ xref L\n\
 > start_up: tally\n\
 > tally:\n\
-\0\
+\tgives kept\0\
 file p.clu\n\
 |. p = proc () q() end p\n\
 file q.clu\n\
@@ -182,7 +182,7 @@ $ run L g\n\
 $ compile L p.clu\n\
 $ run L g\n\
 > q\n\
-\0\
+\tgives kept\0\
 file a.clu\n\
 |. start_up = proc () s() n() end start_up\n\
 file s.clu\n\
@@ -207,13 +207,13 @@ $ compile L n.clu\n\
 $ link L g start_up\n\
 ! stale: s: t changed at 1, checked at 0\n\
 = 28\n\
-\0\
+\tgives kept\0\
 file z.clu\n\
 |. z = proc () end z\n\
 file a.clu\n\
-|^ q = proc [a, b: int] () end q r = proc [a: int] () ^64^q[a, ?]() ^end r start_up = proc () z() ^64^r[?]() ^end start_up\n\
+|@ q = proc [a, b: int] () end q r = proc [a: int] () ^64^q[a, ?]() ^end r start_up = proc () z() ^64^r[?]() ^end start_up\n\
 file b.clu\n\
-|^ p = proc [n: int] () x: int := 0 ^900^x := x + n ^if x ~= 900 * n then signal failure(\"sum\") end end p start_up = proc () ^80^p[?]() ^z() end start_up\n\
+|@ p = proc [n: int] () x: int := 0 ^900^x := x + n ^if x ~= 900 * n then signal failure(\"sum\") end end p start_up = proc () ^80^p[?]() ^z() end start_up\n\
 $ spec L z.clu\n\
 $ spec M z.clu\n\
 $ compile L a.clu\n\
@@ -228,9 +228,9 @@ $ compile M z.clu\n\
 $ link M g start_up\n\
 ! program too large\n\
 = 18\n\
-\0\
+\tgives kept\0\
 file all.clu\n\
-|^ ^4096^k? = proc () end k? ^\n\
+|@ ^4096^k? = proc () end k? ^\n\
 file first.clu\n\
 |. x = proc () end x k0 = proc (y: int) end k0\n\
 file second.clu\n\
@@ -256,9 +256,9 @@ $ replace L more.clu\n\
 = 21\n\
 $ replace L one.clu\n\
 $ spec L one.clu\n\
-\0\
+\tgives kept\0\
 file a.clu\n\
-|^ p = proc () returns (int) n: int := 1 n := 2 n := 3 while true do if n = 3 then break end end return (n) end p start_up = proc () @#p())) end start_up\n\
+|@ p = proc () returns (int) n: int := 1 n := 2 n := 3 while true do if n = 3 then break end end return (n) end p start_up = proc () @#p())) end start_up\n\
 $ compile L a.clu\n\
 $ compile --peep M a.clu\n\
 $ link L g start_up\n\
@@ -271,5 +271,5 @@ $ run M g\n\
 $ compile M a.clu\n\
 $ run M g\n\
 > 3\n\
-\0\
+\tgives kept\0\
 ";

@@ -1,15 +1,16 @@
 //! Sessions: commands one after the other over one store, and what comes of each. A session is lines of text:
 //!
 //! - `file NAME` begins a file; its lines stand after it with `| ` before each, a last line without byte 10 with `|. `, or, if it
-//!   is short as `rows` reads it, with `|^ `.
-//! - `hex NAME BYTES` is a file by numbers of two hexadecimal digits.
+//!   is short as `calls` reads it, with `|@ `.
+//! - `hex NAME BYTES` is a file by numbers of two hexadecimal digits, `fields NAME FIELDS` one by its fields.
 //! - `$ WORDS` is a command; after it stand its lines of output with `> ` before each, those of its errors with `! `, and
 //!   `= ` with a status other than 0. A command that is refused leaves the file of its second word as it was.
 //! - `head NAME` shows the first bytes of a file: after it stand `& ` and their digits.
 
+use crate::calls::put_long;
 use crate::outside::Outside;
-use crate::rows::{bytes_of, spelled};
 use clu_base::Store;
+use clu_rows::{Fields, bytes_of, put_bytes};
 use std::alloc::Global;
 use std::fmt::Write;
 use std::test::Fail;
@@ -20,6 +21,7 @@ const HEAD: usize = 16;
 /// A session, and what was found of it so far.
 #[derive(Drop)]
 struct Session {
+    alloc: Global,
     outside: Box<Outside>,
     /// The file that is being written, and its content.
     name: String,
@@ -27,145 +29,117 @@ struct Session {
     found: String,
 }
 
+/// Writes `kept` if a session comes to what it shows, and else what it comes to.
+pub fn put_session(alloc: Global, found: &mut String, text: &str) -> Result<(), Fail> {
+    let session = Session {
+        alloc,
+        outside: Outside::failing(alloc, b"", "", Vec::new(alloc), 0)?,
+        name: String::new(alloc),
+        content: String::new(alloc),
+        found: String::new(alloc),
+    };
+    let mut session = Box::new(alloc, session)?;
+    for line in text.split_terminator('\n') {
+        session.do_line(line)?;
+    }
+    if session.found.as_str() == text {
+        return Ok(found.push_str("kept")?);
+    }
+    Ok(found.push_str(session.found.as_str())?)
+}
+
 impl Session {
-    fn new(alloc: Global) -> Result<Box<Session>, Fail> {
-        let session = Session {
-            outside: Outside::new(alloc, b"", b"", "")?,
-            name: String::new(alloc),
-            content: String::new(alloc),
-            found: String::new(alloc),
-        };
-        Ok(Box::new(alloc, session)?)
-    }
-
-    /// Does what a line says, and notes the line with what came of it.
-    fn do_line(&mut self, alloc: Global, line: &str) -> Result<(), Fail> {
-        if let Some(name) = line.strip_prefix("file ") {
-            self.begin_file(alloc, name)?;
-            return self.note(line);
-        }
-        if let Some(text) = line.strip_prefix("| ") {
-            writeln!(self.content, "{text}")?;
-            return self.note(line);
-        }
-        if let Some(text) = line.strip_prefix("|. ") {
-            self.content.push_str(text)?;
-            return self.note(line);
-        }
-        if let Some(short) = line.strip_prefix("|^ ") {
-            self.content.push_str(&spelled(alloc, short)?)?;
-            return self.note(line);
-        }
-        if let Some(words) = line.strip_prefix("$ ") {
-            self.note(line)?;
-            return self.call(alloc, words);
-        }
-        self.do_other_line(alloc, line)
-    }
-
-    /// Does what a line says that is none of a file and no command.
-    fn do_other_line(&mut self, alloc: Global, line: &str) -> Result<(), Fail> {
-        if let Some(name) = line.strip_prefix("head ") {
-            self.note(line)?;
-            return self.show_head(name);
-        }
-        let Some(file) = line.strip_prefix("hex ") else {
+    /// Does what a line says, and notes the line with what came of it. Lines that show what comes of others are left out.
+    fn do_line(&mut self, line: &str) -> Result<(), Fail> {
+        let (sort, rest) = line.split_once(' ').unwrap_or((line, ""));
+        if matches!(sort, ">" | "!" | "=" | "&") {
             return Ok(());
-        };
-        let (name, digits) = file.split_once(' ').unwrap_or(("", ""));
-        self.outside
-            .files
-            .put(alloc, name, &bytes_of(alloc, digits)?)?;
-        self.note(line)
+        }
+        writeln!(self.found, "{line}")?;
+        match sort {
+            "|" => Ok(writeln!(self.content, "{rest}")?),
+            "|." => Ok(self.content.push_str(rest)?),
+            "|@" => put_long(&mut self.content, rest),
+            "file" => self.begin_file(rest),
+            "$" => self.call(rest),
+            "head" => self.show_head(rest),
+            _ => self.put_file(sort, rest),
+        }
     }
 
-    fn note(&mut self, line: &str) -> Result<(), Fail> {
-        Ok(writeln!(self.found, "{line}")?)
+    /// Puts a file by its bytes or its fields.
+    fn put_file(&mut self, sort: &str, rest: &str) -> Result<(), Fail> {
+        let (name, given) = rest.split_once(' ').unwrap_or((rest, ""));
+        match sort {
+            "hex" => {
+                let bytes = bytes_of(self.alloc, given)?;
+                Ok(self.outside.files.put(self.alloc, name, bytes.as_slice())?)
+            }
+            "fields" => {
+                let fields = Fields::of(self.alloc, given)?;
+                Ok(
+                    self.outside
+                        .files
+                        .put(self.alloc, name, fields.bytes.as_slice())?,
+                )
+            }
+            _ => Err("no such line")?,
+        }
     }
 
-    fn begin_file(&mut self, alloc: Global, name: &str) -> Result<(), Fail> {
-        self.end_file(alloc)?;
-        self.name = String::from_str(alloc, name)?;
-        Ok(())
+    fn begin_file(&mut self, name: &str) -> Result<(), Fail> {
+        self.end_file()?;
+        Ok(self.name.push_str(name)?)
     }
 
     /// Puts the file that was written.
-    fn end_file(&mut self, alloc: Global) -> Result<(), Fail> {
-        if self.name.is_empty() {
-            return Ok(());
+    fn end_file(&mut self) -> Result<(), Fail> {
+        if !self.name.is_empty() {
+            let content = self.content.as_bytes();
+            self.outside
+                .files
+                .put(self.alloc, self.name.as_str(), content)?;
         }
-        self.outside
-            .files
-            .put(alloc, &self.name, self.content.as_bytes())?;
         self.name.clear();
         self.content.clear();
         Ok(())
     }
 
-    fn call(&mut self, alloc: Global, words: &str) -> Result<(), Fail> {
-        self.end_file(alloc)?;
+    fn call(&mut self, words: &str) -> Result<(), Fail> {
+        self.end_file()?;
         let library = words.split(' ').nth(1).unwrap_or("");
-        let kept = self.content_of(alloc, library)?;
-        let output = self.outside.output.bytes().len();
-        let errors = self.outside.errors.bytes().len();
-        let status = self.outside.call(alloc, words)?;
-        put_lines(
-            &mut self.found,
-            ">",
-            after(self.outside.output.bytes(), output),
-        )?;
-        put_lines(
-            &mut self.found,
-            "!",
-            after(self.outside.errors.bytes(), errors),
-        )?;
+        let kept = self
+            .outside
+            .files
+            .file(library)
+            .unwrap_or(b"")
+            .to_vec(self.alloc)?;
+        let output = self.outside.written().len();
+        let errors = self.outside.told().len();
+        let status = self.outside.call(self.alloc, words)?;
+        put_lines(&mut self.found, ">", self.outside.written(), output)?;
+        put_lines(&mut self.found, "!", self.outside.told(), errors)?;
         if status == 0 {
             return Ok(());
         }
-        writeln!(self.found, "= {status}")?;
-        if self.content_of(alloc, library)? == kept {
-            Ok(())
-        } else {
-            Err("a refused command changes no library")?
+        if self.outside.files.file(library).unwrap_or(b"") != kept.as_slice() {
+            return Err("a refused command changes no library")?;
         }
-    }
-
-    /// A copy of a file's content; nothing if there is none.
-    fn content_of(&self, alloc: Global, name: &str) -> Result<Vec<u8>, Fail> {
-        Ok(self.outside.files.file(name).unwrap_or(b"").to_vec(alloc)?)
+        Ok(writeln!(self.found, "= {status}")?)
     }
 
     fn show_head(&mut self, name: &str) -> Result<(), Fail> {
-        let Some(bytes) = self.outside.files.file(name) else {
-            return Err("no such file")?;
-        };
-        self.found.push_str("& ")?;
-        for byte in bytes.iter().take(HEAD) {
-            write!(self.found, "{byte:02x}")?;
-        }
+        let bytes = self.outside.files.file(name).unwrap_or(b"");
+        self.found.push_str("&")?;
+        put_bytes(&mut self.found, bytes.get(..HEAD).unwrap_or(bytes))?;
         Ok(self.found.push_str("\n")?)
     }
 }
 
-/// The bytes from a place on.
-fn after(bytes: &[u8], start: usize) -> &[u8] {
-    bytes.get(start..).unwrap_or(b"")
-}
-
-/// Appends lines, each with a mark and a blank before it.
-fn put_lines(found: &mut String, mark: &str, bytes: &[u8]) -> Result<(), Fail> {
-    let text = std::str::from_utf8(bytes).unwrap_or("?");
-    for line in text.split_terminator('\n') {
+/// Appends the lines of a text from a place on, each with a mark and a blank before it.
+fn put_lines(found: &mut String, mark: &str, text: &str, start: usize) -> Result<(), Fail> {
+    for line in text.get(start..).unwrap_or("?").split_terminator('\n') {
         writeln!(found, "{mark} {line}")?;
     }
     Ok(())
-}
-
-/// A session as it was found.
-pub fn found_of_session(alloc: Global, text: &str) -> Result<String, Fail> {
-    let mut session = Session::new(alloc)?;
-    for line in text.split_terminator('\n') {
-        session.do_line(alloc, line)?;
-    }
-    Ok(Box::into_inner(session).found)
 }

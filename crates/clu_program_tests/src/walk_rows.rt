@@ -1,9 +1,9 @@
 //! The session that docs/library.md shows, which `.ci/walks` compares with it.
 
-/// How many sessions `WALKS` has.
-pub const WALK_COUNT: usize = 1;
+/// How many rows `WALKS` has.
+pub const WALKS_COUNT: usize = 1;
 
-/// A session in the form of `sessions`, ended by byte 0.
+/// A session in the form of `sessions`.
 pub const WALKS: &str = "\
 file stack.clu\n\
 | stack = cluster [t: type] is create, push, pop\n\
@@ -88,5 +88,18 @@ $ spec team.lib sum.clu\n\
 $ replace team.lib plain.clu\n\
 ! spec needed: sum\n\
 = 29\n\
-\0\
+file anna.clu\n\
+| anna = proc ()\n\
+|   s: stack[string] := stack[string]$create()\n\
+|   stack[string]$push(s, \"by anna\")\n\
+|   stream$putl(stream$primary_output(), stack[string]$pop(s))\n\
+| end anna\n\
+$ compile team.lib anna.clu\n\
+$ link team.lib report anna\n\
+$ run team.lib report\n\
+> by anna\n\
+$ run team.lib reports\n\
+! no program: reports\n\
+= 19\n\
+\tgives kept\0\
 ";
