@@ -234,8 +234,8 @@ up_without_rep = refl
 -- c = cluster [t: type] is m where t has f: proctype (t) rep = int
 --   m = proc () where t has f: proctype (t, t) q[t]() end m end c
 -- q = proc [t: type] () where t has f: proctype (t) end q
-abbrev demand_of_the_cluster_hidden_by_the_routine_nodes : List Node
-demand_of_the_cluster_hidden_by_the_routine_nodes =
+abbrev demand_of_the_cluster_met_nodes : List Node
+demand_of_the_cluster_met_nodes =
     (n kind.Parm 1 14 4 6 [] ((codes "t") ∷ []) (codes "type") (Some 6) ∷ n kind.NameT 1 53 17 17 [] ((codes "t") ∷
     []) [] None ∷ n kind.RoutineT 1 43 15 18 (1 ∷ []) [] (codes "proctype") (Some 15) ∷ n kind.Oper 1 40 13 18 (2 ∷
     []) ((codes "f") ∷ []) [] None ∷ n kind.Restrict 1 34 11 18 (3 ∷ []) ((codes "t") ∷ []) (codes "has") (Some 12) ∷
@@ -255,9 +255,37 @@ demand_of_the_cluster_hidden_by_the_routine_nodes =
     kind.Routine 3 1 48 68 (22 ∷ 27 ∷ []) ((codes "q") ∷ (codes "q") ∷ []) (codes "proc") (Some 50) ∷ n kind.Module 3
     1 48 68 (28 ∷ []) [] [] None ∷ n kind.File 1 1 0 68 (21 ∷ 29 ∷ []) [] [] None ∷ [])
 
-demand_of_the_cluster_hidden_by_the_routine : IsRefused demand_of_the_cluster_hidden_by_the_routine_nodes rule.WhereNotMet 2 47
+demand_of_the_cluster_met : IsFine demand_of_the_cluster_met_nodes
 unfolding checking
-demand_of_the_cluster_hidden_by_the_routine = refl
+demand_of_the_cluster_met = refl
+
+-- c = cluster [t: type] is m where t has f: proctype (t) rep = int
+--   m = proc () where t has f: proctype (t, t) q[t]() end m end c
+-- q = proc [t: type] () where t has f: proctype () end q
+abbrev demand_met_by_neither_nodes : List Node
+demand_met_by_neither_nodes =
+    (n kind.Parm 1 14 4 6 [] ((codes "t") ∷ []) (codes "type") (Some 6) ∷ n kind.NameT 1 53 17 17 [] ((codes "t") ∷
+    []) [] None ∷ n kind.RoutineT 1 43 15 18 (1 ∷ []) [] (codes "proctype") (Some 15) ∷ n kind.Oper 1 40 13 18 (2 ∷
+    []) ((codes "f") ∷ []) [] None ∷ n kind.Restrict 1 34 11 18 (3 ∷ []) ((codes "t") ∷ []) (codes "has") (Some 12) ∷
+    n kind.Where 1 28 10 18 (4 ∷ []) [] [] None ∷ n kind.Simple 1 62 21 21 [] [] (codes "int") (Some 21) ∷ n
+    kind.Equate 1 56 19 21 (6 ∷ []) [] (codes "rep") (Some 19) ∷ n kind.NameT 2 40 34 34 [] ((codes "t") ∷ []) [] None
+    ∷ n kind.NameT 2 43 36 36 [] ((codes "t") ∷ []) [] None ∷ n kind.RoutineT 2 30 32 37 (8 ∷ 9 ∷ []) [] (codes
+    "proctype") (Some 32) ∷ n kind.Oper 2 27 30 37 (10 ∷ []) ((codes "f") ∷ []) [] None ∷ n kind.Restrict 2 21 28 37
+    (11 ∷ []) ((codes "t") ∷ []) (codes "has") (Some 29) ∷ n kind.Where 2 15 27 37 (12 ∷ []) [] [] None ∷ n kind.Name
+    2 46 38 38 [] ((codes "q") ∷ []) [] None ∷ n kind.Name 2 48 40 40 [] ((codes "t") ∷ []) [] None ∷ n kind.Index 2
+    47 38 41 (14 ∷ 15 ∷ []) [] [] None ∷ n kind.Call 2 50 38 43 (16 ∷ []) [] [] None ∷ n kind.CallS 2 46 38 43 (17 ∷
+    []) [] [] None ∷ n kind.Routine 2 3 22 45 (13 ∷ 18 ∷ []) ((codes "m") ∷ (codes "m") ∷ []) (codes "proc") (Some 24)
+    ∷ n kind.Cluster 1 1 0 47 (0 ∷ 5 ∷ 7 ∷ 19 ∷ []) ((codes "c") ∷ (codes "m") ∷ (codes "c") ∷ []) [] None ∷ n
+    kind.Module 1 1 0 47 (20 ∷ []) [] [] None ∷ n kind.Parm 3 11 52 54 [] ((codes "t") ∷ []) (codes "type") (Some 54)
+    ∷ n kind.RoutineT 3 38 63 65 [] [] (codes "proctype") (Some 63) ∷ n kind.Oper 3 35 61 65 (23 ∷ []) ((codes "f") ∷
+    []) [] None ∷ n kind.Restrict 3 29 59 65 (24 ∷ []) ((codes "t") ∷ []) (codes "has") (Some 60) ∷ n kind.Where 3 23
+    58 65 (25 ∷ []) [] [] None ∷ n kind.Routine 3 1 48 67 (22 ∷ 26 ∷ []) ((codes "q") ∷ (codes "q") ∷ []) (codes
+    "proc") (Some 50) ∷ n kind.Module 3 1 48 67 (27 ∷ []) [] [] None ∷ n kind.File 1 1 0 67 (21 ∷ 28 ∷ []) [] [] None
+    ∷ [])
+
+demand_met_by_neither : IsRefused demand_met_by_neither_nodes rule.WhereNotMet 2 47
+unfolding checking
+demand_met_by_neither = refl
 
 -- c = cluster [t: type] is m where t has f: proctype (t) rep = int
 --   m = proc () where t has f: proctype (t, t) q[t]() end m end c

@@ -1,6 +1,6 @@
 -- The operations that a type has at a node, and when what is asked of a type is met.
 use Rattle.std.specs.Prelude.{ℕ, ◌-◌, ◌==◌, ◌&&◌, Bool, true, false, List, [], ◌∷◌, ◌++◌, map, flat_map, filter, find, bytes_eq, if◌then◌else◌, Option, Some, None}
-use Rattle.std.specs.List.{list_all}
+use Rattle.std.specs.List.{list_all, list_any}
 use Rattle.std.specs.Option.{option_map}
 use Rattle.clu_types.specs.CluType.{CluType, array_of, sequence_of, record_of, struct_of, oneof_of, variant_of, proc_of, iter_of, cluster_of, parameter, Fields, no_fields, field_and, Actuals, no_actuals, actual_type, actual_const, actual_param}
 use Rattle.clu_types.specs.Substituted.{substituted, type_put}
@@ -92,7 +92,11 @@ abbrev pub is_included : CluType → Option Demand → Bool
 is_included wanted (Some d) = may_fit d.wanted wanted
 is_included wanted None = false
 
-module _ (given : List Demand) (specified : Identifier → Option Specification) where
+-- of several where clauses one is enough
+abbrev pub is_given_by : List (List Demand) → ℕ → Identifier → CluType → Bool
+is_given_by clauses k name wanted = list_any (λ given. is_included wanted (given_of given k name)) clauses
+
+module _ (clauses : List (List Demand)) (specified : Identifier → Option Specification) where
   abbrev mutual
     -- the type has an operation of this name, whose type is included in the wanted one, and what that asks is met; of a
     -- cluster its exported operations count alone
@@ -103,8 +107,8 @@ module _ (given : List Demand) (specified : Identifier → Option Specification)
     meets (struct_of fs) name wanted = is_met_by (part_meets fs) wanted (operation (struct_of fs) name)
     meets (oneof_of fs) name wanted = is_met_by (part_meets fs) wanted (operation (oneof_of fs) name)
     meets (variant_of fs) name wanted = is_met_by (part_meets fs) wanted (operation (variant_of fs) name)
-    meets (cluster_of c actuals) name wanted = is_met_in (λ k op w. actual_meets actuals k (is_included w (given_of given k op)) op w) actuals wanted (exported_operation name (specified c))
-    meets (parameter k) name wanted = is_included wanted (given_of given k name)
+    meets (cluster_of c actuals) name wanted = is_met_in (λ k op w. actual_meets actuals k (is_given_by clauses k op w) op w) actuals wanted (exported_operation name (specified c))
+    meets (parameter k) name wanted = is_given_by clauses k name wanted
     meets t name wanted = is_met_by (λ of op w. true) wanted (operation t name)
 
     -- the component of this type
@@ -143,8 +147,12 @@ module _ (f : File) where
   abbrev pub given_at : ℕ → List Demand
   given_at n = given_by_routine (routine_round f n) ++ given_by_cluster (cluster_round f n) ++ given_by_sets n
 
+  -- the same by the clauses, each of which may meet what is asked
+  abbrev pub where_at : ℕ → List (List Demand)
+  where_at n = given_by_routine (routine_round f n) ∷ given_by_cluster (cluster_round f n) ∷ given_by_sets n ∷ []
+
   abbrev pub is_met : ℕ → Asked → Bool
-  is_met n a = meets (given_at n) (specification f) a.of a.operation a.wanted
+  is_met n a = meets (where_at n) (specification f) a.of a.operation a.wanted
 
   -- ---- the operations of a type at a node
 

@@ -1,11 +1,13 @@
 -- What the operation of a type asks: by the term of the type, and by what was found.
-use Rattle.std.proofs.Common.{◌≡◌, ℕ, ◌<◌, ◌≤◌, ◌==◌, ◌&&◌, Bool, true, false, cond, List, [], ◌∷◌, map, length, find, slice_get, Option, Some, None, Result, Ok, Err, IfOk, IsTrue, refl, sym, ap, ◌∙◌, subst, arith}
+use Rattle.std.proofs.Common.{◌≡◌, ℕ, zero, suc, ◌+◌, ◌<◌, ◌≤◌, ◌==◌, ◌&&◌, inl, inr, Bool, true, false, true≢false, List, [], ◌∷◌, Contains, map, length, drop, get_or, slice_get, Option, Some, None, Result, Ok, Err, IfOk, IsTrue, refl, sym, ap, ◌∙◌, subst, arith, eq-eqb, eqb-true}
 use Rattle.std.specs.Option.{option_map}
 use Rattle.std.specs.Str.{bytes_eq}
 use Rattle.std.specs.Prelude.{◌↔◌}
+use Rattle.std.proofs.lemmas.Bool.{and_parts, and_from}
+use Rattle.std.proofs.lemmas.List.{drop_all}
 use Rattle.std.proofs.lemmas.Option.{same_Some}
 use Rattle.clu_base.specs.declared.errors.Memory.{Memory}
-use Rattle.clu_base.proofs.Lists.{none_is_not}
+use Rattle.clu_base.proofs.Lists.{none_is_not, as_bytes, dropped, head_or_tail, in_head, in_none, in_tail, item_at, same_bytes}
 use Rattle.clu_types.specs.CluType.{CluType, cluster_of, parameter, Actuals}
 use Rattle.clu_types.specs.Arena.{type_at, types_at, signals_at, actuals_at, type_of, types_of, ActualsBelow, PartsBelow, Grows}
 use Rattle.clu_types.specs.Included.{Included}
@@ -28,7 +30,7 @@ use Rattle.clu_specs.specs.Specifications.{DemandsBelow}
 use Rattle.clu_demands.specs.declared.needs.Asked.{Asked}
 use Rattle.clu_demands.specs.declared.needs.Instance.{Instance}
 use Rattle.clu_demands.specs.Asking.{asked_seen, all_seen, AreBelowAll, IsBelow, as_asked, Answers, parameter_of, instance_with, instance_of, HasNone}
-use Rattle.clu_demands.specs.Meeting.{AsksOf, AsksOfBuiltin, AsksOfOperation, AsksOfParameter, routine_type}
+use Rattle.clu_demands.specs.Meeting.{AsksOf, AsksOfBuiltin, AsksOfOperation, AsksOfParameter, IsGiven, routine_type}
 
 -- ---- answers to the same question, told otherwise
 
@@ -143,37 +145,60 @@ builtin_answers given specs source t u op wanted is p c types r =
 pub has_none : {X : Type 0} (f : Term → Option X) (terms : List Term) (id : TypeId) (v : Term) → slice_get terms id.0 ≡ Some v → None ≡ f v → HasNone f terms id
 has_none f terms id v at none t e = ap f (sym (same_Some v t (sym at ∙ e))) ∙ sym none
 
--- ---- type parameters
+-- ---- what is given
 
-find_seen : (types : List CluType) (n : ℕ) (op : List ℕ) (given : List Demand)
-    → find (λ (d : Demanded). (d.param == n) && bytes_eq d.op op) (map (demand_seen types) given) ≡ option_map (demand_seen types) (find (λ (d : Demand). (d.param == n) && bytes_eq d.op op) given)
-find_seen types n op [] = refl
-find_seen types n op (d ∷ ds) = by ((d.param == n) && bytes_eq d.op op) (find_seen types n op ds)
-  where
-    by : (b : Bool) → find (λ (d : Demanded). (d.param == n) && bytes_eq d.op op) (map (demand_seen types) ds) ≡ option_map (demand_seen types) (find (λ (d : Demand). (d.param == n) && bytes_eq d.op op) ds)
-        → cond b (Some (demand_seen types d)) (find (λ (d : Demanded). (d.param == n) && bytes_eq d.op op) (map (demand_seen types) ds))
-        ≡ option_map (demand_seen types) (cond b (Some d) (find (λ (d : Demand). (d.param == n) && bytes_eq d.op op) ds))
-    by true e = refl
-    by false e = e
+seen_has : (types : List CluType) (given : List Demand) (d : Demand) → Contains given d → Contains (map (demand_seen types) given) (demand_seen types d)
+seen_has types [] d h = in_none d h
+seen_has types (x ∷ given) d h = elim (head_or_tail x given d h) [
+  | inl is ↦ in_head (demand_seen types x) (map (demand_seen types) given) (demand_seen types d) (ap (demand_seen types) is)
+  | inr there ↦ in_tail (demand_seen types x) (map (demand_seen types) given) (demand_seen types d) (seen_has types given d there)
+]
 
-pub found_below : (m n : ℕ) (op : List ℕ) (given : List Demand) (d : Demand) → DemandsBelow m given → Some d ≡ find (λ (d : Demand). (d.param == n) && bytes_eq d.op op) given → d.wanted.0 < m
-found_below m n op [] d b e = none_is_not d (sym e)
-found_below m n op (x ∷ ds) d b e = by ((x.param == n) && bytes_eq x.op op) e (found_below m n op ds d b.1)
-  where
-    by : (t : Bool) → Some d ≡ cond t (Some x) (find (λ (d : Demand). (d.param == n) && bytes_eq d.op op) ds) → (Some d ≡ find (λ (d : Demand). (d.param == n) && bytes_eq d.op op) ds → d.wanted.0 < m) → d.wanted.0 < m
-    by true e later = subst (λ (y : Demand). y.wanted.0 < m) (same_Some x d (sym e)) b.0
-    by false e later = later e
+drop_has : (given : List Demand) (i : ℕ) (d : Demand) → i < length given → d ≡ get_or given i d → drop i given ≡ d ∷ drop (i + 1) given
+drop_has given i d lt is = dropped given i d (item_at given i d lt is)
+
+pub demand_below : (m : ℕ) (given : List Demand) (i : ℕ) (d : Demand) → DemandsBelow m given → i < length given → d ≡ get_or given i d → d.wanted.0 < m
+demand_below m [] i d b lt is = absurd (omega (arith, lt))
+demand_below m (x ∷ given) zero d b lt is = subst (λ (y : Demand). y.wanted.0 < m) (sym is) b.0
+demand_below m (x ∷ given) (suc i) d b lt is = demand_below m given i d b.1 (omega (arith, lt)) is
+
+module _ (types : List CluType) (n : ℕ) (op : List ℕ) (wanted : CluType) (d : Demand) (is_of : Bool) (is : is_of ≡ ((d.param == n) && bytes_eq d.op op)) where
+  pub given_so : is_of ≡ true → (fits : Bool) → (IsTrue fits ↔ Included (type_at types d.wanted) wanted) → IsTrue fits ↔ IsGiven n op wanted (demand_seen types d)
+  given_so so fits h =
+      let both = and_parts (d.param == n) (bytes_eq d.op op) (sym is ∙ so) in
+      (λ t. (eqb-true d.param n both.0, same_bytes d.op op both.1, h.0 t), λ g. h.1 g.2)
+
+  pub given_not : is_of ≡ false → IsTrue false ↔ IsGiven n op wanted (demand_seen types d)
+  given_not not_so = (
+    λ t. absurd (true≢false (sym t)),
+    λ g. absurd (true≢false (sym (is ∙ and_from (d.param == n) (bytes_eq d.op op) (eq-eqb d.param n g.0) (as_bytes d.op op g.1)) ∙ not_so)),
+  )
 
 module _ (types : List CluType) (given : List Demand) (n : ℕ) (op : List ℕ) (wanted : CluType) where
-  pub gives_some : (d : Demand) (r : Bool) → Some d ≡ find (λ (d : Demand). (d.param == n) && bytes_eq d.op op) given → (IsTrue r ↔ Included (type_at types d.wanted) wanted)
-      → IsTrue r ↔ AsksOfParameter (map (demand_seen types) given) n op wanted []
-  gives_some d r is h =
-      let found : find (λ (d : Demanded). (d.param == n) && bytes_eq d.op op) (map (demand_seen types) given) ≡ Some (demand_seen types d) =
-      find_seen types n op given ∙ ap (option_map (demand_seen types)) (sym is) in
-      (λ t. (demand_seen types d, found, h.0 t, refl), λ a. h.1 (subst (λ (x : Demanded). Included x.wanted wanted) (same_Some a.0 (demand_seen types d) (sym a.1 ∙ found)) a.2))
+  abbrev Gives : List Demand → Type 0
+  Gives demands = AsksOfParameter (map (demand_seen types) demands) n op wanted []
 
-  pub gives_none : None ≡ find (λ (d : Demand). (d.param == n) && bytes_eq d.op op) given → AsksOfParameter (map (demand_seen types) given) n op wanted [] → ⊥
-  gives_none is a = none_is_not a.0 (ap (option_map (demand_seen types)) is ∙ sym (find_seen types n op given) ∙ a.1)
+  -- if one gives it, one of those that are left does
+  abbrev pub GivesLeft : ℕ → Type 0
+  GivesLeft i = Gives given → Gives (drop i given)
+
+  pub gives_first : GivesLeft 0
+  gives_first h = h
+
+  pub gives_here : (i : ℕ) (d : Demand) → i < length given → d ≡ get_or given i d → IsGiven n op wanted (demand_seen types d) → Gives given
+  gives_here i d lt is h = (demand_seen types d, seen_has types given d (i, lt, sym is), h, refl)
+
+  pub gives_more : (i : ℕ) (d : Demand) → i < length given → d ≡ get_or given i d → (IsGiven n op wanted (demand_seen types d) → ⊥) → GivesLeft i → GivesLeft (i + 1)
+  gives_more i d lt is none left h = by (subst Gives (drop_has given i d lt is) (left h))
+    where
+      by : Gives (d ∷ drop (i + 1) given) → Gives (drop (i + 1) given)
+      by g = elim (head_or_tail (demand_seen types d) (map (demand_seen types) (drop (i + 1) given)) g.0 g.1) [
+        | inl same ↦ absurd (none (subst (IsGiven n op wanted) (sym same) g.2))
+        | inr there ↦ (g.0, there, g.2, refl)
+      ]
+
+  pub gives_none : (i : ℕ) → length given ≤ i → GivesLeft i → Gives given → ⊥
+  gives_none i past left h = let g : Gives [] = subst Gives (drop_all i given past) (left h) in in_none g.0 g.1
 
   -- what is given asks nothing else
   pub given_asks : (AsksOfParameter (map (demand_seen types) given) n op wanted [] → ⊥) → (asks : List Needed) → AsksOfParameter (map (demand_seen types) given) n op wanted asks → ⊥

@@ -1,5 +1,5 @@
 -- When what is demanded of a type is met.
-use Rattle.std.specs.Prelude.{◌≡◌, ℕ, zero, suc, ◌==◌, ◌&&◌, Bool, true, false, List, [], ◌∷◌, Contains, find, length, Option, Some, None}
+use Rattle.std.specs.Prelude.{◌≡◌, ℕ, zero, suc, Bool, true, false, List, [], ◌∷◌, Contains, find, length, Option, Some, None}
 use Rattle.std.specs.Str.{bytes_eq}
 use Rattle.clu_types.specs.CluType.{CluType, proc_of, iter_of, cluster_of, parameter, CluTypes, Signals, Actuals, no_actuals, actual_type, actual_const, actual_param}
 use Rattle.clu_types.specs.Arena.{type_at, types_at, signals_at, types_of}
@@ -20,11 +20,14 @@ abbrev pub routine_type : Bool → CluTypes → CluTypes → Signals → CluType
 routine_type true args results signals = iter_of args results signals
 routine_type false args results signals = proc_of args results signals
 
--- ---- type parameters: what where clauses give of them; of two demands of one name the first counts
+-- ---- type parameters: what where clauses give of them; of two demands of one name one is enough
+
+-- such an operation is given of the parameter
+abbrev pub IsGiven : ℕ → List ℕ → CluType → Demanded → Type 0
+IsGiven n op wanted d = (d.param ≡ n) × (d.op ≡ op) × Included d.wanted wanted
 
 abbrev pub AsksOfParameter : List Demanded → ℕ → List ℕ → CluType → List Needed → Type 0
-AsksOfParameter given n op wanted asks =
-    (d : Demanded) × (find (λ d. (d.param == n) && bytes_eq d.op op) given ≡ Some d) × Included d.wanted wanted × (asks ≡ [])
+AsksOfParameter given n op wanted asks = (d : Demanded) × Contains given d × IsGiven n op wanted d × (asks ≡ [])
 
 -- ---- built-in types
 

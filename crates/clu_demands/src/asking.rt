@@ -1,16 +1,15 @@
 //! What the operation of a type asks in its turn.
 
-ghost use Rattle.std.specs.Prelude.{◌≡◌, ◌↔◌, ◌<◌, List, [], map, length, IfOk, IsTrue};
+ghost use Rattle.std.specs.Prelude.{◌≡◌, ◌↔◌, ◌<◌, ◌==◌, ◌&&◌, List, [], bytes_eq, map, length, IfOk, IsTrue};
 ghost use Rattle.clu_types.specs.Arena.{type_at, types_of, actuals_at, ActualsBelow, HeadingBelow, Grows};
 ghost use Rattle.clu_builtin.specs.Built.{operation_at, NeedsBelow};
 ghost use Rattle.clu_specs.specs.Seen.{Demanded, demand_seen};
 ghost use Rattle.clu_specs.specs.Specifications.{DemandsBelow};
 ghost use Rattle.clu_demands.specs.Asking.{as_asked, IsBelow, AreBelowIf, Answers, HasNone, parameter_of, instance_with, instance_of};
-ghost use Rattle.clu_demands.specs.Meeting.{AsksOf, AsksOfBuiltin, AsksOfCluster, AsksOfOperation, AsksOfParameter};
+ghost use Rattle.clu_demands.specs.Meeting.{AsksOf, AsksOfBuiltin, AsksOfCluster, AsksOfOperation, AsksOfParameter, IsGiven};
 
 use crate::carried::intern_routine;
 use crate::exported::asked_of_cluster;
-use crate::found::given as first_given;
 use crate::needs::{Asked, Instance};
 use clu_base::{Bytes, Memory, Sequence};
 use clu_builtin::{Builtin, Need, heading};
@@ -175,10 +174,30 @@ fn gives(given: &[Demand], n: u32, op: &Bytes, wanted: TypeId, types: &TypeArena
     requires wanted_in { wanted.0 < length types.now }
     ensures { IsTrue result ↔ AsksOfParameter (map (demand_seen (types_of types.now)) given.now) n op.now (type_at (types_of types.now) wanted) [] }
 {
-    match first_given(given, n, op) {
-        Some(demand) => types.included(demand.wanted, wanted),
-        None => false,
+    for demand in given {
+        if is_given(demand, n, op, wanted, types) {
+            return true;
+        }
     }
+    false
+}
+
+fn is_given(demand: &Demand, n: u32, op: &Bytes, wanted: TypeId, types: &TypeArena) -> bool
+    requires demand_in { demand.now.wanted.0 < length types.now }
+    requires wanted_in { wanted.0 < length types.now }
+    ensures { IsTrue result ↔ IsGiven n op.now (type_at (types_of types.now) wanted) (demand_seen (types_of types.now) demand.now) }
+{
+    if is_of(demand, n, op) {
+        types.included(demand.wanted, wanted)
+    } else {
+        false
+    }
+}
+
+fn is_of(demand: &Demand, n: u32, op: &Bytes) -> bool
+    ensures { result ≡ ((demand.now.param == n) && bytes_eq demand.now.op op.now) }
+{
+    demand.param == n && demand.op == *op
 }
 
 fn asked_of_builtin(

@@ -1,6 +1,6 @@
-//! What is found by name: what is given of a parameter, and the exported operations of a cluster.
+//! What is found by name: the exported operations of a cluster; and the actual parameters by their numbers.
 
-ghost use Rattle.std.specs.Prelude.{◌≡◌, ◌<◌, ◌==◌, ◌&&◌, ℕ, List, find, option_map, IfSome};
+ghost use Rattle.std.specs.Prelude.{◌≡◌, ◌<◌, ℕ, List, find, option_map, IfSome};
 ghost use Rattle.std.specs.Option.{option_copied};
 ghost use Rattle.std.specs.Str.{bytes_eq};
 ghost use Rattle.clu_types.specs.Arena.{actuals_at, type_at, ActualsBelow};
@@ -9,25 +9,7 @@ ghost use Rattle.clu_types.specs.Actual.{nth};
 ghost use Rattle.clu_demands.specs.Meeting.{op_named, type_numbered};
 
 use clu_base::Bytes;
-use clu_types::{Actual, Demand, Form, OpSpec, TypeId};
-
-/// What the first of the demands gives of this parameter and this name.
-pub fn given<'a>(demands: &'a [Demand], n: u32, op: &Bytes) -> Option<&'a Demand>
-    ensures { option_copied result ≡ find (λ d. (d.param == n) && bytes_eq d.op op.now) demands.now }
-{
-    for demand in demands {
-        if is_of(demand, n, op) {
-            return Some(demand);
-        }
-    }
-    None
-}
-
-fn is_of(demand: &Demand, n: u32, op: &Bytes) -> bool
-    ensures { result ≡ ((demand.now.param == n) && bytes_eq demand.now.op op.now) }
-{
-    demand.param == n && demand.op == *op
-}
+use clu_types::{Actual, Form, OpSpec, TypeId};
 
 /// The first routine of this name among the exported ones of a cluster.
 pub fn op_named<'a>(form: &'a Form, name: &Bytes) -> Option<&'a OpSpec>

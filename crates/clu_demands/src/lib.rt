@@ -14,7 +14,7 @@ mod whole;
 pub use crate::asking::{asked_by, instance_of};
 pub use crate::carried::{carried_type, intern_routine};
 pub use crate::exported::all_demanded;
-pub use crate::found::{given, op_named, type_actual};
+pub use crate::found::{op_named, type_actual};
 pub use crate::kinds::{are_of_kinds, kind_of, kind_of_value, may_be_of};
 pub use crate::meeting::{is_met, meets};
 pub use crate::needs::{Asked, Instance};

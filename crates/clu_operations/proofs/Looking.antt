@@ -293,7 +293,7 @@ some_or P (Some x) b h k = h
 some_or P None b h k = k
 
 module _ (headed : Headed) (terms : List Term) (f : Finding) (was : IsFinding headed terms f) (n parameter : ℕ) (operation : NameId) where
-  by_there : (node : Option ℕ) → IfSome (given_by f node parameter operation) (λ id. id.0 < length f.founds.items)
+  pub by_there : (node : Option ℕ) → IfSome (given_by f node parameter operation) (λ id. id.0 < length f.founds.items)
   by_there (Some node) = by (given_by f (Some node) parameter operation) refl
     where
       by : (o : Option FoundId) → given_by f (Some node) parameter operation ≡ o → IfSome o (λ id. id.0 < length f.founds.items)
@@ -306,7 +306,7 @@ module _ (headed : Headed) (terms : List Term) (f : Finding) (was : IsFinding he
       some_or (λ (id : FoundId). id.0 < length f.founds.items) _ _
       (some_or (λ (id : FoundId). id.0 < length f.founds.items) _ _ (by_there (round_in headed.file n).routine) (by_there (round_in headed.file n).cluster)) (by_there (set_round headed.file n parameter))
 
-  by_told : (name : List ℕ) → named f.words name ≡ Some operation → (node : Option ℕ) → option_map (told (types_of terms) f) (given_by f node parameter operation) ≡ told_given headed (types_of terms) node parameter name
+  pub by_told : (name : List ℕ) → named f.words name ≡ Some operation → (node : Option ℕ) → option_map (told (types_of terms) f) (given_by f node parameter operation) ≡ told_given headed (types_of terms) node parameter name
   by_told name e (Some node) = ap (option_map (told (types_of terms) f)) (sym (ap (option_and_then (given_by f (Some node) parameter)) e)) ∙ was.given.told node parameter name
   by_told name e None = refl
 

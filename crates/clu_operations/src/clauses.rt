@@ -69,7 +69,7 @@ pub fn enter_given(headed: Headed<'_>, finding: &mut Finding) -> Result<(), Memo
 }
 
 /// What is given of a type parameter by a node.
-fn given_by(
+pub fn given_by(
     finding: &Finding,
     node: Option<u32>,
     parameter: u32,
@@ -112,7 +112,7 @@ fn count_round(file: File<'_>, n: u32) -> u32
 }
 
 /// The type set whose variable has this number, if the node n stands in it.
-fn set_round(file: File<'_>, n: u32, parameter: u32) -> Option<u32>
+pub fn set_round(file: File<'_>, n: u32, parameter: u32) -> Option<u32>
     ensures { result ≡ set_round file.entry n parameter }
 {
     let count = count_round(file, n);

@@ -15,7 +15,7 @@ mod parts;
 mod shapes;
 mod words;
 
-pub use crate::clauses::{enter_given, given};
+pub use crate::clauses::{enter_given, given, given_by, set_round};
 pub use crate::finding::Finding;
 pub use crate::found::{Asked, Found, FoundId};
 pub use crate::operations::{exported_operation, module_found, operation_found};

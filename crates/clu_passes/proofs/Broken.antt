@@ -6,7 +6,7 @@ use Rattle.clu_base.proofs.Bools.{same_truth}
 use Rattle.clu_types.specs.CluType.{CluType}
 use Rattle.clu_checking.specs.Files.{File}
 use Rattle.clu_checking.specs.Headings.{specification}
-use Rattle.clu_checking.specs.Operations.{Asked, given_at, is_met}
+use Rattle.clu_checking.specs.Operations.{Asked, is_met, where_at}
 use Rattle.clu_checking.specs.Invocations.{asks_at}
 use Rattle.clu_checking.specs.ExpressionRules.{v18, v20}
 use Rattle.clu_operations.specs.Told.{Ask, Told}
@@ -64,7 +64,7 @@ list_told (b ∷ asks) a h = elim (head_or_tail b asks a h) [
   | inr there ↦ (let r = list_told asks a there in (suc r.0, omega (arith, r.1), r.2))
 ]
 
-module _ (f : File) (n : ℕ) (found : CluType → List ℕ → Option Told) (tell : TellCounted (given_at f n) (specification f) found) (asks : List Ask) (asked : map asked_told asks ≡ asks_at f n) where
+module _ (f : File) (n : ℕ) (found : CluType → List ℕ → CluType → Option Told) (tell : TellCounted (where_at f n) (specification f) found) (asks : List Ask) (asked : map asked_told asks ≡ asks_at f n) where
   -- one that is asked by a clause of this kind is not met
   abbrev broken : (Bool → Bool) → Asked → Bool
   broken kind a = kind a.in_set && not (is_met f n a)
@@ -77,14 +77,14 @@ module _ (f : File) (n : ℕ) (found : CluType → List ℕ → Option Told) (te
         q.1,
         ap (λ (x : Asked). x.in_set) q.2 ∙ only r.0.in_set (and_parts (kind r.0.in_set) (not (is_met f n r.0)) r.2).0,
         λ m. not_true (is_met f n r.0) (and_parts (kind r.0.in_set) (not (is_met f n r.0)) r.2).1
-            (ap (is_met f n) (sym q.2) ∙ (met_same (given_at f n) (specification f) found tell q.0).0 m),
+            (ap (is_met f n) (sym q.2) ∙ (met_same (where_at f n) (specification f) found tell q.0).0 m),
       )
 
   from_bit : (kind : Bool → Bool) (its : Bool) → kind its ≡ true → SomeUnmet found its asks → list_any (broken kind) (map asked_told asks) ≡ true
   from_bit kind its of h =
       true_some (broken kind) (map asked_told asks) (asked_told h.0) (list_told asks h.0 h.1)
       (and_from (kind h.0.in_set) (not (is_met f n (asked_told h.0))) (ap kind h.2 ∙ of)
-      (true_not (is_met f n (asked_told h.0)) (λ e. h.3 ((met_same (given_at f n) (specification f) found tell h.0).1 e))))
+      (true_not (is_met f n (asked_told h.0)) (λ e. h.3 ((met_same (where_at f n) (specification f) found tell h.0).1 e))))
 
   only_not : (b : Bool) → not b ≡ true → b ≡ false
   only_not true e = absurd (true≢false (sym e))

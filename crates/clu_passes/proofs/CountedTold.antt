@@ -10,7 +10,7 @@ use Rattle.clu_checking.specs.Specifications.{Form, Heading, Specification, head
 use Rattle.clu_checking.specs.Files.{File}
 use Rattle.clu_checking.specs.Headings.{specification}
 use Rattle.clu_checking.specs.Invocations.{asks_at}
-use Rattle.clu_checking.specs.Operations.{Asked, given_at, routine_found, exported_operation}
+use Rattle.clu_checking.specs.Operations.{Asked, where_at, routine_found, exported_operation}
 use Rattle.clu_checking.specs.ExpressionRules.{v18, v20}
 use Rattle.clu_bindings.specs.declared.file.Headed.{Headed}
 use Rattle.clu_bindings.specs.declared.meaning.ModuleId.{ModuleId}
@@ -34,7 +34,7 @@ use Rattle.clu_passes.proofs.AscendTests.{true_ascends}
 use Rattle.clu_passes.proofs.AsksAscend.{asks_ascend}
 use Rattle.clu_passes.proofs.Broken.{v18_is, v20_is, list_told}
 use Rattle.clu_passes.proofs.FoundUnder.{given_same}
-use Rattle.clu_passes.proofs.GivenFound.{round_same}
+use Rattle.clu_passes.proofs.GivenFor.{for_same}
 use Rattle.clu_passes.proofs.ModulesFound.{routine_same}
 use Rattle.clu_passes.proofs.OperationsFound.{builtin_if}
 
@@ -62,28 +62,28 @@ module _ (headed : Headed) (scope : Scope) (library : List Specification) (refus
       by (Some its) known = routine_same types given name its (tells.exported id its known)
       by None known = refl
 
-  pub tells_counted : (n : ℕ) → TellCounted (given_at f n) (specification f) (found_under headed types (clauses_at headed n))
-  tells_counted n (cluster_of c actuals) name =
+  pub tells_counted : (n : ℕ) → TellCounted (where_at f n) (specification f) (found_under headed types (clauses_at headed n))
+  tells_counted n (cluster_of c actuals) name wanted =
       module_same name actuals (named headed.file.bindings.now.modules c)
       ∙ ap (λ (o : Option Form). option_map (routine_found actuals) (exported_by name o)) (tells.forms c)
       ∙ sym (ap (option_map (routine_found actuals)) (exported_same name (specification f c)))
-  tells_counted n (parameter number) name =
-      ap (option_map found_told) (sym (given_same headed types sets n number name)) ∙ round_same headed scope library refused types tells n number name
-  tells_counted n (array_of t) name = builtin_if (operation (array_of t) name)
-  tells_counted n (sequence_of t) name = builtin_if (operation (sequence_of t) name)
-  tells_counted n (record_of fields) name = builtin_if (operation (record_of fields) name)
-  tells_counted n (struct_of fields) name = builtin_if (operation (struct_of fields) name)
-  tells_counted n (oneof_of fields) name = builtin_if (operation (oneof_of fields) name)
-  tells_counted n (variant_of fields) name = builtin_if (operation (variant_of fields) name)
-  tells_counted n (proc_of args results signals) name = builtin_if (operation (proc_of args results signals) name)
-  tells_counted n (iter_of args results signals) name = builtin_if (operation (iter_of args results signals) name)
-  tells_counted n null_type name = builtin_if (operation null_type name)
-  tells_counted n bool_type name = builtin_if (operation bool_type name)
-  tells_counted n int_type name = builtin_if (operation int_type name)
-  tells_counted n char_type name = builtin_if (operation char_type name)
-  tells_counted n string_type name = builtin_if (operation string_type name)
-  tells_counted n any_type name = builtin_if (operation any_type name)
-  tells_counted n stream_type name = builtin_if (operation stream_type name)
+  tells_counted n (parameter number) name wanted =
+      ap (option_map found_told) (sym (given_same headed types sets n number wanted name)) ∙ for_same headed scope library refused types tells n number wanted name
+  tells_counted n (array_of t) name wanted = builtin_if (operation (array_of t) name)
+  tells_counted n (sequence_of t) name wanted = builtin_if (operation (sequence_of t) name)
+  tells_counted n (record_of fields) name wanted = builtin_if (operation (record_of fields) name)
+  tells_counted n (struct_of fields) name wanted = builtin_if (operation (struct_of fields) name)
+  tells_counted n (oneof_of fields) name wanted = builtin_if (operation (oneof_of fields) name)
+  tells_counted n (variant_of fields) name wanted = builtin_if (operation (variant_of fields) name)
+  tells_counted n (proc_of args results signals) name wanted = builtin_if (operation (proc_of args results signals) name)
+  tells_counted n (iter_of args results signals) name wanted = builtin_if (operation (iter_of args results signals) name)
+  tells_counted n null_type name wanted = builtin_if (operation null_type name)
+  tells_counted n bool_type name wanted = builtin_if (operation bool_type name)
+  tells_counted n int_type name wanted = builtin_if (operation int_type name)
+  tells_counted n char_type name wanted = builtin_if (operation char_type name)
+  tells_counted n string_type name wanted = builtin_if (operation string_type name)
+  tells_counted n any_type name wanted = builtin_if (operation any_type name)
+  tells_counted n stream_type name wanted = builtin_if (operation stream_type name)
 
 -- ---- the bits of nodes
 
@@ -104,7 +104,7 @@ module _ (headed : Headed) (scope : Scope) (library : List Specification) (refus
   its : AreUnmet (found_under headed (types_of terms) (clauses_at headed n)) asks (unmet_at made n)
   its = found n (unmet_at made n) (slice_get-get_or made n all_met there) fine
 
-  counts : TellCounted (given_at its_file n) (specification its_file) (found_under headed (types_of terms) (clauses_at headed n))
+  counts : TellCounted (where_at its_file n) (specification its_file) (found_under headed (types_of terms) (clauses_at headed n))
   counts = tells_counted headed scope library refused (types_of terms) sets tells n
 
   pub by_has : v18 its_file n ≡ (unmet_at made n).by_has

@@ -35,7 +35,7 @@ use Rattle.clu_operations.specs.ByName.{is_named, first_named}
 use Rattle.clu_operations.specs.Clauses.{set_round}
 use Rattle.clu_operations.specs.Finding.{IsBelowIf}
 use Rattle.clu_operations.specs.Found.{ModuleBelow}
-use Rattle.clu_operations.specs.Given.{is_asked, first_asked, asked_in, told_given, told_round}
+use Rattle.clu_operations.specs.Given.{is_asked, first_asked, asked_in, told_given}
 use Rattle.clu_operations.specs.Modules.{Module, own, kept, Shows, known_of, routines_in, operations_in, routine_name, operation_name, if_seen, routine_named, of_routine}
 use Rattle.clu_operations.specs.Operations.{view_by}
 use Rattle.clu_operations.specs.Shapes.{shape_in, shape_of, name_in}
@@ -43,7 +43,9 @@ use Rattle.clu_operations.specs.Told.{Ask, Told, asked_of, type_given, demand_to
 use Rattle.clu_operations.specs.Wished.{cluster_given, told_in, told_by, wished_told, told_view, told_seen, IsFinding}
 use Rattle.clu_operations.proofs.Pushing.{option_stays}
 use Rattle.clu_type_rules.specs.declared.unmet.Clauses.{Clauses}
-use Rattle.clu_type_rules.specs.Needs.{Looks, if_some, if_asking, if_set, set_at, clauses_at, told_shape, told_asked}
+use Rattle.clu_type_rules.specs.declared.unmet.Need.{Need}
+use Rattle.clu_type_rules.specs.Meeting.{fitting, may_fit}
+use Rattle.clu_type_rules.specs.Needs.{Looks, if_some, if_asking, if_set, set_at, clauses_at, told_fitting, told_for, told_shape, told_asked}
 use Rattle.clu_passes.specs.Ascending.{ActualsAscend}
 use Rattle.clu_passes.specs.Settings.{ascends, given_inside, exported_in, module_of_name, found_under, setting_of, AreInSets}
 use Rattle.clu_passes.proofs.AscendTests.{ascends_true, true_ascends, part_up, put_up}
@@ -127,10 +129,14 @@ module _ (old new : List Term) (grows : Grows old new) where
     by_stays (Some node) number name = first_wanted number name (asked_in headed node) (below node)
     by_stays None number name = refl
 
-    round_stays : (n number : ℕ) (name : List ℕ) → told_round headed (types_of new) n number name ≡ told_round headed (types_of old) n number name
-    round_stays n number name =
+    fitting_stays : (number : ℕ) (wanted : CluType) (node : Option ℕ) (name : List ℕ) → told_fitting headed (types_of new) number wanted node name ≡ told_fitting headed (types_of old) number wanted node name
+    fitting_stays number wanted node name = ap (fitting wanted) (by_stays node number name)
+
+    round_stays : (n number : ℕ) (wanted : CluType) (name : List ℕ) → told_for headed (types_of new) number wanted n name ≡ told_for headed (types_of old) number wanted n name
+    round_stays n number wanted name =
         ap₂ (λ (a b : Option Told). option_or a b)
-        (ap₂ (λ (a b : Option Told). option_or a b) (by_stays (round_in headed.file n).routine number name) (by_stays (round_in headed.file n).cluster number name)) (by_stays (set_round headed.file n number) number name)
+        (ap₂ (λ (a b : Option Told). option_or a b) (fitting_stays number wanted (round_in headed.file n).routine name) (fitting_stays number wanted (round_in headed.file n).cluster name))
+        (fitting_stays number wanted (set_round headed.file n number) name)
 
 -- ---- clauses say what is given
 
@@ -158,36 +164,51 @@ module _ (headed : Headed) (types : List CluType) where
       by (d ∷ demands) e = ap (λ (l : List Demanded). option_map (given_told types) (first_asked number name l)) e
   asking_same None number name = refl
 
-  pub given_same : AreInSets headed → (n number : ℕ) (name : List ℕ) → told_round headed types n number name ≡ given_inside headed types (clauses_at headed n) number name (set_at headed n)
-  given_same sets n number name = by (set_at headed n) refl
+  abbrev by_node : ℕ → CluType → List ℕ → Option ℕ → Option Told
+  by_node number wanted name node = told_fitting headed types number wanted node name
+
+  asking_fits : (number : ℕ) (wanted : CluType) (name : List ℕ) (node : Option ℕ) → by_node number wanted name node ≡ by_node number wanted name (if_asking headed node)
+  asking_fits number wanted name node = ap (fitting wanted) (sym (asking_same node number name))
+
+  pub given_same : AreInSets headed → (n number : ℕ) (wanted : CluType) (name : List ℕ) → told_for headed types number wanted n name ≡ given_inside headed types (clauses_at headed n) number name wanted (set_at headed n)
+  given_same sets n number wanted name = by (set_at headed n) refl
     where
-      by : (o : Option ℕ) → set_at headed n ≡ o → told_round headed types n number name ≡ given_inside headed types (clauses_at headed n) number name o
-      by (Some m) e = ap (λ (k : ℕ). told_round headed types k number name) (set_is n m (kind_in headed.file n) (kind_in headed.file (round_in headed.file n).body_last) e)
+      by : (o : Option ℕ) → set_at headed n ≡ o → told_for headed types number wanted n name ≡ given_inside headed types (clauses_at headed n) number name wanted o
+      by (Some m) e = ap (λ (k : ℕ). told_for headed types number wanted k name) (set_is n m (kind_in headed.file n) (kind_in headed.file (round_in headed.file n).body_last) e)
       by None e =
-          ap (λ (set : Option ℕ). option_or (option_or (told_given headed types (round_in headed.file n).routine number name) (told_given headed types (round_in headed.file n).cluster number name)) (told_given headed types set number name)) (sets n e number)
-          ∙ or_none (option_or (told_given headed types (round_in headed.file n).routine number name) (told_given headed types (round_in headed.file n).cluster number name))
-          ∙ ap₂ (λ (a b : Option Told). option_or a b) (sym (asking_same (round_in headed.file n).routine number name)) (sym (asking_same (round_in headed.file n).cluster number name))
+          ap (λ (set : Option ℕ). option_or (option_or (by_node number wanted name (round_in headed.file n).routine) (by_node number wanted name (round_in headed.file n).cluster)) (by_node number wanted name set)) (sets n e number)
+          ∙ or_none (option_or (by_node number wanted name (round_in headed.file n).routine) (by_node number wanted name (round_in headed.file n).cluster))
+          ∙ ap₂ (λ (a b : Option Told). option_or a b) (asking_fits number wanted name (round_in headed.file n).routine) (asking_fits number wanted name (round_in headed.file n).cluster)
 
 -- ---- what is told of a type
 
-module _ (headed : Headed) (start : List Term) (sets : AreInSets headed) (finding : Finding) (was : IsFinding headed start finding) (now : List Term) (grows : Grows start now) (names : List (List ℕ)) (n : ℕ) (of : TypeId) (operation_id : NameId) (name : List ℕ)
-    (named_so : slice_get names operation_id.0 ≡ Some name) where
+module _ (headed : Headed) (start : List Term) (sets : AreInSets headed) (finding : Finding) (was : IsFinding headed start finding) (now : List Term) (grows : Grows start now) (names : List (List ℕ)) (n : ℕ) (need : Need) (name : List ℕ)
+    (named_so : slice_get names need.operation.0 ≡ Some name) where
+  abbrev of : TypeId
+  of = need.of
+
+  abbrev operation_id : NameId
+  operation_id = need.operation
+
+  abbrev asked_type : CluType
+  asked_type = type_at (types_of now) need.wanted
+
   abbrev IsTold : CluType → Type 0
-  IsTold t = told_asked headed now names n of operation_id ≡ found_under headed (types_of start) (clauses_at headed n) t name
+  IsTold t = told_asked headed now names n need ≡ found_under headed (types_of start) (clauses_at headed n) t name asked_type
 
   as_parameter : (number : ℕ) → shape_of now of ≡ shape.Parameter number → IsTold (parameter number)
   unfolding told_asked
   as_parameter number is =
-      ap (told_shape headed now names n of operation_id) is
-      ∙ ap (option_and_then (told_round headed (types_of now) n number)) named_so
-      ∙ round_stays start now grows headed was.asked n number name
-      ∙ given_same headed (types_of start) sets n number name
+      ap (told_shape headed now names n need) is
+      ∙ ap (option_and_then (told_for headed (types_of now) number asked_type n)) named_so
+      ∙ round_stays start now grows headed was.asked n number asked_type name
+      ∙ given_same headed (types_of start) sets n number asked_type name
 
   -- of a built-in type
-  builtin_is : (t : CluType) → shape_of now of ≡ shape.Builtin → type_at (types_of now) of ≡ t → told_asked headed now names n of operation_id ≡ option_map builtin_told (operation t name)
+  builtin_is : (t : CluType) → shape_of now of ≡ shape.Builtin → type_at (types_of now) of ≡ t → told_asked headed now names n need ≡ option_map builtin_told (operation t name)
   unfolding told_asked told_seen wished_told
   builtin_is t is type =
-      ap (told_shape headed now names n of operation_id) is
+      ap (told_shape headed now names n need) is
       ∙ ap (λ (s : Shape). told_view headed now names of (Some operation_id) (view_by headed.file now None of s)) is
       ∙ ap (λ (o : Option (List ℕ)). option_map builtin_told (operation_if (type_at (types_of now) of) o)) named_so
       ∙ ap (λ (u : CluType). option_map builtin_told (operation u name)) type
@@ -210,7 +231,7 @@ module _ (headed : Headed) (start : List Term) (sets : AreInSets headed) (findin
   as_cluster : (c : List ℕ) (given : Actuals) → shape_of now of ≡ shape.Cluster → name_in (slice_get now of.0) ≡ Some c → type_at (types_of now) of ≡ cluster_of c given → IsTold (cluster_of c given)
   unfolding told_asked told_seen wished_told
   as_cluster c given is own_name type =
-      ap (told_shape headed now names n of operation_id) is
+      ap (told_shape headed now names n need) is
       ∙ ap (λ (s : Shape). told_view headed now names of (Some operation_id) (view_by headed.file now None of s)) is
       ∙ ap (λ (o : Option (List ℕ)). told_view headed now names of (Some operation_id) (option_and_then (λ (its_name : List ℕ). option_map view.Outside (named headed.file.bindings.now.modules its_name)) o)) own_name
       ∙ by (named headed.file.bindings.now.modules c)
@@ -317,43 +338,55 @@ module _ (headed : Headed) (types : List CluType) where
       by None = tt
   by_up None number name = tt
 
-  given_up : (u : Clauses) (number : ℕ) (name : List ℕ) (o : Option ℕ) → AsksUp (given_inside headed types u number name o)
-  given_up u number name (Some n) =
-      some_up _ _ (some_up _ _ (by_up (round_in headed.file n).routine number name) (by_up (round_in headed.file n).cluster number name)) (by_up (set_round headed.file n number) number name)
-  given_up u number name None = some_up _ _ (by_up u.routine number name) (by_up u.cluster number name)
+  fitting_up : (number : ℕ) (wanted : CluType) (node : Option ℕ) (name : List ℕ) → AsksUp (told_fitting headed types number wanted node name)
+  fitting_up number wanted node name = by (told_given headed types node number name) (by_up node number name)
+    where
+      if_fits : (it : Told) → AllUp it.asks → (b : Bool) → AsksUp (if b then Some it else None)
+      if_fits it up true = up
+      if_fits it up false = tt
 
-  found_up : (u : Clauses) (t : CluType) → ascends t ≡ true → (name : List ℕ) → AsksUp (found_under headed types u t name)
-  found_up u (cluster_of c given) up name = module_up given (ascends_true (cluster_of c given) up) name (module_of_name headed types c)
-  found_up u (parameter number) up name = given_up u number name u.set
-  found_up u (array_of t) up name = builtin_up (array_of t) up name
-  found_up u (sequence_of t) up name = builtin_up (sequence_of t) up name
-  found_up u (record_of fields) up name = builtin_up (record_of fields) up name
-  found_up u (struct_of fields) up name = builtin_up (struct_of fields) up name
-  found_up u (oneof_of fields) up name = builtin_up (oneof_of fields) up name
-  found_up u (variant_of fields) up name = builtin_up (variant_of fields) up name
-  found_up u (proc_of args results signals) up name = builtin_up (proc_of args results signals) up name
-  found_up u (iter_of args results signals) up name = builtin_up (iter_of args results signals) up name
-  found_up u null_type up name = builtin_up null_type up name
-  found_up u bool_type up name = builtin_up bool_type up name
-  found_up u int_type up name = builtin_up int_type up name
-  found_up u char_type up name = builtin_up char_type up name
-  found_up u string_type up name = builtin_up string_type up name
-  found_up u any_type up name = builtin_up any_type up name
-  found_up u stream_type up name = builtin_up stream_type up name
+      by : (o : Option Told) → AsksUp o → AsksUp (fitting wanted o)
+      by (Some it) up = if_fits it up (may_fit it.type wanted)
+      by None up = tt
+
+  given_up : (u : Clauses) (number : ℕ) (name : List ℕ) (wanted : CluType) (o : Option ℕ) → AsksUp (given_inside headed types u number name wanted o)
+  given_up u number name wanted (Some n) =
+      some_up _ _ (some_up _ _ (fitting_up number wanted (round_in headed.file n).routine name) (fitting_up number wanted (round_in headed.file n).cluster name)) (fitting_up number wanted (set_round headed.file n number) name)
+  given_up u number name wanted None = some_up _ _ (fitting_up number wanted u.routine name) (fitting_up number wanted u.cluster name)
+
+  found_up : (u : Clauses) (t : CluType) → ascends t ≡ true → (name : List ℕ) (wanted : CluType) → AsksUp (found_under headed types u t name wanted)
+  found_up u (cluster_of c given) up name wanted = module_up given (ascends_true (cluster_of c given) up) name (module_of_name headed types c)
+  found_up u (parameter number) up name wanted = given_up u number name wanted u.set
+  found_up u (array_of t) up name wanted = builtin_up (array_of t) up name
+  found_up u (sequence_of t) up name wanted = builtin_up (sequence_of t) up name
+  found_up u (record_of fields) up name wanted = builtin_up (record_of fields) up name
+  found_up u (struct_of fields) up name wanted = builtin_up (struct_of fields) up name
+  found_up u (oneof_of fields) up name wanted = builtin_up (oneof_of fields) up name
+  found_up u (variant_of fields) up name wanted = builtin_up (variant_of fields) up name
+  found_up u (proc_of args results signals) up name wanted = builtin_up (proc_of args results signals) up name
+  found_up u (iter_of args results signals) up name wanted = builtin_up (iter_of args results signals) up name
+  found_up u null_type up name wanted = builtin_up null_type up name
+  found_up u bool_type up name wanted = builtin_up bool_type up name
+  found_up u int_type up name wanted = builtin_up int_type up name
+  found_up u char_type up name wanted = builtin_up char_type up name
+  found_up u string_type up name wanted = builtin_up string_type up name
+  found_up u any_type up name wanted = builtin_up any_type up name
+  found_up u stream_type up name wanted = builtin_up stream_type up name
 
 -- ---- all that is asked of a setting
 
 pub setting_looks : (headed : Headed) (terms : List Term) (finding : Finding) → AreInSets headed → IsFinding headed terms finding → Looks headed (setting_of headed terms finding)
 setting_looks headed terms finding sets was = record {
-  told = λ n now later its of operation_id there is_named.
+  told = λ n now later its need there.
       (let d : Term = term.Null in
-      let name : List ℕ = get_or now.finding.words operation_id.0 [] in
-      let at : slice_get now.terms of.0 ≡ Some (get_or now.terms of.0 d) = slice_get-get_or now.terms of.0 d there in
-      let read : Reads now.terms of (get_or now.terms of.0 d) = reads now.terms of (get_or now.terms of.0 d) at in
-      subst (λ (t : CluType). told_asked headed now.terms now.finding.words n of operation_id ≡ found_under headed (types_of terms) (clauses_at headed n) t name) (sym read.is)
-      (told_of_term headed terms sets finding was now.terms later.0 now.finding.words n of operation_id name (slice_get-get_or now.finding.words operation_id.0 [] is_named) (get_or now.terms of.0 d) at read.types read.is));
+      let name : List ℕ = get_or now.finding.words need.operation.0 [] in
+      let wanted : CluType = type_at (types_of now.terms) need.wanted in
+      let at : slice_get now.terms need.of.0 ≡ Some (get_or now.terms need.of.0 d) = slice_get-get_or now.terms need.of.0 d there.of in
+      let read : Reads now.terms need.of (get_or now.terms need.of.0 d) = reads now.terms need.of (get_or now.terms need.of.0 d) at in
+      subst (λ (t : CluType). told_asked headed now.terms now.finding.words n need ≡ found_under headed (types_of terms) (clauses_at headed n) t name wanted) (sym read.is)
+      (told_of_term headed terms sets finding was now.terms later.0 now.finding.words n need name (slice_get-get_or now.finding.words need.operation.0 [] there.operation) (get_or now.terms need.of.0 d) at read.types read.is));
   ascend = λ t up. components_up t (ascends_true t up);
-  fine = λ u t name it up is a h. fine_by (found_under headed (types_of terms) u t name) (found_up headed (types_of terms) u t up name) it is a h;
+  fine = λ u t name wanted it up is a h. fine_by (found_under headed (types_of terms) u t name wanted) (found_up headed (types_of terms) u t up name wanted) it is a h;
 }
   where
     fine_by : (o : Option Told) → AsksUp o → (it : Told) → o ≡ Some it → AllUp it.asks

@@ -41,7 +41,7 @@ turned_name a b = by (bytes_eq a b) refl (bytes_eq b a) refl
     by true e false g = absurd (true≢false (sym ((bytes_eq-Decides b a).1 (sym ((bytes_eq-Decides a b).0 e))) ∙ g))
     by false e true g = absurd (true≢false (sym ((bytes_eq-Decides a b).1 (sym ((bytes_eq-Decides b a).0 g))) ∙ e))
 
-map_or : {A B : Type 0} (g : A → B) (a b : Option A) → option_map g (option_or a b) ≡ option_or (option_map g a) (option_map g b)
+pub map_or : {A B : Type 0} (g : A → B) (a b : Option A) → option_map g (option_or a b) ≡ option_or (option_map g a) (option_map g b)
 map_or g (Some a) b = refl
 map_or g None b = refl
 
@@ -164,11 +164,11 @@ module _ (h : Headed) (scope : Scope) (library : List Specification) (refused : 
       ∙ ap (λ (ds : List Demand). given_in ds k name) (tell.asked c)
       ∙ ap (λ (x : NodeKind). given_in (asked_by f x c) k name) is
 
-  by_routine : (n k : ℕ) (name : List ℕ) (o : Option ℕ) → (round f n).routine ≡ o → option_map found_of (told_given h types o k name) ≡ given_in (given_by_routine f (routine_at f o)) k name
+  pub by_routine : (n k : ℕ) (name : List ℕ) (o : Option ℕ) → (round f n).routine ≡ o → option_map found_of (told_given h types o k name) ≡ given_in (given_by_routine f (routine_at f o)) k name
   by_routine n k name (Some c) is = by_node c k name kind.Routine (tell.kinds.routines n c is)
   by_routine n k name None is = refl
 
-  by_cluster : (n k : ℕ) (name : List ℕ) (o : Option ℕ) → (round f n).cluster ≡ o → option_map found_of (told_given h types o k name) ≡ given_in (given_by_cluster f (cluster_at f o)) k name
+  pub by_cluster : (n k : ℕ) (name : List ℕ) (o : Option ℕ) → (round f n).cluster ≡ o → option_map found_of (told_given h types o k name) ≡ given_in (given_by_cluster f (cluster_at f o)) k name
   by_cluster n k name (Some c) is = by_node c k name kind.Cluster (tell.kinds.clusters n c is)
   by_cluster n k name None is = refl
 
@@ -229,7 +229,7 @@ module _ (h : Headed) (scope : Scope) (library : List Specification) (refused : 
   set_same : (n s : ℕ) → is_set_round h.file n s ≡ is_round n s
   set_same n s = and_assoc (is_set_kind (kind_in f s)) (nat_le (round f s).first n) (nat_le n s) ∙ ap (λ (b : Bool). b && stands_below f n s) (sym (set_kind (kind_in f s)))
 
-  by_sets : (n k : ℕ) (name : List ℕ) → option_map found_of (told_given h types (set_round h.file n k) k name) ≡ given_in (given_by_sets f n) k name
+  pub by_sets : (n k : ℕ) (name : List ℕ) → option_map found_of (told_given h types (set_round h.file n k) k name) ≡ given_in (given_by_sets f n) k name
   by_sets n k name = by (nat_lt (count_round h.file n) k) refl (is_set_round h.file n (own_of n k)) refl
     where
       found : find (is_given k name) (given_by_sets f n) ≡ (if has (own_of n k) (sets_round f n) then find (is_given k name) (given_by_set f (own_of n k) (item f (own_of n k)).type_set) else None)

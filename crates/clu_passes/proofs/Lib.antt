@@ -68,6 +68,7 @@ pub mod Fits
 pub mod FieldsOnce
 pub mod FoundStrings
 pub mod FoundUnder
+pub mod GivenFor
 pub mod GivenFound
 pub mod Guards
 pub mod HeadKinds

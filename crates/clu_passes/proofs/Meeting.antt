@@ -1,7 +1,7 @@
 -- What is asked is met just if it is one of some of which each is answered by an operation that asks no others.
-use Rattle.std.proofs.Common.{◌≡◌, ◌∙◌, ◌↔◌, ◌⊎◌, inl, inr, ℕ, zero, suc, ◌-◌, ◌<◌, ◌==◌, ◌&&◌, Bool, true, false, if◌then◌else◌, List, [], ◌∷◌, ◌++◌, Contains, length, map, flat_map, get_or, Option, Some, None, IsTrue, refl, sym, ap, subst, arith, eq-eqb, eqb-true}
+use Rattle.std.proofs.Common.{◌≡◌, ◌∙◌, ◌↔◌, ◌⊎◌, inl, inr, ℕ, zero, suc, ◌-◌, ◌<◌, ◌==◌, ◌&&◌, ◌||◌, Bool, true, false, if◌then◌else◌, List, [], ◌∷◌, ◌++◌, Contains, length, map, flat_map, get_or, Option, Some, None, IsTrue, refl, sym, ap, subst, arith, eq-eqb, eqb-true}
 use Rattle.std.specs.List.{list_all}
-use Rattle.std.specs.Option.{option_map}
+use Rattle.std.specs.Option.{option_map, option_or}
 use Rattle.std.proofs.lemmas.Bool.{true≢false, and_parts, and_from}
 use Rattle.std.proofs.lemmas.Option.{none-some, same_Some}
 use Rattle.std.proofs.lemmas.List.Elements.{Contains-append_left, Contains-append_right}
@@ -13,12 +13,12 @@ use Rattle.clu_layout.specs.SameType.{same_type, fits}
 use Rattle.clu_layout.proofs.SameTypeLaws.{types_are, type_same}
 use Rattle.clu_syntax.specs.Syntax.{Identifier}
 use Rattle.clu_checking.specs.Specifications.{Demand, Heading, Specification}
-use Rattle.clu_checking.specs.Operations.{Asked, Found, needed, builtin_type, builtin_found, given_of, asked_as, demanded, routine_found, are_met_by, is_met_by, may_fit, is_put_met, is_met_in, exported_operation, is_included, meets, part_meets, actual_meets}
+use Rattle.clu_checking.specs.Operations.{Asked, Found, needed, builtin_type, builtin_found, given_of, asked_as, demanded, routine_found, are_met_by, is_met_by, may_fit, is_put_met, is_met_in, exported_operation, is_included, is_given_by, meets, part_meets, actual_meets}
 use Rattle.clu_operations.specs.Told.{Ask, Told}
 use Rattle.clu_type_rules.specs.Closed.{IsAnswered, IsClosed, IsMet}
 use Rattle.clu_type_rules.specs.Meeting as tables
 use Rattle.clu_type_rules.specs.Meeting.{plain, Meets}
-use Rattle.clu_passes.specs.Met.{IsComponent, IsPartOf, given_counted, counted, asked_told, found_told, TellCounted}
+use Rattle.clu_passes.specs.Met.{IsComponent, IsPartOf, given_counted, fitting, given_for, counted, asked_told, found_told, TellCounted}
 use Rattle.clu_passes.proofs.PartNeeds.{needs_of_parts}
 
 -- ---- tests and lists
@@ -146,25 +146,43 @@ abbrev asks_by : CluType → Option Found → Option (List Ask)
 asks_by wanted (Some it) = if may_fit it.type wanted then Some (map asked_of it.asks) else None
 asks_by wanted None = None
 
+abbrev none_asked : Option (List Ask)
+none_asked = Some []
+
+-- what is given asks nothing else
+asks_given : (k : ℕ) (name : List ℕ) (wanted : CluType) (clauses : List (List Demand)) → asks_by wanted (option_map given_counted (given_for clauses k name wanted)) ≡ (if is_given_by clauses k name wanted then none_asked else None)
+asks_given k name wanted [] = refl
+asks_given k name wanted (given ∷ clauses) = by (given_of given k name) (asks_given k name wanted clauses)
+  where
+    among : (d : Demand) → asks_by wanted (option_map given_counted (given_for clauses k name wanted)) ≡ (if is_given_by clauses k name wanted then none_asked else None) → (b : Bool) → may_fit d.wanted wanted ≡ b
+        → asks_by wanted (option_map given_counted (option_or (if b then Some d else None) (given_for clauses k name wanted))) ≡ (if b || is_given_by clauses k name wanted then none_asked else None)
+    among d later true e = ap (λ (b : Bool). if b then none_asked else None) e
+    among d later false e = later
+
+    by : (o : Option Demand) → asks_by wanted (option_map given_counted (given_for clauses k name wanted)) ≡ (if is_given_by clauses k name wanted then none_asked else None)
+        → asks_by wanted (option_map given_counted (option_or (fitting wanted o) (given_for clauses k name wanted))) ≡ (if is_included wanted o || is_given_by clauses k name wanted then none_asked else None)
+    by (Some d) later = among d later (may_fit d.wanted wanted) refl
+    by None later = later
+
 -- ---- the actual of a number
 
-module _ (given : List Demand) (specified : Identifier → Option Specification) where
+module _ (clauses : List (List Demand)) (specified : Identifier → Option Specification) where
   abbrev put : Actuals → ℕ → Identifier → CluType → Bool
-  put placed = λ k op w. actual_meets given specified placed k (is_included w (given_of given k op)) op w
+  put placed = λ k op w. actual_meets clauses specified placed k (is_given_by clauses k op w) op w
 
-  first_actual : (t : CluType) (rest : Actuals) (stays : Bool) (name : List ℕ) (wanted : CluType) → actual_meets given specified (actual_type t rest) 1 stays name wanted ≡ meets given specified t name wanted
-  first_actual t rest stays name wanted = ap (λ (b : Bool). if b then meets given specified t name wanted else actual_meets given specified rest (1 - 1) stays name wanted) (eq-eqb 1 1 refl)
+  first_actual : (t : CluType) (rest : Actuals) (stays : Bool) (name : List ℕ) (wanted : CluType) → actual_meets clauses specified (actual_type t rest) 1 stays name wanted ≡ meets clauses specified t name wanted
+  first_actual t rest stays name wanted = ap (λ (b : Bool). if b then meets clauses specified t name wanted else actual_meets clauses specified rest (1 - 1) stays name wanted) (eq-eqb 1 1 refl)
 
-  later_actual : (t : CluType) (rest : Actuals) (i : ℕ) (stays : Bool) (name : List ℕ) (wanted : CluType) → actual_meets given specified (actual_type t rest) (suc (suc i)) stays name wanted ≡ actual_meets given specified rest (suc i) stays name wanted
+  later_actual : (t : CluType) (rest : Actuals) (i : ℕ) (stays : Bool) (name : List ℕ) (wanted : CluType) → actual_meets clauses specified (actual_type t rest) (suc (suc i)) stays name wanted ≡ actual_meets clauses specified rest (suc i) stays name wanted
   later_actual t rest i stays name wanted =
-      ap (λ (b : Bool). if b then meets given specified t name wanted else actual_meets given specified rest (suc (suc i) - 1) stays name wanted) (not_first i)
-      ∙ ap (λ (k : ℕ). actual_meets given specified rest k stays name wanted) (less_one i)
+      ap (λ (b : Bool). if b then meets clauses specified t name wanted else actual_meets clauses specified rest (suc (suc i) - 1) stays name wanted) (not_first i)
+      ∙ ap (λ (k : ℕ). actual_meets clauses specified rest k stays name wanted) (less_one i)
 
   -- none has the number 0
-  no_actual : (placed : Actuals) (k : ℕ) → k ≡ 0 → (stays : Bool) (name : List ℕ) (wanted : CluType) → actual_meets given specified placed k stays name wanted ≡ stays
+  no_actual : (placed : Actuals) (k : ℕ) → k ≡ 0 → (stays : Bool) (name : List ℕ) (wanted : CluType) → actual_meets clauses specified placed k stays name wanted ≡ stays
   no_actual no_actuals k e stays name wanted = refl
   no_actual (actual_type t rest) k e stays name wanted =
-      ap (λ (b : Bool). if b then meets given specified t name wanted else actual_meets given specified rest (k - 1) stays name wanted) (not_zero k e) ∙ no_actual rest (k - 1) (omega (arith, e)) stays name wanted
+      ap (λ (b : Bool). if b then meets clauses specified t name wanted else actual_meets clauses specified rest (k - 1) stays name wanted) (not_zero k e) ∙ no_actual rest (k - 1) (omega (arith, e)) stays name wanted
     where
       not_zero : (k : ℕ) → k ≡ 0 → (k == 1) ≡ false
       not_zero k e = by (k == 1) refl
@@ -175,9 +193,9 @@ module _ (given : List Demand) (specified : Identifier → Option Specification)
   no_actual (actual_const c rest) k e stays name wanted = no_actual rest (k - 1) (omega (arith, e)) stays name wanted
   no_actual (actual_param p rest) k e stays name wanted = no_actual rest (k - 1) (omega (arith, e)) stays name wanted
 
-module _ (given : List Demand) (specified : Identifier → Option Specification) where
+module _ (clauses : List (List Demand)) (specified : Identifier → Option Specification) where
   abbrev asks : Ask → Option (List Ask)
-  asks a = asks_by a.wanted (counted given specified a.of a.operation)
+  asks a = asks_by a.wanted (counted clauses specified a.of a.operation a.wanted)
 
   -- ---- what is closed is met
 
@@ -188,18 +206,18 @@ module _ (given : List Demand) (specified : Identifier → Option Specification)
     abbrev Answer : CluType → Found → Type 0
     Answer wanted it = (may_fit it.type wanted ≡ true) × ((a : Asked) → Contains it.asks a → There a.of a.operation a.wanted)
 
-    answered : (t : CluType) (name : List ℕ) (wanted : CluType) → There t name wanted → (o : Option Found) → counted given specified t name ≡ o → (it : Found) × (o ≡ Some it) × Answer wanted it
+    answered : (t : CluType) (name : List ℕ) (wanted : CluType) → There t name wanted → (o : Option Found) → counted clauses specified t name wanted ≡ o → (it : Found) × (o ≡ Some it) × Answer wanted it
     answered t name wanted h o e = by o e (closed (ask t name wanted) h)
       where
         fitting : (it : Found) (b : Bool) → may_fit it.type wanted ≡ b → (more : List Ask) → (if b then Some (map asked_of it.asks) else None) ≡ Some more → ((m : Ask) → Contains more m → Contains those m) → Answer wanted it
         fitting it true fit more is sub = (fit, λ a k. sub (asked_of a) (subst (λ (l : List Ask). Contains l (asked_of a)) (same_Some (map asked_of it.asks) more is) (in_mapped asked_of it.asks a k)))
         fitting it false fit more is sub = absurd (none-some more is)
 
-        by : (o : Option Found) → counted given specified t name ≡ o → IsAnswered asks those (ask t name wanted) → (it : Found) × (o ≡ Some it) × Answer wanted it
+        by : (o : Option Found) → counted clauses specified t name wanted ≡ o → IsAnswered asks those (ask t name wanted) → (it : Found) × (o ≡ Some it) × Answer wanted it
         by (Some it) e a = (it, refl, fitting it (may_fit it.type wanted) refl a.0 (sym (ap (asks_by wanted) e) ∙ a.1) a.2)
         by None e a = absurd (none-some a.0 (sym (ap (asks_by wanted) e) ∙ a.1))
 
-    builtin_met : (t : CluType) (name : List ℕ) (wanted : CluType) (test : CluType → Identifier → CluType → Bool) → counted given specified t name ≡ option_map builtin_found (operation t name) → There t name wanted
+    builtin_met : (t : CluType) (name : List ℕ) (wanted : CluType) (test : CluType → Identifier → CluType → Bool) → counted clauses specified t name wanted ≡ option_map builtin_found (operation t name) → There t name wanted
         → ((o : Operation) → operation t name ≡ Some o → (n : Needed) → Contains o.needs n → There n.of n.op n.wanted → test n.of n.op n.wanted ≡ true) → is_met_by test wanted (operation t name) ≡ true
     builtin_met t name wanted test is h each = by (operation t name) refl
       where
@@ -212,42 +230,43 @@ module _ (given : List Demand) (specified : Identifier → Option Specification)
             and_from (fits (builtin_type op.iter op) wanted) (are_met_by test op.needs) found.0
             (all_true (λ (n : Needed). test n.of n.op n.wanted) op.needs (λ n k. each op e n k (found.1 (needed n) (in_mapped needed op.needs n k))))
 
-    in_part : (t of : CluType) (name : List ℕ) (wanted : CluType) (fs : Fields) → (t ≡ of) ⊎ IsComponent fs of → (t ≡ of → meets given specified t name wanted ≡ true) → (IsComponent fs of → part_meets given specified fs of name wanted ≡ true) → (b : Bool) → same_type t of ≡ b
-        → (if b then meets given specified t name wanted else part_meets given specified fs of name wanted) ≡ true
+    in_part : (t of : CluType) (name : List ℕ) (wanted : CluType) (fs : Fields) → (t ≡ of) ⊎ IsComponent fs of → (t ≡ of → meets clauses specified t name wanted ≡ true) → (IsComponent fs of → part_meets clauses specified fs of name wanted ≡ true) → (b : Bool) → same_type t of ≡ b
+        → (if b then meets clauses specified t name wanted else part_meets clauses specified fs of name wanted) ≡ true
     in_part t of name wanted fs is here later true e = here (types_are t of e)
     in_part t of name wanted fs (inl same) here later false e = absurd (true≢false (sym (type_same of) ∙ ap (λ (u : CluType). same_type u of) (sym same) ∙ e))
     in_part t of name wanted fs (inr there) here later false e = later there
 
-    of_given : (k : ℕ) (name : List ℕ) (wanted : CluType) → There (parameter k) name wanted → (o : Option Demand) → given_of given k name ≡ o → is_included wanted o ≡ true
-    of_given k name wanted h None e = let a = answered (parameter k) name wanted h None (ap (option_map given_counted) e) in absurd (none-some a.0 a.1)
-    of_given k name wanted h (Some d) e =
-        let a = answered (parameter k) name wanted h (Some (given_counted d)) (ap (option_map given_counted) e) in
-        ap (λ (it : Found). may_fit it.type wanted) (same_Some (given_counted d) a.0 a.1) ∙ a.2.0
+    of_given : (k : ℕ) (name : List ℕ) (wanted : CluType) → There (parameter k) name wanted → is_given_by clauses k name wanted ≡ true
+    of_given k name wanted h = by (is_given_by clauses k name wanted) (sym (asks_given k name wanted clauses) ∙ (closed (ask (parameter k) name wanted) h).1)
+      where
+        by : (b : Bool) → (if b then none_asked else None) ≡ Some (closed (ask (parameter k) name wanted) h).0 → b ≡ true
+        by true e = refl
+        by false e = absurd (none-some (closed (ask (parameter k) name wanted) h).0 e)
 
     -- of each actual, where what its parameter would be is so
     abbrev EachActual : Actuals → Type 0
-    EachActual placed = (i : ℕ) (other : CluType) (stays : Bool) (op : List ℕ) (w : CluType) → (There other op w → stays ≡ true) → There (type_of_actual placed i other) op w → actual_meets given specified placed (suc i) stays op w ≡ true
+    EachActual placed = (i : ℕ) (other : CluType) (stays : Bool) (op : List ℕ) (w : CluType) → (There other op w → stays ≡ true) → There (type_of_actual placed i other) op w → actual_meets clauses specified placed (suc i) stays op w ≡ true
 
-    by_number : (placed : Actuals) (k : ℕ) (op : List ℕ) (w : CluType) → EachActual placed → There (type_put placed k) op w → put given specified placed k op w ≡ true
-    by_number placed zero op w each there = no_actual given specified placed zero refl (is_included w (given_of given zero op)) op w ∙ of_given zero op w there (given_of given zero op) refl
-    by_number placed (suc i) op w each there = each i (parameter (suc i)) (is_included w (given_of given (suc i) op)) op w (λ h. of_given (suc i) op w h (given_of given (suc i) op) refl) there
+    by_number : (placed : Actuals) (k : ℕ) (op : List ℕ) (w : CluType) → EachActual placed → There (type_put placed k) op w → put clauses specified placed k op w ≡ true
+    by_number placed zero op w each there = no_actual clauses specified placed zero refl (is_given_by clauses zero op w) op w ∙ of_given zero op w there
+    by_number placed (suc i) op w each there = each i (parameter (suc i)) (is_given_by clauses (suc i) op w) op w (λ h. of_given (suc i) op w h) there
 
-    one_put : (placed : Actuals) (demands : List Demand) (d : Demand) → Contains demands d → (o : Option CluType) → d.wanted ≡ o → ((x : Asked) → Contains (flat_map (demanded placed) demands) x → There x.of x.operation x.wanted) → EachActual placed → is_put_met (put given specified placed) placed d o ≡ true
+    one_put : (placed : Actuals) (demands : List Demand) (d : Demand) → Contains demands d → (o : Option CluType) → d.wanted ≡ o → ((x : Asked) → Contains (flat_map (demanded placed) demands) x → There x.of x.operation x.wanted) → EachActual placed → is_put_met (put clauses specified placed) placed d o ≡ true
     one_put placed demands d k None e found each = refl
     one_put placed demands d k (Some v) e found each =
         let x : Asked = record { of = type_put placed d.parameter; operation = d.operation; wanted = substituted placed v; in_set = d.in_set } in
         by_number placed d.parameter d.operation (substituted placed v) each (found x (in_flat (demanded placed) demands d x k (subst (λ (o : Option CluType). Contains (asked_as placed d o) x) (sym e) (in_head x []))))
 
-    of_heading : (c : List ℕ) (placed : Actuals) (name : List ℕ) (wanted : CluType) → There (cluster_of c placed) name wanted → (o : Option Heading) → exported_operation name (specified c) ≡ o → EachActual placed → is_met_in (put given specified placed) placed wanted o ≡ true
+    of_heading : (c : List ℕ) (placed : Actuals) (name : List ℕ) (wanted : CluType) → There (cluster_of c placed) name wanted → (o : Option Heading) → exported_operation name (specified c) ≡ o → EachActual placed → is_met_in (put clauses specified placed) placed wanted o ≡ true
     of_heading c placed name wanted h None e each = let a = answered (cluster_of c placed) name wanted h None (ap (option_map (routine_found placed)) e) in absurd (none-some a.0 a.1)
     of_heading c placed name wanted h (Some its) e each =
         let a = answered (cluster_of c placed) name wanted h (Some (routine_found placed its)) (ap (option_map (routine_found placed)) e) in
         let found : Answer wanted (routine_found placed its) = subst (Answer wanted) (sym (same_Some (routine_found placed its) a.0 a.1)) a.2 in
-        and_from (may_fit (option_map (substituted placed) its.type) wanted) (list_all (λ d. is_put_met (put given specified placed) placed d d.wanted) its.demands) found.0
-        (all_true (λ d. is_put_met (put given specified placed) placed d d.wanted) its.demands (λ d k. one_put placed its.demands d k d.wanted refl (λ w there. found.1 w there) each))
+        and_from (may_fit (option_map (substituted placed) its.type) wanted) (list_all (λ d. is_put_met (put clauses specified placed) placed d d.wanted) its.demands) found.0
+        (all_true (λ d. is_put_met (put clauses specified placed) placed d d.wanted) its.demands (λ d k. one_put placed its.demands d k d.wanted refl (λ w there. found.1 w there) each))
 
     mutual
-      sound : (t : CluType) (name : List ℕ) (wanted : CluType) → There t name wanted → meets given specified t name wanted ≡ true
+      sound : (t : CluType) (name : List ℕ) (wanted : CluType) → There t name wanted → meets clauses specified t name wanted ≡ true
       sound null_type name wanted h = builtin_met null_type name wanted (λ of op w. true) refl h (λ o e n k there. refl)
       sound bool_type name wanted h = builtin_met bool_type name wanted (λ of op w. true) refl h (λ o e n k there. refl)
       sound int_type name wanted h = builtin_met int_type name wanted (λ of op w. true) refl h (λ o e n k there. refl)
@@ -258,39 +277,39 @@ module _ (given : List Demand) (specified : Identifier → Option Specification)
       sound (proc_of args results signals) name wanted h = builtin_met (proc_of args results signals) name wanted (λ of op w. true) refl h (λ o e n k there. refl)
       sound (iter_of args results signals) name wanted h = builtin_met (iter_of args results signals) name wanted (λ of op w. true) refl h (λ o e n k there. refl)
       sound (array_of t) name wanted h =
-          builtin_met (array_of t) name wanted (λ of op w. meets given specified t op w) refl h
+          builtin_met (array_of t) name wanted (λ of op w. meets clauses specified t op w) refl h
           (λ o e n k there. sound t n.op n.wanted (subst (λ (u : CluType). There u n.op n.wanted) (sym (needs_of_parts (array_of t) name o e n k)) there))
       sound (sequence_of t) name wanted h =
-          builtin_met (sequence_of t) name wanted (λ of op w. meets given specified t op w) refl h
+          builtin_met (sequence_of t) name wanted (λ of op w. meets clauses specified t op w) refl h
           (λ o e n k there. sound t n.op n.wanted (subst (λ (u : CluType). There u n.op n.wanted) (sym (needs_of_parts (sequence_of t) name o e n k)) there))
       sound (record_of fs) name wanted h =
-          builtin_met (record_of fs) name wanted (part_meets given specified fs) refl h (λ o e n k there. sound_part fs n.of (needs_of_parts (record_of fs) name o e n k) n.op n.wanted there)
+          builtin_met (record_of fs) name wanted (part_meets clauses specified fs) refl h (λ o e n k there. sound_part fs n.of (needs_of_parts (record_of fs) name o e n k) n.op n.wanted there)
       sound (struct_of fs) name wanted h =
-          builtin_met (struct_of fs) name wanted (part_meets given specified fs) refl h (λ o e n k there. sound_part fs n.of (needs_of_parts (struct_of fs) name o e n k) n.op n.wanted there)
+          builtin_met (struct_of fs) name wanted (part_meets clauses specified fs) refl h (λ o e n k there. sound_part fs n.of (needs_of_parts (struct_of fs) name o e n k) n.op n.wanted there)
       sound (oneof_of fs) name wanted h =
-          builtin_met (oneof_of fs) name wanted (part_meets given specified fs) refl h (λ o e n k there. sound_part fs n.of (needs_of_parts (oneof_of fs) name o e n k) n.op n.wanted there)
+          builtin_met (oneof_of fs) name wanted (part_meets clauses specified fs) refl h (λ o e n k there. sound_part fs n.of (needs_of_parts (oneof_of fs) name o e n k) n.op n.wanted there)
       sound (variant_of fs) name wanted h =
-          builtin_met (variant_of fs) name wanted (part_meets given specified fs) refl h (λ o e n k there. sound_part fs n.of (needs_of_parts (variant_of fs) name o e n k) n.op n.wanted there)
+          builtin_met (variant_of fs) name wanted (part_meets clauses specified fs) refl h (λ o e n k there. sound_part fs n.of (needs_of_parts (variant_of fs) name o e n k) n.op n.wanted there)
       sound (cluster_of c placed) name wanted h = of_heading c placed name wanted h (exported_operation name (specified c)) refl (λ i other stays op w left there. sound_actual placed i other stays op w left there)
-      sound (parameter k) name wanted h = of_given k name wanted h (given_of given k name) refl
+      sound (parameter k) name wanted h = of_given k name wanted h
 
-      sound_part : (fs : Fields) (of : CluType) → IsComponent fs of → (name : List ℕ) (wanted : CluType) → There of name wanted → part_meets given specified fs of name wanted ≡ true
+      sound_part : (fs : Fields) (of : CluType) → IsComponent fs of → (name : List ℕ) (wanted : CluType) → There of name wanted → part_meets clauses specified fs of name wanted ≡ true
       sound_part no_fields of is name wanted h = absurd is
       sound_part (field_and selector t fs) of is name wanted h =
           in_part t of name wanted fs is (λ e. sound t name wanted (subst (λ (u : CluType). There u name wanted) (sym e) h)) (λ later. sound_part fs of later name wanted h) (same_type t of) refl
 
-      sound_actual : (placed : Actuals) (i : ℕ) (other : CluType) (stays : Bool) (name : List ℕ) (wanted : CluType) → (There other name wanted → stays ≡ true) → There (type_of_actual placed i other) name wanted → actual_meets given specified placed (suc i) stays name wanted ≡ true
+      sound_actual : (placed : Actuals) (i : ℕ) (other : CluType) (stays : Bool) (name : List ℕ) (wanted : CluType) → (There other name wanted → stays ≡ true) → There (type_of_actual placed i other) name wanted → actual_meets clauses specified placed (suc i) stays name wanted ≡ true
       sound_actual no_actuals i other stays name wanted left h = left h
-      sound_actual (actual_type t rest) zero other stays name wanted left h = first_actual given specified t rest stays name wanted ∙ sound t name wanted h
-      sound_actual (actual_type t rest) (suc i) other stays name wanted left h = later_actual given specified t rest i stays name wanted ∙ sound_actual rest i other stays name wanted left h
-      sound_actual (actual_const c rest) zero other stays name wanted left h = no_actual given specified rest (1 - 1) (omega arith) stays name wanted ∙ left h
-      sound_actual (actual_const c rest) (suc i) other stays name wanted left h = ap (λ (k : ℕ). actual_meets given specified rest k stays name wanted) (less_one i) ∙ sound_actual rest i other stays name wanted left h
-      sound_actual (actual_param p rest) zero other stays name wanted left h = no_actual given specified rest (1 - 1) (omega arith) stays name wanted ∙ left h
-      sound_actual (actual_param p rest) (suc i) other stays name wanted left h = ap (λ (k : ℕ). actual_meets given specified rest k stays name wanted) (less_one i) ∙ sound_actual rest i other stays name wanted left h
+      sound_actual (actual_type t rest) zero other stays name wanted left h = first_actual clauses specified t rest stays name wanted ∙ sound t name wanted h
+      sound_actual (actual_type t rest) (suc i) other stays name wanted left h = later_actual clauses specified t rest i stays name wanted ∙ sound_actual rest i other stays name wanted left h
+      sound_actual (actual_const c rest) zero other stays name wanted left h = no_actual clauses specified rest (1 - 1) (omega arith) stays name wanted ∙ left h
+      sound_actual (actual_const c rest) (suc i) other stays name wanted left h = ap (λ (k : ℕ). actual_meets clauses specified rest k stays name wanted) (less_one i) ∙ sound_actual rest i other stays name wanted left h
+      sound_actual (actual_param p rest) zero other stays name wanted left h = no_actual clauses specified rest (1 - 1) (omega arith) stays name wanted ∙ left h
+      sound_actual (actual_param p rest) (suc i) other stays name wanted left h = ap (λ (k : ℕ). actual_meets clauses specified rest k stays name wanted) (less_one i) ∙ sound_actual rest i other stays name wanted left h
 
   -- ---- what is met is closed
 
-  builtin_closed : (t : CluType) (name : List ℕ) (wanted : CluType) (test : CluType → Identifier → CluType → Bool) → counted given specified t name ≡ option_map builtin_found (operation t name) → is_met_by test wanted (operation t name) ≡ true
+  builtin_closed : (t : CluType) (name : List ℕ) (wanted : CluType) (test : CluType → Identifier → CluType → Bool) → counted clauses specified t name wanted ≡ option_map builtin_found (operation t name) → is_met_by test wanted (operation t name) ≡ true
       → ((o : Operation) → operation t name ≡ Some o → (n : Needed) → Contains o.needs n → test n.of n.op n.wanted ≡ true → IsMet asks (ask n.of n.op n.wanted)) → IsMet asks (ask t name wanted)
   builtin_closed t name wanted test is met each = by (operation t name) refl met
     where
@@ -308,7 +327,7 @@ module _ (given : List Demand) (specified : Identifier → Option Specification)
   nothing_needed : (t : CluType) (name : List ℕ) (o : Operation) → operation t name ≡ Some o → ((of : CluType) → IsPartOf t of → ⊥) → (n : Needed) → Contains o.needs n → IsMet asks (ask n.of n.op n.wanted)
   nothing_needed t name o e none n k = absurd (none n.of (needs_of_parts t name o e n k))
 
-  put_closed : (placed : Actuals) (d : Demand) → ((k : ℕ) (op : List ℕ) (w : CluType) → put given specified placed k op w ≡ true → IsMet asks (ask (type_put placed k) op w)) → (o : Option CluType) → is_put_met (put given specified placed) placed d o ≡ true
+  put_closed : (placed : Actuals) (d : Demand) → ((k : ℕ) (op : List ℕ) (w : CluType) → put clauses specified placed k op w ≡ true → IsMet asks (ask (type_put placed k) op w)) → (o : Option CluType) → is_put_met (put clauses specified placed) placed d o ≡ true
       → (x : Asked) → Contains (asked_as placed d o) x → IsMet asks (asked_of x)
   put_closed placed d each None met x h = in_none x h
   put_closed placed d each (Some w) met x h = elim (head_or_tail _ [] x h) [
@@ -316,41 +335,36 @@ module _ (given : List Demand) (specified : Identifier → Option Specification)
     | inr there ↦ in_none x there
   ]
 
-  heading_closed : (c : List ℕ) (placed : Actuals) (name : List ℕ) (wanted : CluType) → ((k : ℕ) (op : List ℕ) (w : CluType) → put given specified placed k op w ≡ true → IsMet asks (ask (type_put placed k) op w)) → (o : Option Heading) → exported_operation name (specified c) ≡ o
-      → is_met_in (put given specified placed) placed wanted o ≡ true → IsMet asks (ask (cluster_of c placed) name wanted)
+  heading_closed : (c : List ℕ) (placed : Actuals) (name : List ℕ) (wanted : CluType) → ((k : ℕ) (op : List ℕ) (w : CluType) → put clauses specified placed k op w ≡ true → IsMet asks (ask (type_put placed k) op w)) → (o : Option Heading) → exported_operation name (specified c) ≡ o
+      → is_met_in (put clauses specified placed) placed wanted o ≡ true → IsMet asks (ask (cluster_of c placed) name wanted)
   heading_closed c placed name wanted each None e met = absurd (true≢false (sym met))
   heading_closed c placed name wanted each (Some its) e met =
       let fit : Bool = may_fit (option_map (substituted placed) its.type) wanted in
-      let rest : Bool = list_all (λ d. is_put_met (put given specified placed) placed d d.wanted) its.demands in
+      let rest : Bool = list_all (λ d. is_put_met (put clauses specified placed) placed d d.wanted) its.demands in
       is_met asks (ask (cluster_of c placed) name wanted) (map asked_of (flat_map (demanded placed) its.demands))
       (ap (λ (o : Option Heading). asks_by wanted (option_map (routine_found placed) o)) e ∙ ap (λ (b : Bool). if b then Some (map asked_of (flat_map (demanded placed) its.demands)) else None) (and_parts fit rest met).0)
       (λ m h.
       (let r = from_mapped asked_of (flat_map (demanded placed) its.demands) m h in
       let q = from_flat (demanded placed) its.demands r.0 r.1 in
       subst (λ (x : Ask). IsMet asks x) r.2
-      (put_closed placed q.0 each q.0.wanted (each_true (λ d. is_put_met (put given specified placed) placed d d.wanted) its.demands (and_parts fit rest met).1 q.0 q.1) r.0 q.2)))
+      (put_closed placed q.0 each q.0.wanted (each_true (λ d. is_put_met (put clauses specified placed) placed d d.wanted) its.demands (and_parts fit rest met).1 q.0 q.1) r.0 q.2)))
 
-  abbrev none_asked : Option (List Ask)
-  none_asked = Some []
+  given_closed : (k : ℕ) (name : List ℕ) (wanted : CluType) → is_given_by clauses k name wanted ≡ true → IsMet asks (ask (parameter k) name wanted)
+  given_closed k name wanted met = is_met asks (ask (parameter k) name wanted) [] (asks_given k name wanted clauses ∙ ap (λ (b : Bool). if b then none_asked else None) met) (λ m h. in_none m h)
 
-  given_closed : (k : ℕ) (name : List ℕ) (wanted : CluType) (o : Option Demand) → given_of given k name ≡ o → is_included wanted o ≡ true → IsMet asks (ask (parameter k) name wanted)
-  given_closed k name wanted None e met = absurd (true≢false (sym met))
-  given_closed k name wanted (Some d) e met =
-      is_met asks (ask (parameter k) name wanted) [] (ap (λ (o : Option Demand). asks_by wanted (option_map given_counted o)) e ∙ ap (λ (b : Bool). if b then none_asked else None) met) (λ m h. in_none m h)
-
-  either_part : (t of : CluType) (name : List ℕ) (wanted : CluType) (fs : Fields) → (meets given specified t name wanted ≡ true → IsMet asks (ask t name wanted)) → (part_meets given specified fs of name wanted ≡ true → IsMet asks (ask of name wanted)) → (b : Bool) → same_type t of ≡ b
-      → (if b then meets given specified t name wanted else part_meets given specified fs of name wanted) ≡ true → IsMet asks (ask of name wanted)
+  either_part : (t of : CluType) (name : List ℕ) (wanted : CluType) (fs : Fields) → (meets clauses specified t name wanted ≡ true → IsMet asks (ask t name wanted)) → (part_meets clauses specified fs of name wanted ≡ true → IsMet asks (ask of name wanted)) → (b : Bool) → same_type t of ≡ b
+      → (if b then meets clauses specified t name wanted else part_meets clauses specified fs of name wanted) ≡ true → IsMet asks (ask of name wanted)
   either_part t of name wanted fs here later true e met = subst (λ (u : CluType). IsMet asks (ask u name wanted)) (types_are t of e) (here met)
   either_part t of name wanted fs here later false e met = later met
 
   number_closed : (placed : Actuals)
-      → ((i : ℕ) (other : CluType) (stays : Bool) (op : List ℕ) (w : CluType) → (stays ≡ true → IsMet asks (ask other op w)) → actual_meets given specified placed (suc i) stays op w ≡ true → IsMet asks (ask (type_of_actual placed i other) op w))
-      → (k : ℕ) (op : List ℕ) (w : CluType) → put given specified placed k op w ≡ true → IsMet asks (ask (type_put placed k) op w)
-  number_closed placed each zero op w met = given_closed zero op w (given_of given zero op) refl (sym (no_actual given specified placed zero refl (is_included w (given_of given zero op)) op w) ∙ met)
-  number_closed placed each (suc i) op w met = each i (parameter (suc i)) (is_included w (given_of given (suc i) op)) op w (λ e. given_closed (suc i) op w (given_of given (suc i) op) refl e) met
+      → ((i : ℕ) (other : CluType) (stays : Bool) (op : List ℕ) (w : CluType) → (stays ≡ true → IsMet asks (ask other op w)) → actual_meets clauses specified placed (suc i) stays op w ≡ true → IsMet asks (ask (type_of_actual placed i other) op w))
+      → (k : ℕ) (op : List ℕ) (w : CluType) → put clauses specified placed k op w ≡ true → IsMet asks (ask (type_put placed k) op w)
+  number_closed placed each zero op w met = given_closed zero op w (sym (no_actual clauses specified placed zero refl (is_given_by clauses zero op w) op w) ∙ met)
+  number_closed placed each (suc i) op w met = each i (parameter (suc i)) (is_given_by clauses (suc i) op w) op w (λ e. given_closed (suc i) op w e) met
 
   mutual
-    complete : (t : CluType) (name : List ℕ) (wanted : CluType) → meets given specified t name wanted ≡ true → IsMet asks (ask t name wanted)
+    complete : (t : CluType) (name : List ℕ) (wanted : CluType) → meets clauses specified t name wanted ≡ true → IsMet asks (ask t name wanted)
     complete null_type name wanted met = builtin_closed null_type name wanted (λ of op w. true) refl met (λ o e n k t. nothing_needed null_type name o e (λ of h. h) n k)
     complete bool_type name wanted met = builtin_closed bool_type name wanted (λ of op w. true) refl met (λ o e n k t. nothing_needed bool_type name o e (λ of h. h) n k)
     complete int_type name wanted met = builtin_closed int_type name wanted (λ of op w. true) refl met (λ o e n k t. nothing_needed int_type name o e (λ of h. h) n k)
@@ -363,34 +377,34 @@ module _ (given : List Demand) (specified : Identifier → Option Specification)
     complete (iter_of args results signals) name wanted met =
         builtin_closed (iter_of args results signals) name wanted (λ of op w. true) refl met (λ o e n k t. nothing_needed (iter_of args results signals) name o e (λ of h. h) n k)
     complete (array_of t) name wanted met =
-        builtin_closed (array_of t) name wanted (λ of op w. meets given specified t op w) refl met
+        builtin_closed (array_of t) name wanted (λ of op w. meets clauses specified t op w) refl met
         (λ o e n k true_there. subst (λ (u : CluType). IsMet asks (ask u n.op n.wanted)) (needs_of_parts (array_of t) name o e n k) (complete t n.op n.wanted true_there))
     complete (sequence_of t) name wanted met =
-        builtin_closed (sequence_of t) name wanted (λ of op w. meets given specified t op w) refl met
+        builtin_closed (sequence_of t) name wanted (λ of op w. meets clauses specified t op w) refl met
         (λ o e n k true_there. subst (λ (u : CluType). IsMet asks (ask u n.op n.wanted)) (needs_of_parts (sequence_of t) name o e n k) (complete t n.op n.wanted true_there))
-    complete (record_of fs) name wanted met = builtin_closed (record_of fs) name wanted (part_meets given specified fs) refl met (λ o e n k t. complete_part fs n.of n.op n.wanted t)
-    complete (struct_of fs) name wanted met = builtin_closed (struct_of fs) name wanted (part_meets given specified fs) refl met (λ o e n k t. complete_part fs n.of n.op n.wanted t)
-    complete (oneof_of fs) name wanted met = builtin_closed (oneof_of fs) name wanted (part_meets given specified fs) refl met (λ o e n k t. complete_part fs n.of n.op n.wanted t)
-    complete (variant_of fs) name wanted met = builtin_closed (variant_of fs) name wanted (part_meets given specified fs) refl met (λ o e n k t. complete_part fs n.of n.op n.wanted t)
+    complete (record_of fs) name wanted met = builtin_closed (record_of fs) name wanted (part_meets clauses specified fs) refl met (λ o e n k t. complete_part fs n.of n.op n.wanted t)
+    complete (struct_of fs) name wanted met = builtin_closed (struct_of fs) name wanted (part_meets clauses specified fs) refl met (λ o e n k t. complete_part fs n.of n.op n.wanted t)
+    complete (oneof_of fs) name wanted met = builtin_closed (oneof_of fs) name wanted (part_meets clauses specified fs) refl met (λ o e n k t. complete_part fs n.of n.op n.wanted t)
+    complete (variant_of fs) name wanted met = builtin_closed (variant_of fs) name wanted (part_meets clauses specified fs) refl met (λ o e n k t. complete_part fs n.of n.op n.wanted t)
     complete (cluster_of c placed) name wanted met = heading_closed c placed name wanted (number_closed placed (λ i other stays op w left e. complete_actual placed i other stays op w left e)) (exported_operation name (specified c)) refl met
-    complete (parameter k) name wanted met = given_closed k name wanted (given_of given k name) refl met
+    complete (parameter k) name wanted met = given_closed k name wanted met
 
-    complete_part : (fs : Fields) (of : CluType) (name : List ℕ) (wanted : CluType) → part_meets given specified fs of name wanted ≡ true → IsMet asks (ask of name wanted)
+    complete_part : (fs : Fields) (of : CluType) (name : List ℕ) (wanted : CluType) → part_meets clauses specified fs of name wanted ≡ true → IsMet asks (ask of name wanted)
     complete_part no_fields of name wanted met = absurd (true≢false (sym met))
     complete_part (field_and selector t fs) of name wanted met = either_part t of name wanted fs (λ e. complete t name wanted e) (λ e. complete_part fs of name wanted e) (same_type t of) refl met
 
-    complete_actual : (placed : Actuals) (i : ℕ) (other : CluType) (stays : Bool) (name : List ℕ) (wanted : CluType) → (stays ≡ true → IsMet asks (ask other name wanted)) → actual_meets given specified placed (suc i) stays name wanted ≡ true → IsMet asks (ask (type_of_actual placed i other) name wanted)
+    complete_actual : (placed : Actuals) (i : ℕ) (other : CluType) (stays : Bool) (name : List ℕ) (wanted : CluType) → (stays ≡ true → IsMet asks (ask other name wanted)) → actual_meets clauses specified placed (suc i) stays name wanted ≡ true → IsMet asks (ask (type_of_actual placed i other) name wanted)
     complete_actual no_actuals i other stays name wanted left met = left met
-    complete_actual (actual_type t rest) zero other stays name wanted left met = complete t name wanted (sym (first_actual given specified t rest stays name wanted) ∙ met)
-    complete_actual (actual_type t rest) (suc i) other stays name wanted left met = complete_actual rest i other stays name wanted left (sym (later_actual given specified t rest i stays name wanted) ∙ met)
-    complete_actual (actual_const c rest) zero other stays name wanted left met = left (sym (no_actual given specified rest (1 - 1) (omega arith) stays name wanted) ∙ met)
-    complete_actual (actual_const c rest) (suc i) other stays name wanted left met = complete_actual rest i other stays name wanted left (sym (ap (λ (k : ℕ). actual_meets given specified rest k stays name wanted) (less_one i)) ∙ met)
-    complete_actual (actual_param p rest) zero other stays name wanted left met = left (sym (no_actual given specified rest (1 - 1) (omega arith) stays name wanted) ∙ met)
-    complete_actual (actual_param p rest) (suc i) other stays name wanted left met = complete_actual rest i other stays name wanted left (sym (ap (λ (k : ℕ). actual_meets given specified rest k stays name wanted) (less_one i)) ∙ met)
+    complete_actual (actual_type t rest) zero other stays name wanted left met = complete t name wanted (sym (first_actual clauses specified t rest stays name wanted) ∙ met)
+    complete_actual (actual_type t rest) (suc i) other stays name wanted left met = complete_actual rest i other stays name wanted left (sym (later_actual clauses specified t rest i stays name wanted) ∙ met)
+    complete_actual (actual_const c rest) zero other stays name wanted left met = left (sym (no_actual clauses specified rest (1 - 1) (omega arith) stays name wanted) ∙ met)
+    complete_actual (actual_const c rest) (suc i) other stays name wanted left met = complete_actual rest i other stays name wanted left (sym (ap (λ (k : ℕ). actual_meets clauses specified rest k stays name wanted) (less_one i)) ∙ met)
+    complete_actual (actual_param p rest) zero other stays name wanted left met = left (sym (no_actual clauses specified rest (1 - 1) (omega arith) stays name wanted) ∙ met)
+    complete_actual (actual_param p rest) (suc i) other stays name wanted left met = complete_actual rest i other stays name wanted left (sym (ap (λ (k : ℕ). actual_meets clauses specified rest k stays name wanted) (less_one i)) ∙ met)
 
   -- ---- by what is told
 
-  module _ (found : CluType → List ℕ → Option Told) (tell : TellCounted given specified found) where
+  module _ (found : CluType → List ℕ → CluType → Option Told) (tell : TellCounted clauses specified found) where
     fit_same : (o : Option CluType) (wanted : CluType) → tables.may_fit o wanted ≡ may_fit o wanted
     fit_same (Some t) wanted = refl
     fit_same None wanted = refl
@@ -406,9 +420,9 @@ module _ (given : List Demand) (specified : Identifier → Option Specification)
     told_same wanted None = refl
 
     asks_same : (a : Ask) → tables.asks_of found a ≡ asks a
-    asks_same a = told_same a.wanted (found a.of a.operation) ∙ ap (asks_by a.wanted) (tell a.of a.operation)
+    asks_same a = told_same a.wanted (found a.of a.operation a.wanted) ∙ ap (asks_by a.wanted) (tell a.of a.operation a.wanted)
 
-    pub met_same : (a : Ask) → Meets found a ↔ IsTrue (meets given specified a.of a.operation a.wanted)
+    pub met_same : (a : Ask) → Meets found a ↔ IsTrue (meets clauses specified a.of a.operation a.wanted)
     met_same a = (
       λ m. sound m.0 (λ n h. let r = m.2 n h in (r.0, sym (asks_same n) ∙ r.1, r.2)) a.of a.operation a.wanted m.1,
       λ e. let m = complete a.of a.operation a.wanted e in (m.0, m.1, λ n h. let r = m.2 n h in (r.0, asks_same n ∙ r.1, r.2)),

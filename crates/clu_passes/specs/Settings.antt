@@ -14,7 +14,6 @@ use Rattle.clu_bindings.specs.Modules.{named}
 use Rattle.clu_operations.specs.declared.finding.Finding.{Finding}
 use Rattle.clu_operations.specs.Builtins.{builtin_told}
 use Rattle.clu_operations.specs.Clauses.{set_round}
-use Rattle.clu_operations.specs.Given.{told_given, told_round}
 use Rattle.clu_operations.specs.Modules.{Module, known_of}
 use Rattle.clu_operations.specs.Told.{Told}
 use Rattle.clu_operations.specs.Wished.{told_in}
@@ -22,7 +21,7 @@ use Rattle.clu_typing.specs.declared.facts.Invocations.{Invocations}
 use Rattle.clu_typing.specs.Facts.{askers_at}
 use Rattle.clu_type_rules.specs.declared.unmet.Clauses.{Clauses}
 use Rattle.clu_type_rules.specs.Askers.{asks_by_all}
-use Rattle.clu_type_rules.specs.Needs.{Setting, set_at, world}
+use Rattle.clu_type_rules.specs.Needs.{Setting, set_at, told_fitting, told_for, world}
 use Rattle.clu_passes.specs.Met.{asked_told}
 
 -- ---- whether components ascend in a type and in those of which it is made
@@ -65,10 +64,11 @@ abbrev mutual
 -- ---- what is found under clauses
 
 module _ (headed : Headed) (types : List CluType) where
-  -- what is given of a type parameter; in a type set, by the node itself
-  abbrev pub given_inside : Clauses → ℕ → List ℕ → Option ℕ → Option Told
-  given_inside u number name (Some n) = told_round headed types n number name
-  given_inside u number name None = option_or (told_given headed types u.routine number name) (told_given headed types u.cluster number name)
+  -- what is given of a type parameter as it is asked for; in a type set, by the node itself
+  abbrev pub given_inside : Clauses → ℕ → List ℕ → CluType → Option ℕ → Option Told
+  given_inside u number name wanted (Some n) = told_for headed types number wanted n name
+  given_inside u number name wanted None =
+      option_or (told_fitting headed types number wanted u.routine name) (told_fitting headed types number wanted u.cluster name)
 
   -- the operation that users see of a module
   abbrev pub exported_in : List ℕ → Actuals → Option Module → Option Told
@@ -79,10 +79,10 @@ module _ (headed : Headed) (types : List CluType) where
   abbrev pub module_of_name : Identifier → Option Module
   module_of_name c = option_and_then (known_of headed) (named headed.file.bindings.now.modules c)
 
-  abbrev pub found_under : Clauses → CluType → List ℕ → Option Told
-  found_under u (cluster_of c given) name = exported_in name given (module_of_name c)
-  found_under u (parameter number) name = given_inside u number name u.set
-  found_under u t name = option_map builtin_told (operation t name)
+  abbrev pub found_under : Clauses → CluType → List ℕ → CluType → Option Told
+  found_under u (cluster_of c given) name wanted = exported_in name given (module_of_name c)
+  found_under u (parameter number) name wanted = given_inside u number name wanted u.set
+  found_under u t name wanted = option_map builtin_told (operation t name)
 
 -- from this state on
 abbrev pub setting_of : Headed → List Term → Finding → Setting

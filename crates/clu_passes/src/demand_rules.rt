@@ -18,7 +18,7 @@ ghost use Rattle.clu_checking.specs.ExpressionRules.{v18, v20};
 ghost use Rattle.clu_checking.specs.Files.{File};
 ghost use Rattle.clu_checking.specs.Headings.{specification};
 ghost use Rattle.clu_checking.specs.Invocations.{asks_at};
-ghost use Rattle.clu_checking.specs.Operations.{given_at, meets};
+ghost use Rattle.clu_checking.specs.Operations.{meets, where_at};
 ghost use Rattle.clu_checking.specs.NameRules.{disagrees_at};
 ghost use Rattle.clu_declares.specs.Declares.{IsParsed};
 ghost use Rattle.clu_head.specs.Asked.{demands_at, demands_to, starts_to};
@@ -71,13 +71,13 @@ pub fn kinds_round()
 /// What is asked of a type is met just if it is one of some of which each is answered by an operation that asks no others, where
 /// what is found of types tells the operations that count.
 pub fn met_by_told()
-    ensures { (given : List Demand) (specified : Identifier → Option Specification) (found : CluType → List ℕ → Option Told) → TellCounted given specified found → (a : Ask) → Meets found a ↔ IsTrue (meets given specified a.of a.operation a.wanted) }
+    ensures { (clauses : List (List Demand)) (specified : Identifier → Option Specification) (found : CluType → List ℕ → CluType → Option Told) → TellCounted clauses specified found → (a : Ask) → Meets found a ↔ IsTrue (meets clauses specified a.of a.operation a.wanted) }
 {}
 
 /// V18 and V20 by what is known at a node of all that is asked there.
 pub fn unmet_by_told()
-    ensures v18 { (f : File) (n : ℕ) (found : CluType → List ℕ → Option Told) → TellCounted (given_at f n) (specification f) found → (asks : List Ask) → map asked_told asks ≡ asks_at f n → (u : Unmet) → AreUnmet found asks u → v18 f n ≡ u.by_has }
-    ensures v20 { (f : File) (n : ℕ) (found : CluType → List ℕ → Option Told) → TellCounted (given_at f n) (specification f) found → (asks : List Ask) → map asked_told asks ≡ asks_at f n → (u : Unmet) → AreUnmet found asks u → v20 f n ≡ u.by_in }
+    ensures v18 { (f : File) (n : ℕ) (found : CluType → List ℕ → CluType → Option Told) → TellCounted (where_at f n) (specification f) found → (asks : List Ask) → map asked_told asks ≡ asks_at f n → (u : Unmet) → AreUnmet found asks u → v18 f n ≡ u.by_has }
+    ensures v20 { (f : File) (n : ℕ) (found : CluType → List ℕ → CluType → Option Told) → TellCounted (where_at f n) (specification f) found → (asks : List Ask) → map asked_told asks ≡ asks_at f n → (u : Unmet) → AreUnmet found asks u → v20 f n ≡ u.by_in }
 {}
 
 /// Where a node stands in no type set, none gives anything there.
@@ -92,7 +92,7 @@ pub fn settings_look()
 
 /// What is found so tells the operations that count, where heads tell what the definitions say of modules.
 pub fn counted_under_clauses()
-    ensures { (headed : Headed) (scope : Scope) (library : List Specification) (refused : List ℕ) (types : List CluType) → AreInSets headed → TellFile headed scope library refused types → (n : ℕ) → TellCounted (given_at (file_with headed.file scope library refused) n) (specification (file_with headed.file scope library refused)) (found_under headed types (clauses_at headed n)) }
+    ensures { (headed : Headed) (scope : Scope) (library : List Specification) (refused : List ℕ) (types : List CluType) → AreInSets headed → TellFile headed scope library refused types → (n : ℕ) → TellCounted (where_at (file_with headed.file scope library refused) n) (specification (file_with headed.file scope library refused)) (found_under headed types (clauses_at headed n)) }
 {}
 
 /// V18 and V20 are the bits of the table of what is not met, at a node at which nothing is lost.

@@ -3,6 +3,7 @@ pub mod Ascending
 mod Closing
 mod Declared
 pub mod Differing
+pub mod Giving
 pub mod Included
 mod Keys
 mod Lists

@@ -18,8 +18,6 @@ use Rattle.clu_operations.specs.declared.found.Asked.{Asked}
 use Rattle.clu_operations.specs.declared.found.Found.{Found}
 use Rattle.clu_operations.specs.declared.found.FoundId.{FoundId}
 use Rattle.clu_operations.specs.declared.shapes.Shape.TheVariants as shape
-use Rattle.clu_operations.specs.declared.words.NameId.{NameId}
-use Rattle.clu_operations.specs.Given.{told_round}
 use Rattle.clu_operations.specs.Shapes.{shape_of}
 use Rattle.clu_operations.specs.Finding.{found_at, found_or_none, asked_by, IsBelowIf, IsAskedBelow, AreAskedBelow, IsFoundBelow, AreFoundBelow, Extends}
 use Rattle.clu_operations.specs.Told.{Ask, Told, told, ask_told}
@@ -31,7 +29,7 @@ use Rattle.clu_type_rules.specs.declared.unmet.Need.{Need}
 use Rattle.clu_type_rules.specs.Closed.{IsAnswered, IsMet, HasAdded}
 use Rattle.clu_type_rules.specs.Included.{is_included, may_be}
 use Rattle.clu_type_rules.specs.Meeting.{may_fit, plain, asks_if, asks_of}
-use Rattle.clu_type_rules.specs.Needs.{clauses_at, told_shape, told_asked, World, Later, Due, due, seen, same_need, need_of, with_asked, with_asked_if, Setting, Looks, dues, is_fine, IsThere, AreThere, Asks, AreAnswered, AreUnder, Stands, Steps, Comes, Rests, MeetsOne}
+use Rattle.clu_type_rules.specs.Needs.{clauses_at, told_for, told_shape, told_asked, World, Later, Due, due, seen, same_need, need_of, with_asked, with_asked_if, Setting, Looks, dues, is_fine, IsThere, AreThere, Asks, AreAnswered, AreUnder, Stands, Steps, Comes, Rests, MeetsOne}
 use Rattle.clu_type_rules.proofs.Keys.{need_equal, clauses_equal, same_clauses, clauses_self}
 use Rattle.clu_type_rules.proofs.Lists.{in_mapped, from_mapped, at_front, added_none, added_one}
 use Rattle.clu_type_rules.proofs.Closing as closing
@@ -73,18 +71,19 @@ same v w g a h =
 
 -- ---- which operation it is
 
-module _ (headed : Headed) (terms : List Term) (names : List (List ℕ)) (n : ℕ) (of : TypeId) (operation : NameId) where
-  pub parameter_told : (number : ℕ) → shape_of terms of ≡ shape.Parameter number → option_and_then (told_round headed (types_of terms) n number) (slice_get names operation.0) ≡ told_asked headed terms names n of operation
+module _ (headed : Headed) (terms : List Term) (names : List (List ℕ)) (n : ℕ) (need : Need) where
+  pub parameter_told : (number : ℕ) → shape_of terms need.of ≡ shape.Parameter number
+      → option_and_then (told_for headed (types_of terms) number (type_at (types_of terms) need.wanted) n) (slice_get names need.operation.0) ≡ told_asked headed terms names n need
   unfolding told_asked
-  parameter_told number e = sym (ap (told_shape headed terms names n of operation) e)
+  parameter_told number e = sym (ap (told_shape headed terms names n need) e)
 
-  pub builtin_told : shape_of terms of ≡ shape.Builtin → told_seen headed terms names None of (Some operation) ≡ told_asked headed terms names n of operation
+  pub builtin_told : shape_of terms need.of ≡ shape.Builtin → told_seen headed terms names None need.of (Some need.operation) ≡ told_asked headed terms names n need
   unfolding told_asked
-  builtin_told e = sym (ap (told_shape headed terms names n of operation) e)
+  builtin_told e = sym (ap (told_shape headed terms names n need) e)
 
-  pub cluster_told : shape_of terms of ≡ shape.Cluster → told_seen headed terms names None of (Some operation) ≡ told_asked headed terms names n of operation
+  pub cluster_told : shape_of terms need.of ≡ shape.Cluster → told_seen headed terms names None need.of (Some need.operation) ≡ told_asked headed terms names n need
   unfolding told_asked
-  cluster_told e = sym (ap (told_shape headed terms names n of operation) e)
+  cluster_told e = sym (ap (told_shape headed terms names n need) e)
 
 -- ---- what an operation asks, by numbers
 
@@ -92,7 +91,7 @@ pub asks_seen : (w : World) (under : Clauses) (asked : List Asked) → map (due 
 asks_seen w under [] = refl
 asks_seen w under (a ∷ asked) = ap (λ (ds : List Due). seen w (need_of under a) ∷ ds) (asks_seen w under asked)
 
-found_below : (n p : ℕ) (founds : List Found) (k : ℕ) → k < length founds → AreFoundBelow n p founds → IsFoundBelow n p (found_or_none (slice_get founds k))
+pub found_below : (n p : ℕ) (founds : List Found) (k : ℕ) → k < length founds → AreFoundBelow n p founds → IsFoundBelow n p (found_or_none (slice_get founds k))
 found_below n p [] k lt b = absurd (omega (arith, lt))
 found_below n p (x ∷ founds) zero lt b = b.0
 found_below n p (x ∷ founds) (suc k) lt b = found_below n p founds k (omega (arith, lt)) b.1
@@ -143,7 +142,7 @@ included_same terms a b p q =
     ap (λ (t : Bool). if t && nat_lt b.0 (length terms) then fits (type_at (types_of terms) a) (type_at (types_of terms) b) else true) (lt-ltb a.0 (length terms) p)
     ∙ ap (λ (t : Bool). if t then fits (type_at (types_of terms) a) (type_at (types_of terms) b) else true) (lt-ltb b.0 (length terms) q)
 
-may_same : (terms : List Term) (of : Option TypeId) (wanted : TypeId) → IsBelowIf (length terms) of → wanted.0 < length terms → may_be terms of (Some wanted) ≡ may_fit (option_map (type_at (types_of terms)) of) (type_at (types_of terms) wanted)
+pub may_same : (terms : List Term) (of : Option TypeId) (wanted : TypeId) → IsBelowIf (length terms) of → wanted.0 < length terms → may_be terms of (Some wanted) ≡ may_fit (option_map (type_at (types_of terms)) of) (type_at (types_of terms) wanted)
 may_same terms (Some a) wanted p q = included_same terms a wanted p q
 may_same terms None wanted p q = refl
 
@@ -168,7 +167,7 @@ with_all under asked i keys past = ap (λ (l : List Asked). with_asked under l k
 -- ---- one need is asked
 
 module _ (headed : Headed) (s : Setting) (n : ℕ) (v w : World) (met : List Need) (need : Need) (under : need.under ≡ clauses_at headed n) (stands : Stands headed s v met) (there : IsThere v need) (grows : Grows v.terms w.terms) (found : Option FoundId)
-    (finds : FindsOf headed v.terms w.terms v.finding w.finding need.of (told_asked headed v.terms v.finding.words n need.of need.operation) found) where
+    (finds : FindsOf headed v.terms w.terms v.finding w.finding need.of (told_asked headed v.terms v.finding.words n need) found) where
   abbrev of : CluType
   of = type_at (types_of v.terms) need.of
 
@@ -178,11 +177,11 @@ module _ (headed : Headed) (s : Setting) (n : ℕ) (v w : World) (met : List Nee
   abbrev wanted : CluType
   wanted = type_at (types_of v.terms) need.wanted
 
-  told_is : s.fine of ≡ true → option_map (told (types_of w.terms) w.finding) found ≡ s.found need.under of name
+  told_is : s.fine of ≡ true → option_map (told (types_of w.terms) w.finding) found ≡ s.found need.under of name wanted
   told_is fine =
       finds.tells (stands.looks.ascend of fine)
-      ∙ stands.looks.told n v stands.later stands.finding need.of need.operation there.of there.operation
-      ∙ ap (λ (u : Clauses). s.found u of name) (sym under)
+      ∙ stands.looks.told n v stands.later stands.finding need there
+      ∙ ap (λ (u : Clauses). s.found u of name wanted) (sym under)
 
   dues_are : s.fine of ≡ true → (it : Option Told) → option_map (told (types_of w.terms) w.finding) found ≡ it → dues s (seen v need) ≡ option_map (map (due need.under)) (asks_if (s.found need.under) wanted it)
   dues_are fine it is = ap (λ (o : Option Told). option_map (map (due need.under)) (asks_if (s.found need.under) wanted o)) (sym (told_is fine) ∙ is)
@@ -209,7 +208,7 @@ module _ (headed : Headed) (s : Setting) (n : ℕ) (v w : World) (met : List Nee
     here : id.0 < length w.finding.founds.items
     here = subst (λ (o : Option FoundId). IfSome o (λ i. i.0 < length w.finding.founds.items)) is finds.there
 
-    tells : s.fine of ≡ true → Some it ≡ s.found need.under of name
+    tells : s.fine of ≡ true → Some it ≡ s.found need.under of name wanted
     tells fine = ap (option_map (told (types_of w.terms) w.finding)) (sym is) ∙ told_is fine
 
     fit : may_be w.terms (found_at w.finding.founds.items id).of (Some need.wanted) ≡ may_fit it.type wanted
@@ -228,7 +227,7 @@ module _ (headed : Headed) (s : Setting) (n : ℕ) (v w : World) (met : List Nee
     asks_fine fine a h =
         let r = from_mapped (need_of need.under) (asked_by w.finding id) a h in
         subst (λ (x : Need). is_fine s (seen w x) ≡ true) r.2
-        (stands.looks.fine need.under of name it fine (sym (tells fine)) (ask_told (types_of w.terms) w.finding.words r.0)
+        (stands.looks.fine need.under of name wanted it fine (sym (tells fine)) (ask_told (types_of w.terms) w.finding.words r.0)
         (in_mapped (ask_told (types_of w.terms) w.finding.words) (asked_by w.finding id) r.0 r.1))
 
     asks_all : may_fit it.type wanted ≡ true → Asks s v w met (with_asked need.under (asked_by w.finding id) met) need
@@ -265,17 +264,17 @@ module _ (headed : Headed) (s : Setting) (n : ℕ) (v w : World) (met : List Nee
 -- what is fine asks what is fine
 module _ (headed : Headed) (s : Setting) (looks : Looks headed s) where
   fine_dues : (d : Due) (more : List Due) → is_fine s d ≡ true → dues s d ≡ Some more → (m : Due) → Contains more m → is_fine s m ≡ true
-  fine_dues d more fine e m h = by (s.found d.under d.ask.of d.ask.operation) refl e
+  fine_dues d more fine e m h = by (s.found d.under d.ask.of d.ask.operation d.ask.wanted) refl e
     where
-      among : (op : Told) → s.found d.under d.ask.of d.ask.operation ≡ Some op → (b : Bool) → option_map (map (due d.under)) (if b then Some (map plain op.asks) else None) ≡ Some more → is_fine s m ≡ true
+      among : (op : Told) → s.found d.under d.ask.of d.ask.operation d.ask.wanted ≡ Some op → (b : Bool) → option_map (map (due d.under)) (if b then Some (map plain op.asks) else None) ≡ Some more → is_fine s m ≡ true
       among op is true e =
           let r = from_mapped (due d.under) (map plain op.asks) m (subst (λ (l : List Due). Contains l m) (sym (same_Some (map (due d.under) (map plain op.asks)) more e)) h) in
           let q = from_mapped plain op.asks r.0 r.1 in
-          let its : s.fine r.0.of ≡ true = sym (ap (λ (a : Ask). s.fine a.of) q.2) ∙ looks.fine d.under d.ask.of d.ask.operation op fine is q.0 q.1 in
+          let its : s.fine r.0.of ≡ true = sym (ap (λ (a : Ask). s.fine a.of) q.2) ∙ looks.fine d.under d.ask.of d.ask.operation d.ask.wanted op fine is q.0 q.1 in
           subst (λ (x : Due). is_fine s x ≡ true) r.2 its
       among op is false e = none_is_not more e
 
-      by : (o : Option Told) → s.found d.under d.ask.of d.ask.operation ≡ o → option_map (map (due d.under)) (asks_if (s.found d.under) d.ask.wanted o) ≡ Some more → is_fine s m ≡ true
+      by : (o : Option Told) → s.found d.under d.ask.of d.ask.operation d.ask.wanted ≡ o → option_map (map (due d.under)) (asks_if (s.found d.under) d.ask.wanted o) ≡ Some more → is_fine s m ≡ true
       by (Some op) is e = among op is (may_fit op.type d.ask.wanted) e
       by None is e = none_is_not more e
 
@@ -352,7 +351,7 @@ module _ (headed : Headed) (s : Setting) (start : World) (first : List Need) (be
 -- ---- what is met under clauses
 
 module _ (s : Setting) (u : Clauses) where
-  abbrev found : CluType → List ℕ → Option Told
+  abbrev found : CluType → List ℕ → CluType → Option Told
   found = s.found u
 
   abbrev asks_under : List Due → List Ask

@@ -33,7 +33,7 @@ use Rattle.clu_type_rules.proofs.Needing.{later_self, later_on, stays, same, nee
 
 -- ---- one and several that are asked
 
-module _ (found : CluType → List ℕ → Option Told) where
+module _ (found : CluType → List ℕ → CluType → Option Told) where
   none_unmet : (in_set : Bool) → SomeUnmet found in_set [] → ⊥
   none_unmet in_set h = in_none h.0 h.1
 
@@ -113,7 +113,7 @@ either_assoc u v w = ap₂ unmet_with (or_assoc u.by_has v.by_has w.by_has) (or_
 
 -- ---- several, one after the other: those that are left decide
 
-module _ (found : CluType → List ℕ → Option Told) (all : List Ask) where
+module _ (found : CluType → List ℕ → CluType → Option Told) (all : List Ask) where
   abbrev pub Left : List Ask → Unmet → Type 0
   Left rest u = (w : Unmet) → AreUnmet found rest w → AreUnmet found all (either u w)
 

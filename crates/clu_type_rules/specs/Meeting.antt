@@ -11,18 +11,24 @@ abbrev pub may_fit : Option CluType → CluType → Bool
 may_fit (Some t) wanted = fits t wanted
 may_fit None wanted = true
 
+-- the operation, if its type is included in the wanted one
+abbrev pub fitting : CluType → Option Told → Option Told
+fitting wanted (Some it) = if may_fit it.type wanted then Some it else None
+fitting wanted None = None
+
 -- what is asked, whether by an `in` clause or not
 abbrev pub plain : Ask → Ask
 plain a = record { of = a.of; operation = a.operation; wanted = a.wanted; in_set = false }
 
-module _ (found : CluType → List ℕ → Option Told) where
+-- the operation of a type by its name, as it is found where one of the wanted type is looked for
+module _ (found : CluType → List ℕ → CluType → Option Told) where
   -- what an operation asks in its turn, if its type is included in the wanted one
   abbrev pub asks_if : CluType → Option Told → Option (List Ask)
   asks_if wanted (Some it) = if may_fit it.type wanted then Some (map plain it.asks) else None
   asks_if wanted None = None
 
   abbrev pub asks_of : Ask → Option (List Ask)
-  asks_of a = asks_if a.wanted (found a.of a.operation)
+  asks_of a = asks_if a.wanted (found a.of a.operation a.wanted)
 
   -- a type has an operation as it is asked for, and what that asks is met
   abbrev pub Meets : Ask → Type 0

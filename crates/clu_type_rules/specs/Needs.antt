@@ -1,5 +1,5 @@
 -- What is asked of types at the nodes of a file by numbers, while types are added to the arena and more is found.
-use Rattle.std.specs.Prelude.{◌≡◌, ◌↔◌, ◌<◌, ◌≤◌, ℕ, Bool, true, false, List, [], ◌∷◌, length, map, get_or, slice_get, option_map, option_and_then, Contains, IsTrue, Option, Some, None}
+use Rattle.std.specs.Prelude.{◌≡◌, ◌↔◌, ◌<◌, ◌≤◌, ℕ, Bool, true, false, List, [], ◌∷◌, length, map, get_or, slice_get, option_map, option_and_then, Contains, IsTrue, if◌then◌else◌, Option, Some, None}
 use Rattle.std.specs.Option.{option_or}
 use Rattle.indexmap.specs.IndexSet.{insert_key}
 use Rattle.clu_types.specs.CluType.{CluType}
@@ -13,12 +13,13 @@ use Rattle.clu_bindings.specs.declared.file.Headed.{Headed}
 use Rattle.clu_bindings.specs.Readers.{kind_in, round_in}
 use Rattle.clu_operations.specs.declared.finding.Finding.{Finding}
 use Rattle.clu_operations.specs.declared.found.Asked.{Asked}
+use Rattle.clu_operations.specs.declared.found.FoundId.{FoundId}
 use Rattle.clu_operations.specs.declared.shapes.Shape.{Shape}
 use Rattle.clu_operations.specs.declared.shapes.Shape.TheVariants as shape
-use Rattle.clu_operations.specs.declared.words.NameId.{NameId}
 use Rattle.clu_operations.specs.Builtins.{ComponentsAscend}
-use Rattle.clu_operations.specs.Finding.{Follows}
-use Rattle.clu_operations.specs.Given.{asked_in, told_round}
+use Rattle.clu_operations.specs.Finding.{found_at, Follows}
+use Rattle.clu_operations.specs.Clauses.{given_by, set_round}
+use Rattle.clu_operations.specs.Given.{asked_in, told_given}
 use Rattle.clu_operations.specs.Shapes.{shape_of}
 use Rattle.clu_operations.specs.Told.{Ask, Told}
 use Rattle.clu_operations.specs.Wished.{told_seen, IsFinding}
@@ -28,7 +29,8 @@ use Rattle.clu_type_rules.specs.declared.unmet.Place.{Place}
 use Rattle.clu_type_rules.specs.declared.unmet.Unmet.{Unmet}
 use Rattle.clu_type_rules.specs.contracts.unmet.NeedPartialEq.TheImpl as needs
 use Rattle.clu_type_rules.specs.Closed.{IsAnswered, IsClosed, IsClosedFor, IsFrontOf, HasAdded}
-use Rattle.clu_type_rules.specs.Meeting.{asks_of, Meets, AreUnmet}
+use Rattle.clu_type_rules.specs.Included.{may_be}
+use Rattle.clu_type_rules.specs.Meeting.{fitting, asks_of, Meets, AreUnmet}
 
 -- ---- the where clauses that count at a node
 
@@ -56,13 +58,34 @@ module _ (headed : Headed) where
   -- ---- the operation that a type has at a node for what is asked: of a type parameter what is given there, of others what is seen
   -- from outside
 
-  module _ (terms : List Term) (names : List (List ℕ)) (n : ℕ) (of : TypeId) (operation : NameId) where
+  -- of several where clauses the first that gives it of a type that is included in the wanted one
+  module _ (types : List CluType) (number : ℕ) (wanted : CluType) where
+    abbrev pub told_fitting : Option ℕ → List ℕ → Option Told
+    told_fitting node name = fitting wanted (told_given headed types node number name)
+
+    abbrev pub told_for : ℕ → List ℕ → Option Told
+    told_for n name =
+        option_or (option_or (told_fitting (round_in headed.file n).routine name) (told_fitting (round_in headed.file n).cluster name))
+        (told_fitting (set_round headed.file n number) name)
+
+  module _ (terms : List Term) (names : List (List ℕ)) (n : ℕ) (need : Need) where
     abbrev pub told_shape : Shape → Option Told
-    told_shape (shape.Parameter number) = option_and_then (told_round headed (types_of terms) n number) (slice_get names operation.0)
-    told_shape _ = told_seen headed terms names None of (Some operation)
+    told_shape (shape.Parameter number) = option_and_then (told_for (types_of terms) number (type_at (types_of terms) need.wanted) n) (slice_get names need.operation.0)
+    told_shape _ = told_seen headed terms names None need.of (Some need.operation)
 
     unfoldable pub told_asked : Option Told
-    told_asked = told_shape (shape_of terms of)
+    told_asked = told_shape (shape_of terms need.of)
+
+-- the same by numbers
+
+abbrev pub fitting_by : List Term → Finding → TypeId → Option FoundId → Option FoundId
+fitting_by terms finding wanted (Some id) = if may_be terms (found_at finding.founds.items id).of (Some wanted) then Some id else None
+fitting_by terms finding wanted None = None
+
+abbrev pub given_for : Headed → List Term → Finding → ℕ → ℕ → Need → Option FoundId
+given_for headed terms finding n number need =
+    let given : Option ℕ → Option FoundId = λ node. fitting_by terms finding need.wanted (given_by finding node number need.operation) in
+    option_or (option_or (given (round_in headed.file n).routine) (given (round_in headed.file n).cluster)) (given (set_round headed.file n number))
 
 -- ---- by numbers
 
@@ -103,20 +126,26 @@ abbrev pub with_asked_if : Bool → Clauses → List Asked → List Need → Lis
 with_asked_if true under asked keys = with_asked under asked keys
 with_asked_if false under asked keys = keys
 
+-- its numbers are there
+pub record IsThere (w : World) (a : Need) : Type 0 where
+  pub of : a.of.0 < length w.terms
+  pub wanted : a.wanted.0 < length w.terms
+  pub operation : a.operation.0 < length w.finding.words
+
 -- ---- what is found under clauses from now on, and of which types this is said
 
 pub record Setting : Type 0 where
   pub start : World
-  pub found : Clauses → CluType → List ℕ → Option Told
+  pub found : Clauses → CluType → List ℕ → CluType → Option Told
   pub fine : CluType → Bool
 
 -- what is looked for in any later state is what the setting says; what is fine has components that ascend, and asks of what is
 -- fine alone
 pub record Looks (headed : Headed) (s : Setting) : Type 0 where
-  pub told : (n : ℕ) (now : World) → Later s.start now → IsFinding headed now.terms now.finding → (of : TypeId) (operation : NameId) → of.0 < length now.terms → operation.0 < length now.finding.words
-      → told_asked headed now.terms now.finding.words n of operation ≡ s.found (clauses_at headed n) (type_at (types_of now.terms) of) (get_or now.finding.words operation.0 [])
+  pub told : (n : ℕ) (now : World) → Later s.start now → IsFinding headed now.terms now.finding → (need : Need) → IsThere now need
+      → told_asked headed now.terms now.finding.words n need ≡ s.found (clauses_at headed n) (type_at (types_of now.terms) need.of) (get_or now.finding.words need.operation.0 []) (type_at (types_of now.terms) need.wanted)
   pub ascend : (t : CluType) → s.fine t ≡ true → ComponentsAscend t
-  pub fine : (under : Clauses) (t : CluType) (name : List ℕ) (it : Told) → s.fine t ≡ true → s.found under t name ≡ Some it → (a : Ask) → Contains it.asks a → s.fine a.of ≡ true
+  pub fine : (under : Clauses) (t : CluType) (name : List ℕ) (wanted : CluType) (it : Told) → s.fine t ≡ true → s.found under t name wanted ≡ Some it → (a : Ask) → Contains it.asks a → s.fine a.of ≡ true
 
 -- what this asks in its turn
 abbrev pub dues : Setting → Due → Option (List Due)
@@ -135,12 +164,6 @@ AreUnmetIf s under u asks = AreFine s asks → AreUnmet (s.found under) asks u
 
 abbrev pub IsPlace : Place → Type 0
 IsPlace place = place.clauses ≡ clauses_at place.headed place.node
-
--- its numbers are there
-pub record IsThere (w : World) (a : Need) : Type 0 where
-  pub of : a.of.0 < length w.terms
-  pub wanted : a.wanted.0 < length w.terms
-  pub operation : a.operation.0 < length w.finding.words
 
 abbrev pub AreThere : World → List Need → Type 0
 AreThere w needs = (a : Need) → Contains needs a → IsThere w a

@@ -9,14 +9,16 @@ ghost use Rattle.clu_operations.specs.Finding.{found_at, asked_by};
 ghost use Rattle.clu_operations.specs.Told.{told, ask_told};
 ghost use Rattle.clu_operations.specs.Wished.{FindsOf, IsFinding};
 ghost use Rattle.clu_type_rules.specs.Included.{may_be};
-ghost use Rattle.clu_type_rules.specs.Needs.{if_asking, if_set, set_at, clauses_at, told_asked, world, need_of, with_asked, with_asked_if, Setting, IsPlace, IsThere, AreThere, Looks, Stands, Steps, AreAnswered, AreUnder, Comes, Rests, MeetsOne, MeetsAll};
+ghost use Rattle.clu_type_rules.specs.Needs.{if_asking, if_set, set_at, clauses_at, fitting_by, given_for, told_asked, world, need_of, with_asked, with_asked_if, Setting, IsPlace, IsThere, AreThere, Looks, Stands, Steps, AreAnswered, AreUnder, Comes, Rests, MeetsOne, MeetsAll};
 ghost use Rattle.clu_type_rules.specs.Askers.{either, unmet_one, IsAsker, AreAskers, Keeps, Brings, asks_by, asks_by_all, AreFoundAt, FindsOn, with_finding};
 ghost use Rattle.clu_type_rules.specs.Unmet.{unmet_at};
 
 use crate::known::may_be;
 use clu_base::Memory;
 use clu_bindings::Headed;
-use clu_operations::{Asked, Finding, FoundId, NameId, Shape, exported_operation, given, shape_of};
+use clu_operations::{
+    Asked, Finding, FoundId, NameId, Shape, exported_operation, given_by, set_round, shape_of,
+};
 use clu_tree::NodeKind;
 use clu_types::{TypeArena, TypeId};
 use clu_typing::{Facts, Invocations};
@@ -159,6 +161,44 @@ fn answers(
     Ok(true)
 }
 
+/// What was found, if it may have a type that is included in the wanted one.
+fn fitting(
+    types: &TypeArena,
+    finding: &Finding,
+    found: Option<FoundId>,
+    wanted: TypeId,
+) -> Option<FoundId>
+    ensures { result ≡ fitting_by types.now finding.now wanted found }
+{
+    let id = found?;
+    if may_be(types, finding.found(id).of, Some(wanted)) {
+        Some(id)
+    } else {
+        None
+    }
+}
+
+/// What is given of a type parameter as it is asked for: of several where clauses the first that gives it so.
+fn given_for(
+    place: Place<'_>,
+    types: &TypeArena,
+    finding: &Finding,
+    number: u32,
+    need: Need,
+) -> Option<FoundId>
+    ensures { result ≡ given_for place.entry.headed types.now finding.now place.entry.node number need }
+{
+    let file = place.headed.file;
+    let round = file.round(place.node);
+    let set = set_round(file, place.node, number);
+    let by_routine = given_by(finding, round.routine, number, need.operation);
+    let by_cluster = given_by(finding, round.cluster, number, need.operation);
+    let by_set = given_by(finding, set, number, need.operation);
+    fitting(types, finding, by_routine, need.wanted)
+        .or(fitting(types, finding, by_cluster, need.wanted))
+        .or(fitting(types, finding, by_set, need.wanted))
+}
+
 /// The operation that is asked for at a place: of a type parameter what a where clause gives.
 fn operation_of(
     place: Place<'_>,
@@ -166,13 +206,11 @@ fn operation_of(
     finding: &mut Finding,
     need: Need,
 ) -> Result<Option<FoundId>, Memory>
-    ensures found { need.of.0 < length types.old → need.operation.0 < length finding.old.words → IsFinding place.entry.headed types.old finding.old → IfOk result (FindsOf place.entry.headed types.old types.new finding.old finding.new need.of (told_asked place.entry.headed types.old finding.old.words place.entry.node need.of need.operation)) }
+    ensures found { IsThere (world types.old finding.old) need → IsFinding place.entry.headed types.old finding.old → IfOk result (FindsOf place.entry.headed types.old types.new finding.old finding.new need.of (told_asked place.entry.headed types.old finding.old.words place.entry.node need)) }
     ensures kept { Grows types.old types.new }
 {
     match shape_of(types, need.of) {
-        Shape::Parameter(number) => {
-            Ok(given(place.headed, finding, place.node, number, need.operation))
-        }
+        Shape::Parameter(number) => Ok(given_for(place, types, finding, number, need)),
         Shape::Builtin => exported_operation(place.headed, types, finding, need.of, need.operation),
         Shape::Cluster => exported_operation(place.headed, types, finding, need.of, need.operation),
     }
