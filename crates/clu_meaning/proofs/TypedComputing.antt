@@ -20,12 +20,12 @@ pub record Belongs (program : Program) (r : Running) : Type 0 where
   pub own : (n : ℕ) (t : CluType) → put_in r (declared_in r.definition.owns n) ≡ Some t → own_type_of program r.instance n ≡ Some t
   pub shared : (n : ℕ) (t : CluType) → put_in r (declared_in (owns_of r.home) n) ≡ Some t → own_type_of program (cluster_instance r) n ≡ Some t
 
-module _ (program : Program) (round : Round) where
+module _ (program : Program) (lawful : Routine → Type 0) (round : Round) where
   -- ---- results: the state is typed, the cells that there were have kept their types, and what is given or carried fits
 
   abbrev pub Good : {A : Type 0} → List Cell → (List Cell → A → Type 0) → Result A → Type 0
-  Good base P (normal a turns st) = Typed program round st × Longer base st.world.cells × P st.world.cells a
-  Good base P (ended e turns st) = Typed program round st × Longer base st.world.cells × EndingFits program st.world.cells e
+  Good base P (normal a turns st) = Typed program lawful round st × Longer base st.world.cells × P st.world.cells a
+  Good base P (ended e turns st) = Typed program lawful round st × Longer base st.world.cells × EndingFits program lawful st.world.cells e
   Good base P (out_of_turns st) = Unit {0}
 
   pub good_from : {A : Type 0} (P : List Cell → A → Type 0) (a b : List Cell) (r : Result A) → Longer a b → Good b P r → Good a P r
@@ -36,14 +36,14 @@ module _ (program : Program) (round : Round) where
   -- ---- the law, for a computation that begins with the cells of `base` at least
 
   pub record Stays {A : Type 0} (base : List Cell) (P : List Cell → A → Type 0) (m : Computation A) : Type 0 where
-    pub at : (turns : ℕ) (st : State) → Typed program round st → Longer base st.world.cells → Good base P (m turns st)
+    pub at : (turns : ℕ) (st : State) → Typed program lawful round st → Longer base st.world.cells → Good base P (m turns st)
 
   module _ {A : Type 0} (base : List Cell) (P : List Cell → A → Type 0) where
     pub stays_gives : (a : A) → ((cells : List Cell) → Longer base cells → P cells a) → Stays base P (gives a)
     unfolding gives
     stays_gives a p = record { at = λ turns st t l. (t, l, p st.world.cells l) }
 
-    pub stays_ends : (e : Ending) → ((cells : List Cell) → Longer base cells → EndingFits program cells e) → Stays base P (ends e)
+    pub stays_ends : (e : Ending) → ((cells : List Cell) → Longer base cells → EndingFits program lawful cells e) → Stays base P (ends e)
     unfolding ends
     stays_ends e p = record { at = λ turns st t l. (t, l, p st.world.cells l) }
 
@@ -62,7 +62,7 @@ module _ (program : Program) (round : Round) where
     stays_needed (Some x) rest h = h x refl
     stays_needed None rest h = stays_wrong
 
-    pub stays_with_one : (os : List Object) (rest : Object → Computation A) → AllTyped program base os → ((o : Object) → IsTyped program base o → Stays base P (rest o)) →
+    pub stays_with_one : (os : List Object) (rest : Object → Computation A) → AllTyped program lawful base os → ((o : Object) → IsTyped program lawful base o → Stays base P (rest o)) →
         Stays base P (with_one os rest)
     unfolding with_one
     stays_with_one (o ∷ []) rest t h = h o t.0
@@ -92,7 +92,7 @@ module _ (program : Program) (round : Round) where
 
     -- ---- turns and meters
 
-    spent_stays : (rest : Computation A) → Stays base P rest → (turns : ℕ) (st : State) → Typed program round st → Longer base st.world.cells →
+    spent_stays : (rest : Computation A) → Stays base P rest → (turns : ℕ) (st : State) → Typed program lawful round st → Longer base st.world.cells →
         Good base P (spends_a_turn rest turns st)
     unfolding spends_a_turn
     spent_stays rest h zero st t l = tt
@@ -127,8 +127,8 @@ module _ (program : Program) (round : Round) where
 
     -- ---- raises
 
-    pub stays_raises : (name : List ℕ) (os : List Object) → AllTyped program base os → Stays base P (raises name os)
-    stays_raises name os t = stays_counts _ _ (stays_traced _ (stays_ends (raised name os) (λ cells l. all_on program base cells l os t)))
+    pub stays_raises : (name : List ℕ) (os : List Object) → AllTyped program lawful base os → Stays base P (raises name os)
+    stays_raises name os t = stays_counts _ _ (stays_traced _ (stays_ends (raised name os) (λ cells l. all_on program lawful base cells l os t)))
 
     pub stays_fails : (text : List ℕ) → Stays base P (fails text)
     stays_fails text = stays_raises _ (string_object text ∷ []) (tt, tt)
@@ -151,7 +151,7 @@ module _ (program : Program) (round : Round) where
 
     either_good : (f : A → Computation B) (u : Ending → Computation B) (r : Result A) → Good base P r →
         ((cells : List Cell) → Longer base cells → (a : A) → P cells a → Stays cells Q (f a)) →
-        ((cells : List Cell) → Longer base cells → (e : Ending) → EndingFits program cells e → Stays cells Q (u e)) → Good base Q (continue_either_way f u r)
+        ((cells : List Cell) → Longer base cells → (e : Ending) → EndingFits program lawful cells e → Stays cells Q (u e)) → Good base Q (continue_either_way f u r)
     unfolding continue_either_way
     either_good f u (normal a turns st) g h i =
         good_from Q base st.world.cells (f a turns st) g.1 ((h st.world.cells g.1 a g.2).at turns st g.0 (longer_refl st.world.cells))
@@ -161,7 +161,7 @@ module _ (program : Program) (round : Round) where
 
     pub stays_either_way : (m : Computation A) (f : A → Computation B) (u : Ending → Computation B) → Stays base P m →
         ((cells : List Cell) → Longer base cells → (a : A) → P cells a → Stays cells Q (f a)) →
-        ((cells : List Cell) → Longer base cells → (e : Ending) → EndingFits program cells e → Stays cells Q (u e)) → Stays base Q (either_way m f u)
+        ((cells : List Cell) → Longer base cells → (e : Ending) → EndingFits program lawful cells e → Stays cells Q (u e)) → Stays base Q (either_way m f u)
     unfolding either_way
     stays_either_way m f u g h i = record { at = λ turns st t l. either_good f u (m turns st) (g.at turns st t l) h i }
 
@@ -173,13 +173,13 @@ module _ (program : Program) (round : Round) where
   fits_like None b o h k = absurd (false≢true k)
 
   module _ (belongs : Belongs program (here round)) {A : Type 0} (base : List Cell) (P : List Cell → A → Type 0) (rest : Computation A) (stays : Stays base P rest) where
-    pub stays_names : (x : Variable) (o : Object) → IsTyped program base o → fits_in (put_in (here round) (term_of (here round) x)) o ≡ true →
+    pub stays_names : (x : Variable) (o : Object) → IsTyped program lawful base o → fits_in (put_in (here round) (term_of (here round) x)) o ≡ true →
         Stays base P (names (here round) x o rest)
     unfolding names with_frame with_owns
     stays_names (local n) o h k = record {
       at = λ turns st t l. stays.at turns _ (record {
         cells = t.cells;
-        frame = frame_named program st.world.cells round st.frame n (Some o) t.frame (typed_on program base st.world.cells l o h, k);
+        frame = frame_named program lawful st.world.cells round st.frame n (Some o) t.frame (typed_on program lawful base st.world.cells l o h, k);
         owns = t.owns;
       }) l;
     }
@@ -187,8 +187,8 @@ module _ (program : Program) (round : Round) where
       at = λ turns st t l. stays.at turns _ (record {
         cells = t.cells;
         frame = t.frame;
-        owns = own_named program st.world.cells st.owns (here round).instance n o t.owns (
-          typed_on program base st.world.cells l o h,
+        owns = own_named program lawful st.world.cells st.owns (here round).instance n o t.owns (
+          typed_on program lawful base st.world.cells l o h,
           fits_like (put_in (here round) (declared_in (here round).definition.owns n)) (own_type_of program (here round).instance n) o (belongs.own n) k,
         );
       }) l;
@@ -197,8 +197,8 @@ module _ (program : Program) (round : Round) where
       at = λ turns st t l. stays.at turns _ (record {
         cells = t.cells;
         frame = t.frame;
-        owns = own_named program st.world.cells st.owns (cluster_instance (here round)) n o t.owns (
-          typed_on program base st.world.cells l o h,
+        owns = own_named program lawful st.world.cells st.owns (cluster_instance (here round)) n o t.owns (
+          typed_on program lawful base st.world.cells l o h,
           fits_like (put_in (here round) (declared_in (owns_of (here round).home) n)) (own_type_of program (cluster_instance (here round)) n) o (belongs.shared n) k,
         );
       }) l;
@@ -212,7 +212,7 @@ module _ (program : Program) (round : Round) where
     stays_forgets (local n ∷ xs) = record {
       at = λ turns st t l. (stays_forgets xs).at turns _ (record {
         cells = t.cells;
-        frame = frame_named program st.world.cells round st.frame n None t.frame tt;
+        frame = frame_named program lawful st.world.cells round st.frame n None t.frame tt;
         owns = t.owns;
       }) l;
     }
@@ -253,7 +253,7 @@ module _ (program : Program) (round : Round) where
   all_bind (x ∷ xs) [] types e h = tt
 
   module _ (belongs : Belongs program (here round)) {A : Type 0} (base : List Cell) (P : List Cell → A → Type 0) (rest : Computation A) (stays : Stays base P rest) where
-    pub stays_names_each : (xs : List Variable) (os : List Object) → AllTyped program base os → AllBind xs os → Stays base P (names_each (here round) xs os rest)
+    pub stays_names_each : (xs : List Variable) (os : List Object) → AllTyped program lawful base os → AllBind xs os → Stays base P (names_each (here round) xs os rest)
     unfolding names_each
     stays_names_each (x ∷ xs) (o ∷ os) t h =
         stays_names belongs base P (names_each (here round) xs os rest) (stays_names_each xs os t.1 h.1) x o t.0 h.0
@@ -261,22 +261,22 @@ module _ (program : Program) (round : Round) where
     stays_names_each [] (o ∷ os) t h = stays_wrong base P
     stays_names_each (x ∷ xs) [] t h = stays_wrong base P
 
-    pub stays_assigned : (xs : List Variable) (os : List Object) → AllTyped program base os → Stays base P (assigned (here round) xs os rest)
+    pub stays_assigned : (xs : List Variable) (os : List Object) → AllTyped program lawful base os → Stays base P (assigned (here round) xs os rest)
     stays_assigned xs os t = stays_needed base P (types_of (here round) xs) _ (λ types e. stays_need base P (all_fit (own_types os) types) _ (λ h.
         stays_takes base P _ _ (stays_names_each xs os t (all_bind xs os types e h))))
 
   -- ---- what variables name
 
   abbrev pub Objects : List Cell → List Object → Type 0
-  Objects cells os = AllTyped program cells os
+  Objects cells os = AllTyped program lawful cells os
 
-  frame_slot : (cells : List Cell) (place : Round) (frame : Frame) → FrameFits program cells place frame → (n : ℕ) → SlotFits program cells (local_type (here place) n) (frame.variables n)
+  frame_slot : (cells : List Cell) (place : Round) (frame : Frame) → FrameFits program lawful cells place frame → (n : ℕ) → SlotFits program lawful cells (local_type (here place) n) (frame.variables n)
   frame_slot cells (in_procedure r) frame h n = h n
   frame_slot cells (in_iterator r body declared xs caller) frame h n = h.0 n
 
-  stays_gives_named : (base : List Cell) (t : Option CluType) (o : Option Object) → SlotFits program base t o → Stays base Objects (gives_named o)
+  stays_gives_named : (base : List Cell) (t : Option CluType) (o : Option Object) → SlotFits program lawful base t o → Stays base Objects (gives_named o)
   unfolding if_there
-  stays_gives_named base t (Some o) h = stays_gives base Objects (o ∷ []) (λ cells l. (typed_on program base cells l o h.0, tt))
+  stays_gives_named base t (Some o) h = stays_gives base Objects (o ∷ []) (λ cells l. (typed_on program lawful base cells l o h.0, tt))
   stays_gives_named base t None h = stays_fails base Objects _
 
   pub stays_uses : (base : List Cell) (x : Variable) → Stays base Objects (uses (here round) x)
@@ -296,5 +296,5 @@ module _ (program : Program) (round : Round) where
 
 -- ---- the state in which a program begins is typed
 
-pub first_typed : (program : Program) (r : Running) (input : List ℕ) → Typed program (in_procedure r) (first_state input)
-first_typed program r input = record { cells = tt; frame = λ n. tt; owns = λ i n. tt }
+pub first_typed : (program : Program) (lawful : Routine → Type 0) (r : Running) (input : List ℕ) → Typed program lawful (in_procedure r) (first_state input)
+first_typed program lawful r input = record { cells = tt; frame = λ n. tt; owns = λ i n. tt }

@@ -5,7 +5,7 @@ use Rattle.std.specs.Prelude.{ℕ, zero, suc, ◌-◌, ◌≤◌, ℤ, pos, negs
 use Rattle.std.specs.Option.{option_map}
 use Rattle.clu_types.specs.CluType.{CluType, char_type, Fields, no_fields, field_and}
 use Rattle.clu_builtin.specs.Table.{parts_of}
-use Rattle.clu_layout.specs.Objects.{Object, char_object, Objects, no_objects, object_and, listed, inside, Cell, own_type, own_types}
+use Rattle.clu_layout.specs.Objects.{Routine, Object, char_object, Objects, no_objects, object_and, listed, inside, Cell, own_type, own_types}
 use Rattle.clu_layout.specs.SameType.{fits, all_fit}
 use Rattle.clu_layout.specs.Places.{item_after, items_after, with_item_after, first_item, last_item, without_first, without_last}
 use Rattle.clu_layout.specs.RecordOperations.{component, with_component}
@@ -26,14 +26,14 @@ tested : {A : Type 0} (P : A → Type 0) (b : Bool) (x : A) → P x → IfThere 
 tested P true x h = h
 tested P false x h = tt
 
-module _ (program : Program) (cells : List Cell) where
+module _ (program : Program) (lawful : Routine → Type 0) (cells : List Cell) where
   -- ---- objects as a list and inside another
 
-  pub listed_typed : (os : Objects) → AreTyped program cells os → AllTyped program cells (listed os)
+  pub listed_typed : (os : Objects) → AreTyped program lawful cells os → AllTyped program lawful cells (listed os)
   listed_typed no_objects h = tt
   listed_typed (object_and o os) h = (h.0, listed_typed os h.1)
 
-  pub inside_typed : (os : List Object) → AllTyped program cells os → AreTyped program cells (inside os)
+  pub inside_typed : (os : List Object) → AllTyped program lawful cells os → AreTyped program lawful cells (inside os)
   inside_typed [] h = tt
   inside_typed (o ∷ os) h = (h.0, inside_typed os h.1)
 
@@ -41,19 +41,19 @@ module _ (program : Program) (cells : List Cell) where
 
   -- an object that fits where this type is declared
   abbrev pub Is : CluType → Object → Type 0
-  Is t o = IsTyped program cells o × (fits (own_type o) t ≡ true)
+  Is t o = IsTyped program lawful cells o × (fits (own_type o) t ≡ true)
 
   module _ (t : CluType) where
     abbrev pub Each : List Object → Type 0
     Each [] = Unit {0}
     Each (x ∷ xs) = Is t x × Each xs
 
-    pub each_of : (xs : List Object) → AllTyped program cells xs → all_fit (own_types xs) (same_for_each t xs) ≡ true → Each xs
+    pub each_of : (xs : List Object) → AllTyped program lawful cells xs → all_fit (own_types xs) (same_for_each t xs) ≡ true → Each xs
     each_of [] h fit = tt
     each_of (x ∷ xs) h fit =
         let parts = and_parts (fits (own_type x) t) (all_fit (own_types xs) (same_for_each t xs)) fit in ((h.0, parts.0), each_of xs h.1 parts.1)
 
-    pub each_typed : (xs : List Object) → Each xs → AllTyped program cells xs
+    pub each_typed : (xs : List Object) → Each xs → AllTyped program lawful cells xs
     each_typed [] h = tt
     each_typed (x ∷ xs) h = (h.0.0, each_typed xs h.1)
 
@@ -135,14 +135,14 @@ module _ (program : Program) (cells : List Cell) where
   Parts (field_and s t rest) (x ∷ xs) = Is t x × Parts rest xs
   Parts _ _ = ⊥
 
-  pub parts_from : (fs : Fields) (xs : List Object) → AllTyped program cells xs → all_fit (own_types xs) (parts_of fs) ≡ true → Parts fs xs
+  pub parts_from : (fs : Fields) (xs : List Object) → AllTyped program lawful cells xs → all_fit (own_types xs) (parts_of fs) ≡ true → Parts fs xs
   parts_from no_fields [] h fit = tt
   parts_from (field_and s t rest) (x ∷ xs) h fit =
       let parts = and_parts (fits (own_type x) t) (all_fit (own_types xs) (parts_of rest)) fit in ((h.0, parts.0), parts_from rest xs h.1 parts.1)
   parts_from no_fields (x ∷ xs) h fit = absurd (false≢true fit)
   parts_from (field_and s t rest) [] h fit = absurd (false≢true fit)
 
-  pub parts_typed : (fs : Fields) (xs : List Object) → Parts fs xs → AllTyped program cells xs
+  pub parts_typed : (fs : Fields) (xs : List Object) → Parts fs xs → AllTyped program lawful cells xs
   parts_typed no_fields [] h = tt
   parts_typed (field_and s t rest) (x ∷ xs) h = (h.0.0, parts_typed rest xs h.1)
   parts_typed no_fields (x ∷ xs) h = absurd h
@@ -154,18 +154,18 @@ module _ (program : Program) (cells : List Cell) where
   parts_fit no_fields (x ∷ xs) h = absurd h
   parts_fit (field_and s t rest) [] h = absurd h
 
-  chosen_typed : (b : Bool) (x : Object) (others : Option Object) → IsTyped program cells x → IfThere (IsTyped program cells) others →
-      IfThere (IsTyped program cells) (cond b (Some x) others)
+  chosen_typed : (b : Bool) (x : Object) (others : Option Object) → IsTyped program lawful cells x → IfThere (IsTyped program lawful cells) others →
+      IfThere (IsTyped program lawful cells) (cond b (Some x) others)
   chosen_typed true x others h k = h
   chosen_typed false x others h k = k
 
-  pub component_typed : (fs : Fields) (s : List ℕ) (xs : List Object) → Parts fs xs → IfThere (IsTyped program cells) (component fs s xs)
+  pub component_typed : (fs : Fields) (s : List ℕ) (xs : List Object) → Parts fs xs → IfThere (IsTyped program lawful cells) (component fs s xs)
   component_typed (field_and name t rest) s (x ∷ xs) h = chosen_typed (bytes_eq name s) x (component rest s xs) h.0.0 (component_typed rest s xs h.1)
   component_typed no_fields s xs h = tt
   component_typed (field_and name t rest) s [] h = tt
 
   replaced_if : (b : Bool) (name : List ℕ) (t : CluType) (rest : Fields) (others : Option CluType) (x y : Object) (xs : List Object) (found : Option (List Object)) →
-      IsTyped program cells y → fits_in (cond b (Some t) others) y ≡ true → Is t x → Parts rest xs →
+      IsTyped program lawful cells y → fits_in (cond b (Some t) others) y ≡ true → Is t x → Parts rest xs →
       (fits_in others y ≡ true → IfThere (Parts rest) found) →
       IfThere (Parts (field_and name t rest)) (cond b (Some (y ∷ xs)) (option_map (λ ys. x ∷ ys) found))
   replaced_if true name t rest others x y xs found typed fit is parts h = ((typed, fit), parts)
@@ -173,7 +173,7 @@ module _ (program : Program) (cells : List Cell) where
   replaced_if false name t rest others x y xs (Some ys) typed fit is parts h = (is, h fit)
 
   -- with another component that fits this selector's type
-  pub replaced_parts : (fs : Fields) (s : List ℕ) (y : Object) (xs : List Object) → IsTyped program cells y → fits_in (type_of_selector fs s) y ≡ true → Parts fs xs →
+  pub replaced_parts : (fs : Fields) (s : List ℕ) (y : Object) (xs : List Object) → IsTyped program lawful cells y → fits_in (type_of_selector fs s) y ≡ true → Parts fs xs →
       IfThere (Parts fs) (with_component fs s y xs)
   replaced_parts (field_and name t rest) s y (x ∷ xs) typed fit h =
       replaced_if (bytes_eq name s) name t rest (type_of_selector rest s) x y xs (with_component rest s y xs) typed fit h.0 h.1

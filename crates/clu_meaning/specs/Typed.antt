@@ -5,7 +5,7 @@ use Rattle.std.specs.Option.{option_map}
 use Rattle.clu_types.specs.CluType.{CluType, Fields, no_fields, field_and, Actuals}
 use Rattle.clu_types.specs.Substituted.{substituted}
 use Rattle.clu_builtin.specs.Table.{parts_of}
-use Rattle.clu_layout.specs.Objects.{Object, sequence_object, struct_object, oneof_object, routine_object, reference, sealed, Objects, no_objects, object_and, listed, Cell, array_cell, record_cell, variant_cell, cell_type, own_type, own_types}
+use Rattle.clu_layout.specs.Objects.{Routine, Object, sequence_object, struct_object, oneof_object, routine_object, reference, sealed, Objects, no_objects, object_and, listed, Cell, array_cell, record_cell, variant_cell, cell_type, own_type, own_types}
 use Rattle.clu_layout.specs.SameType.{fits, all_fit}
 use Rattle.clu_layout.specs.Actions.{has_int_bounds}
 use Rattle.clu_layout.specs.Primitive.{same_for_each}
@@ -50,7 +50,7 @@ abbrev pub fits_in : Option CluType → Object → Bool
 fits_in (Some t) o = fits (own_type o) t
 fits_in None o = false
 
-module _ (program : Program) (cells : List Cell) where
+module _ (program : Program) (lawful : Routine → Type 0) (cells : List Cell) where
   -- ---- objects
 
   abbrev mutual
@@ -61,7 +61,7 @@ module _ (program : Program) (cells : List Cell) where
     -- one of the tags of its type
     IsTyped (oneof_object fs tag o) = IsTyped o × (fits_in (type_of_selector fs tag) o ≡ true)
     -- the heading of the routine that it names
-    IsTyped (routine_object r heading) = headed program r ≡ Some heading
+    IsTyped (routine_object r heading) = (headed program r ≡ Some heading) × lawful r
     -- the cell is there and of the type's kind; so all references to it have one type
     IsTyped (reference t c) = option_map cell_type (slice_get cells c) ≡ Some t
     -- the inside is of the cluster's representation
@@ -119,13 +119,13 @@ module _ (program : Program) (cells : List Cell) where
 
 -- ---- the state, where statements stand at this place
 
-pub record Typed (program : Program) (round : Round) (st : State) : Type 0 where
-  pub cells : EachFits program st.world.cells st.world.cells
-  pub frame : FrameFits program st.world.cells round st.frame
-  pub owns : OwnsFit program st.world.cells st.owns
+pub record Typed (program : Program) (lawful : Routine → Type 0) (round : Round) (st : State) : Type 0 where
+  pub cells : EachFits program lawful st.world.cells st.world.cells
+  pub frame : FrameFits program lawful st.world.cells round st.frame
+  pub owns : OwnsFit program lawful st.world.cells st.owns
 
 -- the state at the end of what began in this procedure
 abbrev pub EndsTyped : {A : Type 0} → Program → Running → Result A → Type 0
-EndsTyped program r (normal a turns st) = Typed program (in_procedure r) st
-EndsTyped program r (ended e turns st) = Typed program (in_procedure r) st
+EndsTyped program r (normal a turns st) = Typed program (λ r. Unit {0}) (in_procedure r) st
+EndsTyped program r (ended e turns st) = Typed program (λ r. Unit {0}) (in_procedure r) st
 EndsTyped program r (out_of_turns st) = Unit {0}

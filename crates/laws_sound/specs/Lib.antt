@@ -1,0 +1,5 @@
+pub mod Raises
+pub mod WellTyped
+pub mod Sound
+pub mod Counting
+pub mod Builtins
