@@ -3,6 +3,7 @@
 ghost use Rattle.std.specs.Prelude.{◌≡◌, ◌-◌, IfErr, IfOk, IsTrue, Some, drop, length, map, take};
 ghost use Rattle.clu_syntax.specs.Parts.{IsOf};
 ghost use Rattle.clu_frames.specs.Labels.{IsFlat};
+ghost use Rattle.clu_frames.specs.Plain.{plain_code};
 ghost use Rattle.clu_frames.specs.Regions.{AreRegions};
 ghost use Rattle.clu_wir.specs.Formed.{is_formed};
 ghost use Rattle.clu_handlers.specs.Seen.{seen};
@@ -134,7 +135,7 @@ fn routine_of(alloc: Global, routine: &WRoutine, peep: bool) -> Result<ObjRoutin
 /// The code of a routine in shorter flat code.
 #[tactic(auto, using(crate::proofs::Refusals::bodies))]
 fn shorter(alloc: Global, flat: FlatRoutine, regions: &Regions) -> Result<ObjRoutine, BuildError>
-    requires flat { IsFlat flat.code.items }
+    requires flat { IsFlat (plain_code flat.code.items) }
     requires nest { AreRegions flat.code.items (map seen regions.now) }
     ensures refused { IfErr result IsInner }
 {

@@ -1,15 +1,16 @@
 -- Which regions each statement adds: they nest, inside of the region round the statement, between the places where the
 -- statement begins and ends.
-use Rattle.std.proofs.Common.{◌≡◌, pos, ℕ, IsTrue, suc, ◌+◌, ◌≤◌, List, [], ◌∷◌, ◌++◌, length, map, Bool, true, false, Option, Some, None, refl, sym, ◌∙◌, ap, subst, arith, append_assoc, append-nil, length-append}
-use Rattle.clu_wir.specs.declared.expression.WExpr.{WExpr}
+use Rattle.std.proofs.Common.{◌≡◌, pos, ℕ, IsTrue, suc, ◌+◌, ◌≤◌, List, [], ◌∷◌, ◌++◌, length, Bool, true, false, Option, Some, None, refl, sym, ◌∙◌, ap, subst, arith, append_assoc, append-nil, length-append}
+use Rattle.clu_wir.specs.Plain.{Arms, Expr, Stmt, Stmts, arm_and, body_of, no_arms, no_stmts, stmt_and}
+use Rattle.clu_wir.specs.Plain as plain
 use Rattle.clu_wir.specs.declared.region.Arm.{Arm}
 use Rattle.clu_wir.specs.declared.routine.WRoutine.{WRoutine}
-use Rattle.clu_wir.specs.declared.statement.WStmt.{WStmt, WStmt-F, fold-roll-WStmt, ind-WStmt, map-WStmt}
-use Rattle.clu_wir.specs.declared.statement.WArm.{WArm, WArm-F, fold-roll-WArm}
+use Rattle.clu_base.specs.declared.constants.ObjConst.{ObjConst}
 use Rattle.clu_frames.specs.declared.flat.Flat.{Flat}
-use Rattle.clu_frames.specs.declared.flat.Flat.TheVariants as flat
+use Rattle.clu_frames.specs.Plain.{Step, plain_code, step_of}
+use Rattle.clu_frames.specs.Plain as flat
 use Rattle.clu_frames.specs.declared.surroundings.Turns.{Turns}
-use Rattle.clu_frames.specs.Flattening.{ArmPart, Made, Part, Round, all_onto, arm_at, arm_begun, arm_of, arm_step, armed, arms_onto, bare, bare_code, begun, begun_by, choice_onto, closed, either_onto, end_of, exit_of, guard_at, guard_onto, if_onto, in_guard, in_loop, in_region, in_turns, is_none, iterate_onto, labelled, named_onto, none, opened, other_onto, outermost, part_of, part_step, pushed, regions_of, resignal_onto, results_onto, routine_onto, row_at, row_onto, steps_of, turns_at, turns_onto, unless_from}
+use Rattle.clu_frames.specs.Flattening.{Made, Onto, Round, all_onto, arm_at, arm_begun, arm_onto_one, armed, arms_onto, begun, begun_by, choice_onto, closed, either_onto, end_of, exit_of, guard_at, guard_onto, if_onto, in_guard, in_loop, in_region, in_turns, is_none, iterate_onto, labelled, made_by, name_of, named_onto, onto, opened, other_onto, outermost, pushed, regions_of, resignal_onto, results_onto, routine_onto, row_at, row_onto, slots_of, steps_of, turns_at, turns_onto, unless_from}
 use Rattle.clu_wir.specs.Adding.{Added, are_nested, is_placed}
 use Rattle.clu_frames.specs.Regions.{AreRegions, begun_at, changed, ended_at, with_arm}
 use Rattle.std.proofs.lemmas.List.{length-map}
@@ -39,12 +40,12 @@ nested_same parent m m' same le = record {
   placed = tt;
 }
 
-nested_step : (parent : Option ℕ) (step : Flat) (m : Made) → Nested parent m (pushed step m)
-nested_step parent step m = nested_same parent m (pushed step m) refl (omega (arith, length-append m.code (bare step ∷ [])))
+nested_step : (parent : Option ℕ) (step : Step) (m : Made) → Nested parent m (pushed step m)
+nested_step parent step m = nested_same parent m (pushed step m) refl (omega (arith, length-append m.code (step ∷ [])))
 
 nested_still : {P : ℕ → Type 0} {m m' : Made} (parent : Option ℕ) → Still P m m' → Nested parent m m'
 nested_still {P} {m} {m'} parent s =
-    let e : length m'.code ≡ length m.code + length s.adds.added = ap (λ (l : List Flat). length l) s.adds.code ∙ length-append m.code s.adds.added in
+    let e : length m'.code ≡ length m.code + length s.adds.added = ap (λ (l : List Step). length l) s.adds.code ∙ length-append m.code s.adds.added in
     nested_same parent m m' s.regions (omega (arith, e))
 
 nested_labels : {parent : Option ℕ} {m m' : Made} (count : ℕ) → Nested parent (labelled count m) m' → Nested parent m m'
@@ -66,29 +67,17 @@ nested_on {parent} {x} {y} {z} a b =
 
 -- Statements by what is inside of them.
 
-pub record Nests (part : Part) : Type 0 where
-  pub nested : (round : Round) (m : Made) → Nested round.region m (part.onto round m)
-
-abbrev pub AllNest : List Part → Type 0
-AllNest [] = Unit {0}
-AllNest (part ∷ parts) = Nests part × AllNest parts
-
-abbrev pub ArmsNest : List ArmPart → Type 0
-ArmsNest [] = Unit {0}
-ArmsNest (arm ∷ arms) = AllNest arm.body × ArmsNest arms
-
-pub all_nested : (parts : List Part) → AllNest parts → (round : Round) (m : Made) → Nested round.region m (all_onto parts round m)
-all_nested [] ok round m = nested_same round.region m m refl (omega arith)
-all_nested (part ∷ parts) ok round m = nested_on (ok.0.nested round m) (all_nested parts ok.1 round (part.onto round m))
+abbrev Nests : Onto → Type 0
+Nests o = (round : Round) (m : Made) → Nested round.region m (o round m)
 
 -- Choices.
 
-unless_nested : (o : Option ℕ) (other : List Part) → AllNest other → (round : Round) (m : Made) → Nested round.region m (unless_from o other round m)
-unless_nested (Some end) other ok round m = nested_step round.region (flat.Branch none false end) m
-unless_nested None other ok round m =
-    let m1 : Made = pushed (flat.Branch none true m.labels) (labelled 1 m) in
-    nested_on (nested_labels 1 (nested_step round.region (flat.Branch none true m.labels) (labelled 1 m)))
-    (nested_on (all_nested other ok round m1) (nested_step round.region (flat.Label m.labels) (all_onto other round m1)))
+unless_nested : (o : Option ℕ) (e : Expr) (other : Onto) → Nests other → (round : Round) (m : Made) → Nested round.region m (unless_from o e other round m)
+unless_nested (Some end) e other ok round m = nested_step round.region (flat.Branch e false end) m
+unless_nested None e other ok round m =
+    let m1 : Made = pushed (flat.Branch e true m.labels) (labelled 1 m) in
+    nested_on (nested_labels 1 (nested_step round.region (flat.Branch e true m.labels) (labelled 1 m)))
+    (nested_on (ok round m1) (nested_step round.region (flat.Label m.labels) (other round m1)))
 
 other_nested : (parent : Option ℕ) (b : Bool) (otherwise : ℕ) (m : Made) → Nested parent m (other_onto b otherwise m)
 other_nested parent true otherwise m = nested_same parent m m refl (omega arith)
@@ -96,48 +85,48 @@ other_nested parent false otherwise m =
     let m1 : Made = pushed (flat.Jump m.labels) (labelled 1 m) in
     nested_on (nested_labels 1 (nested_step parent (flat.Jump m.labels) (labelled 1 m))) (nested_step parent (flat.Label otherwise) m1)
 
-either_nested : (first other : List Part) → AllNest first → AllNest other → (round : Round) (m : Made) → Nested round.region m (either_onto first other round m)
-either_nested first other okf oko round m =
-    let m1 : Made = choice_onto m in
-    let m2 : Made = all_onto first round m1 in
-    let m3 : Made = other_onto (is_none other) m.labels m2 in
-    let m4 : Made = all_onto other round m3 in
-    nested_on (nested_labels 1 (nested_step round.region (flat.Branch none false m.labels) (labelled 1 m)))
-    (nested_on (all_nested first okf round m1)
-    (nested_on (other_nested round.region (is_none other) m.labels m2)
-    (nested_on (all_nested other oko round m3) (nested_step round.region (flat.Label (end_of (is_none other) m.labels m2)) m4))))
+either_nested : (none : Bool) (e : Expr) (first other : Onto) → Nests first → Nests other → (round : Round) (m : Made) → Nested round.region m (either_onto none e first other round m)
+either_nested none e first other okf oko round m =
+    let m1 : Made = choice_onto e m in
+    let m2 : Made = first round m1 in
+    let m3 : Made = other_onto none m.labels m2 in
+    let m4 : Made = other round m3 in
+    nested_on (nested_labels 1 (nested_step round.region (flat.Branch e false m.labels) (labelled 1 m)))
+    (nested_on (okf round m1)
+    (nested_on (other_nested round.region none m.labels m2)
+    (nested_on (oko round m3) (nested_step round.region (flat.Label (end_of none m.labels m2)) m4))))
 
-if_nested : (b : Bool) (first other : List Part) → AllNest first → AllNest other → (round : Round) (m : Made) → Nested round.region m (if_onto b first other round m)
-if_nested true first other okf oko round m = unless_nested (exit_of other round.turns) other oko round m
-if_nested false first other okf oko round m = either_nested first other okf oko round m
+if_nested : (b : Bool) (rest : Stmts) (e : Expr) (first other : Onto) → Nests first → Nests other → (round : Round) (m : Made) → Nested round.region m (if_onto b rest e first other round m)
+if_nested true rest e first other okf oko round m = unless_nested (exit_of rest round.turns) e other oko round m
+if_nested false rest e first other okf oko round m = either_nested (is_none rest) e first other okf oko round m
 
 -- Loops.
 
-turns_nested : (body : List Part) → AllNest body → (round : Round) (m : Made) → Nested round.region m (turns_onto body round m)
+turns_nested : (body : Onto) → Nests body → (round : Round) (m : Made) → Nested round.region m (turns_onto body round m)
 turns_nested body ok round m =
     let m1 : Made = pushed (flat.Label m.labels) (labelled 2 m) in
-    let m2 : Made = all_onto body (in_loop m.labels round) m1 in
+    let m2 : Made = body (in_loop m.labels round) m1 in
     nested_on (nested_labels 2 (nested_step round.region (flat.Label m.labels) (labelled 2 m)))
-    (nested_on (all_nested body ok (in_loop m.labels round) m1)
+    (nested_on (ok (in_loop m.labels round) m1)
     (nested_on (nested_step round.region (flat.Jump m.labels) m2) (nested_step round.region (flat.Label (m.labels + 1)) (pushed (flat.Jump m.labels) m2))))
 
-iterate_nested : (arguments : List WExpr) (items : List ℕ) (body : List Part) → AllNest body → (round : Round) (m : Made) → Nested round.region m (iterate_onto arguments items body round m)
-iterate_nested arguments items body ok round m =
+iterate_nested : (routine : Expr) (arguments : List Expr) (items : List ℕ) (body : Onto) → Nests body → (round : Round) (m : Made) → Nested round.region m (iterate_onto routine arguments items body round m)
+iterate_nested routine arguments items body ok round m =
     let e : Turns = turns_at m.labels round.mark in
     let parent : Option ℕ = round.region in
     let row : Made = row_onto (round.work + 1) arguments (labelled 2 m) in
-    let m1 : Made = pushed (flat.Invoke none (row_at (round.work + 1) arguments)) row in
+    let m1 : Made = pushed (flat.Invoke routine (row_at (round.work + 1) arguments)) row in
     let m2 : Made = pushed (flat.Jump (m.labels + 1)) m1 in
     let m3 : Made = pushed (flat.Take round.work) m2 in
     let m4 : Made = results_onto 0 items m3 in
-    let m5 : Made = all_onto body (in_turns e round) m4 in
+    let m5 : Made = body (in_turns e round) m4 in
     let m6 : Made = pushed (flat.Label m.labels) m5 in
     nested_on (nested_labels 2 (nested_still {P = Any} parent (still_row Any (round.work + 1) arguments (labelled 2 m))))
-    (nested_on (nested_step parent (flat.Invoke none (row_at (round.work + 1) arguments)) row)
+    (nested_on (nested_step parent (flat.Invoke routine (row_at (round.work + 1) arguments)) row)
     (nested_on (nested_step parent (flat.Jump (m.labels + 1)) m1)
     (nested_on (nested_step parent (flat.Take round.work) m2)
     (nested_on (nested_still {P = Any} parent (still_results Any 0 items m3))
-    (nested_on (all_nested body ok (in_turns e round) m4)
+    (nested_on (ok (in_turns e round) m4)
     (nested_on (nested_step parent (flat.Label m.labels) m5)
     (nested_on (nested_step parent (flat.Resume round.work) m6) (nested_step parent (flat.Label (m.labels + 1)) (pushed (flat.Resume round.work) m6)))))))))
 
@@ -177,7 +166,7 @@ named (name ∷ names) before r behind region mark m at e targets =
 -- the same and more code
 named_still : {P : ℕ → Type 0} {m m' m'' : Made} (before : List Added) (r : Added) (behind : List Added) → Named before r behind m m' → Still P m' m'' → Named before r behind m m''
 named_still {P} {m} {m'} {m''} before r behind n s =
-    let e : length m''.code ≡ length m'.code + length s.adds.added = ap (λ (l : List Flat). length l) s.adds.code ∙ length-append m'.code s.adds.added in
+    let e : length m''.code ≡ length m'.code + length s.adds.added = ap (λ (l : List Step). length l) s.adds.code ∙ length-append m'.code s.adds.added in
     record {
       region = n.region;
       first = n.first;
@@ -221,9 +210,15 @@ record Arming (parent : Option ℕ) (before : List Added) (r : Added) (behind : 
 length_at : (before : List Added) (r r' : Added) (behind : List Added) → length (before ++ r ∷ behind) ≡ length (before ++ r' ∷ behind)
 length_at before r r' behind = length-append before (r ∷ behind) ∙ sym (length-append before (r' ∷ behind))
 
-arms_nested : (arms : List ArmPart) → ArmsNest arms → (label end region : ℕ) (before : List Added) (r : Added) (behind : List Added) (round : Round) (m : Made)
-    → length before ≡ region → m.regions ≡ before ++ r ∷ behind → AllTargets (length m.code) r.arms → Arming round.region before r behind m (arms_onto label end region arms round m)
-arms_nested [] ok label end region before r behind round m at e targets =
+abbrev ArmsNest : (ℕ → ℕ → ℕ → Onto) → Type 0
+ArmsNest arms = (label end region : ℕ) (before : List Added) (r : Added) (behind : List Added) (round : Round) (m : Made)
+    → length before ≡ region → m.regions ≡ before ++ r ∷ behind → AllTargets (length m.code) r.arms → Arming round.region before r behind m (arms label end region round m)
+
+abbrev no_arms_onto : ℕ → ℕ → ℕ → Onto
+no_arms_onto label end region round m = pushed (flat.Label end) m
+
+no_arms_nested : ArmsNest no_arms_onto
+no_arms_nested label end region before r behind round m at e targets =
     let n : Nested round.region m (pushed (flat.Label end) m) = nested_step round.region (flat.Label end) m in
     record {
       region = r;
@@ -237,21 +232,28 @@ arms_nested [] ok label end region before r behind round m at e targets =
       nests = nest_none round.region (length m.regions) (length m.code) (length (pushed (flat.Label end) m).code) n.longer;
       placed = tt;
     }
-arms_nested (a ∷ arms) ok label end region before r behind round m at e targets =
-    let m1 : Made = arm_begun a region round.mark m in
+
+abbrev more_arms_onto : List (List ℕ) → Bool → List ℕ → Onto → (ℕ → ℕ → ℕ → Onto) → ℕ → ℕ → ℕ → Onto
+more_arms_onto names others slots body arms label end region round m =
+    arms (label + 1) end region round (arm_onto_one names others slots body label end region round m)
+
+more_arms_nested : (names : List (List ℕ)) (others : Bool) (slots : List ℕ) (body : Onto) (arms : ℕ → ℕ → ℕ → Onto) → Nests body → ArmsNest arms
+    → ArmsNest (more_arms_onto names others slots body arms)
+more_arms_nested names others slots body arms okb oka label end region before r behind round m at e targets =
+    let m1 : Made = arm_begun names others slots region round.mark m in
     let m2 : Made = pushed (flat.Label label) m1 in
-    let m3 : Made = all_onto a.body round m2 in
+    let m3 : Made = body round m2 in
     let m4 : Made = pushed (flat.Jump end) m3 in
-    let m5 : Made = arms_onto (label + 1) end region arms round m4 in
+    let m5 : Made = arms (label + 1) end region round m4 in
     let s : Named before r behind m m1 =
-    begun_nested a.others a.slots before r behind region round.mark at (named a.names before r behind region round.mark m at e (targets_more (length m.code) (suc (length m.code)) r.arms (omega arith) targets)) in
+    begun_nested others slots before r behind region round.mark at (named names before r behind region round.mark m at e (targets_more (length m.code) (suc (length m.code)) r.arms (omega arith) targets)) in
     let two : length m2.code ≡ suc (length m1.code) = length-append m1.code (flat.Label label ∷ []) ∙ omega arith in
     let four : length m4.code ≡ suc (length m3.code) = length-append m3.code (flat.Jump end ∷ []) ∙ omega arith in
-    let b : Nested round.region m2 m3 = all_nested a.body ok.0 round m2 in
+    let b : Nested round.region m2 m3 = okb round m2 in
     let here : m4.regions ≡ before ++ s.region ∷ (behind ++ b.added) =
     b.regions ∙ ap (λ (l : List Added). l ++ b.added) s.regions ∙ append_assoc before (s.region ∷ behind) b.added in
     let t : AllTargets (length m4.code) s.region.arms = targets_more (suc (length m1.code)) (length m4.code) s.region.arms (omega (arith, two, four, b.longer)) s.targets in
-    let rest : Arming round.region before s.region (behind ++ b.added) m4 m5 = arms_nested arms ok.1 (label + 1) end region before s.region (behind ++ b.added) round m4 at here t in
+    let rest : Arming round.region before s.region (behind ++ b.added) m4 m5 = oka (label + 1) end region before s.region (behind ++ b.added) round m4 at here t in
     let one : length m2.regions ≡ length m.regions =
     ap (λ (l : List Added). length l) s.regions ∙ length_at before s.region r behind ∙ ap (λ (l : List Added). length l) (sym e) in
     let more : length m4.regions ≡ length m.regions + length b.added =
@@ -311,18 +313,18 @@ region_closed parent end m m2 n =
 no_targets : (count : ℕ) (arms : List Arm) → arms ≡ [] → AllTargets count arms
 no_targets count arms e = subst (AllTargets count) (sym e) tt
 
-guard_nested : (body : List Part) (arms : List ArmPart) → AllNest body → ArmsNest arms → (round : Round) (m : Made) → Nested round.region m (guard_onto body arms round m)
-guard_nested body arms okb oka round m =
+guard_nested : (slots : List (List ℕ)) (body : Onto) (arms : ℕ → ℕ → ℕ → Onto) → Nests body → ArmsNest arms → (round : Round) (m : Made) → Nested round.region m (guard_onto slots body arms round m)
+guard_nested slots body arms okb oka round m =
     let region : ℕ = length m.regions in
-    let end : ℕ = m.labels + length arms in
-    let inside : Round = in_guard (guard_at arms m.labels round.mark) region round in
-    let m0 : Made = labelled 1 (labelled (length arms) m) in
-    let m2 : Made = all_onto body inside (opened round.region m0) in
+    let end : ℕ = m.labels + length slots in
+    let inside : Round = in_guard (guard_at slots m.labels round.mark) region round in
+    let m0 : Made = labelled 1 (labelled (length slots) m) in
+    let m2 : Made = body inside (opened round.region m0) in
     let m3 : Made = closed region end m2 in
-    let m4 : Made = arms_onto m.labels end region arms round m3 in
-    let c : Closed round.region m0 m2 m3 = region_closed round.region end m0 m2 (all_nested body okb inside (opened round.region m0)) in
+    let m4 : Made = arms m.labels end region round m3 in
+    let c : Closed round.region m0 m2 m3 = region_closed round.region end m0 m2 (okb inside (opened round.region m0)) in
     let a : Arming round.region m.regions c.region c.inside m3 m4 =
-    arms_nested arms oka m.labels end region m.regions c.region c.inside round m3 refl c.regions (no_targets (length m3.code) c.region.arms c.unarmed) in
+    oka m.labels end region m.regions c.region c.inside round m3 refl c.regions (no_targets (length m3.code) c.region.arms c.unarmed) in
     let within : List Added = a.region ∷ c.inside in
     let own : Nest round.region region (length m.code) (suc (length m2.code)) within =
     nest_tree round.region region (length m.code) (length m2.code) a.region c.inside (a.first ∙ c.first) (a.last ∙ c.last) (a.same ∙ c.same) c.longer c.nests in
@@ -342,17 +344,17 @@ guard_nested body arms okb oka round m =
           a.placed;
     }
 
-resignal_nested : (body : List Part) (names : List (List ℕ)) → AllNest body → (round : Round) (m : Made) → Nested round.region m (resignal_onto body names round m)
+resignal_nested : (body : Onto) (names : List (List ℕ)) → Nests body → (round : Round) (m : Made) → Nested round.region m (resignal_onto body names round m)
 resignal_nested body names ok round m =
     let region : ℕ = length m.regions in
     let inside : Round = in_region region round in
     let m0 : Made = labelled 1 m in
-    let m2 : Made = all_onto body inside (opened round.region m0) in
+    let m2 : Made = body inside (opened round.region m0) in
     let m3 : Made = closed region m.labels m2 in
     let m4 : Made = named_onto region round.mark names m3 in
     let m5 : Made = pushed flat.Pass m4 in
     let m6 : Made = pushed (flat.Label m.labels) m5 in
-    let c : Closed round.region m0 m2 m3 = region_closed round.region m.labels m0 m2 (all_nested body ok inside (opened round.region m0)) in
+    let c : Closed round.region m0 m2 m3 = region_closed round.region m.labels m0 m2 (ok inside (opened round.region m0)) in
     let n : Named m.regions c.region c.inside m3 m4 =
     named names m.regions c.region c.inside region round.mark m3 refl c.regions (no_targets (suc (length m3.code)) c.region.arms c.unarmed) in
     let five : length m5.code ≡ suc (length m4.code) = length-append m4.code (flat.Pass ∷ []) ∙ omega arith in
@@ -376,90 +378,63 @@ resignal_nested body names ok round m =
 
 -- Statements.
 
-abbrev StmtNests : WStmt → Type 0
-StmtNests s = Nests (part_of s)
+mutual
+  unfolding onto all_onto arms_onto
 
-abbrev ArmNests : WArm → Type 0
-ArmNests a = AllNest (arm_of a).body
+  statement_nests : (s : Stmt) → Nests (onto s)
+  statement_nests (plain.set to e) round m = nested_step round.region (flat.Set to e) m
+  statement_nests (plain.put address bytes e) round m = nested_step round.region (flat.Put address (pos bytes) e) m
+  statement_nests (plain.call routine es results) round m = nested_still {P = Any} round.region (still_call Any routine es results round.work m)
+  statement_nests (plain.prim number es results) round m = nested_still {P = Any} round.region (still_primitive Any number es results round.work m)
+  statement_nests (plain.bind number e to) round m = nested_step round.region (flat.Bind number e to) m
+  statement_nests (plain.choose e first other) round m = if_nested (is_none first) other e (all_onto first) (all_onto other) (all_nested first) (all_nested other) round m
+  statement_nests (plain.loop body) round m = turns_nested (all_onto body) (all_nested body) round m
+  statement_nests plain.break_loop round m = nested_still {P = Any} round.region (still_break Any round.turns m (λ t h. tt))
+  statement_nests plain.next_turn round m = nested_still {P = Any} round.region (still_continue Any round.turns m (λ t h. tt))
+  statement_nests (plain.iterate routine es items body) round m = iterate_nested routine es items (all_onto body) (all_nested body) round m
+  statement_nests (plain.yield_words es) round m = nested_still {P = Any} round.region (still_yield Any es round.work m)
+  statement_nests (plain.raise_name name es) round m = nested_still {P = Any} round.region (still_raise Any (name_of round.constants name) es round.work m)
+  statement_nests (plain.signal_name name es) round m = nested_still {P = Any} round.region (still_signal Any (name_of round.constants name) es round.work m)
+  statement_nests (plain.exit_to inside arm es) round m = nested_still {P = Any} round.region (still_exit Any inside arm es round m (λ t h. tt))
+  statement_nests (plain.guard body arms) round m = guard_nested (slots_of arms) (all_onto body) (arms_onto arms) (all_nested body) (arms_nest arms) round m
+  statement_nests (plain.resignal body names) round m = resignal_nested (all_onto body) names (all_nested body) round m
+  statement_nests (plain.leave_with es) round m = nested_still {P = Any} round.region (still_leave Any es round.work m)
 
-abbrev OneStmt : Type 0
-OneStmt = (s : WStmt) × StmtNests s
+  all_nested : (ss : Stmts) → Nests (all_onto ss)
+  all_nested no_stmts round m = nested_same round.region m m refl (omega arith)
+  all_nested (stmt_and s rest) round m = nested_on (statement_nests s round m) (all_nested rest round (onto s round m))
 
-abbrev OneArm : Type 0
-OneArm = (a : WArm) × ArmNests a
-
-abbrev stmts : List OneStmt → List Part
-stmts es = map part_of (map (λ (e : OneStmt). e.0) es)
-
-abbrev arm_parts : List OneArm → List ArmPart
-arm_parts es = map arm_of (map (λ (e : OneArm). e.0) es)
-
-parts_nest : (es : List OneStmt) → AllNest (stmts es)
-parts_nest [] = tt
-parts_nest (e ∷ es) = (e.1, parts_nest es)
-
-arms_nest : (es : List OneArm) → ArmsNest (arm_parts es)
-arms_nest [] = tt
-arms_nest (e ∷ es) = (e.1, arms_nest es)
-
-abbrev AtLayer : WStmt-F WStmt WArm → Type 0
-AtLayer z = Nests (part_step (map-WStmt WStmt WArm Part ArmPart part_of arm_of z))
-
-layer : (y : WStmt-F OneStmt OneArm) → AtLayer (map-WStmt OneStmt OneArm WStmt WArm (λ (e : OneStmt). e.0) (λ (e : OneArm). e.0) y)
-layer (WStmt-F.Set slot value) = record { nested = λ round m. nested_step round.region (flat.Set slot none) m }
-layer (WStmt-F.Put address bytes value) = record { nested = λ round m. nested_step round.region (flat.Put none (pos bytes) none) m }
-layer (WStmt-F.Call routine values results) = record { nested = λ round m. nested_still {P = Any} round.region (still_call Any values.items results.items round.work m) }
-layer (WStmt-F.Prim number values results) = record { nested = λ round m. nested_still {P = Any} round.region (still_primitive Any number values.items results.items round.work m) }
-layer (WStmt-F.Bind number value slot) = record { nested = λ round m. nested_step round.region (flat.Bind none none slot) m }
-layer (WStmt-F.If condition first other) = record { nested = λ round m. if_nested (is_none (stmts first.items)) (stmts first.items) (stmts other.items) (parts_nest first.items) (parts_nest other.items) round m }
-layer (WStmt-F.Loop body) = record { nested = λ round m. turns_nested (stmts body.items) (parts_nest body.items) round m }
-layer WStmt-F.Break = record { nested = λ round m. nested_still {P = Any} round.region (still_break Any round.turns m (λ t h. tt)) }
-layer WStmt-F.Continue = record { nested = λ round m. nested_still {P = Any} round.region (still_continue Any round.turns m (λ t h. tt)) }
-layer (WStmt-F.Iterate routine values items body) = record { nested = λ round m. iterate_nested values.items items.items (stmts body.items) (parts_nest body.items) round m }
-layer (WStmt-F.Yield words) = record { nested = λ round m. nested_still {P = Any} round.region (still_yield Any words.items round.work m) }
-layer (WStmt-F.Raise name objects) = record { nested = λ round m. nested_still {P = Any} round.region (still_raise Any objects.items round.work m) }
-layer (WStmt-F.Signal name objects) = record { nested = λ round m. nested_still {P = Any} round.region (still_signal Any objects.items round.work m) }
-layer (WStmt-F.Exit inside arm words) = record { nested = λ round m. nested_still {P = Any} round.region (still_exit Any inside arm words.items round m (λ t h. tt)) }
-layer (WStmt-F.Guard body arms) = record { nested = λ round m. guard_nested (stmts body.items) (arm_parts arms.items) (parts_nest body.items) (arms_nest arms.items) round m }
-layer (WStmt-F.Resignal body names) = record { nested = λ round m. resignal_nested (stmts body.items) names.items (parts_nest body.items) round m }
-layer (WStmt-F.Return results) = record { nested = λ round m. nested_still {P = Any} round.region (still_leave Any results.items round.work m) }
-
-statement_nests : (s : WStmt) → StmtNests s
-statement_nests = ind-WStmt StmtNests ArmNests
-    (λ x y is. subst Nests (sym (fold-roll-WStmt Part ArmPart part_step arm_step x)) (subst AtLayer is (layer y)))
-    (λ x y is. subst (λ (a : ArmPart). AllNest a.body) (sym (fold-roll-WArm Part ArmPart part_step arm_step x))
-    (subst (λ (z : WArm-F WStmt WArm). AllNest (map part_of z.body.items)) is (parts_nest y.body.items)))
-
-body_nests : (body : List WStmt) → AllNest (map part_of body)
-body_nests [] = tt
-body_nests (s ∷ body) = (statement_nests s, body_nests body)
+  arms_nest : (arms : Arms) → ArmsNest (arms_onto arms)
+  arms_nest no_arms = no_arms_nested
+  arms_nest (arm_and names others slots body more) = more_arms_nested names others slots (all_onto body) (arms_onto more) (all_nested body) (arms_nest more)
 
 -- A routine.
 
-routine_nests : (args slots : ℕ) (body : List Part) → AllNest body → AreRegions (routine_onto body args slots).code (routine_onto body args slots).regions
-routine_nests args slots body ok =
-    let inner : Made = all_onto body (outermost slots) (begun args) in
-    let n : Nested None (begun args) inner = all_nested body ok (outermost slots) (begun args) in
-    let code : length (routine_onto body args slots).code ≡ suc (length inner.code) = length-append inner.code (flat.Leave slots 0 ∷ []) ∙ omega arith in
+routine_nests : (constants : List ObjConst) (args slots : ℕ) (body : Stmts) → AreRegions (routine_onto constants body args slots).code (routine_onto constants body args slots).regions
+routine_nests constants args slots body =
+    let whole : Made = routine_onto constants body args slots in
+    let inner : Made = all_onto body (outermost constants slots) (begun args) in
+    let n : Nested None (begun args) inner = all_nested body (outermost constants slots) (begun args) in
+    let code : length whole.code ≡ suc (length inner.code) = length-append inner.code (flat.Leave slots 0 ∷ []) ∙ omega arith in
     let fits : Fits [] None (length inner.code) n.added = n.nests [] refl (record { holds = tt; ended = tt }) in
     record {
       nested = ap are_nested n.regions ∙ fits.nested;
-      placed = ap (list_all (is_placed (length (routine_onto body args slots).code))) n.regions
-          ∙ all_placed_tested (length (routine_onto body args slots).code) n.added (placed_more (length inner.code) (length (routine_onto body args slots).code) n.added (omega (arith, code)) n.placed);
+      placed = ap (list_all (is_placed (length whole.code))) n.regions
+          ∙ all_placed_tested (length whole.code) n.added (placed_more (length inner.code) (length whole.code) n.added (omega (arith, code)) n.placed);
     }
 
-pub regions_nest : (r : WRoutine) (m : Made) → m ≡ routine_onto (map part_of r.body.items) r.args r.slots → AreRegions m.code m.regions
+pub regions_nest : (r : WRoutine) (m : Made) → m ≡ made_by r → AreRegions m.code m.regions
 regions_nest r m e =
-    subst (λ (x : Made). AreRegions x.code x.regions) (sym e) (routine_nests r.args r.slots (map part_of r.body.items) (body_nests r.body.items))
+    subst (λ (x : Made). AreRegions x.code x.regions) (sym e) (routine_nests r.constants.items r.args r.slots (body_of r.body.items))
 
--- the same of a code with these steps, which has as many places with its expressions as without
-pub regions_handed : (r : WRoutine) (code : List Flat) (regions : List Added) → bare_code code ≡ steps_of r → regions ≡ regions_of r → AreRegions code regions
+-- the same of a code with these steps
+pub regions_handed : (r : WRoutine) (code : List Flat) (regions : List Added) → plain_code code ≡ steps_of r → regions ≡ regions_of r → AreRegions code regions
 regions_handed r code regions steps e =
-    let bare_ones : AreRegions (bare_code code) regions =
-    subst (λ (l : List Flat). AreRegions l regions) (sym steps)
+    let plain_ones : AreRegions (plain_code code) regions =
+    subst (λ (l : List Step). AreRegions l regions) (sym steps)
     (subst (λ (l : List Added). AreRegions (steps_of r) l) (sym e)
-    (routine_nests r.args r.slots (map part_of r.body.items) (body_nests r.body.items))) in
+    (routine_nests r.constants.items r.args r.slots (body_of r.body.items))) in
     record {
-      nested = bare_ones.nested;
-      placed = subst (λ (n : ℕ). IsTrue (list_all (is_placed n) regions)) (length-map code bare) bare_ones.placed;
+      nested = plain_ones.nested;
+      placed = subst (λ (n : ℕ). IsTrue (list_all (is_placed n) regions)) (length-map code step_of) plain_ones.placed;
     }

@@ -4,12 +4,12 @@ use Rattle.std.specs.List.{list_all}
 use Rattle.std.specs.Option.{option_to_list}
 use Rattle.std.proofs.lemmas.Bool.{and_from, cases_lt}
 use Rattle.std.proofs.lemmas.List.Concat.{flat_map-cons}
-use Rattle.clu_frames.specs.declared.flat.Flat.{Flat}
+use Rattle.clu_frames.specs.Plain.{Step}
 use Rattle.clu_frames.specs.Labels.{are_numbered, label_of, labels_of}
 use Rattle.clu_frames.proofs.Placing.{below, below_is, below_of, hit, hit_other, hit_same, hit_within, hits, times}
 
-pub labels_cons : (step : Flat) (code : List Flat) → labels_of (step ∷ code) ≡ option_to_list (label_of step) ++ labels_of code
-labels_cons step code = flat_map-cons (λ (s : Flat). option_to_list (label_of s)) step code
+pub labels_cons : (step : Step) (code : List Step) → labels_of (step ∷ code) ≡ option_to_list (label_of step) ++ labels_of code
+labels_cons step code = flat_map-cons (λ (s : Step). option_to_list (label_of s)) step code
 
 -- the sum over the numbers below one
 abbrev total : ℕ → (ℕ → ℕ) → ℕ
@@ -47,14 +47,14 @@ total_at : (h : ℕ) (o : Option ℕ) (labels : List ℕ) → total h (λ n. hit
 total_at h None labels = let none : total h (λ n. hits n None) ≡ 0 = total_none h in omega (arith, none)
 total_at h (Some label) labels = let most : total h (λ n. hits n (Some label)) ≤ 1 = total_hit label h in omega (arith, most)
 
-total_times : (h : ℕ) (code : List Flat) → total h (λ n. times n code) ≤ length (labels_of code)
+total_times : (h : ℕ) (code : List Step) → total h (λ n. times n code) ≤ length (labels_of code)
 total_times h [] = let none : total h (λ n. times n []) ≡ 0 = total_none h in omega (arith, none)
 total_times h (step ∷ code) =
     let both : total h (λ n. times n (step ∷ code)) ≡ total h (λ n. hits n (label_of step)) + total h (λ n. times n code) =
     total_plus h (λ n. hits n (label_of step)) (λ n. times n code) in
     omega (arith, both, total_times h code, total_at h (label_of step) (labels_of code), ap {B = ℕ} length (labels_cons step code))
 
-all_below : (count : ℕ) (code : List Flat) → ((n : ℕ) → 1 ≤ times n code → n < count) → list_all (λ (n : ℕ). nat_lt n count) (labels_of code) ≡ true
+all_below : (count : ℕ) (code : List Step) → ((n : ℕ) → 1 ≤ times n code → n < count) → list_all (λ (n : ℕ). nat_lt n count) (labels_of code) ≡ true
 all_below count [] low = refl
 all_below count (step ∷ code) low =
     ap (list_all (λ (n : ℕ). nat_lt n count)) (labels_cons step code)
@@ -67,7 +67,7 @@ all_below count (step ∷ code) low =
         and_from (nat_lt label count) (list_all (λ (n : ℕ). nat_lt n count) (labels_of code))
         (lt-ltb label count (low label (omega (arith, hit_same label)))) rest
 
-pub numbered_of : (labels : ℕ) (code : List Flat) → ((n : ℕ) → times n code ≡ below labels n) → are_numbered (labels_of code) ≡ true
+pub numbered_of : (labels : ℕ) (code : List Step) → ((n : ℕ) → times n code ≡ below labels n) → are_numbered (labels_of code) ≡ true
 numbered_of labels code counted =
     let same : total labels (λ n. times n code) ≡ total labels (below labels) = total_same labels (λ n. times n code) (below labels) counted in
     let many : labels ≤ length (labels_of code) = omega (arith, same, total_below labels labels (omega arith), total_times labels code) in

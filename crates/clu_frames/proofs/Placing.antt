@@ -1,9 +1,9 @@
 -- What steps add to code: how often they place each label, which labels they name, and that their loops are whole.
 use Rattle.std.proofs.Common.{◌≡◌, ℕ, ◌+◌, ◌<◌, ◌≤◌, ◌==◌, List, [], ◌∷◌, ◌++◌, Bool, true, false, ◌&&◌, Option, Some, None, nat_lt, refl, sym, ◌∙◌, ap, ⊎_elim, arith, lt-ltb, le-ltb, eq-eqb, eqb-true, append_assoc, append-nil}
 use Rattle.std.proofs.lemmas.Bool.{and_from, cases_lt}
-use Rattle.clu_frames.specs.declared.flat.Flat.{Flat}
-use Rattle.clu_frames.specs.declared.flat.Flat.TheVariants as flat
-use Rattle.clu_frames.specs.Flattening.{Made, bare, pushed}
+use Rattle.clu_frames.specs.Plain.{Step}
+use Rattle.clu_frames.specs.Plain as flat
+use Rattle.clu_frames.specs.Flattening.{Made, pushed}
 use Rattle.clu_frames.specs.Labels.{are_loops, ends_loop, has_loop, label_of, resumed_slot, target_of}
 use Rattle.clu_frames.proofs.Loops.{has_left, loops_both, loops_longer, loops_more}
 
@@ -93,11 +93,11 @@ abbrev pub hits : ℕ → Option ℕ → ℕ
 hits n None = 0
 hits n (Some label) = hit label n
 
-abbrev pub times : ℕ → List Flat → ℕ
+abbrev pub times : ℕ → List Step → ℕ
 times n [] = 0
 times n (step ∷ code) = hits n (label_of step) + times n code
 
-pub times-append : (n : ℕ) (a b : List Flat) → times n (a ++ b) ≡ times n a + times n b
+pub times-append : (n : ℕ) (a b : List Step) → times n (a ++ b) ≡ times n a + times n b
 times-append n [] b = omega arith
 times-append n (step ∷ a) b = omega (arith, times-append n a b)
 
@@ -107,11 +107,11 @@ abbrev pub Names : (ℕ → Type 0) → Option ℕ → Type 0
 Names P None = Unit {0}
 Names P (Some label) = P label
 
-abbrev pub AllNamed : (ℕ → Type 0) → List Flat → Type 0
+abbrev pub AllNamed : (ℕ → Type 0) → List Step → Type 0
 AllNamed P [] = Unit {0}
 AllNamed P (step ∷ code) = Names P (target_of step) × AllNamed P code
 
-pub named_on : (P : ℕ → Type 0) (a b : List Flat) → AllNamed P a → AllNamed P b → AllNamed P (a ++ b)
+pub named_on : (P : ℕ → Type 0) (a b : List Step) → AllNamed P a → AllNamed P b → AllNamed P (a ++ b)
 named_on P [] b x y = y
 named_on P (step ∷ a) b x y = (x.0, named_on P a b x.1 y)
 
@@ -119,14 +119,14 @@ pub name_more : (P Q : ℕ → Type 0) → ((t : ℕ) → P t → Q t) → (o : 
 name_more P Q more None x = tt
 name_more P Q more (Some label) x = more label x
 
-pub named_more : (P Q : ℕ → Type 0) → ((t : ℕ) → P t → Q t) → (a : List Flat) → AllNamed P a → AllNamed Q a
+pub named_more : (P Q : ℕ → Type 0) → ((t : ℕ) → P t → Q t) → (a : List Step) → AllNamed P a → AllNamed Q a
 named_more P Q more [] x = tt
 named_more P Q more (step ∷ a) x = (name_more P Q more (target_of step) x.0, named_more P Q more a x.1)
 
 -- Code after code: labels are placed so often, and each that is named is one of P.
 
-pub record Adds (P : ℕ → Type 0) (count : ℕ → ℕ) (before after : List Flat) : Type 0 where
-  pub added : List Flat
+pub record Adds (P : ℕ → Type 0) (count : ℕ → ℕ) (before after : List Step) : Type 0 where
+  pub added : List Step
   pub code : after ≡ before ++ added
   pub placed : (n : ℕ) → times n added ≡ count n
   pub named : AllNamed P added
@@ -135,16 +135,16 @@ pub record Adds (P : ℕ → Type 0) (count : ℕ → ℕ) (before after : List 
 abbrev pub no_label : ℕ → ℕ
 no_label n = 0
 
-abbrev pub adds_on : {P : ℕ → Type 0} {c d : ℕ → ℕ} {x y z : List Flat} → Adds P c x y → Adds P d y z → Adds P (λ n. c n + d n) x z
+abbrev pub adds_on : {P : ℕ → Type 0} {c d : ℕ → ℕ} {x y z : List Step} → Adds P c x y → Adds P d y z → Adds P (λ n. c n + d n) x z
 adds_on {P} {c} {d} {x} {y} {z} a b = record {
   added = a.added ++ b.added;
-  code = b.code ∙ ap (λ (l : List Flat). l ++ b.added) a.code ∙ append_assoc x a.added b.added;
+  code = b.code ∙ ap (λ (l : List Step). l ++ b.added) a.code ∙ append_assoc x a.added b.added;
   placed = λ n. omega (arith, times-append n a.added b.added, a.placed n, b.placed n);
   named = named_on P a.added b.added a.named b.named;
   loops = loops_both a.added b.added a.loops b.loops;
 }
 
-abbrev pub adds_more : {c : ℕ → ℕ} {x y : List Flat} (P Q : ℕ → Type 0) → ((t : ℕ) → P t → Q t) → Adds P c x y → Adds Q c x y
+abbrev pub adds_more : {c : ℕ → ℕ} {x y : List Step} (P Q : ℕ → Type 0) → ((t : ℕ) → P t → Q t) → Adds P c x y → Adds Q c x y
 adds_more P Q more a = record {
   added = a.added;
   code = a.code;
@@ -153,10 +153,10 @@ adds_more P Q more a = record {
   loops = a.loops;
 }
 
-abbrev pub adds_none : (P : ℕ → Type 0) (x : List Flat) → Adds P no_label x x
+abbrev pub adds_none : (P : ℕ → Type 0) (x : List Step) → Adds P no_label x x
 adds_none P x = record { added = []; code = sym (append-nil x); placed = λ n. refl; named = tt; loops = refl }
 
-abbrev pub adds_step : (P : ℕ → Type 0) (step : Flat) (x : List Flat) → label_of step ≡ None → Names P (target_of step) → resumed_slot step ≡ None → Adds P no_label x (x ++ step ∷ [])
+abbrev pub adds_step : (P : ℕ → Type 0) (step : Step) (x : List Step) → label_of step ≡ None → Names P (target_of step) → resumed_slot step ≡ None → Adds P no_label x (x ++ step ∷ [])
 adds_step P step x label named resumed = record {
   added = step ∷ [];
   code = refl;
@@ -168,7 +168,7 @@ adds_step P step x label named resumed = record {
 pub and_none : (k : ℕ) → k + 0 ≡ k
 and_none k = omega arith
 
-abbrev pub adds_label : (P : ℕ → Type 0) (label : ℕ) (x : List Flat) → Adds P (λ n. hit label n) x (x ++ flat.Label label ∷ [])
+abbrev pub adds_label : (P : ℕ → Type 0) (label : ℕ) (x : List Step) → Adds P (λ n. hit label n) x (x ++ flat.Label label ∷ [])
 adds_label P label x = record {
   added = flat.Label label ∷ [];
   code = refl;
@@ -178,13 +178,13 @@ adds_label P label x = record {
 }
 
 -- what resumes, after code with its loop
-abbrev pub adds_resume : {P : ℕ → Type 0} {c : ℕ → ℕ} {x y : List Flat} (slot end : ℕ) (a : Adds P c x y) → has_loop slot end a.added ≡ true → Adds P (λ n. c n + hit end n) x ((y ++ flat.Resume slot ∷ []) ++ flat.Label end ∷ [])
+abbrev pub adds_resume : {P : ℕ → Type 0} {c : ℕ → ℕ} {x y : List Step} (slot end : ℕ) (a : Adds P c x y) → has_loop slot end a.added ≡ true → Adds P (λ n. c n + hit end n) x ((y ++ flat.Resume slot ∷ []) ++ flat.Label end ∷ [])
 adds_resume {P} {c} {x} {y} slot end a has =
-    let ending : List Flat = flat.Resume slot ∷ flat.Label end ∷ [] in
+    let ending : List Step = flat.Resume slot ∷ flat.Label end ∷ [] in
     let whole = a.added ++ ending in
     record {
       added = whole;
-      code = append_assoc y (flat.Resume slot ∷ []) (flat.Label end ∷ []) ∙ ap (λ (l : List Flat). l ++ ending) a.code ∙ append_assoc x a.added ending;
+      code = append_assoc y (flat.Resume slot ∷ []) (flat.Label end ∷ []) ∙ ap (λ (l : List Step). l ++ ending) a.code ∙ append_assoc x a.added ending;
       placed = λ n. omega (arith, times-append n a.added ending, a.placed n);
       named = named_on P a.added ending a.named (tt, (tt, tt));
       loops = loops_longer whole a.added ending
@@ -213,8 +213,8 @@ still_on a b = record { adds = adds_on a.adds b.adds; labels = b.labels ∙ a.la
 abbrev pub still_none : (P : ℕ → Type 0) (m : Made) → Still P m m
 still_none P m = record { adds = adds_none P m.code; labels = refl; regions = refl }
 
-abbrev pub still_step : (P : ℕ → Type 0) (step : Flat) (m : Made) → label_of (bare step) ≡ None → Names P (target_of (bare step)) → resumed_slot (bare step) ≡ None → Still P m (pushed step m)
-still_step P step m label named resumed = record { adds = adds_step P (bare step) m.code label named resumed; labels = refl; regions = refl }
+abbrev pub still_step : (P : ℕ → Type 0) (step : Step) (m : Made) → label_of step ≡ None → Names P (target_of step) → resumed_slot step ≡ None → Still P m (pushed step m)
+still_step P step m label named resumed = record { adds = adds_step P step m.code label named resumed; labels = refl; regions = refl }
 
 -- What a statement adds: of the labels that get numbers in it each is placed once, and no other is.
 

@@ -1,51 +1,36 @@
--- The steps that word code becomes, after those that are there. A step stands here without its expressions, each of which is
--- `none`.
-use Rattle.std.specs.Prelude.{ℕ, ◌+◌, ◌-◌, ◌^◌, ◌==◌, ◌&&◌, min, pos, Bool, true, false, if◌then◌else◌, List, [], ◌∷◌, ◌++◌, fold, length, map, slice_get, Option, Some, None, option_map}
+-- The steps that word code becomes, after those that are there, over plain trees.
+use Rattle.std.specs.Prelude.{ℕ, ◌+◌, ◌-◌, ◌^◌, ◌==◌, ◌&&◌, min, pos, Bool, true, false, if◌then◌else◌, List, [], ◌∷◌, ◌++◌, length, map, slice_get, Option, Some, None, option_map}
 use Rattle.std.specs.Option.{option_copied}
-use Rattle.clu_wir.specs.declared.expression.WExpr.{WExpr, Slot, Word}
-use Rattle.clu_wir.specs.declared.statement.WStmt.{WStmt, WStmt-F, fold-WStmt}
-use Rattle.clu_wir.specs.declared.statement.WArm.{WArm, WArm-F, fold-WArm}
+use Rattle.clu_base.specs.declared.constants.ObjConst.{ObjConst}
+use Rattle.clu_wir.specs.declared.hole.HoleKind.TheVariants as kind
+use Rattle.clu_wir.specs.Formed.{place_of}
+use Rattle.clu_wir.specs.Plain.{Arms, Expr, OneArm, Stmt, Stmts, arm_and, arm_of, body_of, no_arms, no_stmts, stmt_and}
+use Rattle.clu_wir.specs.Plain as plain
 use Rattle.clu_wir.specs.declared.routine.WRoutine.{WRoutine}
 use Rattle.clu_wir.specs.declared.region.Arm.{Arm}
 use Rattle.clu_frames.specs.declared.flat.TheConstants.{FOOT, OUTER_MARK}
-use Rattle.clu_frames.specs.declared.flat.Flat.{Flat}
-use Rattle.clu_frames.specs.declared.flat.Flat.TheVariants as flat
 use Rattle.clu_frames.specs.declared.steps.Steps.{Steps}
 use Rattle.clu_frames.specs.declared.surroundings.Guard.{Guard}
 use Rattle.clu_frames.specs.declared.surroundings.Guards.{Guards, Guards-F, fold-Guards}
 use Rattle.clu_frames.specs.declared.surroundings.Surroundings.{Surroundings}
 use Rattle.clu_frames.specs.declared.surroundings.Turns.{Turns}
 use Rattle.clu_wir.specs.Adding.{Added}
+use Rattle.clu_frames.specs.Plain.{Step, plain_code}
+use Rattle.clu_frames.specs.Plain as flat
 use Rattle.clu_frames.specs.Regions.{added_of, begun_at, changed, ended_at, with_arm}
-
--- Steps without their expressions.
-
-abbrev pub none : WExpr
-none = Word 0
-
-abbrev pub bare : Flat → Flat
-bare (flat.Set to value) = flat.Set to none
-bare (flat.Put address bytes value) = flat.Put none bytes none
-bare (flat.Branch condition sense label) = flat.Branch none sense label
-bare (flat.Bind number value to) = flat.Bind none none to
-bare (flat.Invoke routine slot) = flat.Invoke none slot
-bare step = step
-
-abbrev pub bare_code : List Flat → List Flat
-bare_code code = map bare code
 
 -- What is made so far: the steps, how many labels have numbers, and the regions.
 
 pub record Made : Type 0 where
-  pub code : List Flat
+  pub code : List Step
   pub labels : ℕ
   pub regions : List Added
 
 abbrev pub made : Steps → Made
-made s = record { code = bare_code s.code.items; labels = s.labels; regions = map added_of s.regions.items }
+made s = record { code = plain_code s.code.items; labels = s.labels; regions = map added_of s.regions.items }
 
-abbrev pub pushed : Flat → Made → Made
-pushed step m = record { code = m.code ++ bare step ∷ []; labels = m.labels; regions = m.regions }
+abbrev pub pushed : Step → Made → Made
+pushed step m = record { code = m.code ++ step ∷ []; labels = m.labels; regions = m.regions }
 
 abbrev pub labelled : ℕ → Made → Made
 labelled count m = record { code = m.code; labels = m.labels + count; regions = m.regions }
@@ -81,72 +66,59 @@ pub record Guarding : Type 0 where
   pub mark : ℕ
 
 pub record Round : Type 0 where
+  -- those of the routine
+  pub constants : List ObjConst
   pub work : ℕ
   pub turns : Option Turns
   pub guards : List Guarding
   pub mark : ℕ
   pub region : Option ℕ
 
--- A statement: whether it is a Break, and what it adds.
-
 abbrev pub Onto : Type 0
 Onto = Round → Made → Made
 
-pub record Part : Type 0 where
-  pub is_break : Bool
-  pub onto : Onto
-
-pub record ArmPart : Type 0 where
-  pub names : List (List ℕ)
-  pub others : Bool
-  pub slots : List ℕ
-  pub body : List Part
-
-abbrev pub all_onto : List Part → Onto
-all_onto parts round m = fold (λ (so_far : Made) (part : Part). part.onto round so_far) m parts
-
 -- Words in slots side by side.
 
-abbrev pub slot_of : WExpr → Option ℕ
-slot_of (Slot slot) = Some slot
+abbrev pub slot_of : Expr → Option ℕ
+slot_of (plain.slot slot) = Some slot
 slot_of _ = None
 
 abbrev pub is_slot : ℕ → Option ℕ → Bool
 is_slot n None = false
 is_slot n (Some slot) = slot == n
 
-abbrev pub are_row : ℕ → List WExpr → Bool
+abbrev pub are_row : ℕ → List Expr → Bool
 are_row next [] = true
 are_row next (value ∷ values) = is_slot next (slot_of value) && are_row (min (next + 1) (2 ^ 32 - 1)) values
 
-abbrev pub first_slot : List WExpr → Option ℕ
+abbrev pub first_slot : List Expr → Option ℕ
 first_slot [] = None
 first_slot (value ∷ values) = slot_of value
 
-abbrev pub row_from : List WExpr → Option ℕ → Option ℕ
+abbrev pub row_from : List Expr → Option ℕ → Option ℕ
 row_from values None = None
 row_from values (Some first) = if are_row first values then Some first else None
 
 -- the first of the slots, if the values are words of slots that lie so already
-abbrev pub first_of_row : List WExpr → Option ℕ
+abbrev pub first_of_row : List Expr → Option ℕ
 first_of_row values = row_from values (first_slot values)
 
-abbrev pub sets_onto : ℕ → List WExpr → Made → Made
+abbrev pub sets_onto : ℕ → List Expr → Made → Made
 sets_onto to [] m = m
-sets_onto to (value ∷ values) m = sets_onto (to + 1) values (pushed (flat.Set to none) m)
+sets_onto to (value ∷ values) m = sets_onto (to + 1) values (pushed (flat.Set to value) m)
 
 abbrev pub row_slot : ℕ → Option ℕ → ℕ
 row_slot work None = work
 row_slot work (Some first) = first
 
-abbrev pub row_sets : ℕ → List WExpr → Option ℕ → Made → Made
+abbrev pub row_sets : ℕ → List Expr → Option ℕ → Made → Made
 row_sets work values None m = sets_onto work values m
 row_sets work values (Some first) m = m
 
-abbrev pub row_at : ℕ → List WExpr → ℕ
+abbrev pub row_at : ℕ → List Expr → ℕ
 row_at work values = row_slot work (first_of_row values)
 
-abbrev pub row_onto : ℕ → List WExpr → Made → Made
+abbrev pub row_onto : ℕ → List Expr → Made → Made
 row_onto work values m = row_sets work values (first_of_row values) m
 
 -- Words that travelled, and words from slots.
@@ -160,34 +132,42 @@ taken_onto [] m = m
 taken_onto (only ∷ []) m = pushed (flat.Take only) m
 taken_onto (first ∷ second ∷ rest) m = results_onto 0 (first ∷ second ∷ rest) m
 
-abbrev pub moves_onto : List ℕ → Made → Made
-moves_onto [] m = m
-moves_onto (slot ∷ slots) m = moves_onto slots (pushed (flat.Set slot none) m)
+abbrev pub moves_onto : List ℕ → ℕ → Made → Made
+moves_onto [] from m = m
+moves_onto (slot ∷ slots) from m = moves_onto slots (from + 1) (pushed (flat.Set slot (plain.slot from)) m)
 
 -- Statements that have none inside.
 
-abbrev pub invoke_onto : List WExpr → ℕ → Made → Made
-invoke_onto arguments work m = pushed (flat.Invoke none (row_at work arguments)) (row_onto work arguments m)
+abbrev pub invoke_onto : Expr → List Expr → ℕ → Made → Made
+invoke_onto routine arguments work m = pushed (flat.Invoke routine (row_at work arguments)) (row_onto work arguments m)
 
-abbrev pub call_onto : List WExpr → List ℕ → ℕ → Made → Made
-call_onto arguments results work m = taken_onto results (invoke_onto arguments work m)
+abbrev pub call_onto : Expr → List Expr → List ℕ → ℕ → Made → Made
+call_onto routine arguments results work m = taken_onto results (invoke_onto routine arguments work m)
 
-abbrev pub primitive_onto : ℕ → List WExpr → List ℕ → ℕ → Made → Made
-primitive_onto number arguments results work m = moves_onto results (pushed (flat.Prim number work) (sets_onto work arguments m))
+abbrev pub primitive_onto : ℕ → List Expr → List ℕ → ℕ → Made → Made
+primitive_onto number arguments results work m = moves_onto results work (pushed (flat.Prim number work) (sets_onto work arguments m))
 
-abbrev pub yield_onto : List WExpr → ℕ → Made → Made
+abbrev pub yield_onto : List Expr → ℕ → Made → Made
 yield_onto words work m = pushed (flat.Yield (row_at work words) (length words)) (row_onto work words m)
 
-abbrev pub exception_onto : List WExpr → ℕ → Made → Made
-exception_onto objects work m = sets_onto (work + 1) objects (pushed (flat.Set work none) m)
+-- the word of a name, which is a constant
+abbrev pub name_at : Option ℕ → Expr
+name_at None = plain.word 0
+name_at (Some place) = plain.hole kind.Constant place
 
-abbrev pub raise_onto : List WExpr → ℕ → Made → Made
-raise_onto objects work m = pushed (flat.Raise work) (exception_onto objects work m)
+abbrev pub name_of : List ObjConst → List ℕ → Expr
+name_of constants name = name_at (place_of constants name)
 
-abbrev pub signal_onto : List WExpr → ℕ → Made → Made
-signal_onto objects work m = pushed (flat.Signal work) (exception_onto objects work m)
+abbrev pub exception_onto : Expr → List Expr → ℕ → Made → Made
+exception_onto name objects work m = sets_onto (work + 1) objects (pushed (flat.Set work name) m)
 
-abbrev pub leave_onto : List WExpr → ℕ → Made → Made
+abbrev pub raise_onto : Expr → List Expr → ℕ → Made → Made
+raise_onto name objects work m = pushed (flat.Raise work) (exception_onto name objects work m)
+
+abbrev pub signal_onto : Expr → List Expr → ℕ → Made → Made
+signal_onto name objects work m = pushed (flat.Signal work) (exception_onto name objects work m)
+
+abbrev pub leave_onto : List Expr → ℕ → Made → Made
 leave_onto results work m = pushed (flat.Leave (row_at work results) (length results)) (row_onto work results m)
 
 -- Leaving loops and guards. What has no loop, guard or arm adds nothing.
@@ -207,23 +187,23 @@ continue_onto (Some t) m = pushed (flat.Jump t.next) m
 abbrev pub recut_onto : ℕ → ℕ → Made → Made
 recut_onto mark outside m = if outside == mark then m else pushed (flat.Cut outside) m
 
-abbrev pub arm_onto : Guarding → ℕ → List WExpr → Round → Option (List ℕ) → Made → Made
+abbrev pub arm_onto : Guarding → ℕ → List Expr → Round → Option (List ℕ) → Made → Made
 arm_onto g arm words round None m = m
 arm_onto g arm words round (Some slots) m =
-    pushed (flat.Jump (g.label + arm)) (moves_onto slots (recut_onto round.mark g.mark (sets_onto round.work words m)))
+    pushed (flat.Jump (g.label + arm)) (moves_onto slots round.work (recut_onto round.mark g.mark (sets_onto round.work words m)))
 
-abbrev pub guard_exit_onto : Option Guarding → ℕ → List WExpr → Round → Made → Made
+abbrev pub guard_exit_onto : Option Guarding → ℕ → List Expr → Round → Made → Made
 guard_exit_onto None arm words round m = m
 guard_exit_onto (Some g) arm words round m = arm_onto g arm words round (slice_get g.slots arm) m
 
-abbrev pub exit_onto : ℕ → ℕ → List WExpr → Round → Made → Made
+abbrev pub exit_onto : ℕ → ℕ → List Expr → Round → Made → Made
 exit_onto inside arm words round m = guard_exit_onto (slice_get round.guards inside) arm words round m
 
 -- Choices.
 
-abbrev pub is_none : List Part → Bool
-is_none [] = true
-is_none _ = false
+abbrev pub is_none : Stmts → Bool
+is_none no_stmts = true
+is_none (stmt_and s rest) = false
 
 -- the label at which a list leaves its loop that does nothing else
 abbrev pub end_uncut : Option ℕ → ℕ → Option ℕ
@@ -234,24 +214,26 @@ abbrev pub end_of_turns : Option Turns → Option ℕ
 end_of_turns None = None
 end_of_turns (Some t) = end_uncut t.cut t.end
 
-abbrev pub is_only_break : List Part → Bool
-is_only_break [] = false
-is_only_break (p ∷ []) = p.is_break
-is_only_break (p ∷ q ∷ rest) = false
+abbrev pub is_break : Stmt → Bool
+is_break plain.break_loop = true
+is_break _ = false
 
-abbrev pub exit_of : List Part → Option Turns → Option ℕ
+abbrev pub is_only_break : Stmts → Bool
+is_only_break no_stmts = false
+is_only_break (stmt_and s no_stmts) = is_break s
+is_only_break (stmt_and s (stmt_and t rest)) = false
+
+abbrev pub exit_of : Stmts → Option Turns → Option ℕ
 exit_of list turns = if is_only_break list then end_of_turns turns else None
 
-abbrev pub unless_from : Option ℕ → List Part → Onto
-unless_from None other round m =
-    pushed (flat.Label m.labels) (all_onto other round (pushed (flat.Branch none true m.labels) (labelled 1 m)))
-unless_from (Some end) other round m = pushed (flat.Branch none false end) m
+-- here and below, what a list adds is an argument
+abbrev pub unless_from : Option ℕ → Expr → Onto → Onto
+unless_from None e other round m =
+    pushed (flat.Label m.labels) (other round (pushed (flat.Branch e true m.labels) (labelled 1 m)))
+unless_from (Some end) e other round m = pushed (flat.Branch e false end) m
 
-abbrev pub unless_onto : List Part → Onto
-unless_onto other round m = unless_from (exit_of other round.turns) other round m
-
-abbrev pub choice_onto : Made → Made
-choice_onto m = pushed (flat.Branch none false m.labels) (labelled 1 m)
+abbrev pub choice_onto : Expr → Made → Made
+choice_onto e m = pushed (flat.Branch e false m.labels) (labelled 1 m)
 
 abbrev pub end_of : Bool → ℕ → Made → ℕ
 end_of true otherwise m = otherwise
@@ -261,41 +243,41 @@ abbrev pub other_onto : Bool → ℕ → Made → Made
 other_onto true otherwise m = m
 other_onto false otherwise m = pushed (flat.Label otherwise) (pushed (flat.Jump m.labels) (labelled 1 m))
 
-abbrev pub either_onto : List Part → List Part → Onto
-either_onto first other round m =
-    let done = all_onto first round (choice_onto m) in
-    pushed (flat.Label (end_of (is_none other) m.labels done)) (all_onto other round (other_onto (is_none other) m.labels done))
+abbrev pub either_onto : Bool → Expr → Onto → Onto → Onto
+either_onto no_other e first other round m =
+    let done = first round (choice_onto e m) in
+    pushed (flat.Label (end_of no_other m.labels done)) (other round (other_onto no_other m.labels done))
 
-abbrev pub if_onto : Bool → List Part → List Part → Onto
-if_onto true first other round m = unless_onto other round m
-if_onto false first other round m = either_onto first other round m
+abbrev pub if_onto : Bool → Stmts → Expr → Onto → Onto → Onto
+if_onto true rest e first other round m = unless_from (exit_of rest round.turns) e other round m
+if_onto false rest e first other round m = either_onto (is_none rest) e first other round m
 
 -- Loops.
 
 abbrev pub in_loop : ℕ → Round → Round
 in_loop next round = record round { turns = Some (record { next = next; end = next + 1; cut = None }) }
 
-abbrev pub turns_onto : List Part → Onto
+abbrev pub turns_onto : Onto → Onto
 turns_onto body round m =
-    pushed (flat.Label (m.labels + 1)) (pushed (flat.Jump m.labels) (all_onto body (in_loop m.labels round) (pushed (flat.Label m.labels) (labelled 2 m))))
+    pushed (flat.Label (m.labels + 1)) (pushed (flat.Jump m.labels) (body (in_loop m.labels round) (pushed (flat.Label m.labels) (labelled 2 m))))
 
-abbrev pub turns_begun : List WExpr → List ℕ → Onto
-turns_begun arguments items round m =
-    results_onto 0 items (pushed (flat.Take round.work) (pushed (flat.Jump (m.labels + 1)) (invoke_onto arguments (round.work + 1) (labelled 2 m))))
+abbrev pub turns_begun : Expr → List Expr → List ℕ → Onto
+turns_begun routine arguments items round m =
+    results_onto 0 items (pushed (flat.Take round.work) (pushed (flat.Jump (m.labels + 1)) (invoke_onto routine arguments (round.work + 1) (labelled 2 m))))
 
 -- the loop whose labels are these, round its body
 abbrev pub in_turns : Turns → Round → Round
 in_turns turns round = record round { work = round.work + 1; turns = Some turns; mark = round.work + FOOT }
 
-abbrev pub turns_ended : List Part → Turns → Onto
+abbrev pub turns_ended : Onto → Turns → Onto
 turns_ended body turns round m =
-    pushed (flat.Label turns.end) (pushed (flat.Resume round.work) (pushed (flat.Label turns.next) (all_onto body (in_turns turns round) m)))
+    pushed (flat.Label turns.end) (pushed (flat.Resume round.work) (pushed (flat.Label turns.next) (body (in_turns turns round) m)))
 
 abbrev pub turns_at : ℕ → ℕ → Turns
 turns_at next mark = record { next = next; end = next + 1; cut = Some mark }
 
-abbrev pub iterate_onto : List WExpr → List ℕ → List Part → Onto
-iterate_onto arguments items body round m = turns_ended body (turns_at m.labels round.mark) round (turns_begun arguments items round m)
+abbrev pub iterate_onto : Expr → List Expr → List ℕ → Onto → Onto
+iterate_onto routine arguments items body round m = turns_ended body (turns_at m.labels round.mark) round (turns_begun routine arguments items round m)
 
 -- Guards.
 
@@ -305,75 +287,80 @@ in_guard g region round = record round { guards = g ∷ round.guards; region = S
 abbrev pub in_region : ℕ → Round → Round
 in_region region round = record round { region = Some region }
 
-abbrev pub guarded_onto : List Part → Guarding → ℕ → ℕ → Onto
-guarded_onto body g region end round m = closed region end (all_onto body (in_guard g region round) m)
+abbrev pub guarded_onto : Onto → Guarding → ℕ → ℕ → Onto
+guarded_onto body g region end round m = closed region end (body (in_guard g region round) m)
 
 abbrev pub begun_by : Bool → List ℕ → ℕ → ℕ → Made → Made
 begun_by true slots region mark m = taken_onto slots (armed region mark [] m)
 begun_by false slots region mark m = results_onto 0 slots m
 
-abbrev pub arm_begun : ArmPart → ℕ → ℕ → Made → Made
-arm_begun a region mark m = begun_by a.others a.slots region mark (named_onto region mark a.names m)
+abbrev pub arm_begun : List (List ℕ) → Bool → List ℕ → ℕ → ℕ → Made → Made
+arm_begun names others slots region mark m = begun_by others slots region mark (named_onto region mark names m)
 
-abbrev pub arms_onto : ℕ → ℕ → ℕ → List ArmPart → Onto
-arms_onto label end region [] round m = pushed (flat.Label end) m
-arms_onto label end region (a ∷ arms) round m =
-    arms_onto (label + 1) end region arms round (pushed (flat.Jump end) (all_onto a.body round (pushed (flat.Label label) (arm_begun a region round.mark m))))
+abbrev pub slots_of : Arms → List (List ℕ)
+slots_of no_arms = []
+slots_of (arm_and names others slots body more) = slots ∷ slots_of more
 
-abbrev pub guard_at : List ArmPart → ℕ → ℕ → Guarding
-guard_at arms label mark = record { slots = map (λ (a : ArmPart). a.slots) arms; label = label; mark = mark }
+abbrev pub guard_at : List (List ℕ) → ℕ → ℕ → Guarding
+guard_at slots label mark = record { slots = slots; label = label; mark = mark }
 
-abbrev pub guard_onto : List Part → List ArmPart → Onto
-guard_onto body arms round m =
-    arms_onto m.labels (m.labels + length arms) (length m.regions) arms round
-    (guarded_onto body (guard_at arms m.labels round.mark) (length m.regions) (m.labels + length arms) round
-    (opened round.region (labelled 1 (labelled (length arms) m))))
+-- what the list and the arms of a guard with arms of these slots add
+abbrev pub guard_onto : List (List ℕ) → Onto → (ℕ → ℕ → ℕ → Onto) → Onto
+guard_onto slots body arms round m =
+    arms m.labels (m.labels + length slots) (length m.regions) round
+    (guarded_onto body (guard_at slots m.labels round.mark) (length m.regions) (m.labels + length slots) round
+    (opened round.region (labelled 1 (labelled (length slots) m))))
+
+abbrev pub arm_onto_one : List (List ℕ) → Bool → List ℕ → Onto → ℕ → ℕ → ℕ → Onto
+arm_onto_one names others slots body label end region round m =
+    pushed (flat.Jump end) (body round (pushed (flat.Label label) (arm_begun names others slots region round.mark m)))
 
 abbrev pub pass_onto : List (List ℕ) → ℕ → ℕ → Made → Made
 pass_onto names region mark m = pushed flat.Pass (named_onto region mark names m)
 
-abbrev pub resignal_onto : List Part → List (List ℕ) → Onto
+abbrev pub resignal_onto : Onto → List (List ℕ) → Onto
 resignal_onto body names round m =
     pushed (flat.Label m.labels) (pass_onto names (length m.regions) round.mark
-    (closed (length m.regions) m.labels (all_onto body (in_region (length m.regions) round) (opened round.region (labelled 1 m)))))
+    (closed (length m.regions) m.labels (body (in_region (length m.regions) round) (opened round.region (labelled 1 m)))))
 
 -- Statements.
 
-abbrev pub plain : Onto → Part
-plain onto = record { is_break = false; onto = onto }
+unfoldable mutual
+  pub onto : Stmt → Onto
+  onto (plain.set to e) round m = pushed (flat.Set to e) m
+  onto (plain.put address bytes e) round m = pushed (flat.Put address (pos bytes) e) m
+  onto (plain.call routine es results) round m = call_onto routine es results round.work m
+  onto (plain.prim number es results) round m = primitive_onto number es results round.work m
+  onto (plain.bind number e to) round m = pushed (flat.Bind number e to) m
+  onto (plain.choose e first other) round m = if_onto (is_none first) other e (all_onto first) (all_onto other) round m
+  onto (plain.loop body) round m = turns_onto (all_onto body) round m
+  onto plain.break_loop round m = break_onto round.turns m
+  onto plain.next_turn round m = continue_onto round.turns m
+  onto (plain.iterate routine es items body) round m = iterate_onto routine es items (all_onto body) round m
+  onto (plain.yield_words es) round m = yield_onto es round.work m
+  onto (plain.raise_name name es) round m = raise_onto (name_of round.constants name) es round.work m
+  onto (plain.signal_name name es) round m = signal_onto (name_of round.constants name) es round.work m
+  onto (plain.exit_to inside arm es) round m = exit_onto inside arm es round m
+  onto (plain.guard body arms) round m = guard_onto (slots_of arms) (all_onto body) (arms_onto arms) round m
+  onto (plain.resignal body names) round m = resignal_onto (all_onto body) names round m
+  onto (plain.leave_with es) round m = leave_onto es round.work m
 
-abbrev pub part_step : WStmt-F Part ArmPart → Part
-part_step (WStmt-F.Set slot value) = plain (λ round m. pushed (flat.Set slot none) m)
-part_step (WStmt-F.Put address bytes value) = plain (λ round m. pushed (flat.Put none (pos bytes) none) m)
-part_step (WStmt-F.Call routine values results) = plain (λ round m. call_onto values.items results.items round.work m)
-part_step (WStmt-F.Prim number values results) = plain (λ round m. primitive_onto number values.items results.items round.work m)
-part_step (WStmt-F.Bind number value slot) = plain (λ round m. pushed (flat.Bind none none slot) m)
-part_step (WStmt-F.If condition first other) = plain (if_onto (is_none first.items) first.items other.items)
-part_step (WStmt-F.Loop body) = plain (turns_onto body.items)
-part_step WStmt-F.Break = record { is_break = true; onto = λ round m. break_onto round.turns m }
-part_step WStmt-F.Continue = plain (λ round m. continue_onto round.turns m)
-part_step (WStmt-F.Iterate routine values items body) = plain (iterate_onto values.items items.items body.items)
-part_step (WStmt-F.Yield words) = plain (λ round m. yield_onto words.items round.work m)
-part_step (WStmt-F.Raise name objects) = plain (λ round m. raise_onto objects.items round.work m)
-part_step (WStmt-F.Signal name objects) = plain (λ round m. signal_onto objects.items round.work m)
-part_step (WStmt-F.Exit inside arm words) = plain (λ round m. exit_onto inside arm words.items round m)
-part_step (WStmt-F.Guard body arms) = plain (guard_onto body.items arms.items)
-part_step (WStmt-F.Resignal body names) = plain (resignal_onto body.items names.items)
-part_step (WStmt-F.Return results) = plain (λ round m. leave_onto results.items round.work m)
+  pub all_onto : Stmts → Onto
+  all_onto no_stmts round m = m
+  all_onto (stmt_and s rest) round m = all_onto rest round (onto s round m)
 
-abbrev pub arm_step : WArm-F Part ArmPart → ArmPart
-arm_step arm = record { names = arm.names.items; others = arm.others; slots = arm.slots.items; body = arm.body.items }
-
-abbrev pub part_of : WStmt → Part
-part_of = fold-WStmt Part ArmPart part_step arm_step
-
-abbrev pub arm_of : WArm → ArmPart
-arm_of = fold-WArm Part ArmPart part_step arm_step
+  pub arms_onto : Arms → ℕ → ℕ → ℕ → Onto
+  arms_onto no_arms label end region round m = pushed (flat.Label end) m
+  arms_onto (arm_and names others slots body more) label end region round m =
+      arms_onto more (label + 1) end region round (arm_onto_one names others slots (all_onto body) label end region round m)
 
 -- What stands round a statement in the code.
 
+abbrev pub slots_in : OneArm → List ℕ
+slots_in arm = arm.slots
+
 abbrev pub guarding_of : Guard → Guarding
-guarding_of g = guard_at (map arm_of g.arms.now) g.label g.mark
+guarding_of g = guard_at (map slots_in (map arm_of g.arms.now)) g.label g.mark
 
 abbrev pub or_none : Option (List Guard) → List Guard
 or_none None = []
@@ -389,23 +376,26 @@ abbrev pub guards_of : Surroundings → List Guard
 guards_of s = or_none (option_map all_guards (option_copied s.guards))
 
 abbrev pub round_of : Surroundings → Round
-round_of s = record { work = s.work; turns = s.turns; guards = map guarding_of (guards_of s); mark = s.mark; region = s.region }
+round_of s = record { constants = s.constants.now; work = s.work; turns = s.turns; guards = map guarding_of (guards_of s); mark = s.mark; region = s.region }
 
 -- A routine.
 
-abbrev pub outermost : ℕ → Round
-outermost slots = record { work = slots; turns = None; guards = []; mark = OUTER_MARK; region = None }
+abbrev pub outermost : List ObjConst → ℕ → Round
+outermost constants slots = record { constants = constants; work = slots; turns = None; guards = []; mark = OUTER_MARK; region = None }
 
 abbrev pub begun : ℕ → Made
 begun args = record { code = flat.Enter args ∷ []; labels = 0; regions = [] }
 
-abbrev pub routine_onto : List Part → ℕ → ℕ → Made
-routine_onto body args slots = pushed (flat.Leave slots 0) (all_onto body (outermost slots) (begun args))
+abbrev pub routine_onto : List ObjConst → Stmts → ℕ → ℕ → Made
+routine_onto constants body args slots = pushed (flat.Leave slots 0) (all_onto body (outermost constants slots) (begun args))
 
--- the steps of a routine, without their expressions
-abbrev pub steps_of : WRoutine → List Flat
-steps_of r = (routine_onto (map part_of r.body.items) r.args r.slots).code
+abbrev pub made_by : WRoutine → Made
+made_by r = routine_onto r.constants.items (body_of r.body.items) r.args r.slots
+
+-- the steps of a routine
+abbrev pub steps_of : WRoutine → List Step
+steps_of r = (made_by r).code
 
 -- its regions
 abbrev pub regions_of : WRoutine → List Added
-regions_of r = (routine_onto (map part_of r.body.items) r.args r.slots).regions
+regions_of r = (made_by r).regions

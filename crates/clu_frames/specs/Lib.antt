@@ -2,6 +2,7 @@
 pub mod Flattened
 pub mod Flattening
 pub mod Labels
+pub mod Plain
 pub mod Regions
 pub mod Standing
 pub mod Steps

@@ -3,7 +3,6 @@ use Rattle.std.specs.Prelude.{IsTrue, ℕ, zero, suc, List, [], ◌∷◌, ◌++
 use Rattle.std.specs.List.{list_all}
 use Rattle.clu_wir.specs.Adding.{Added, are_nested, is_placed}
 use Rattle.clu_wir.specs.declared.region.Arm.{Arm}
-use Rattle.clu_frames.specs.declared.flat.Flat.{Flat}
 use Rattle.clu_frames.specs.declared.steps.Planned.{Planned}
 
 abbrev pub added_of : Planned → Added
@@ -26,7 +25,7 @@ changed change zero (r ∷ rs) = change r ∷ rs
 changed change (suc n) (r ∷ rs) = r ∷ changed change n rs
 
 -- What holds of the regions of each routine's code.
-pub record AreRegions (code : List Flat) (regions : List Added) : Type 0 where
+pub record AreRegions {X : Type 0} (code : List X) (regions : List Added) : Type 0 where
   -- each may be added to those before it
   pub nested : IsTrue (are_nested regions)
   -- their bounds and targets are places of the code

@@ -1,6 +1,7 @@
 //! How choices and loops over iterators begin.
 
-ghost use Rattle.std.specs.Prelude.{◌≡◌, IfOk, OnOk};
+ghost use Rattle.std.specs.Prelude.{◌≡◌, IfOk, OnOk, map};
+ghost use Rattle.clu_wir.specs.Plain.{expr_of};
 ghost use Rattle.clu_frames.specs.Flattening.{choice_onto, end_of, made, other_onto, round_of, turns_at, turns_begun};
 
 use crate::errors::FrameError;
@@ -13,7 +14,7 @@ impl Steps {
     /// Goes on at a label, which is the answer, where the condition is 0.
     pub fn begin_choice(&mut self, condition: &WExpr) -> Result<u32, FrameError>
         ensures label { IfOk result (λ label. label ≡ (made self.old).labels) }
-        ensures made { OnOk result (made self.new ≡ choice_onto (made self.old)) }
+        ensures made { OnOk result (made self.new ≡ choice_onto (expr_of condition.now) (made self.old)) }
     {
         let otherwise = self.label()?;
         self.branch(condition, false, otherwise)?;
@@ -45,7 +46,7 @@ impl Steps {
         round: Surroundings<'_>,
     ) -> Result<Turns, FrameError>
         ensures turns { IfOk result (λ turns. turns ≡ turns_at (made self.old).labels round.entry.mark) }
-        ensures made { OnOk result (made self.new ≡ turns_begun arguments.now items.now (round_of round.entry) (made self.old)) }
+        ensures made { OnOk result (made self.new ≡ turns_begun (expr_of routine.now) (map expr_of arguments.now) items.now (round_of round.entry) (made self.old)) }
     {
         let top = round.work;
         let work = above(top, 1)?;

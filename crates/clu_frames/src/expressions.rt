@@ -1,8 +1,9 @@
 //! Expressions of word code in steps.
 
-ghost use Rattle.std.specs.Prelude.{◌≡◌, IfOk, OnOk, pos};
-ghost use Rattle.clu_frames.specs.Flattening.{are_row, first_of_row, first_slot, invoke_onto, is_slot, made, none, pushed, row_at, row_onto, sets_onto, slot_of};
-ghost use Rattle.clu_frames.specs.declared.flat.Flat.TheVariants as flat;
+ghost use Rattle.std.specs.Prelude.{◌≡◌, IfOk, OnOk, map, pos};
+ghost use Rattle.clu_frames.specs.Flattening.{are_row, first_of_row, first_slot, invoke_onto, is_slot, made, pushed, row_at, row_onto, sets_onto, slot_of};
+ghost use Rattle.clu_frames.specs.Plain as flat;
+ghost use Rattle.clu_wir.specs.Plain.{expr_of};
 
 use crate::errors::FrameError;
 use crate::flat::Flat;
@@ -12,7 +13,7 @@ use clu_wir::WExpr;
 impl Steps {
     /// To a slot the word of an expression.
     pub fn set(&mut self, to: u32, value: &WExpr) -> Result<(), FrameError>
-        ensures made { OnOk result (made self.new ≡ pushed (flat.Set to none) (made self.old)) }
+        ensures made { OnOk result (made self.new ≡ pushed (flat.Set to (expr_of value.now)) (made self.old)) }
     {
         let value = value.copy(self.alloc)?;
         self.push(Flat::Set(to, value))
@@ -20,7 +21,7 @@ impl Steps {
 
     /// To the slots from `to` on the words of expressions.
     pub fn set_row(&mut self, to: u32, values: &[WExpr]) -> Result<(), FrameError>
-        ensures made { OnOk result (made self.new ≡ sets_onto to values.now (made self.old)) }
+        ensures made { OnOk result (made self.new ≡ sets_onto to (map expr_of values.now) (made self.old)) }
     {
         let mut to = to;
         for value in values {
@@ -33,8 +34,8 @@ impl Steps {
     /// The first of the slots in which the words of expressions lie side by side: their own, if they do so already, else
     /// those from `work` on.
     pub fn row(&mut self, work: u32, values: &[WExpr]) -> Result<u32, FrameError>
-        ensures slot { IfOk result (λ slot. slot ≡ row_at work values.now) }
-        ensures made { OnOk result (made self.new ≡ row_onto work values.now (made self.old)) }
+        ensures slot { IfOk result (λ slot. slot ≡ row_at work (map expr_of values.now)) }
+        ensures made { OnOk result (made self.new ≡ row_onto work (map expr_of values.now) (made self.old)) }
     {
         match first_of_row(values) {
             Some(first) => Ok(first),
@@ -47,7 +48,7 @@ impl Steps {
 
     /// Goes on at a label where the condition is not 0 if `sense` is true, else where it is 0.
     pub fn branch(&mut self, condition: &WExpr, sense: bool, label: u32) -> Result<(), FrameError>
-        ensures made { OnOk result (made self.new ≡ pushed (flat.Branch none sense label) (made self.old)) }
+        ensures made { OnOk result (made self.new ≡ pushed (flat.Branch (expr_of condition.now) sense label) (made self.old)) }
     {
         let condition = condition.copy(self.alloc)?;
         self.push(Flat::Branch(condition, sense, label))
@@ -55,7 +56,7 @@ impl Steps {
 
     /// A word so many bytes after an address.
     pub fn put(&mut self, address: &WExpr, bytes: u32, value: &WExpr) -> Result<(), FrameError>
-        ensures made { OnOk result (made self.new ≡ pushed (flat.Put none (pos bytes) none) (made self.old)) }
+        ensures made { OnOk result (made self.new ≡ pushed (flat.Put (expr_of address.now) (pos bytes) (expr_of value.now)) (made self.old)) }
     {
         let address = address.copy(self.alloc)?;
         let value = value.copy(self.alloc)?;
@@ -64,7 +65,7 @@ impl Steps {
 
     /// Puts an object, by the number of its type and its word, into a slot as one of type any.
     pub fn bind(&mut self, number: &WExpr, value: &WExpr, to: u32) -> Result<(), FrameError>
-        ensures made { OnOk result (made self.new ≡ pushed (flat.Bind none none to) (made self.old)) }
+        ensures made { OnOk result (made self.new ≡ pushed (flat.Bind (expr_of number.now) (expr_of value.now) to) (made self.old)) }
     {
         let number = number.copy(self.alloc)?;
         let value = value.copy(self.alloc)?;
@@ -78,7 +79,7 @@ impl Steps {
         arguments: &[WExpr],
         work: u32,
     ) -> Result<(), FrameError>
-        ensures made { OnOk result (made self.new ≡ invoke_onto arguments.now work (made self.old)) }
+        ensures made { OnOk result (made self.new ≡ invoke_onto (expr_of routine.now) (map expr_of arguments.now) work (made self.old)) }
     {
         let first = self.row(work, arguments)?;
         let routine = routine.copy(self.alloc)?;
@@ -88,7 +89,7 @@ impl Steps {
 
 /// The first of slots that lie side by side.
 fn first_of_row(values: &[WExpr]) -> Option<u32>
-    ensures { result ≡ first_of_row values.now }
+    ensures { result ≡ first_of_row (map expr_of values.now) }
 {
     match first_slot(values) {
         Some(first) => {
@@ -104,7 +105,7 @@ fn first_of_row(values: &[WExpr]) -> Option<u32>
 
 /// The slot whose word the first value is.
 fn first_slot(values: &[WExpr]) -> Option<u32>
-    ensures { result ≡ first_slot values.now }
+    ensures { result ≡ first_slot (map expr_of values.now) }
 {
     match values {
         [first, ..] => slot_of(first),
@@ -114,7 +115,7 @@ fn first_slot(values: &[WExpr]) -> Option<u32>
 
 /// The slot whose word an expression is.
 fn slot_of(value: &WExpr) -> Option<u32>
-    ensures { result ≡ slot_of value.now }
+    ensures { result ≡ slot_of (expr_of value.now) }
 {
     match value {
         WExpr::Slot(slot) => Some(*slot),
@@ -124,7 +125,7 @@ fn slot_of(value: &WExpr) -> Option<u32>
 
 /// Whether values are the words of slots side by side, from this one on.
 fn are_row(values: &[WExpr], first: u32) -> bool
-    ensures { result ≡ are_row first values.now }
+    ensures { result ≡ are_row first (map expr_of values.now) }
 {
     let mut next = first;
     for value in values {

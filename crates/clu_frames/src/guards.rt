@@ -1,7 +1,8 @@
 //! How guards and their arms begin.
 
 ghost use Rattle.std.specs.Prelude.{◌≡◌, ◌+◌, IfOk, OnOk, length, map};
-ghost use Rattle.clu_frames.specs.Flattening.{arm_begun, arm_of, guard_at, guarding_of, labelled, made, named_onto, opened, pass_onto};
+ghost use Rattle.clu_wir.specs.Plain.{arm_of};
+ghost use Rattle.clu_frames.specs.Flattening.{arm_begun, guard_at, guarding_of, labelled, made, named_onto, opened, pass_onto, slots_in};
 
 use crate::errors::FrameError;
 use crate::flat::Flat;
@@ -17,7 +18,7 @@ impl Steps {
         arms: &'a [WArm],
         round: Surroundings<'_>,
     ) -> Result<Guard<'a>, FrameError>
-        ensures guard { IfOk result (λ guard. guarding_of guard ≡ guard_at (map arm_of arms.now) (made self.old).labels round.entry.mark) }
+        ensures guard { IfOk result (λ guard. guarding_of guard ≡ guard_at (map slots_in (map arm_of arms.now)) (made self.old).labels round.entry.mark) }
         ensures arms { IfOk result (λ guard. guard.arms.now ≡ arms.now) }
         ensures end { IfOk result (λ guard. guard.end ≡ (made self.old).labels + length arms.now) }
         ensures region { IfOk result (λ guard. guard.region ≡ length (made self.old).regions) }
@@ -46,7 +47,7 @@ impl Steps {
     /// Where an exception comes to an arm: the objects, or for an arm that takes all names the name, go into the
     /// arm's slots.
     pub fn begin_arm(&mut self, arm: &WArm, region: u32, mark: u32) -> Result<(), FrameError>
-        ensures made { OnOk result (made self.new ≡ arm_begun (arm_of arm.now) region mark (made self.old)) }
+        ensures made { OnOk result (made self.new ≡ arm_begun (arm_of arm.now).names (arm_of arm.now).others (arm_of arm.now).slots region mark (made self.old)) }
     {
         self.name_arm(arm.names.as_slice(), region, mark)?;
         if arm.others {

@@ -1,8 +1,9 @@
 //! Statements that go on elsewhere.
 
 ghost use Rattle.std.specs.Prelude.{◌≡◌, IsTrue, OnOk, Some, length, map, slice_get};
+ghost use Rattle.clu_wir.specs.Plain.{expr_of};
 ghost use Rattle.clu_wir.specs.Formed.{has_arm, is_count, is_named};
-ghost use Rattle.clu_frames.specs.Flattening.{break_onto, cut_onto, exception_onto, exit_onto, guard_exit_onto, guarding_of, guards_of, leave_onto, made, recut_onto, round_of};
+ghost use Rattle.clu_frames.specs.Flattening.{break_onto, cut_onto, exception_onto, exit_onto, guard_exit_onto, guarding_of, guards_of, leave_onto, made, name_of, recut_onto, round_of};
 ghost use Rattle.clu_frames.specs.Standing.{arms_of, standing_of};
 
 use crate::errors::FrameError;
@@ -37,7 +38,7 @@ impl Steps {
         round: Surroundings<'_>,
     ) -> Result<(), FrameError>
         requires named { IsTrue (is_named name.now (standing_of round)) }
-        ensures made { OnOk result (made self.new ≡ exception_onto objects.now round.entry.work (made self.old)) }
+        ensures made { OnOk result (made self.new ≡ exception_onto (name_of round.entry.constants.now name.now) (map expr_of objects.now) round.entry.work (made self.old)) }
     {
         let place = number(place_of(round.constants, name).unwrap())?;
         let name = WExpr::Hole(HoleKind::Constant, place);
@@ -54,7 +55,7 @@ impl Steps {
         round: Surroundings<'_>,
     ) -> Result<(), FrameError>
         requires formed { IsTrue (has_arm arm (length words.now) (slice_get (map arms_of (guards_of round)) inside)) }
-        ensures made { OnOk result (made self.new ≡ exit_onto inside arm words.now (round_of round.entry) (made self.old)) }
+        ensures made { OnOk result (made self.new ≡ exit_onto inside arm (map expr_of words.now) (round_of round.entry) (made self.old)) }
     {
         self.exit_guard(round.guard(inside).unwrap(), arm, words, round)
     }
@@ -68,7 +69,7 @@ impl Steps {
         round: Surroundings<'_>,
     ) -> Result<(), FrameError>
         requires formed { IsTrue (is_count (length words.now) (slice_get (arms_of guard) arm)) }
-        ensures made { OnOk result (made self.new ≡ guard_exit_onto (Some (guarding_of guard.entry)) arm words.now (round_of round.entry) (made self.old)) }
+        ensures made { OnOk result (made self.new ≡ guard_exit_onto (Some (guarding_of guard.entry)) arm (map expr_of words.now) (round_of round.entry) (made self.old)) }
     {
         let target = &guard.arms[arm as usize];
         let label = above(guard.label, arm)?;
@@ -90,7 +91,7 @@ impl Steps {
     }
 
     pub fn leave(&mut self, results: &[WExpr], work: u32) -> Result<(), FrameError>
-        ensures made { OnOk result (made self.new ≡ leave_onto results.now work (made self.old)) }
+        ensures made { OnOk result (made self.new ≡ leave_onto (map expr_of results.now) work (made self.old)) }
     {
         let first = self.row(work, results)?;
         self.push(Flat::Leave(first, number(results.len())?))

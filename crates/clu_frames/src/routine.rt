@@ -1,8 +1,9 @@
 //! A routine in word code to flat code.
 
-ghost use Rattle.std.specs.Prelude.{◌≡◌, ◌<◌, ◌^◌, [], IfOk, IsTrue, OnErr, OnOk, length, map};
+ghost use Rattle.std.specs.Prelude.{◌≡◌, ◌<◌, ◌^◌, [], IfOk, IsTrue, OnErr, OnOk, length};
 ghost use Rattle.clu_frames.specs.Flattened.{HandsOn, HasRoom};
-ghost use Rattle.clu_frames.specs.Flattening.{bare_code, made, part_of, regions_of, routine_onto, steps_of};
+ghost use Rattle.clu_frames.specs.Flattening.{made, made_by, regions_of, steps_of};
+ghost use Rattle.clu_frames.specs.Plain.{plain_code};
 ghost use Rattle.clu_frames.specs.Labels.{IsFlat};
 ghost use Rattle.clu_frames.specs.Regions.{AreRegions};
 ghost use Rattle.clu_wir.specs.Formed.{is_formed};
@@ -28,8 +29,8 @@ pub fn flatten<B: RegionBuilder>(
     requires formed { IsTrue (is_formed r.now) }
     ensures handed { IfOk result (HandsOn r.now) }
     ensures room { IfOk result (HasRoom r.now) }
-    ensures steps { IfOk result (λ flat. bare_code flat.code.items ≡ steps_of r.now) }
-    ensures flat { IfOk result (λ flat. IsFlat flat.code.items) }
+    ensures steps { IfOk result (λ flat. plain_code flat.code.items ≡ steps_of r.now) }
+    ensures flat { IfOk result (λ flat. IsFlat (plain_code flat.code.items)) }
     ensures regions { OnOk result (B.regions regions.new ≡ regions_of r.now) }
     ensures nest { IfOk result (λ flat. AreRegions flat.code.items (B.regions regions.new)) }
     ensures err { OnErr result (B.regions regions.new ≡ []) }
@@ -55,7 +56,7 @@ fn bounded<B: RegionBuilder>(
     ensures handed { IfOk result (HandsOn r.now) }
     ensures room { IfOk result (HasRoom r.now) }
     ensures few { IfOk result (λ flat. length flat.code.items < 2 ^ 32) }
-    ensures steps { IfOk result (λ flat. bare_code flat.code.items ≡ steps_of r.now) }
+    ensures steps { IfOk result (λ flat. plain_code flat.code.items ≡ steps_of r.now) }
     ensures regions { OnOk result (B.regions regions.new ≡ regions_of r.now) }
 {
     let flat = routine_of(alloc, r, regions)?;
@@ -71,7 +72,7 @@ fn bounded<B: RegionBuilder>(
 /// The steps of a routine and its regions, with what holds of the regions of each routine.
 fn made_of(alloc: Global, r: &WRoutine) -> Result<Steps, FrameError>
     requires formed { IsTrue (is_formed r.now) }
-    ensures made { IfOk result (λ steps. made steps ≡ routine_onto (map part_of r.now.body.items) r.now.args r.now.slots) }
+    ensures made { IfOk result (λ steps. made steps ≡ made_by r.now) }
     ensures regions { IfOk result (λ steps. AreRegions (made steps).code (made steps).regions) }
 {
     let mut steps = Steps::new(alloc);
@@ -90,7 +91,7 @@ fn code_of<B: RegionBuilder>(
     requires formed { IsTrue (is_formed r.now) }
     requires none { B.regions regions.old ≡ [] }
     ensures few { IfOk result (λ code. length code.items < 2 ^ 32) }
-    ensures steps { IfOk result (λ code. bare_code code.items ≡ steps_of r.now) }
+    ensures steps { IfOk result (λ code. plain_code code.items ≡ steps_of r.now) }
     ensures regions { OnOk result (B.regions regions.new ≡ regions_of r.now) }
 {
     let steps = made_of(alloc, r)?;
@@ -107,7 +108,7 @@ fn routine_of<B: RegionBuilder>(
     requires none { B.regions regions.old ≡ [] }
     ensures handed { IfOk result (HandsOn r.now) }
     ensures few { IfOk result (λ flat. length flat.code.items < 2 ^ 32) }
-    ensures steps { IfOk result (λ flat. bare_code flat.code.items ≡ steps_of r.now) }
+    ensures steps { IfOk result (λ flat. plain_code flat.code.items ≡ steps_of r.now) }
     ensures regions { OnOk result (B.regions regions.new ≡ regions_of r.now) }
 {
     Ok(FlatRoutine {

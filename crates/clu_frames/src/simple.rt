@@ -1,6 +1,7 @@
 //! Statements that go on with the next one and have none inside.
 
-ghost use Rattle.std.specs.Prelude.{◌≡◌, OnOk};
+ghost use Rattle.std.specs.Prelude.{◌≡◌, OnOk, map};
+ghost use Rattle.clu_wir.specs.Plain.{expr_of};
 ghost use Rattle.clu_frames.specs.Flattening.{call_onto, made, primitive_onto, taken_onto, yield_onto};
 
 use crate::errors::FrameError;
@@ -16,7 +17,7 @@ impl Steps {
         results: &[u32],
         work: u32,
     ) -> Result<(), FrameError>
-        ensures made { OnOk result (made self.new ≡ call_onto arguments.now results.now work (made self.old)) }
+        ensures made { OnOk result (made self.new ≡ call_onto (expr_of routine.now) (map expr_of arguments.now) results.now work (made self.old)) }
     {
         self.invoke(routine, arguments, work)?;
         self.take(results)
@@ -40,7 +41,7 @@ impl Steps {
         results: &[u32],
         work: u32,
     ) -> Result<(), FrameError>
-        ensures made { OnOk result (made self.new ≡ primitive_onto number arguments.now results.now work (made self.old)) }
+        ensures made { OnOk result (made self.new ≡ primitive_onto number (map expr_of arguments.now) results.now work (made self.old)) }
     {
         self.set_row(work, arguments)?;
         self.push(Flat::Prim(number, work))?;
@@ -48,7 +49,7 @@ impl Steps {
     }
 
     pub fn yield_words(&mut self, words: &[WExpr], work: u32) -> Result<(), FrameError>
-        ensures made { OnOk result (made self.new ≡ yield_onto words.now work (made self.old)) }
+        ensures made { OnOk result (made self.new ≡ yield_onto (map expr_of words.now) work (made self.old)) }
     {
         let first = self.row(work, words)?;
         self.push(Flat::Yield(first, number(words.len())?))

@@ -2,8 +2,9 @@
 
 ghost use Rattle.std.specs.Prelude.{◌≡◌, IsTrue, OnOk, map};
 ghost use Rattle.clu_wir.specs.Formed.{all_formed, arm_formed_of, arms_formed, formed_of, in_a_guard, in_a_loop};
-ghost use Rattle.clu_frames.specs.Flattening.{all_onto, arm_of, arms_onto, end_of_turns, end_uncut, exit_of, guarded_onto, guarding_of, is_none, is_only_break, made, part_of, resignal_onto, round_of, turns_ended, turns_onto, unless_onto};
-ghost use Rattle.clu_frames.specs.Standing.{arms_of, standing_of};
+ghost use Rattle.clu_wir.specs.Plain.{arm_of, arms_of, body_of, expr_of, stmt_of};
+ghost use Rattle.clu_frames.specs.Flattening.{all_onto, arms_onto, end_of_turns, end_uncut, exit_of, guarded_onto, guarding_of, is_break, is_none, is_only_break, made, onto, resignal_onto, round_of, turns_ended, turns_onto, unless_from};
+ghost use Rattle.clu_frames.specs.Standing.{arms_of as counts, standing_of};
 
 use crate::errors::FrameError;
 use crate::flat::Flat;
@@ -14,9 +15,10 @@ use clu_wir::{WArm, WExpr, WStmt};
 
 impl Steps {
     #[cycle(statements)]
+    #[tactic(auto, unfolding(crate::specs::Flattening::onto, crate::specs::Flattening::all_onto, crate::specs::Flattening::arms_onto))]
     pub fn list(&mut self, statements: &[WStmt], round: Surroundings<'_>) -> Result<(), FrameError>
         requires formed { IsTrue (all_formed (map formed_of statements.now) (standing_of round)) }
-        ensures made { OnOk result (made self.new ≡ all_onto (map part_of statements.now) (round_of round.entry) (made self.old)) }
+        ensures made { OnOk result (made self.new ≡ all_onto (body_of statements.now) (round_of round.entry) (made self.old)) }
     {
         for statement in statements {
             self.statement(statement, round)?;
@@ -25,9 +27,10 @@ impl Steps {
     }
 
     #[cycle(statements)]
+    #[tactic(auto, unfolding(crate::specs::Flattening::onto, crate::specs::Flattening::all_onto, crate::specs::Flattening::arms_onto))]
     fn statement(&mut self, statement: &WStmt, round: Surroundings<'_>) -> Result<(), FrameError>
         requires formed { IsTrue (formed_of statement.now (standing_of round)) }
-        ensures made { OnOk result (made self.new ≡ (part_of statement.now).onto (round_of round.entry) (made self.old)) }
+        ensures made { OnOk result (made self.new ≡ onto (stmt_of statement.now) (round_of round.entry) (made self.old)) }
     {
         let work = round.work;
         match statement {
@@ -86,6 +89,7 @@ impl Steps {
 
     /// A list that runs where the condition is 0.
     #[cycle(statements)]
+    #[tactic(auto, unfolding(crate::specs::Flattening::onto, crate::specs::Flattening::all_onto, crate::specs::Flattening::arms_onto))]
     fn unless(
         &mut self,
         other: &[WStmt],
@@ -93,7 +97,7 @@ impl Steps {
         round: Surroundings<'_>,
     ) -> Result<(), FrameError>
         requires formed { IsTrue (all_formed (map formed_of other.now) (standing_of round)) }
-        ensures made { OnOk result (made self.new ≡ unless_onto (map part_of other.now) (round_of round.entry) (made self.old)) }
+        ensures made { OnOk result (made self.new ≡ unless_from (exit_of (body_of other.now) (round_of round.entry).turns) (expr_of condition.now) (all_onto (body_of other.now)) (round_of round.entry) (made self.old)) }
     {
         match exit_of(other, round.turns) {
             Some(end) => self.branch(condition, false, end),
@@ -107,9 +111,10 @@ impl Steps {
     }
 
     #[cycle(statements)]
+    #[tactic(auto, unfolding(crate::specs::Flattening::onto, crate::specs::Flattening::all_onto, crate::specs::Flattening::arms_onto))]
     fn turns(&mut self, body: &[WStmt], round: Surroundings<'_>) -> Result<(), FrameError>
         requires formed { IsTrue (all_formed (map formed_of body.now) (in_a_loop (standing_of round))) }
-        ensures made { OnOk result (made self.new ≡ turns_onto (map part_of body.now) (round_of round.entry) (made self.old)) }
+        ensures made { OnOk result (made self.new ≡ turns_onto (all_onto (body_of body.now)) (round_of round.entry) (made self.old)) }
     {
         let next = self.labels(2)?;
         let end = above(next, 1)?;
@@ -126,6 +131,7 @@ impl Steps {
 
     /// The body of a loop over an iterator, and what begins its next turn.
     #[cycle(statements)]
+    #[tactic(auto, unfolding(crate::specs::Flattening::onto, crate::specs::Flattening::all_onto, crate::specs::Flattening::arms_onto))]
     fn iterate(
         &mut self,
         body: &[WStmt],
@@ -133,7 +139,7 @@ impl Steps {
         round: Surroundings<'_>,
     ) -> Result<(), FrameError>
         requires formed { IsTrue (all_formed (map formed_of body.now) (in_a_loop (standing_of round))) }
-        ensures made { OnOk result (made self.new ≡ turns_ended (map part_of body.now) turns (round_of round.entry) (made self.old)) }
+        ensures made { OnOk result (made self.new ≡ turns_ended (all_onto (body_of body.now)) turns (round_of round.entry) (made self.old)) }
     {
         let top = round.work;
         let work = above(top, 1)?;
@@ -154,14 +160,15 @@ impl Steps {
 
     /// The list of a guard, in its region.
     #[cycle(statements)]
+    #[tactic(auto, unfolding(crate::specs::Flattening::onto, crate::specs::Flattening::all_onto, crate::specs::Flattening::arms_onto))]
     fn guarded<'a>(
         &mut self,
         body: &[WStmt],
         guard: Guard<'a>,
         round: Surroundings<'a>,
     ) -> Result<(), FrameError>
-        requires formed { IsTrue (all_formed (map formed_of body.now) (in_a_guard (arms_of guard) (standing_of round))) }
-        ensures made { OnOk result (made self.new ≡ guarded_onto (map part_of body.now) (guarding_of guard.entry) guard.entry.region guard.entry.end (round_of round.entry) (made self.old)) }
+        requires formed { IsTrue (all_formed (map formed_of body.now) (in_a_guard (counts guard) (standing_of round))) }
+        ensures made { OnOk result (made self.new ≡ guarded_onto (all_onto (body_of body.now)) (guarding_of guard.entry) guard.entry.region guard.entry.end (round_of round.entry) (made self.old)) }
     {
         let guards = Guards {
             guard,
@@ -180,6 +187,7 @@ impl Steps {
 
     /// The list whose exceptions of these names are signalled on, in its region.
     #[cycle(statements)]
+    #[tactic(auto, unfolding(crate::specs::Flattening::onto, crate::specs::Flattening::all_onto, crate::specs::Flattening::arms_onto))]
     fn resignalled(
         &mut self,
         body: &[WStmt],
@@ -187,7 +195,7 @@ impl Steps {
         round: Surroundings<'_>,
     ) -> Result<(), FrameError>
         requires formed { IsTrue (all_formed (map formed_of body.now) (standing_of round)) }
-        ensures made { OnOk result (made self.new ≡ resignal_onto (map part_of body.now) names.now (round_of round.entry) (made self.old)) }
+        ensures made { OnOk result (made self.new ≡ resignal_onto (all_onto (body_of body.now)) names.now (round_of round.entry) (made self.old)) }
     {
         let end = self.label()?;
         let region = self.open_region(round.region)?;
@@ -204,6 +212,7 @@ impl Steps {
     }
 
     #[cycle(statements)]
+    #[tactic(auto, unfolding(crate::specs::Flattening::onto, crate::specs::Flattening::all_onto, crate::specs::Flattening::arms_onto))]
     fn arms(
         &mut self,
         arms: &[WArm],
@@ -211,7 +220,7 @@ impl Steps {
         round: Surroundings<'_>,
     ) -> Result<(), FrameError>
         requires formed { IsTrue (arms_formed (map arm_formed_of arms.now) (standing_of round)) }
-        ensures made { OnOk result (made self.new ≡ arms_onto guard.entry.label guard.entry.end guard.entry.region (map arm_of arms.now) (round_of round.entry) (made self.old)) }
+        ensures made { OnOk result (made self.new ≡ arms_onto (arms_of (map arm_of arms.now)) guard.entry.label guard.entry.end guard.entry.region (round_of round.entry) (made self.old)) }
     {
         let mut label = guard.label;
         for arm in arms {
@@ -227,7 +236,7 @@ impl Steps {
 
 /// The label at which a list leaves its loop that does nothing else.
 fn exit_of(list: &[WStmt], turns: Option<Turns>) -> Option<u32>
-    ensures { result ≡ exit_of (map part_of list.now) turns }
+    ensures { result ≡ exit_of (body_of list.now) turns }
 {
     if is_only_break(list) {
         end_of_turns(turns)
@@ -237,7 +246,7 @@ fn exit_of(list: &[WStmt], turns: Option<Turns>) -> Option<u32>
 }
 
 fn is_none(list: &[WStmt]) -> bool
-    ensures { result ≡ is_none (map part_of list.now) }
+    ensures { result ≡ is_none (body_of list.now) }
 {
     match list {
         [] => true,
@@ -246,7 +255,7 @@ fn is_none(list: &[WStmt]) -> bool
 }
 
 fn is_only_break(list: &[WStmt]) -> bool
-    ensures { result ≡ is_only_break (map part_of list.now) }
+    ensures { result ≡ is_only_break (body_of list.now) }
 {
     match list {
         [] => false,
@@ -256,7 +265,7 @@ fn is_only_break(list: &[WStmt]) -> bool
 }
 
 fn is_break(statement: &WStmt) -> bool
-    ensures { result ≡ (part_of statement.now).is_break }
+    ensures { result ≡ is_break (stmt_of statement.now) }
 {
     match statement {
         WStmt::Break => true,

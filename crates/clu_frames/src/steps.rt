@@ -1,10 +1,11 @@
 //! Flat code in the making: its steps, its labels and its regions.
 
 ghost use Rattle.std.specs.Prelude.{◌≡◌, ◌+◌, ◌<◌, ◌^◌, [], IfOk, IsTrue, OnOk, length, map};
-ghost use Rattle.clu_frames.specs.Flattening.{armed, closed, labelled, made, moves_onto, none, opened, pushed, results_onto, with_regions};
+ghost use Rattle.clu_frames.specs.Flattening.{armed, closed, labelled, made, moves_onto, opened, pushed, results_onto, with_regions};
 ghost use Rattle.clu_wir.specs.Adding.{are_nested};
 ghost use Rattle.clu_frames.specs.Regions.{added_of, changed, ended_at};
-ghost use Rattle.clu_frames.specs.declared.flat.Flat.TheVariants as flat;
+ghost use Rattle.clu_frames.specs.Plain as flat;
+ghost use Rattle.clu_frames.specs.Plain.{step_of};
 
 use crate::errors::FrameError;
 use crate::flat::{FOOT, Flat};
@@ -49,7 +50,7 @@ impl Steps {
 
     #[tactic(auto, using(crate::proofs::Pushing::pushing))]
     pub fn push(&mut self, step: Flat) -> Result<(), FrameError>
-        ensures made { OnOk result (made self.new ≡ pushed step (made self.old)) }
+        ensures made { OnOk result (made self.new ≡ pushed (step_of step) (made self.old)) }
     {
         self.code.push(step)?;
         Ok(())
@@ -95,7 +96,7 @@ impl Steps {
 
     /// To the slots the words of those from `from` on.
     pub fn push_moves(&mut self, slots: &[u32], from: u32) -> Result<(), FrameError>
-        ensures made { OnOk result (made self.new ≡ moves_onto slots.now (made self.old)) }
+        ensures made { OnOk result (made self.new ≡ moves_onto slots.now from (made self.old)) }
     {
         let mut from = from;
         for slot in slots {

@@ -58,7 +58,7 @@ pub struct Guards<'a> {
 impl<'a> Surroundings<'a> {
     /// What stands round the body of a routine with so many slots and these constants.
     pub fn outermost(slots: u32, constants: &'a [ObjConst]) -> Surroundings<'a>
-        ensures round { round_of result ≡ outermost slots }
+        ensures round { round_of result ≡ outermost constants.now slots }
         ensures standing { standing_of result ≡ begun_with constants.now }
     {
         Surroundings {

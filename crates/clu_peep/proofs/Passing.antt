@@ -1,10 +1,12 @@
 -- The pass over the places: what is left comes of them by rows, and no row is left.
 use Rattle.std.proofs.Common.{◌≡◌, ℕ, zero, suc, ◌+◌, List, [], ◌∷◌, ◌++◌, length, Bool, true, false, not, ◌&&◌, ◌||◌, IsTrue, Option, None, refl, sym, ◌∙◌, ap, subst, ⊎_elim, arith, append_assoc}
 use Rattle.std.proofs.lemmas.Bool.{and_from, and_parts, and_right, false≢true, not-true, not_from_false, or_cases, or_from, or_right}
-use Rattle.clu_wir.specs.declared.expression.WExpr.{WExpr, Slot}
+use Rattle.clu_wir.specs.Plain.{Expr}
+use Rattle.clu_wir.specs.Plain as plain
 use Rattle.clu_frames.specs.Labels.{at_last, jump_of, label_of, same}
 use Rattle.clu_frames.specs.declared.flat.Flat.{Flat}
-use Rattle.clu_frames.specs.declared.flat.Flat.TheVariants as flat
+use Rattle.clu_frames.specs.Plain.{Step, step_of}
+use Rattle.clu_frames.specs.Plain as flat
 use Rattle.clu_peep.specs.declared.places.Place.{Place}
 use Rattle.clu_peep.specs.declared.steps.Move.{Move}
 use Rattle.clu_peep.specs.Steps.{from_slot, is_back, move_of, with_word, word_slot}
@@ -31,28 +33,28 @@ passed-false (y ∷ ps) = refl
 
 -- What makes the place before it go is no move.
 
-label_no_move : (s : Flat) (o : Option ℕ) → same (label_of s) o ≡ true → move_of s ≡ None
+label_no_move : (s : Step) (o : Option ℕ) → same (label_of s) o ≡ true → move_of s ≡ None
 label_no_move (flat.Set to value) o e = absurd (false≢true e)
 label_no_move _ o e = refl
 
-word_no_slot : (to : ℕ) (v : WExpr) (o : Option ℕ) → same (with_word to v) o ≡ true → from_slot to v ≡ None
-word_no_slot to (Slot n) o e = absurd (false≢true e)
+word_no_slot : (to : ℕ) (v : Expr) (o : Option ℕ) → same (with_word to v) o ≡ true → from_slot to v ≡ None
+word_no_slot to (plain.slot n) o e = absurd (false≢true e)
 word_no_slot to _ o e = refl
 
-word_no_move : (s : Flat) (o : Option ℕ) → same (word_slot s) o ≡ true → move_of s ≡ None
+word_no_move : (s : Step) (o : Option ℕ) → same (word_slot s) o ≡ true → move_of s ≡ None
 word_no_move (flat.Set to value) o e = word_no_slot to value o e
 word_no_move _ o e = refl
 
-pub no_move : (x y : Place) → goes_first x y ≡ true → move_of y.step ≡ None
+pub no_move : (x y : Place) → goes_first x y ≡ true → move_of (step_of y.step) ≡ None
 no_move x y e = ⊎_elim
-    (λ l. label_no_move y.step (jump_of x.step) l)
-    (λ w. word_no_move y.step (word_slot x.step) (and_parts (not y.is_target) (same (word_slot y.step) (word_slot x.step)) w).1)
-    (or_cases (same (label_of y.step) (jump_of x.step)) (not y.is_target && same (word_slot y.step) (word_slot x.step)) e)
+    (λ l. label_no_move (step_of y.step) (jump_of (step_of x.step)) l)
+    (λ w. word_no_move (step_of y.step) (word_slot (step_of x.step)) (and_parts (not y.is_target) (same (word_slot (step_of y.step)) (word_slot (step_of x.step))) w).1)
+    (or_cases (same (label_of (step_of y.step)) (jump_of (step_of x.step))) (not y.is_target && same (word_slot (step_of y.step)) (word_slot (step_of x.step))) e)
 
-not_back : (x y : Place) → move_of y.step ≡ None → goes_second x y ≡ false
-not_back x y e = and_right (not y.is_target) (is_back (move_of y.step) (move_of x.step)) (ap (λ (m : Option Move). is_back m (move_of x.step)) e)
+not_back : (x y : Place) → move_of (step_of y.step) ≡ None → goes_second x y ≡ false
+not_back x y e = and_right (not y.is_target) (is_back (move_of (step_of y.step)) (move_of (step_of x.step))) (ap (λ (m : Option Move). is_back m (move_of (step_of x.step))) e)
 
-not_undone : (front : List Place) (y : Place) → move_of y.step ≡ None → is_undone front y ≡ false
+not_undone : (front : List Place) (y : Place) → move_of (step_of y.step) ≡ None → is_undone front y ≡ false
 not_undone [] y e = refl
 not_undone (x ∷ []) y e = not_back x y e
 not_undone (x ∷ z ∷ front) y e = not_undone (z ∷ front) y e

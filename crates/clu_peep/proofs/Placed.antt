@@ -7,6 +7,7 @@ use Rattle.clu_wir.specs.Adding.{is_placed}
 use Rattle.clu_wir.specs.declared.region.Arm.{Arm}
 use Rattle.clu_frames.specs.Labels.{at_last, goes_on}
 use Rattle.clu_frames.specs.declared.flat.Flat.{Flat}
+use Rattle.clu_frames.specs.Plain.{Step, plain_code, step_of}
 use Rattle.clu_handlers.specs.declared.region.Region.{Region}
 use Rattle.clu_handlers.specs.Seen.{seen}
 use Rattle.clu_peep.specs.declared.places.Place.{Place}
@@ -15,13 +16,13 @@ use Rattle.clu_peep.specs.Moved.{IsMoved, before, has_place, moved_arm, staying}
 use Rattle.clu_peep.specs.Peeped.{IsPeeped}
 use Rattle.clu_peep.proofs.Gone.{what_goes}
 
-end_goes_on : (front : List Place) (x : Place) → goes front x [] ≡ true → goes_on x.step ≡ true
+end_goes_on : (front : List Place) (x : Place) → goes front x [] ≡ true → goes_on (step_of x.step) ≡ true
 end_goes_on front x e = (what_goes front x [] e).last refl
 
 -- The last place, which goes on to no next one, by its number.
 
 abbrev ends_at : ℕ → Place → Bool
-ends_at n x = (x.number + 1 == n) && not (goes_on x.step)
+ends_at n x = (x.number + 1 == n) && not (goes_on (step_of x.step))
 
 last_behind : (test : Place → Bool) (front : List Place) (y : Place) (back : List Place) → at_last test (front ++ y ∷ back) ≡ at_last test (y ∷ back)
 last_behind test [] y back = refl
@@ -35,8 +36,8 @@ last_marked n mark y (z ∷ back) = refl
 last_of_back : (n : ℕ) (front : List Place) (x : Place) (back : List Place) → goes front x back ≡ true → at_last (ends_at n) (front ++ x ∷ back) ≡ true → at_last (ends_at n) (front ++ passed x.is_target back) ≡ true
 last_of_back n front x [] row e =
     let last = sym (last_behind (ends_at n) front x []) ∙ e in
-    let stops = (and_parts (x.number + 1 == n) (not (goes_on x.step)) last).1 in
-    absurd (false≢true (sym (not_from_true (goes_on x.step) (end_goes_on front x row)) ∙ stops))
+    let stops = (and_parts (x.number + 1 == n) (not (goes_on (step_of x.step))) last).1 in
+    absurd (false≢true (sym (not_from_true (goes_on (step_of x.step)) (end_goes_on front x row)) ∙ stops))
 last_of_back n front x (y ∷ back) row e =
     last_behind (ends_at n) front (marked x.is_target y) back ∙ last_marked n x.is_target y back
     ∙ sym (last_behind (ends_at n) front x (y ∷ back)) ∙ e
@@ -49,9 +50,9 @@ last_left n (suc count) a b r e =
     subst (λ (l : List Place). at_last (ends_at n) l ≡ true) (sym one.is)
     (last_of_back n one.front one.gone one.back one.row (subst (λ (l : List Place). at_last (ends_at n) l ≡ true) one.was between))
 
-last_place : (targets : ℕ → Bool) (k n : ℕ) (code : List Flat) → k + length code ≡ n → at_last (λ (step : Flat). not (goes_on step)) code ≡ true → at_last (ends_at n) (places targets k code) ≡ true
+last_place : (targets : ℕ → Bool) (k n : ℕ) (code : List Flat) → k + length code ≡ n → at_last (λ (step : Step). not (goes_on step)) (plain_code code) ≡ true → at_last (ends_at n) (places targets k code) ≡ true
 last_place targets k n [] e ends = absurd (false≢true ends)
-last_place targets k n (s ∷ []) e ends = and_from (k + 1 == n) (not (goes_on s)) (eq-eqb (k + 1) n (omega (arith, e))) ends
+last_place targets k n (s ∷ []) e ends = and_from (k + 1 == n) (not (goes_on (step_of s))) (eq-eqb (k + 1) n (omega (arith, e))) ends
 last_place targets k n (s ∷ t ∷ code) e ends = last_place targets (k + 1) n (t ∷ code) (omega (arith, e)) ends
 
 -- Places of what is left.
@@ -66,7 +67,7 @@ cond_within false m n lt = omega (arith, lt)
 target_within : (n place : ℕ) (left : List Place) → at_last (ends_at n) left ≡ true → place < n → before (numbers left) place < length left
 target_within n place [] e lt = absurd (false≢true e)
 target_within n place (x ∷ []) e lt =
-    let last = eqb-true (x.number + 1) n (and_parts (x.number + 1 == n) (not (goes_on x.step)) e).0 in
+    let last = eqb-true (x.number + 1) n (and_parts (x.number + 1 == n) (not (goes_on (step_of x.step))) e).0 in
     let no : nat_lt x.number place ≡ false = le-ltb x.number place (omega (arith, last, lt)) in
     subst (λ (b : Bool). cond b (suc 0) 0 < suc 0) (sym no) (omega arith)
 target_within n place (x ∷ y ∷ left) e lt =
@@ -121,7 +122,7 @@ module _ (n : ℕ) (left : List Place) (last : at_last (ends_at n) left ≡ true
       head_placed r rs news (has_place (numbers left) r) refl parts.0 (λ ns z. all_placed rs ns parts.1 z) zip
 
 pub peeped_placed : (code : List Flat) (regions : List Region) (shorter : List Flat) (moved : List Region)
-    → IsTrue (at_last (λ (step : Flat). not (goes_on step)) code) → IsTrue (list_all (is_placed (length code)) (map seen regions))
+    → IsTrue (at_last (λ (step : Step). not (goes_on step)) (plain_code code)) → IsTrue (list_all (is_placed (length code)) (map seen regions))
     → IsPeeped code regions shorter moved → IsTrue (list_all (is_placed (length shorter)) (map seen moved))
 peeped_placed code regions shorter moved ends placed p =
     let last = last_left (length code) p.leaves.0 (places (begins regions) 0 code) p.left p.leaves.1 (last_place (begins regions) 0 (length code) code (omega arith) ends) in

@@ -7,6 +7,7 @@ use Rattle.clu_frames.specs.Labels.{IsFlat}
 use Rattle.clu_frames.specs.Steps.{code_words, step_words}
 use Rattle.clu_frames.specs.Within.{are_within, is_within}
 use Rattle.clu_frames.specs.declared.flat.Flat.{Flat}
+use Rattle.clu_frames.specs.Plain.{Step, plain_code, step_of}
 use Rattle.clu_handlers.specs.declared.region.Region.{Region}
 use Rattle.clu_peep.specs.declared.places.Place.{Place}
 use Rattle.clu_peep.specs.Left.{Leaves, Removal, Removed, begins, passed, places}
@@ -75,7 +76,7 @@ pub record IsShorter (before after : List Flat) : Type 0 where
   pub count : length after ≤ length before
   pub words : code_words after ≤ code_words before
   pub within : (frame : ℕ) → are_within frame before ≡ true → are_within frame after ≡ true
-  pub flat : IsFlat before → IsFlat after
+  pub flat : IsFlat (plain_code before) → IsFlat (plain_code after)
 
 is_same : (a b : List Flat) → a ≡ b → IsShorter a b
 is_same a b e = subst (λ (l : List Flat). IsShorter a l) e (record {
@@ -93,7 +94,10 @@ removal_shorter a b r =
       count = one_shorter (steps_of r.front) (steps_of r.back) r.gone.step;
       words = fewer_words (steps_of r.front) (steps_of r.back) r.gone.step 0 (omega arith);
       within = λ frame w. fewer_slots frame (steps_of r.front) (steps_of r.back) r.gone.step w;
-      flat = λ f. flat_still r.gone.step (steps_of r.back) (what_goes r.front r.gone r.back r.row) (steps_of r.front) f;
+      flat = λ f.
+          subst IsFlat (sym (map-append step_of (steps_of r.front) (steps_of r.back)))
+          (flat_still (step_of r.gone.step) (plain_code (steps_of r.back)) (what_goes r.front r.gone r.back r.row) (plain_code (steps_of r.front))
+          (subst IsFlat (map-append step_of (steps_of r.front) (r.gone.step ∷ steps_of r.back)) f));
     }))
 
 shorter_on : (a b c : List Flat) → IsShorter a b → IsShorter b c → IsShorter a c

@@ -1,25 +1,26 @@
 -- What a step says to its neighbours.
 use Rattle.std.specs.Prelude.{ℕ, Bool, true, false, ◌==◌, ◌&&◌, Option, Some, None}
-use Rattle.clu_wir.specs.declared.expression.WExpr.{WExpr, Slot, Word}
-use Rattle.clu_frames.specs.declared.flat.Flat.{Flat}
-use Rattle.clu_frames.specs.declared.flat.Flat.TheVariants as flat
+use Rattle.clu_wir.specs.Plain.{Expr}
+use Rattle.clu_wir.specs.Plain as plain
+use Rattle.clu_frames.specs.Plain.{Step}
+use Rattle.clu_frames.specs.Plain as flat
 use Rattle.clu_peep.specs.declared.steps.Move.{Move}
 
 -- `Move(to, from)` gives a slot the word of another
-abbrev pub from_slot : ℕ → WExpr → Option Move
-from_slot to (Slot from) = Some (record { to = to; from = from })
+abbrev pub from_slot : ℕ → Expr → Option Move
+from_slot to (plain.slot from) = Some (record { to = to; from = from })
 from_slot to _ = None
 
-abbrev pub move_of : Flat → Option Move
+abbrev pub move_of : Step → Option Move
 move_of (flat.Set to value) = from_slot to value
 move_of _ = None
 
 -- `Word(to, word)` gives a slot a word that is known
-abbrev pub with_word : ℕ → WExpr → Option ℕ
-with_word to (Word word) = Some to
+abbrev pub with_word : ℕ → Expr → Option ℕ
+with_word to (plain.word word) = Some to
 with_word to _ = None
 
-abbrev pub word_slot : Flat → Option ℕ
+abbrev pub word_slot : Step → Option ℕ
 word_slot (flat.Set to value) = with_word to value
 word_slot _ = None
 

@@ -3,6 +3,7 @@
 ghost use Rattle.std.specs.Prelude.{◌≤◌, ◌<◌, ◌^◌, IfOk, IsTrue, length, map};
 ghost use Rattle.std.specs.List.{list_all};
 ghost use Rattle.clu_wir.specs.Adding.{is_placed};
+ghost use Rattle.clu_frames.specs.Plain.{plain_code};
 ghost use Rattle.clu_frames.specs.Labels.{IsFlat};
 ghost use Rattle.clu_frames.specs.Steps.{code_words};
 ghost use Rattle.clu_frames.specs.Within.{are_within};
@@ -34,11 +35,11 @@ struct Code {
 /// A routine without the places that go by a row, and its regions: bounds and targets move to places that are left, and
 /// a region of which none is left goes. The only error is that memory runs out.
 pub fn peep(alloc: Global, f: FlatRoutine, r: &Regions) -> Result<Peeped, Memory>
-    requires flat { IsFlat f.code.items }
+    requires flat { IsFlat (plain_code f.code.items) }
     requires placed { IsTrue (list_all (is_placed (length f.code.items)) (map seen r.now)) }
     ensures handed { IfOk result (λ p. HandsOn f p.flat) }
     ensures peeped { IfOk result (λ p. IsPeeped f.code.items r.now p.flat.code.items p.regions) }
-    ensures flat { IfOk result (λ p. IsFlat p.flat.code.items) }
+    ensures flat { IfOk result (λ p. IsFlat (plain_code p.flat.code.items)) }
     ensures placed { IfOk result (λ p. IsTrue (list_all (is_placed (length p.flat.code.items)) (map seen p.regions))) }
     ensures words { IfOk result (λ p. code_words p.flat.code.items ≤ code_words f.code.items) }
     ensures within { IsTrue (are_within f.frame f.code.items) → IfOk result (λ p. IsTrue (are_within p.flat.frame p.flat.code.items)) }

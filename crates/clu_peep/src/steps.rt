@@ -1,6 +1,8 @@
 //! What a step says to its neighbours.
 
 ghost use Rattle.std.specs.Prelude.{◌≡◌};
+ghost use Rattle.clu_wir.specs.Plain.{expr_of};
+ghost use Rattle.clu_frames.specs.Plain.{step_of};
 ghost use Rattle.clu_frames.specs.Labels.{jump_of, label_of, same};
 ghost use Rattle.clu_peep.specs.Steps.{from_slot, is_back, is_idle, move_of, with_word, word_slot};
 
@@ -16,7 +18,7 @@ pub struct Move {
 
 /// The move that a step is.
 pub fn move_of(step: &Flat) -> Option<Move>
-    ensures { result ≡ move_of step.now }
+    ensures { result ≡ move_of (step_of step.now) }
 {
     match step {
         Flat::Set(to, value) => from_slot(*to, value),
@@ -25,7 +27,7 @@ pub fn move_of(step: &Flat) -> Option<Move>
 }
 
 fn from_slot(to: u32, value: &WExpr) -> Option<Move>
-    ensures { result ≡ from_slot to value.now }
+    ensures { result ≡ from_slot to (expr_of value.now) }
 {
     match value {
         WExpr::Slot(from) => Some(Move { to, from: *from }),
@@ -35,7 +37,7 @@ fn from_slot(to: u32, value: &WExpr) -> Option<Move>
 
 /// The slot to which a step gives a word that is known.
 pub fn word_slot(step: &Flat) -> Option<u32>
-    ensures { result ≡ word_slot step.now }
+    ensures { result ≡ word_slot (step_of step.now) }
 {
     match step {
         Flat::Set(to, value) => with_word(*to, value),
@@ -44,7 +46,7 @@ pub fn word_slot(step: &Flat) -> Option<u32>
 }
 
 fn with_word(to: u32, value: &WExpr) -> Option<u32>
-    ensures { result ≡ with_word to value.now }
+    ensures { result ≡ with_word to (expr_of value.now) }
 {
     match value {
         WExpr::Word(_) => Some(to),
@@ -54,7 +56,7 @@ fn with_word(to: u32, value: &WExpr) -> Option<u32>
 
 /// The label that a step is.
 pub fn label_of(step: &Flat) -> Option<u32>
-    ensures { result ≡ label_of step.now }
+    ensures { result ≡ label_of (step_of step.now) }
 {
     match step {
         Flat::Label(label) => Some(*label),
@@ -64,7 +66,7 @@ pub fn label_of(step: &Flat) -> Option<u32>
 
 /// The label to which a step jumps.
 pub fn jump_of(step: &Flat) -> Option<u32>
-    ensures { result ≡ jump_of step.now }
+    ensures { result ≡ jump_of (step_of step.now) }
 {
     match step {
         Flat::Jump(label) => Some(*label),

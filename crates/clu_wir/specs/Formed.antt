@@ -6,6 +6,7 @@ use Rattle.std.specs.Option.{option_copied}
 use Rattle.clu_base.specs.declared.constants.Const.TheVariants as constant
 use Rattle.clu_base.specs.declared.constants.ObjConst.{ObjConst}
 use Rattle.clu_base.specs.declared.constants.ObjConst.TheVariants as named
+use Rattle.clu_wir.specs.Kept.{keeps_slots}
 use Rattle.clu_wir.specs.declared.formed.Guards.{Guards, Guards-F, fold-Guards}
 use Rattle.clu_wir.specs.declared.formed.Surroundings.{Surroundings}
 use Rattle.clu_wir.specs.declared.statement.WStmt.{WStmt, WStmt-F, fold-WStmt}
@@ -114,4 +115,4 @@ abbrev pub begun_with : List ObjConst → Standing
 begun_with constants = record { constants = constants; in_loop = false; guards = [] }
 
 abbrev pub is_formed : WRoutine → Bool
-is_formed r = all_formed (map formed_of r.body.items) (begun_with r.constants.items)
+is_formed r = keeps_slots r && all_formed (map formed_of r.body.items) (begun_with r.constants.items)

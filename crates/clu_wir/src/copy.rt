@@ -1,6 +1,7 @@
 //! Copies of expressions, and of what routines name.
 
-ghost use Rattle.std.specs.Prelude.{◌≡◌, IfOk};
+ghost use Rattle.std.specs.Prelude.{◌≡◌, IfOk, map};
+ghost use Rattle.clu_wir.specs.Plain.{expr_of};
 
 use crate::expression::WExpr;
 use clu_base::{Bytes, Memory, ObjConst, Sequence};
@@ -9,7 +10,9 @@ use std::alloc::Global;
 impl WExpr {
     /// The same expression once more. The only error is that memory runs out.
     #[cycle(copies)]
-    pub fn copy(&self, alloc: Global) -> Result<WExpr, Memory> {
+    pub fn copy(&self, alloc: Global) -> Result<WExpr, Memory>
+        ensures { IfOk result (λ copied. expr_of copied ≡ expr_of self.now) }
+    {
         match self {
             WExpr::Slot(slot) => Ok(WExpr::Slot(*slot)),
             WExpr::Word(word) => Ok(WExpr::Word(*word)),
@@ -38,13 +41,17 @@ impl WExpr {
     }
 
     #[cycle(copies)]
-    fn boxed_copy(&self, alloc: Global) -> Result<Box<WExpr>, Memory> {
+    fn boxed_copy(&self, alloc: Global) -> Result<Box<WExpr>, Memory>
+        ensures { IfOk result (λ copied. expr_of copied.value ≡ expr_of self.now) }
+    {
         Ok(Box::new(alloc, self.copy(alloc)?)?)
     }
 }
 
 #[cycle(copies)]
-fn copies(alloc: Global, values: &[WExpr]) -> Result<Vec<WExpr>, Memory> {
+fn copies(alloc: Global, values: &[WExpr]) -> Result<Vec<WExpr>, Memory>
+    ensures { IfOk result (λ copied. map expr_of copied.items ≡ map expr_of values.now) }
+{
     let mut copied = Vec::new(alloc);
     for value in values {
         copied.push(value.copy(alloc)?)?;

@@ -45,8 +45,8 @@ fn is_text(constant: &ObjConst, text: &Bytes) -> bool
 }
 
 impl WRoutine {
-    /// Whether it is well formed: each Break and Continue stands in a loop, each Exit in a guard with such an arm, which has as
-    /// many slots as it gives words, and each name of a Raise or a Signal is a constant.
+    /// Whether it is well formed: it names its own slots alone, each Break and Continue stands in a loop, each Exit in a guard
+    /// with such an arm, which has as many slots as it gives words, and each name of a Raise or a Signal is a constant.
     pub fn is_formed(&self) -> bool
         ensures { result ≡ is_formed self.now }
     {
@@ -55,7 +55,7 @@ impl WRoutine {
             in_loop: false,
             guards: None,
         };
-        list(self.body.as_slice(), round)
+        self.keeps_slots() && list(self.body.as_slice(), round)
     }
 }
 

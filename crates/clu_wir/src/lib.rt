@@ -7,6 +7,7 @@ mod cost;
 mod expression;
 mod formed;
 mod hole;
+mod kept;
 mod primitive;
 mod region;
 mod room;

@@ -1,7 +1,9 @@
 //! What the evaluation of an expression may raise.
 
 ghost use Rattle.std.specs.Prelude.{◌≡◌};
+ghost use Rattle.std.specs.Option.{option_copied};
 ghost use Rattle.clu_wir.specs.Numbers.{trap_number};
+ghost use Rattle.clu_wir.specs.Traps.{trap_name, trap_text};
 
 /// An exception that an expression raises by itself.
 #[derive(Clone, Copy, Debug, PartialEq, Eq)]
@@ -34,7 +36,10 @@ impl Trap {
     }
 
     /// The name of the exception.
-    pub fn name(self) -> &'static [u8] {
+    #[tactic(auto, unfolding(crate::specs::Traps::trap_name))]
+    pub fn name(self) -> &'static [u8]
+        ensures { result.now ≡ trap_name self }
+    {
         match self {
             Trap::Overflow => b"overflow",
             Trap::ZeroDivide => b"zero_divide",
@@ -46,7 +51,10 @@ impl Trap {
     }
 
     /// The string that is its object, if it has one.
-    pub fn text(self) -> Option<&'static [u8]> {
+    #[tactic(auto, unfolding(crate::specs::Traps::trap_text))]
+    pub fn text(self) -> Option<&'static [u8]>
+        ensures { option_copied result ≡ trap_text self }
+    {
         match self {
             Trap::Uninitialized => Some(b"uninitialized variable"),
             _ => None,

@@ -4,4 +4,4 @@ use Rattle.clu_frames.proofs.steps.Steps.push_moves.Given as goal
 
 -- the slots that are left add the rest
 abbrev pub invariant-loop-slot : goal.invariant-loop-slot
-invariant-loop-slot l = moves_onto (drop l.slot-index l.slots) (made l.self) ≡ moves_onto l.fn.slots (made l.fn.self)
+invariant-loop-slot l = moves_onto (drop l.slot-index l.slots) l.from (made l.self) ≡ moves_onto l.fn.slots l.fn.from (made l.fn.self)
