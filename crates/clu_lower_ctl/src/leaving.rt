@@ -22,8 +22,7 @@ fn bound_values(
 {
     let free = out.taken();
     let operands = lower_all(out, fixed, n, values)?;
-    let words = bind_all(out, fixed.c, operands, any, free)?;
-    out.taken_back_all(words, free)
+    bind_all(out, fixed.c, operands, any, free)
 }
 
 /// `return (a, b)`, or `yield (a, b)` after which the routine goes on.
@@ -69,7 +68,11 @@ pub fn exit(out: &mut Lowering, fixed: &Fixed, n: u32, name: &Bytes, values: &[u
         Some(arm) => (arm.drops, arm.binds),
         None => return Err(LowerError::NotYet),
     };
-    let operands = lower_all(out, fixed, n, values)?;
+    let mut operands = lower_all(out, fixed, n, values)?;
+    if drops {
+        // Their evaluation may raise.
+        out.keep_all(&mut operands)?;
+    }
     let words = exit_words(out, fixed, operands, drops, binds)?;
     out.push(WStmt::Exit(place.inside, place.arm, words))
 }
@@ -88,7 +91,7 @@ fn exit_words(
         return Ok(words);
     }
     let mut texts = Vec::new(out.alloc);
-    for Operand { word, node } in operands {
+    for Operand { word, node, .. } in operands {
         words.push(word)?;
         if binds {
             texts.push(text_of(out.alloc, &fixed.c.types, type_of(fixed.c, node)?)?)?;

@@ -66,6 +66,7 @@ fn select<'a>(out: &mut Lowering, fixed: &Fixed<'a>, n: u32) -> Result<Selected<
     let object = out.take()?;
     let taken = out.taken();
     let value = lower_expr(out, fixed, n)?;
+    let value = out.kept(value)?;
     let word = WExpr::Load(Box::new(out.alloc, again(&value)?)?, 0);
     out.push(WStmt::Set(tag, word))?;
     let word = WExpr::Load(Box::new(out.alloc, value)?, OBJECT);

@@ -145,7 +145,6 @@ pub fn condition(out: &mut Lowering, fixed: &Fixed, n: u32) -> Result<WExpr>
 {
     let free = out.taken();
     let value = lower_expr(out, fixed, n)?;
-    let value = out.taken_back(value, free);
     out.release(free);
     Ok(value)
 }

@@ -2,17 +2,11 @@
 //! of another type goes into a pair with the number of its type.
 
 use crate::lowering::Lowering;
+use crate::operands::Operand;
 use clu_core::Checked;
 use clu_lower_types::{Result, is_any, text_of, type_of};
 use clu_types::{TypeArena, TypeId};
 use clu_wir::{WExpr, WStmt};
-
-/// The value of an expression, with its node.
-#[derive(Drop)]
-pub struct Operand {
-    pub word: WExpr,
-    pub node: u32,
-}
 
 /// The word of an object of the type `of` where it is bound to type any if `to_any`, else to a type that includes its
 /// own. A slot from `free` on may change.
@@ -41,10 +35,13 @@ pub fn bind(
 pub fn bind_all(
     out: &mut Lowering,
     c: &Checked,
-    operands: Vec<Operand>,
+    mut operands: Vec<Operand>,
     any: &[bool],
     free: u32,
 ) -> Result<Vec<WExpr>> {
+    if any.contains(&true) {
+        out.keep_all(&mut operands)?;
+    }
     let mut bound = Vec::new(out.alloc);
     let mut place = 0usize;
     for operand in operands {
@@ -62,7 +59,7 @@ fn bind_operand(
     to_any: bool,
     free: u32,
 ) -> Result<WExpr> {
-    let Operand { word, node } = operand;
+    let Operand { word, node, .. } = operand;
     if to_any {
         bind(out, &c.types, word, type_of(c, node)?, true, free)
     } else {

@@ -4,8 +4,9 @@
 ghost use Rattle.std.specs.Prelude.{◌<◌, length};
 ghost use Rattle.clu_syntax.specs.Parts.{AreOf};
 
-use crate::binding::{Operand, bind};
+use crate::binding::bind;
 use crate::lowering::Lowering;
+use crate::operands::{Operand, again};
 use clu_base::Bytes;
 use clu_core::{Checked, term};
 use clu_lower_types::{Fixed, LowerError, Result, is_any, place_of, type_of};
@@ -21,7 +22,7 @@ const HEADER: u64 = 6;
 /// The greatest int: what is added to a low bound so that the least one comes to all ones.
 const GREATEST: u64 = 0x7FFF_FFFF_FFFF_FFFF;
 
-/// The object of a constructor by selectors, in a slot, from the values of its components.
+/// The object of a constructor by selectors, in a slot, from the values of its components, which are fixed.
 pub fn fill_record(
     out: &mut Lowering,
     fixed: &Fixed,
@@ -81,17 +82,8 @@ fn bind_again(
     bind(out, &c.types, again(&operand.word)?, of, to_any, free)
 }
 
-/// The same word once more. The value of an expression is known, or in a slot.
-pub fn again(value: &WExpr) -> Result<WExpr> {
-    match value {
-        WExpr::Slot(slot) => Ok(WExpr::Slot(*slot)),
-        WExpr::Word(word) => Ok(WExpr::Word(*word)),
-        WExpr::Hole(kind, number) => Ok(WExpr::Hole(*kind, *number)),
-        _ => Err(LowerError::NotYet),
-    }
-}
-
-/// The object of a constructor by elements, in a slot, from their values and that of the low bound.
+/// The object of a constructor by elements, in a slot, from their values and that of the low bound, which are
+/// fixed.
 pub fn fill_array(
     out: &mut Lowering,
     fixed: &Fixed,

@@ -1,6 +1,7 @@
 //! Operations of built-in types in the place of their calls: those that are values of their arguments, or put one word.
 
 use crate::lowering::Lowering;
+use crate::operands::is_fixed;
 use clu_base::{Bytes, Const, Memory};
 use clu_core::{Checked, OpRef};
 use clu_lower_types::Result;
@@ -10,8 +11,8 @@ use clu_types::{TypeArena, TypeId};
 use clu_wir::{WDeed, WExpr, WStmt};
 use std::alloc::Global;
 
-/// The result of an operation with these arguments, in the slot after the first `taken`; slots after that are given back.
-/// `routine` is the operation's descriptor.
+/// The result of an operation with these arguments. A slot after the first `taken` may change. `routine` is the operation's
+/// descriptor.
 pub fn apply(
     out: &mut Lowering,
     c: &Checked,
@@ -20,90 +21,74 @@ pub fn apply(
     args: Vec<WExpr>,
     taken: u32,
 ) -> Result<WExpr> {
-    let args = out.taken_back_all(args, taken)?;
-    let done = found(out.alloc, &c.types, op, args.as_slice())?;
-    out.release(taken);
-    let slot = out.take()?;
-    push_result(out, done, routine, args, slot)?;
-    Ok(WExpr::Slot(slot))
-}
-
-/// The result of an operation with these arguments goes into a slot; slots from `free` on may change.
-pub fn apply_to(
-    out: &mut Lowering,
-    c: &Checked,
-    op: Option<&OpRef>,
-    routine: WExpr,
-    args: Vec<WExpr>,
-    slot: u32,
-    free: u32,
-) -> Result<()> {
-    let args = out.taken_back_all(args, free)?;
-    let done = found(out.alloc, &c.types, op, args.as_slice())?;
-    push_result(out, done, routine, args, slot)
-}
-
-fn push_result(
-    out: &mut Lowering,
-    done: Option<WDeed>,
-    routine: WExpr,
-    args: Vec<WExpr>,
-    slot: u32,
-) -> Result<()> {
-    match done {
-        Some(WDeed::Value(value)) => out.push(WStmt::Set(slot, value)),
-        _ => {
-            let results = vec![in out.alloc; slot]?;
-            out.push(WStmt::Call(routine, args, results))
-        }
+    match found(out.alloc, &c.types, op, args.as_slice())? {
+        Some(WDeed::Value(value)) => out.handed(value, taken),
+        _ => call_for_one(out, routine, args, taken),
     }
 }
 
-/// Does an operation without results with these arguments; slots from `free` on may change.
+/// Calls a routine with arguments; its only result goes into the slot after the first `taken`, and slots after that
+/// are given back.
+pub fn call_for_one(
+    out: &mut Lowering,
+    routine: WExpr,
+    args: Vec<WExpr>,
+    taken: u32,
+) -> Result<WExpr> {
+    out.release(taken);
+    let slot = out.take()?;
+    let results = vec![in out.alloc; slot]?;
+    out.push(WStmt::Call(routine, args, results))?;
+    Ok(WExpr::Slot(slot))
+}
+
+/// Does an operation with these arguments; its results go into the slots.
 pub fn perform(
     out: &mut Lowering,
     c: &Checked,
     op: Option<&OpRef>,
     routine: WExpr,
     args: Vec<WExpr>,
-    free: u32,
+    results: Vec<u32>,
 ) -> Result<()> {
-    let args = put_args(out, args, free)?;
+    let args = put_args(out, op, args, results.len())?;
     match found(out.alloc, &c.types, op, args.as_slice())? {
         Some(WDeed::Put(address, bytes, value)) => out.push(WStmt::Put(address, bytes, value)),
-        _ => out.push(WStmt::Call(routine, args, Vec::new(out.alloc))),
+        Some(WDeed::Value(value)) => match results.as_slice() {
+            [slot] => out.push(WStmt::Set(*slot, value)),
+            _ => out.push(WStmt::Call(routine, args, results)),
+        },
+        None => out.push(WStmt::Call(routine, args, results)),
     }
 }
 
-/// The arguments of an operation that may put its last one, which is evaluated before the others then.
-fn put_args(out: &mut Lowering, mut args: Vec<WExpr>, free: u32) -> Result<Vec<WExpr>> {
-    let Some(last) = args.pop() else {
+/// The arguments of an operation. A built-in one without results may put its last one, which is evaluated before the others
+/// then: these are kept, unless that is fixed.
+fn put_args(
+    out: &mut Lowering,
+    op: Option<&OpRef>,
+    args: Vec<WExpr>,
+    results: usize,
+) -> Result<Vec<WExpr>> {
+    let may_put = results == 0 && matches!(op, Some(OpRef::Builtin(_, _)));
+    if !may_put || ends_fixed(args.as_slice()) {
         return Ok(args);
-    };
-    let last = out.taken_back(last, free);
-    let mut args = if is_fixed(&last) {
-        out.taken_back_all(args, free)?
-    } else {
-        args
-    };
-    args.push(last)?;
-    Ok(args)
-}
-
-/// Whether the evaluation of an expression loads nothing but a slot, and raises nothing.
-fn is_fixed(value: &WExpr) -> bool {
-    match value {
-        WExpr::Slot(_) | WExpr::Word(_) | WExpr::Hole(_, _) => true,
-        _ => false,
     }
+    let mut kept = Vec::new(out.alloc);
+    let mut left = args.len();
+    for value in args {
+        left = left.saturating_sub(1);
+        kept.push(if left > 0 { out.kept(value)? } else { value })?;
+    }
+    Ok(kept)
 }
 
-/// Keeps a value in the slot after the first `taken`.
-pub fn keep(out: &mut Lowering, value: WExpr, taken: u32) -> Result<WExpr> {
-    out.release(taken);
-    let slot = out.take()?;
-    out.push(WStmt::Set(slot, value))?;
-    Ok(WExpr::Slot(slot))
+/// Whether the last value, if there is one, is fixed.
+fn ends_fixed(values: &[WExpr]) -> bool {
+    match values.last() {
+        Some(last) => is_fixed(last),
+        None => true,
+    }
 }
 
 /// What an operation does in its place; None where it is called.

@@ -2,15 +2,16 @@
 
 ghost use Rattle.std.specs.Prelude.{◌<◌, All, IfOk, length};
 
-use crate::binding::{Operand, bind_all};
-use crate::in_place::{apply, apply_to, perform};
+use crate::binding::bind_all;
+use crate::in_place::{apply, perform};
 use crate::lowering::Lowering;
+use crate::operands::Operand;
 use crate::walk::invoked;
 use clu_core::OpRef;
 use clu_lower_types::{Fixed, LowerError, Result, Seen, any_formals, heading_of, operation_of};
 use clu_syntax::{Expression, Syntax};
 use clu_types::TypeId;
-use clu_wir::{WExpr, WStmt};
+use clu_wir::WExpr;
 
 /// The parts of a call.
 #[derive(Clone, Copy)]
@@ -55,14 +56,7 @@ pub fn lower_call(out: &mut Lowering, fixed: &Fixed, n: u32, results: Vec<u32>) 
     let free = out.taken();
     let Invoked { routine, args } = invoked(out, fixed, n, call, free)?;
     let op = named_operation(fixed, call.routine);
-    match results.as_slice() {
-        [] => perform(out, fixed.c, op, routine, args, free),
-        [slot] => apply_to(out, fixed.c, op, routine, args, *slot, free),
-        _ => {
-            let args = out.taken_back_all(args, free)?;
-            out.push(WStmt::Call(routine, args, results))
-        }
-    }
+    perform(out, fixed.c, op, routine, args, results)
 }
 
 /// The operation of a type that is invoked by its name.
@@ -75,7 +69,7 @@ fn named_operation<'a>(fixed: &Fixed<'a>, routine: u32) -> Option<&'a OpRef>
     }
 }
 
-/// The only result of what is invoked goes into the first slot from `free` on; slots after that are given back.
+/// The only result of what is invoked. Slots from `free` on may change.
 pub fn apply_invoked(
     out: &mut Lowering,
     fixed: &Fixed,

@@ -49,11 +49,6 @@ pub struct Lowering {
     most: u32,
 }
 
-/// How many registers and words an expression may need that stands in another.
-const REGISTERS: u32 = 8;
-
-const WORDS: u64 = 256;
-
 impl Lowering {
     /// A routine without statements.
     pub fn new(alloc: Global) -> Lowering {
@@ -117,37 +112,10 @@ impl Lowering {
         Ok(())
     }
 
-    /// An expression in the place of the slot from `free` on to which the last statement, which goes, sets it; any other
-    /// value stays. The slots that it names stay taken.
-    pub fn taken_back(&mut self, value: WExpr, free: u32) -> WExpr {
-        match value {
-            WExpr::Slot(slot) if slot >= free && sets(self.statements.last(), slot) => {
-                match last_word(&mut self.statements) {
-                    Some(word) => self.naming(word),
-                    None => WExpr::Slot(slot),
-                }
-            }
-            other => other,
-        }
-    }
-
-    /// The same of values, from the last one on.
-    pub fn taken_back_all(&mut self, mut values: Vec<WExpr>, free: u32) -> Result<Vec<WExpr>> {
-        let mut last_first = Vec::new(self.alloc);
-        for _ in 0..values.len() {
-            if let Some(value) = values.pop() {
-                last_first.push(self.taken_back(value, free))?;
-            }
-        }
-        last_first.reverse();
-        Ok(last_first)
-    }
-
-    /// An expression whose slots stay taken.
-    fn naming(&mut self, word: WExpr) -> WExpr {
-        let named = u32::try_from(word.slots()).unwrap_or(u32::MAX);
-        self.taken = self.taken.max(named);
-        word
+    /// Adds statements that were made before.
+    pub fn append(&mut self, mut statements: Vec<WStmt>) -> Result<()> {
+        self.statements.append(&mut statements)?;
+        Ok(())
     }
 
     /// Begins a list of statements inside the current one, which is handed out.
@@ -269,33 +237,6 @@ impl Lowering {
     pub fn declare(&mut self, place: usize, variable: Variable) -> Result<()> {
         self.variables.insert(place, variable)?;
         Ok(())
-    }
-}
-
-/// Whether a statement sets this slot, to an expression that is not too large to stand in another.
-fn sets(statement: Option<&WStmt>, slot: u32) -> bool {
-    match statement {
-        Some(WStmt::Set(to, word)) => {
-            *to == slot && word.registers() <= REGISTERS && word.words() <= WORDS
-        }
-        _ => false,
-    }
-}
-
-/// The expression to which a list sets this slot that does nothing else, and is empty then.
-pub fn only_word(list: &mut Vec<WStmt>, slot: u32) -> Option<WExpr> {
-    if list.len() == 1 && sets(list.last(), slot) {
-        last_word(list)
-    } else {
-        None
-    }
-}
-
-/// The expression to which the last statement of a list sets a slot; the statement goes.
-fn last_word(list: &mut Vec<WStmt>) -> Option<WExpr> {
-    match list.pop() {
-        Some(WStmt::Set(_, word)) => Some(word),
-        _ => None,
     }
 }
 

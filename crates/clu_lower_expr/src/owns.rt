@@ -23,23 +23,21 @@ impl Lowering {
     }
 
     /// The word of the object that the variable of this declaration names, own or not. Where it names none the code raises
-    /// a failure. The word of an own variable is kept in a slot, since a call may change it.
-    pub fn object_named(&mut self, fixed: &Fixed, place: usize) -> Result<WExpr> {
+    /// a failure.
+    pub fn object_named(&self, fixed: &Fixed, place: usize) -> Result<WExpr> {
         let Some(own) = fixed.owns.get(&place).copied() else {
             return self.object_of(place);
         };
-        let slot = self.take()?;
-        self.push(WStmt::Set(slot, WExpr::Hole(own.kind, own.number)))?;
-        let named = self.word_behind(slot, NAMED)?;
-        let word = self.word_behind(slot, 0)?;
+        let named = self.word_behind(NAMED)?;
+        let word = self.word_behind(0)?;
         let object = self.needed(named, word)?;
-        self.push(WStmt::Set(slot, object))?;
-        Ok(WExpr::Slot(slot))
+        let address = vec![in self.alloc; WExpr::Hole(own.kind, own.number)]?;
+        Ok(WExpr::With(address, Box::new(self.alloc, object)?))
     }
 
-    /// The word so many bytes after the address in a slot.
-    fn word_behind(&self, slot: u32, distance: u32) -> Result<WExpr> {
-        Ok(WExpr::Load(Box::new(self.alloc, WExpr::Slot(slot))?, distance))
+    /// The word so many bytes after the address that is bound.
+    fn word_behind(&self, distance: u32) -> Result<WExpr> {
+        Ok(WExpr::Load(Box::new(self.alloc, WExpr::Bound(0))?, distance))
     }
 
     /// Lets an own variable name the object of a word.
@@ -63,7 +61,6 @@ pub fn assign_named(
     of: TypeId,
     free: u32,
 ) -> Result<()> {
-    let value = out.taken_back(value, free);
     let types = &fixed.c.types;
     match fixed.owns.get(&place).copied() {
         Some(own) => {

@@ -2,11 +2,12 @@
 
 ghost use Rattle.std.specs.Prelude.{◌<◌, All, length};
 
-use crate::binding::{Operand, bind};
+use crate::binding::bind;
 use crate::constructors::binary;
-use crate::in_place::{apply, keep, perform};
+use crate::in_place::{apply, call_for_one, perform};
 use crate::invoking::bind_operands;
 use crate::lowering::Lowering;
+use crate::operands::Operand;
 use crate::uses::{node_operation, type_operation};
 use crate::walk::lower_all;
 use clu_base::Bytes;
@@ -14,7 +15,7 @@ use clu_lower_types::{
     Fixed, LowerError, Result, Seen, is_any, operation_of, seen_at, seen_of, type_of,
 };
 use clu_types::TypeId;
-use clu_wir::{WExpr, WOp, WStmt};
+use clu_wir::{WExpr, WOp};
 
 /// Notes the uses of an operator, which stand in the order of the places in the text: that of its operation, and that of
 /// `not` if it is negated.
@@ -84,12 +85,11 @@ fn negated_bool(
     taken: u32,
 ) -> Result<WExpr> {
     let _operation = not_operation(out, fixed, n, None)?;
-    let given = out.taken_back(given, taken);
     let opposite = binary(out.alloc, WOp::Xor, given, WExpr::Word(1))?;
-    keep(out, opposite, taken)
+    out.handed(opposite, taken)
 }
 
-/// The result of the operation `not` of what a comparison gave, which is in a slot.
+/// The result of the operation `not` of what a comparison gave.
 fn negated(
     out: &mut Lowering,
     fixed: &Fixed,
@@ -117,16 +117,6 @@ fn negation(
     let operands = vec![in out.alloc; operand]?;
     let operation = type_operation(out, types, compared, NOT)?;
     call_for_one(out, operation, operands, taken)
-}
-
-/// Calls a routine with arguments; its only result goes into the slot after the first `taken`, and slots after that
-/// are given back.
-fn call_for_one(out: &mut Lowering, routine: WExpr, args: Vec<WExpr>, taken: u32) -> Result<WExpr> {
-    out.release(taken);
-    let slot = out.take()?;
-    let results = vec![in out.alloc; slot]?;
-    out.push(WStmt::Call(routine, args, results))?;
-    Ok(WExpr::Slot(slot))
 }
 
 /// The operation that negates.
@@ -169,7 +159,8 @@ pub fn sugar_statement(out: &mut Lowering, fixed: &Fixed, n: u32, parts: &[u32])
     let free = out.taken();
     let operands = bound_parts(out, fixed, n, parts, free)?;
     let op = operation_of(fixed.c, n);
-    perform(out, fixed.c, op, operation, operands, free)
+    let results = Vec::new(out.alloc);
+    perform(out, fixed.c, op, operation, operands, results)
 }
 
 /// The values of parts of a node, bound to the formals of its operation.

@@ -55,15 +55,12 @@ impl Lowering {
     }
 
     /// The word of the object that the variable of this declaration names. Where it names none the code raises a failure.
-    pub fn object_of(&mut self, place: usize) -> Result<WExpr> {
+    pub fn object_of(&self, place: usize) -> Result<WExpr> {
         let variable = self.variable(place)?;
-        if let Some(named) = variable.named {
-            let object = self.needed(WExpr::Slot(named), WExpr::Slot(variable.slot))?;
-            let slot = self.take()?;
-            self.push(WStmt::Set(slot, object))?;
-            return Ok(WExpr::Slot(slot));
+        match variable.named {
+            Some(named) => self.needed(WExpr::Slot(named), WExpr::Slot(variable.slot)),
+            None => Ok(WExpr::Slot(variable.slot)),
         }
-        Ok(WExpr::Slot(variable.slot))
     }
 
     /// A word, where the one before it isn't 0; else the code raises the failure of a variable that names no object.

@@ -4,12 +4,13 @@
 ghost use Rattle.std.specs.Prelude.{◌<◌, ◌≤◌, All, length};
 ghost use Rattle.clu_syntax.specs.Parts.{AreOf};
 
-use crate::binding::{Operand, bind_all};
+use crate::binding::bind_all;
 use crate::constructors::{fill_array, fill_record};
 use crate::invoking::{Call, Invoked, apply_invoked};
 use crate::literals::literal;
-use crate::lowering::{Lowering, only_word};
+use crate::lowering::Lowering;
 use crate::names::name;
+use crate::operands::Operand;
 use crate::sugar::{note_operator, sugar};
 use crate::uses::{force_of, node_operation};
 use clu_core::OpRef;
@@ -17,11 +18,11 @@ use clu_lower_types::{Fixed, Result, denoted_type, heading_of, operation_of, whi
 use clu_syntax::{Expression, Operator};
 use clu_tree::NodeKind;
 use clu_wir::{WExpr, WStmt};
+use std::alloc::Global;
 use std::boxed::Box;
 
-/// Adds the code that evaluates an expression, and gives the word that is its value then. That word stays as it is
-/// while further expressions are evaluated: it is known, or in a slot. Memory where it was refused, and NotYet at an
-/// expression for which no code is made.
+/// The value of an expression. What can't be in it, as a call, is added as statements before. Memory where it was refused, and
+/// NotYet at an expression for which no code is made.
 #[cycle(expressions)]
 pub fn lower_expr(out: &mut Lowering, fixed: &Fixed, n: u32) -> Result<WExpr>
     requires { n < length fixed.now.syntax.now }
@@ -51,18 +52,23 @@ pub fn lower_expr(out: &mut Lowering, fixed: &Fixed, n: u32) -> Result<WExpr>
     }
 }
 
-/// The value of an expression with its node.
+/// Adds the value of an expression to those that come before it, which are kept if statements stand between.
 #[cycle(expressions)]
-pub fn operand(out: &mut Lowering, fixed: &Fixed, n: u32) -> Result<Operand>
+fn add_operand(out: &mut Lowering, fixed: &Fixed, n: u32, operands: &mut Vec<Operand>) -> Result<()>
     requires { n < length fixed.now.syntax.now }
 {
-    Ok(Operand {
-        word: lower_expr(out, fixed, n)?,
-        node: n,
-    })
+    let outer = out.open();
+    let word = lower_expr(out, fixed, n)?;
+    let statements = out.close(outer);
+    if !statements.is_empty() {
+        out.keep_all(operands)?;
+        out.append(statements)?;
+    }
+    operands.push(out.operand(word, n)?)?;
+    Ok(())
 }
 
-/// Adds the values of parts of the node n, which are evaluated from left to right.
+/// The same of parts of the node n, from left to right.
 #[cycle(expressions)]
 fn add_operands(
     out: &mut Lowering,
@@ -75,7 +81,7 @@ fn add_operands(
     requires below { All (λ c. c < n) parts.now }
 {
     for part in parts {
-        operands.push(operand(out, fixed, *part)?)?;
+        add_operand(out, fixed, *part, operands)?;
     }
     Ok(())
 }
@@ -99,7 +105,7 @@ fn prefix(out: &mut Lowering, fixed: &Fixed, n: u32, part: u32) -> Result<WExpr>
 {
     let free = out.taken();
     note_operator(out, fixed, n, false)?;
-    let operands = vec![in out.alloc; operand(out, fixed, part)?]?;
+    let operands = lower_all(out, fixed, n, &[part])?;
     sugar(out, fixed, n, operands, false, free)
 }
 
@@ -110,7 +116,7 @@ fn get(out: &mut Lowering, fixed: &Fixed, n: u32, of: u32) -> Result<WExpr>
     requires below { of < n }
 {
     let free = out.taken();
-    let operands = vec![in out.alloc; operand(out, fixed, of)?]?;
+    let operands = lower_all(out, fixed, n, &[of])?;
     sugar(out, fixed, n, operands, false, free)
 }
 
@@ -125,7 +131,7 @@ fn index(out: &mut Lowering, fixed: &Fixed, n: u32, of: u32, given: &[u32]) -> R
         return node_operation(out, fixed.c, n);
     }
     let free = out.taken();
-    let mut operands = vec![in out.alloc; operand(out, fixed, of)?]?;
+    let mut operands = lower_all(out, fixed, n, &[of])?;
     note_operator(out, fixed, n, false)?;
     add_operands(out, fixed, n, given, &mut operands)?;
     sugar(out, fixed, n, operands, false, free)
@@ -172,9 +178,9 @@ fn operation(
     requires right { right < n }
 {
     let free = out.taken();
-    let mut operands = vec![in out.alloc; operand(out, fixed, left)?]?;
+    let mut operands = lower_all(out, fixed, n, &[left])?;
     note_operator(out, fixed, n, negated)?;
-    operands.push(operand(out, fixed, right)?)?;
+    add_operand(out, fixed, right, &mut operands)?;
     sugar(out, fixed, n, operands, negated, free)
 }
 
@@ -192,6 +198,7 @@ pub fn invoked(
     requires arguments { All (λ c. c < n) call.arguments.now }
 {
     let routine = lower_expr(out, fixed, call.routine)?;
+    let routine = out.kept(routine)?;
     let operands = lower_all(out, fixed, n, call.arguments)?;
     let heading = heading_of(fixed.c, call.routine)?;
     let any = which_are_any(out.alloc, &fixed.c.types, heading.args.as_slice())?;
@@ -221,8 +228,9 @@ fn record(out: &mut Lowering, fixed: &Fixed, n: u32, components: &[u32]) -> Resu
     let mut operands = Vec::new(out.alloc);
     for component in components {
         let value = fixed.syntax.component(*component).value;
-        operands.push(operand(out, fixed, value)?)?;
+        add_operand(out, fixed, value, &mut operands)?;
     }
+    out.keep_all(&mut operands)?;
     fill_record(out, fixed, n, components, operands.as_slice(), slot)?;
     Ok(WExpr::Slot(slot))
 }
@@ -235,8 +243,10 @@ fn array(out: &mut Lowering, fixed: &Fixed, n: u32, low: &[u32], elements: &[u32
     requires elements { All (λ c. c < n) elements.now }
 {
     let slot = out.take()?;
-    let low = lower_all(out, fixed, n, low)?;
-    let operands = lower_all(out, fixed, n, elements)?;
+    let mut low = lower_all(out, fixed, n, low)?;
+    out.keep_all(&mut low)?;
+    let mut operands = lower_all(out, fixed, n, elements)?;
+    out.keep_all(&mut operands)?;
     fill_array(
         out,
         fixed,
@@ -248,8 +258,7 @@ fn array(out: &mut Lowering, fixed: &Fixed, n: u32, low: &[u32], elements: &[u32
     Ok(WExpr::Slot(slot))
 }
 
-/// `left cand right` and `left cor right`, whose result has the first slot: the statements of the right side are done
-/// where the left side doesn't tell.
+/// `left cand right` and `left cor right`.
 #[cycle(expressions)]
 fn condition(
     out: &mut Lowering,
@@ -264,49 +273,45 @@ fn condition(
     requires right { right < n }
 {
     let slot = out.take()?;
-    set(out, fixed, left, slot)?;
+    let left = lower_expr(out, fixed, left)?;
     let outer = out.open();
-    set(out, fixed, right, slot)?;
-    let right = out.close(outer);
-    join(out, is_both, slot, right)?;
-    Ok(WExpr::Slot(slot))
-}
-
-/// Sets a slot to the value of an expression. All slots after it are free then.
-#[cycle(expressions)]
-fn set(out: &mut Lowering, fixed: &Fixed, n: u32, slot: u32) -> Result<()>
-    requires { n < length fixed.now.syntax.now }
-{
-    let free = slot.saturating_add(1);
-    let value = lower_expr(out, fixed, n)?;
-    let value = out.taken_back(value, free);
-    out.push(WStmt::Set(slot, value))?;
-    out.release(free);
-    Ok(())
-}
-
-/// After both sides of `cand` or `cor`.
-fn join(out: &mut Lowering, is_both: bool, slot: u32, mut right: Vec<WStmt>) -> Result<()> {
-    if let Some(word) = only_word(&mut right, slot) {
-        return choose(out, slot, word, is_both);
+    let right = lower_expr(out, fixed, right)?;
+    let statements = out.close(outer);
+    if statements.is_empty() {
+        let value = both_or_one(out.alloc, is_both, left, right)?;
+        return out.handed(value, slot);
     }
-    let nothing = Vec::new(out.alloc);
+    join(out, is_both, slot, left, statements, right)
+}
+
+/// Whether both are true, or one is.
+fn both_or_one(alloc: Global, is_both: bool, left: WExpr, right: WExpr) -> Result<WExpr> {
+    let left = Box::new(alloc, left)?;
+    let right = Box::new(alloc, right)?;
     if is_both {
-        out.push(WStmt::If(WExpr::Slot(slot), right, nothing))
+        Ok(WExpr::If(left, right, Box::new(alloc, WExpr::Word(0))?))
     } else {
-        out.push(WStmt::If(WExpr::Slot(slot), nothing, right))
+        Ok(WExpr::If(left, Box::new(alloc, WExpr::Word(1))?, right))
     }
 }
 
-/// The same where the right side is one expression.
-fn choose(out: &mut Lowering, slot: u32, right: WExpr, is_both: bool) -> Result<()> {
-    let left = out.taken_back(WExpr::Slot(slot), slot);
-    let left = Box::new(out.alloc, left)?;
-    let right = Box::new(out.alloc, right)?;
-    let value = if is_both {
-        WExpr::If(left, right, Box::new(out.alloc, WExpr::Word(0))?)
+/// The same in a slot, where statements come before the right side: they are done if the left side doesn't tell.
+fn join(
+    out: &mut Lowering,
+    is_both: bool,
+    slot: u32,
+    left: WExpr,
+    mut statements: Vec<WStmt>,
+    right: WExpr,
+) -> Result<WExpr> {
+    out.push(WStmt::Set(slot, left))?;
+    statements.push(WStmt::Set(slot, right))?;
+    let nothing = Vec::new(out.alloc);
+    out.push(if is_both {
+        WStmt::If(WExpr::Slot(slot), statements, nothing)
     } else {
-        WExpr::If(left, Box::new(out.alloc, WExpr::Word(1))?, right)
-    };
-    out.push(WStmt::Set(slot, value))
+        WStmt::If(WExpr::Slot(slot), nothing, statements)
+    })?;
+    out.release(slot.saturating_add(1));
+    Ok(WExpr::Slot(slot))
 }

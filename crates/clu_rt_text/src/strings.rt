@@ -158,14 +158,35 @@ const COPY_BYTES: Step = Step::Loop(&[
     Step::Set(7, Expr::Op(WOp::Add, &TO, &ONE)),
 ]);
 
+const COPY_WORDS: Step = Step::Loop(&[
+    Step::When(Expr::Op(WOp::Equal, &FROM, &END), &[Step::Break]),
+    Step::Put(TO, 0, Expr::Load(&FROM, 0)),
+    Step::Set(5, Expr::Op(WOp::Add, &FROM, &EIGHT)),
+    Step::Set(7, Expr::Op(WOp::Add, &TO, &EIGHT)),
+]);
+
+const ROUNDED: Expr = Expr::Op(
+    WOp::Sll,
+    &Expr::Op(
+        WOp::Srl,
+        &Expr::Op(WOp::Add, &X_SIZE, &SEVEN),
+        &Expr::Word(3),
+    ),
+    &Expr::Word(3),
+);
+
 const CONCAT: &[Step] = &[
     Step::Set(3, Expr::Op(WOp::Add, &X_SIZE, &Y_SIZE)),
     MAKE,
     PUT_SIZE,
     TO_BYTES,
     Step::Set(5, X_BYTES),
-    Step::Set(6, X_END),
-    COPY_BYTES,
+    Step::Set(6, Expr::Op(WOp::Add, &FROM, &ROUNDED)),
+    COPY_WORDS,
+    Step::Set(
+        7,
+        Expr::Op(WOp::Add, &Expr::Op(WOp::Add, &MADE, &EIGHT), &X_SIZE),
+    ),
     Step::Set(5, Y_BYTES),
     Step::Set(6, Y_END),
     COPY_BYTES,
@@ -178,8 +199,12 @@ const APPEND: &[Step] = &[
     PUT_SIZE,
     TO_BYTES,
     Step::Set(5, X_BYTES),
-    Step::Set(6, X_END),
-    COPY_BYTES,
+    Step::Set(6, Expr::Op(WOp::Add, &FROM, &ROUNDED)),
+    COPY_WORDS,
+    Step::Set(
+        7,
+        Expr::Op(WOp::Add, &Expr::Op(WOp::Add, &MADE, &EIGHT), &X_SIZE),
+    ),
     Step::Do(Primitive::SaveByte, &[TO, Y]),
     Step::Return(&[MADE]),
 ];

@@ -5,17 +5,14 @@ use Rattle.clu_lower_expr.proofs.walk.+expressions.Given as goal
 abbrev pub decreases-lower_expr : goal.decreases-lower_expr
 decreases-lower_expr l = 8 * l.n + 7
 
-abbrev pub decreases-operand : goal.decreases-operand
-decreases-operand l = 8 * l.n + 8
+abbrev pub decreases-add_operand : goal.decreases-add_operand
+decreases-add_operand l = 8 * l.n + 8
 
 abbrev pub decreases-add_operands : goal.decreases-add_operands
 decreases-add_operands l = 8 * l.n + 1
 
 abbrev pub decreases-lower_all : goal.decreases-lower_all
 decreases-lower_all l = 8 * l.n + 2
-
-abbrev pub decreases-set : goal.decreases-set
-decreases-set l = 8 * l.n + 8
 
 abbrev pub decreases-prefix : goal.decreases-prefix
 decreases-prefix l = 8 * l.n + 3
