@@ -1,5 +1,5 @@
 pub mod Instructions
 pub mod Cutting
-pub mod Adding
+mod Arguments
 pub mod Sizes
 pub mod Ways

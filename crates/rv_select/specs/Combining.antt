@@ -10,7 +10,7 @@ use Rattle.rv_select.specs.declared.operand.Operand.{Operand}
 use Rattle.rv_select.specs.declared.operand.Operand.TheVariants.{At, Known}
 use Rattle.rv_select.specs.declared.operand.Scope.{Scope}
 use Rattle.rv_select.specs.declared.register.Register.{Register}
-use Rattle.rv_select.specs.Operands.{free, keeping, register_of, register_onto}
+use Rattle.rv_select.specs.Operands.{free, keeping, register_of, register_onto, taking}
 use Rattle.rv_select.specs.Operations.{instruction_of}
 use Rattle.rv_select.specs.Written.{Onto, imm_onto, in_turn, three_onto}
 
@@ -73,7 +73,9 @@ right_at left right s = register_of right (beside_left left right s)
 
 abbrev pub registers_onto : Operand → Operand → Scope → Onto
 registers_onto left right s =
-    in_turn (register_onto left (free (keeping right s)) ∷ register_onto right (beside_left left right s) ∷ [])
+    in_turn
+    (taking (keeping right s) ∷ register_onto left (free (keeping right s)) ∷ taking (keeping (At (left_at left right s)) s)
+    ∷ register_onto right (beside_left left right s) ∷ [])
 
 abbrev pub by_registers_onto : WOp → Operand → Operand → Scope → Onto
 by_registers_onto o left right s =
@@ -86,7 +88,7 @@ combined_by o left right s None = by_registers_onto o left right s
 combined_by o left right s (Some n) = in_turn (register_onto left (free s) ∷ by_number_onto o (register_of left (free s)) n (free s) ∷ [])
 
 unfoldable pub combined_onto : WOp → Operand → Operand → Scope → Onto
-combined_onto o left right s = combined_by o left right s (known_number o right)
+combined_onto o left right s = in_turn (taking s ∷ combined_by o left right s (known_number o right) ∷ [])
 
 abbrev pub combined_at : Scope → Operand
 combined_at s = At (free s)

@@ -1,14 +1,16 @@
 -- The words of expressions in registers: what each expression inside becomes stands in its place.
 use Rattle.std.specs.Prelude.{ℕ, ◌+◌, ◌-◌, ◌^◌, ◌==◌, min, map, ℤ, pos, ◌+ℤ◌, ◌*ℤ◌, Bool, true, false, not, ◌&&◌, ◌||◌, if◌then◌else◌, List, [], ◌∷◌, length, Option, Some, None, nat_lt, int_lt, slice_get, slice_set}
 use Rattle.std.specs.Int.{w32, w64, cast_signed, from_bool, saturate_signed}
-use Rattle.clu_wir.specs.declared.expression.WExpr.{WExpr, WExpr-F, fold-WExpr}
+use Rattle.clu_wir.specs.Plain.{Expr, Exprs}
+use Rattle.clu_wir.specs.Plain as tree
+use Rattle.clu_wir.specs.Costs.{known_words}
 use Rattle.clu_wir.specs.declared.expression.WOp.{WOp}
 use Rattle.clu_wir.specs.declared.expression.WOp.TheVariants as operation
 use Rattle.clu_wir.specs.declared.hole.HoleKind.{HoleKind}
 use Rattle.clu_wir.specs.declared.hole.HoleKind.TheVariants as kind
 use Rattle.clu_wir.specs.declared.trap.Trap.{Trap}
 use Rattle.clu_wir.specs.Numbers.{trap_number}
-use Rattle.clu_wir.specs.Rooms.{all_words_of, plus, words_step}
+use Rattle.clu_wir.specs.Rooms.{all_words_of, plus}
 use Rattle.rv_isa.specs.declared.op.Op.TheVariants as op
 use Rattle.rv_select.specs.declared.conditions.Target.{Target}
 use Rattle.rv_select.specs.declared.knowing.TheConstants.{REACH}
@@ -23,7 +25,7 @@ use Rattle.rv_select.specs.declared.register.Register.{Register}
 use Rattle.rv_select.specs.declared.register.Register.TheVariants.{Back, Caller, First, Table, Value, Zero}
 use Rattle.rv_select.specs.Combining.{combined_at, combined_onto, small}
 use Rattle.rv_select.specs.Conditions.{always_onto, compared_onto, far, near}
-use Rattle.rv_select.specs.Operands.{free, keeping, put_onto, register_of, register_onto, unbound}
+use Rattle.rv_select.specs.Operands.{free, keeping, put_onto, register_of, register_onto, taking, unbound}
 use Rattle.rv_select.specs.Slots.{load_at_onto, load_slot_onto, word_distance}
 use Rattle.rv_select.specs.Steps.{part_onto}
 use Rattle.rv_select.specs.Written.{Onto, copy_onto, fresh, go_onto, hole_onto, in_turn, jalr_onto, ld_onto, load_onto, placed, three_onto}
@@ -129,7 +131,7 @@ plain words known at onto =
 -- Expressions that have none inside.
 
 unfoldable pub slot_onto : ℕ → Scope → Onto
-slot_onto slot s w = if s.is_leaf then load_at_onto (free s) Value (word_distance slot) w else load_slot_onto (free s) slot w
+slot_onto slot s w = if s.is_leaf then load_at_onto (free s) Value (word_distance slot) (taking s w) else load_slot_onto (free s) slot (taking s w)
 
 abbrev pub cell_onto : HoleKind → Register → Onto
 cell_onto kind.Regions to w = w
@@ -139,7 +141,7 @@ cell_onto kind.TypeCell to w = three_onto op.Add to to Table w
 cell_onto _ to w = in_turn (three_onto op.Add to to Table ∷ ld_onto to to (pos 0) ∷ []) w
 
 unfoldable pub hole_word_onto : HoleKind → ℕ → Scope → Onto
-hole_word_onto k number s = in_turn (hole_onto (free s) k number ∷ cell_onto k (free s) ∷ [])
+hole_word_onto k number s = in_turn (taking s ∷ hole_onto (free s) k number ∷ cell_onto k (free s) ∷ [])
 
 abbrev pub bound_word : Option Operand → Option ℕ
 bound_word (Some (Known word)) = Some word
@@ -153,7 +155,7 @@ bound_at (Some o) = o
 
 unfoldable pub load_word_onto : Operand → ℤ → Scope → Onto
 load_word_onto address distance s =
-    in_turn (register_onto address (free s) ∷ load_at_onto (free s) (register_of address (free s)) distance ∷ [])
+    in_turn (taking s ∷ register_onto address (free s) ∷ load_at_onto (free s) (register_of address (free s)) distance ∷ [])
 
 abbrev pub loaded_whole_onto : Part → ℤ → Scope → Onto
 loaded_whole_onto a distance s = in_turn (onto_of a s ∷ load_word_onto (at_of a s) distance s ∷ [])
@@ -167,7 +169,7 @@ loaded_onto a distance s = loaded_by (a.sum s) a distance s
 
 unfoldable pub byte_at_onto : Operand → Scope → Onto
 byte_at_onto address s =
-    in_turn (register_onto address (free s) ∷ load_onto op.Lbu (free s) (register_of address (free s)) (pos 0) ∷ [])
+    in_turn (taking s ∷ register_onto address (free s) ∷ load_onto op.Lbu (free s) (register_of address (free s)) (pos 0) ∷ [])
 
 abbrev pub byte_onto : Part → Scope → Onto
 byte_onto a s = in_turn (onto_of a s ∷ byte_at_onto (at_of a s) s ∷ [])
@@ -259,7 +261,7 @@ abbrev pub choice_onto : Part → Part → Part → Scope → Onto
 choice_onto c first other s w =
     let otherwise = length w.labels in
     let end = length (fresh w).labels in
-    in_turn (fresh ∷ fresh ∷ sides_onto (ready_side c first other s) c first other otherwise end s ∷ []) w
+    in_turn (taking s ∷ fresh ∷ fresh ∷ sides_onto (ready_side c first other s) c first other otherwise end s ∷ []) w
 
 -- both the first condition and the second word are wanted, or one of the first condition and the other word is enough
 abbrev pub short_of : Part → Part → Scope → Option Bool
@@ -291,10 +293,18 @@ trap_to link trap = in_turn (part_onto First part.Trap ∷ jalr_onto link First 
 unfoldable pub trap_onto : Trap → Bool → Onto
 trap_onto trap is_leaf w = if is_leaf then in_turn (copy_onto Table Caller ∷ trap_to Zero trap ∷ []) w else trap_to Back trap w
 
-abbrev pub check_onto : Part → Trap → Scope → Onto
-check_onto c trap s w =
+abbrev pub is_held : Option ℕ → Bool
+is_held None = false
+is_held (Some word) = not (word == 0)
+
+abbrev pub raising_onto : Part → Trap → Scope → Onto
+raising_onto c trap s w =
     let holds = length w.labels in
     in_turn (fresh ∷ jump_of c true (near holds) s ∷ trap_onto trap s.is_leaf ∷ placed holds ∷ []) w
+
+-- one that is known to hold becomes no word
+abbrev pub check_onto : Part → Trap → Scope → Onto
+check_onto c trap s w = if is_held (c.known s) then w else raising_onto c trap s w
 
 abbrev pub checked : Part → Trap → Part → Part
 checked c trap p =
@@ -313,7 +323,7 @@ held (At r) s = At r
 held (Known word) s = held_by (small (cast_signed w64 word)) word s
 
 abbrev pub held_onto_by : Option ℤ → ℕ → Scope → Onto
-held_onto_by None word s w = register_onto (Known word) (free s) w
+held_onto_by None word s w = register_onto (Known word) (free s) (taking s w)
 held_onto_by (Some number) word s w = w
 
 unfoldable pub held_onto : Operand → Scope → Onto
@@ -327,43 +337,55 @@ bound_scope (p ∷ ps) number kept inner =
     let o = held (at_of p kept) kept in
     bound_scope ps (min (number + 1) (2 ^ 64 - 1)) (keeping o kept) (record inner { bound = slice_set inner.bound number o })
 
-abbrev pub bound_onto : List Part → Scope → Onto
-bound_onto [] kept w = w
-bound_onto (p ∷ ps) kept w =
+-- as many words are bound as there is room for
+abbrev pub binding : ℕ → Onto
+binding number w = record w { fits = w.fits && nat_lt number 4 }
+
+abbrev pub bound_onto : List Part → ℕ → Scope → Onto
+bound_onto [] number kept w = w
+bound_onto (p ∷ ps) number kept w =
     let o = held (at_of p kept) kept in
-    bound_onto ps (keeping o kept) (held_onto (at_of p kept) kept (onto_of p kept w))
+    bound_onto ps (min (number + 1) (2 ^ 64 - 1)) (keeping o kept) (binding number (held_onto (at_of p kept) kept (onto_of p kept w)))
 
 abbrev pub inner_scope : List Part → Scope → Scope
 inner_scope ps s = bound_scope ps 0 s (unbound s.is_leaf)
 
 abbrev pub within : List Part → Part → ℕ → Part
 within ps body words =
-    record (plain words (λ s. None) (λ s. at_of body (inner_scope ps s)) (λ s. in_turn (bound_onto ps s ∷ onto_of body (inner_scope ps s) ∷ []))) {
-      jump = λ sense t s. in_turn (bound_onto ps s ∷ jump_of body sense t (inner_scope ps s) ∷ []);
+    record (plain words (λ s. None) (λ s. at_of body (inner_scope ps s)) (λ s. in_turn (bound_onto ps 0 s ∷ onto_of body (inner_scope ps s) ∷ []))) {
+      jump = λ sense t s. in_turn (bound_onto ps 0 s ∷ jump_of body sense t (inner_scope ps s) ∷ []);
     }
 
 -- Expressions.
 
-abbrev pub part_step : WExpr-F Part → Part
-part_step (WExpr-F.Slot slot) = plain 3 (λ s. None) (λ s. At (free s)) (slot_onto slot)
-part_step (WExpr-F.Word word) = record (plain (words_step (WExpr-F.Word word)) (λ s. Some word) (λ s. Known word) (λ s w. w)) { ready = λ s. Some (Known word) }
-part_step (WExpr-F.Hole k number) = plain 4 (λ s. None) (λ s. At (free s)) (hole_word_onto k number)
-part_step (WExpr-F.Load address bytes) =
-    let a = address.value in
-    plain (plus a.words 3) (λ s. None) (λ s. At (free s)) (λ s. loaded_onto a (pos bytes) s)
-part_step (WExpr-F.Byte address) = plain (plus address.value.words 1) (λ s. None) (λ s. At (free s)) (byte_onto address.value)
-part_step (WExpr-F.Binary o left right) = binary o left.value right.value
-part_step (WExpr-F.If condition first other) = choice condition.value first.value other.value
-part_step (WExpr-F.Check condition trap value) = checked condition.value trap value.value
-part_step (WExpr-F.With values body) =
-    within values.items body.value (plus (all_words_of (map (λ (p : Part). p.words) values.items)) body.value.words)
-part_step (WExpr-F.Bound number) =
-    record (plain 1 (λ s. bound_word (slice_get s.bound number)) (λ s. bound_at (slice_get s.bound number)) (λ s w. w)) {
-      ready = λ s. slice_get s.bound number;
-    }
+abbrev pub loaded : Part → ℕ → Part
+loaded a bytes = plain (plus a.words 3) (λ s. None) (λ s. At (free s)) (λ s. loaded_onto a (pos bytes) s)
 
-abbrev pub part_of : WExpr → Part
-part_of = fold-WExpr Part part_step
+abbrev pub byte_of : Part → Part
+byte_of a = plain (plus a.words 1) (λ s. None) (λ s. At (free s)) (byte_onto a)
+
+abbrev pub within_body : List Part → Part → Part
+within_body ps body = within ps body (plus (all_words_of (map (λ (p : Part). p.words) ps)) body.words)
+
+abbrev mutual
+  pub part_of : Expr → Part
+  part_of (tree.slot n) = plain 3 (λ s. None) (λ s. At (free s)) (slot_onto n)
+  part_of (tree.word n) = record (plain (known_words n) (λ s. Some n) (λ s. Known n) (λ s w. w)) { ready = λ s. Some (Known n) }
+  part_of (tree.hole k number) = plain 4 (λ s. None) (λ s. At (free s)) (hole_word_onto k number)
+  part_of (tree.load address bytes) = loaded (part_of address) bytes
+  part_of (tree.byte address) = byte_of (part_of address)
+  part_of (tree.binary o left right) = binary o (part_of left) (part_of right)
+  part_of (tree.choice condition first other) = choice (part_of condition) (part_of first) (part_of other)
+  part_of (tree.check condition trap value) = checked (part_of condition) trap (part_of value)
+  part_of (tree.binding values body) = within_body (parts_of values) (part_of body)
+  part_of (tree.bound number) =
+      record (plain 1 (λ s. bound_word (slice_get s.bound number)) (λ s. bound_at (slice_get s.bound number)) (λ s w. w)) {
+        ready = λ s. slice_get s.bound number;
+      }
+
+  pub parts_of : Exprs → List Part
+  parts_of tree.no_exprs = []
+  parts_of (tree.expr_and e es) = part_of e ∷ parts_of es
 
 -- The word of an expression in a register.
 
@@ -371,4 +393,4 @@ abbrev pub in_register_at : Part → Scope → Register
 in_register_at p s = register_of (at_of p s) (free s)
 
 abbrev pub in_register_onto : Part → Scope → Onto
-in_register_onto p s = in_turn (onto_of p s ∷ register_onto (at_of p s) (free s) ∷ [])
+in_register_onto p s = in_turn (onto_of p s ∷ taking s ∷ register_onto (at_of p s) (free s) ∷ [])

@@ -4,10 +4,13 @@ pub mod Conditions
 pub mod Evaluation
 pub mod Finished
 pub mod Instructions
+pub mod Mapped
 pub mod Operands
 pub mod Operations
 pub mod Parts
 pub mod Registers
+pub mod Runtime
+pub mod Searching
 pub mod Selected
 pub mod Selection
 pub mod Slots

@@ -1,5 +1,5 @@
 -- Where the words of expressions are, and the registers that are free.
-use Rattle.std.specs.Prelude.{ℕ, ◌*◌, ◌^◌, ◌%◌, ◌==◌, ℤ, Bool, pos, if◌then◌else◌, List, [], ◌∷◌, bit_and, bit_or}
+use Rattle.std.specs.Prelude.{ℕ, ◌*◌, ◌^◌, ◌%◌, ◌==◌, ℤ, Bool, false, ◌&&◌, ◌||◌, pos, if◌then◌else◌, List, [], ◌∷◌, bit_and, bit_or}
 use Rattle.std.specs.Int.{w64, cast_signed, int_shl, int_shr, int_wrapping_sub}
 use Rattle.std.specs.Ordering.{int_eq}
 use Rattle.rv_isa.specs.declared.op.Op.TheVariants as op
@@ -11,7 +11,7 @@ use Rattle.rv_select.specs.declared.register.Register.TheVariants.{Far, First, Z
 use Rattle.rv_select.specs.declared.register.TheConstants.{WORK}
 use Rattle.rv_select.specs.Registers.{register_number}
 use Rattle.rv_select.specs.Slots.{above_lowest, lowest}
-use Rattle.rv_select.specs.Written.{Onto, addi_onto, copy_onto, imm_onto, in_turn, three_onto, upper_onto}
+use Rattle.rv_select.specs.Written.{Onto, Written, addi_onto, copy_onto, imm_onto, in_turn, three_onto, upper_onto}
 
 -- Known words in registers: one of 32 bits, and the lower half of one of 64 bits, with a sign for which the upper half makes up.
 
@@ -64,6 +64,20 @@ free_among kept (r ∷ rs) = if bit_and kept (bit r) == 0 then r else free_among
 -- the first register of work whose bit is not in the set
 unfoldable pub free_of : ℕ → Register
 free_of kept = free_among kept WORK
+
+abbrev pub has_free_among : ℕ → List Register → Bool
+has_free_among kept [] = false
+has_free_among kept (r ∷ rs) = (bit_and kept (bit r) == 0) || has_free_among kept rs
+
+unfoldable pub has_free_of : ℕ → Bool
+has_free_of kept = has_free_among kept WORK
+
+abbrev pub has_free : Scope → Bool
+has_free s = has_free_of s.kept
+
+-- a free register is taken
+abbrev pub taking : Scope → Onto
+taking s w = record w { fits = w.fits && has_free s }
 
 abbrev pub free : Scope → Register
 free s = free_of s.kept

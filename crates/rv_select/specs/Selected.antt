@@ -1,13 +1,16 @@
 -- What a routine of flat code hands on to its object, and what the parts of the runtime are.
-use Rattle.std.specs.Prelude.{◌≡◌, ◌≤◌, ℕ, List, [], length, IsTrue}
+use Rattle.std.specs.Prelude.{◌≡◌, ◌≤◌, ℕ, List, [], length, map, IsTrue}
 use Rattle.clu_base.specs.declared.constants.ObjConst.{ObjConst}
 use Rattle.clu_wir.specs.declared.routine.WLeaf.{WLeaf}
+use Rattle.clu_frames.specs.Plain.{plain_code}
 use Rattle.clu_frames.specs.Steps.{code_words}
 use Rattle.clu_frames.specs.declared.flat.FlatRoutine.{FlatRoutine}
 use Rattle.clu_object.specs.Holes.{has_holes}
 use Rattle.clu_object.specs.declared.object.ObjRoutine.{ObjRoutine}
-use Rattle.rv_select.specs.Finished.{all_onto, finished}
-use Rattle.rv_select.specs.Instructions.{AreInstructions}
+use Rattle.rv_select.specs.Finished.{all_onto, all_starts, finished, is_landed}
+use Rattle.rv_select.specs.Mapped.{mapped_regions}
+use Rattle.clu_handlers.specs.declared.region.Region.{Region as StepRegion}
+use Rattle.rv_select.specs.Instructions.{AreInstructions, read}
 
 -- all but its steps: the name, the number of nodes, and what holes name
 pub record HandsOn (flat : FlatRoutine) (object : ObjRoutine) : Type 0 where
@@ -19,9 +22,12 @@ pub record HandsOn (flat : FlatRoutine) (object : ObjRoutine) : Type 0 where
 
 -- its words and holes are those of its steps, one after the other; the words are those of instructions, no more than are
 -- counted for the steps, and each hole is where the linker fills in what it names
-pub record IsSelected (flat : FlatRoutine) (object : ObjRoutine) : Type 0 where
-  pub of_steps : object.code ≡ finished (all_onto flat.frame flat.code.items)
-  pub holes_of_steps : object.holes ≡ (all_onto flat.frame flat.code.items).holes
+pub record IsSelected (flat : FlatRoutine) (regions : List StepRegion) (object : ObjRoutine) : Type 0 where
+  pub of_steps : map read object.code ≡ finished (all_onto flat.frame (plain_code flat.code.items))
+  pub holes_of_steps : object.holes ≡ (all_onto flat.frame (plain_code flat.code.items)).holes
+  pub landed : IsTrue (is_landed (all_onto flat.frame (plain_code flat.code.items)))
+  pub fits : IsTrue (all_onto flat.frame (plain_code flat.code.items)).fits
+  pub regions_of_steps : object.regions ≡ mapped_regions (all_starts flat.frame (plain_code flat.code.items)) regions
   pub words : length object.code ≤ code_words flat.code.items
   pub instructions : AreInstructions object.code
   pub holes : IsTrue (has_holes object)

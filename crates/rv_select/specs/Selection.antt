@@ -1,8 +1,8 @@
 -- What each step of flat code becomes.
 use Rattle.std.specs.Prelude.{ℕ, ℤ, pos, false, [], ◌∷◌, slice_get}
 use Rattle.clu_wir.specs.Numbers.{primitives}
-use Rattle.clu_frames.specs.declared.flat.Flat.{Flat}
-use Rattle.clu_frames.specs.declared.flat.Flat.TheVariants as flat
+use Rattle.clu_frames.specs.Plain.{Step}
+use Rattle.clu_frames.specs.Plain as flat
 use Rattle.rv_select.specs.declared.operand.Operand.TheVariants.{At}
 use Rattle.rv_select.specs.declared.operand.Scope.{Scope}
 use Rattle.rv_select.specs.declared.parts.Part.TheVariants as part
@@ -40,14 +40,14 @@ invoke_onto routine slot s =
     ∷ ld_onto First (in_register_at routine s) (pos 0) ∷ jalr_onto Back First (pos 0) ∷ [])
 
 -- a step of a routine whose frame has so many slots
-abbrev pub step_onto : ℕ → Flat → Onto
-step_onto frame (flat.Set to word) w = set_onto to (part_of word) (unbound false) w
-step_onto frame (flat.Put address distance word) w = store_onto (part_of address) distance (part_of word) (unbound false) w
+abbrev pub step_onto : ℕ → Step → Onto
+step_onto frame (flat.Set to value) w = set_onto to (part_of value) (unbound false) w
+step_onto frame (flat.Put address distance value) w = store_onto (part_of address) distance (part_of value) (unbound false) w
 step_onto frame (flat.Label label) w = placed label w
 step_onto frame (flat.Jump label) w = go_onto label w
 step_onto frame (flat.Branch condition sense label) w = jump_of (part_of condition) sense (far label) (unbound false) w
 step_onto frame (flat.Enter arguments) w = enter_onto arguments frame w
-step_onto frame (flat.Bind number word to) w = bind_onto (part_of number) (part_of word) to (unbound false) w
+step_onto frame (flat.Bind number value to) w = bind_onto (part_of number) (part_of value) to (unbound false) w
 step_onto frame (flat.Invoke routine slot) w = invoke_onto (part_of routine) slot (unbound false) w
 step_onto frame (flat.Yield slot count) w = yield_onto slot count w
 step_onto frame (flat.Resume slot) w = resume_onto slot w

@@ -1,12 +1,12 @@
 -- Words at any distance from a register, and those of a frame.
-use Rattle.std.specs.Prelude.{ℕ, ◌+◌, ◌-◌, ◌*◌, ◌^◌, min, ℤ, pos, Bool, [], ◌∷◌, if◌then◌else◌}
+use Rattle.std.specs.Prelude.{ℕ, ◌+◌, ◌-◌, ◌*◌, ◌^◌, min, ℤ, pos, Bool, ◌&&◌, [], ◌∷◌, if◌then◌else◌, int_le}
 use Rattle.std.specs.Int.{w32, int_shl, int_shr, int_wrapping_sub}
 use Rattle.std.specs.Ordering.{int_eq}
 use Rattle.clu_frames.specs.declared.flat.TheConstants.{FOOT}
 use Rattle.rv_isa.specs.declared.op.Op.TheVariants as op
 use Rattle.rv_select.specs.declared.register.Register.{Register}
 use Rattle.rv_select.specs.declared.register.Register.TheVariants.{Far, Frame}
-use Rattle.rv_select.specs.Written.{Onto, addi_onto, in_turn, ld_onto, sd_onto, three_onto, upper_onto}
+use Rattle.rv_select.specs.Written.{Onto, Written, addi_onto, in_turn, ld_onto, sd_onto, three_onto, upper_onto}
 
 -- the low 12 bits of a number, with the upmost of them as its sign, and what is left of it
 abbrev pub lowest : ℤ → ℤ
@@ -22,9 +22,19 @@ is_near distance = int_eq (above_lowest distance) (pos 0)
 abbrev pub near_base : Register → ℤ → Register
 near_base base distance = if is_near distance then base else Far
 
-abbrev pub near_onto : Register → ℤ → Onto
-near_onto base distance w =
+-- whether LUI and an immediate reach it
+abbrev pub is_reached : ℤ → Bool
+is_reached distance = int_le distance (pos (2 ^ 31 - 2049))
+
+abbrev pub reaching : ℤ → Onto
+reaching distance w = record w { fits = w.fits && is_reached distance }
+
+abbrev pub nearer_onto : Register → ℤ → Onto
+nearer_onto base distance w =
     if is_near distance then w else in_turn (upper_onto op.Lui Far (above_lowest distance) ∷ three_onto op.Add Far Far base ∷ []) w
+
+abbrev pub near_onto : Register → ℤ → Onto
+near_onto base distance w = nearer_onto base distance (reaching distance w)
 
 abbrev pub load_at_onto : Register → Register → ℤ → Onto
 load_at_onto to base distance = in_turn (near_onto base distance ∷ ld_onto to (near_base base distance) (lowest distance) ∷ [])

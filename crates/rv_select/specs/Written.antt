@@ -1,5 +1,5 @@
 -- What is written of a routine so far, and what each method of the assembler adds.
-use Rattle.std.specs.Prelude.{ℕ, ℤ, pos, List, [], ◌∷◌, ◌++◌, length, slice_set, Option, Some, None}
+use Rattle.std.specs.Prelude.{Bool, true, ℕ, ℤ, pos, List, [], ◌∷◌, ◌++◌, length, map, slice_set, Option, Some, None}
 use Rattle.clu_wir.specs.declared.hole.HoleKind.{HoleKind}
 use Rattle.clu_wir.specs.Numbers.{kind_number}
 use Rattle.clu_object.specs.declared.object.Hole.{Hole}
@@ -7,7 +7,7 @@ use Rattle.rv_isa.specs.declared.op.Op.{Op}
 use Rattle.rv_isa.specs.declared.op.Op.TheVariants as op
 use Rattle.rv_isa.specs.declared.instr.Instr.{Instr}
 use Rattle.rv_isa.specs.declared.instr.Instr.TheVariants as instr
-use Rattle.rv_isa.specs.Encoded.{encoded}
+use Rattle.rv_select.specs.Instructions.{read}
 use Rattle.rv_select.specs.declared.register.Register.{Register}
 use Rattle.rv_select.specs.declared.register.Register.TheVariants.{Service, Zero}
 use Rattle.rv_select.specs.declared.words.Reference.{Reference}
@@ -15,15 +15,18 @@ use Rattle.rv_select.specs.declared.words.Words.{Words}
 use Rattle.rv_select.specs.Registers.{register_number}
 
 pub record Written : Type 0 where
-  pub code : List ℕ
+  -- the instructions of the words
+  pub code : List Instr
   pub holes : List Hole
   -- for each label the number of the word at which it stands
   pub labels : List (Option ℕ)
   -- the instructions whose distance to a label is still 0
   pub references : List Reference
+  -- whether there was a free register wherever one was taken, room for each word that was bound, and each distance is reached
+  pub fits : Bool
 
 abbrev pub written : Words → Written
-written w = record { code = w.code.items; holes = w.holes.items; labels = w.labels.items; references = w.references.items }
+written w = record { code = map read w.code.items; holes = w.holes.items; labels = w.labels.items; references = w.references.items; fits = true }
 
 abbrev pub Onto : Type 0
 Onto = Written → Written
@@ -36,11 +39,8 @@ in_turn (first ∷ rest) w = in_turn rest (first w)
 -- An instruction, a hole of the next two words, a label that stands at the next word, a label more, and that the next word
 -- names a label.
 
-unfoldable pub word_of : Instr → ℕ
-word_of i = encoded i
-
 unfoldable pub emitted : Instr → Onto
-emitted i w = record w { code = w.code ++ word_of i ∷ [] }
+emitted i w = record w { code = w.code ++ i ∷ [] }
 
 unfoldable pub holed : HoleKind → ℕ → Onto
 holed kind number w = record w { holes = w.holes ++ record { at = length w.code; kind = kind_number kind; number = number } ∷ [] }

@@ -1,9 +1,9 @@
 //! An assembler: instructions become words one by one, and jumps find their labels at the end.
 
-ghost use Rattle.std.specs.Prelude.{◌≡◌, IfOk, OnOk, Some, length, slice_set};
-ghost use Rattle.rv_select.specs.Finished.{blank, bytes_between, finished, landed, landed_at, with_bytes};
-ghost use Rattle.rv_select.specs.Instructions.{AreInstructions, IsInstruction};
-ghost use Rattle.rv_select.specs.Written.{addi_onto, address_onto, branch_onto, copy_onto, emitted, fresh, go_onto, go_unless_onto, hole_onto, holed, imm_onto, jal_onto, jalr_onto, ld_onto, load_onto, noted, placed, referred, save_onto, sd_onto, service_onto, service_unless_onto, three_onto, upper_onto, word_of as word_of_instr, written};
+ghost use Rattle.std.specs.Prelude.{◌≡◌, IfOk, IsTrue, OnOk, Some, length, map, slice_set};
+ghost use Rattle.rv_select.specs.Finished.{blank, bytes_between, finished, has_place, is_landed, landed, landed_at, with_bytes};
+ghost use Rattle.rv_select.specs.Instructions.{AreInstructions, IsInstruction, read};
+ghost use Rattle.rv_select.specs.Written.{addi_onto, address_onto, branch_onto, copy_onto, emitted, fresh, go_onto, go_unless_onto, hole_onto, holed, imm_onto, jal_onto, jalr_onto, ld_onto, load_onto, noted, placed, referred, save_onto, sd_onto, service_onto, service_unless_onto, three_onto, upper_onto, written};
 
 use crate::error::{Answer, SelectError};
 use crate::register::Register;
@@ -28,8 +28,9 @@ impl Words {
     }
 
     /// The number of the word that comes next.
+    #[tactic(auto, using(crate::proofs::Instructions::counting))]
     pub fn here(&self) -> Answer<u32>
-        ensures { IfOk result (λ here. here ≡ length self.now.code.items) }
+        ensures { IfOk result (λ here. here ≡ length (written self.now).code) }
     {
         Ok(u32::try_from(self.code.len())?)
     }
@@ -294,8 +295,9 @@ impl Words {
     /// The words, each with its distance to the label that it names.
     #[tactic(auto, unfolding(crate::specs::Finished::finished))]
     pub fn finish(self) -> Answer<Finished>
-        ensures code { IfOk result (λ words. words.code.items ≡ finished (written self)) }
+        ensures code { IfOk result (λ words. map read words.code.items ≡ finished (written self)) }
         ensures holes { IfOk result (λ words. words.holes.items ≡ self.holes.items) }
+        ensures landed { OnOk result (IsTrue (is_landed (written self))) }
     {
         let Words {
             mut code,
@@ -316,7 +318,8 @@ impl Reference {
     fn land(&self, code: &mut [u32], labels: &[Option<u32>]) -> Answer<()>
         requires { AreInstructions code.old }
         ensures instructions { AreInstructions code.new }
-        ensures landed { OnOk result (code.new ≡ landed labels.now self.now code.old) }
+        ensures placed { OnOk result (IsTrue (has_place labels.now self.now)) }
+        ensures landed { OnOk result (map read code.new ≡ landed labels.now self.now (map read code.old)) }
     {
         match labels.get(self.label as usize).copied() {
             Some(Some(place)) => self.land_at(code, place),
@@ -324,10 +327,11 @@ impl Reference {
         }
     }
 
+    #[tactic(auto, using(crate::proofs::Instructions::changing))]
     fn land_at(&self, code: &mut [u32], place: u32) -> Answer<()>
         requires { AreInstructions code.old }
         ensures instructions { AreInstructions code.new }
-        ensures landed { OnOk result (code.new ≡ landed_at (Some (Some place)) self.now code.old) }
+        ensures landed { OnOk result (map read code.new ≡ landed_at (Some (Some place)) self.now (map read code.old)) }
     {
         let bytes = distance(self.at, place)?;
         let word = word_of(with_distance(self.instr, bytes))?;
@@ -379,10 +383,10 @@ fn with_distance(instr: Instr, bytes: i32) -> Instr
 }
 
 /// The word of an instruction. An immediate that doesn't fit its field is refused.
-#[tactic(auto, using(crate::proofs::Instructions::laws), unfolding(crate::specs::Written::word_of))]
+#[tactic(auto, using(crate::proofs::Instructions::laws), unfolding(crate::specs::Instructions::read))]
 fn word_of(instr: Instr) -> Answer<u32>
     ensures instruction { IfOk result IsInstruction }
-    ensures word { IfOk result (λ word. word ≡ word_of_instr instr) }
+    ensures word { IfOk result (λ word. read word ≡ instr) }
 {
     if !instr.valid() {
         return Err(SelectError::NotYet);

@@ -4,7 +4,10 @@
 //! own type of a routine object is in its descriptor, since its static type may list more exceptions.
 
 ghost use Rattle.std.specs.Prelude.{◌≡◌, IfOk, OnOk, codes};
+ghost use Rattle.clu_wir.specs.Plain.{expr_of};
 ghost use Rattle.rv_select.specs.Evaluation.{part_of};
+ghost use Rattle.rv_select.specs.Finished.{blank};
+ghost use Rattle.rv_select.specs.Runtime.{HasWords, binding_onto, own_type_onto, pair_onto};
 ghost use Rattle.rv_select.specs.Selection.{bind_onto};
 ghost use Rattle.rv_select.specs.Selected.{IsPart};
 ghost use Rattle.rv_select.specs.Written.{written};
@@ -46,7 +49,7 @@ pub(crate) fn bind(
     to: u32,
     scope: Scope,
 ) -> Answer<()>
-    ensures { OnOk result (written words.new ≡ bind_onto (part_of number.now) (part_of word.now) to scope (written words.old)) }
+    ensures { OnOk result (written words.new ≡ bind_onto (part_of (expr_of number.now)) (part_of (expr_of word.now)) to scope (written words.old)) }
 {
     let number = value(words, number, scope)?;
     let word = value(words, word, scope.keeping(number))?;
@@ -60,16 +63,25 @@ pub(crate) fn bind(
 /// The part that makes an object of type any. It is called with the link in the second scratch register, takes the
 /// number of the static type and the word in the two registers that travel, and answers in the first of them.
 pub fn bind_part(alloc: Global) -> Result<ObjRoutine, SelectError>
-    ensures { IfOk result (IsPart (codes "bind")) }
+    ensures part { IfOk result (IsPart (codes "bind")) }
+    ensures words { IfOk result (HasWords (binding_onto (blank 2))) }
 {
     let mut words = Words::new(alloc, GOALS)?;
-    own_type(&mut words)?;
-    pair(&mut words)?;
+    binding(&mut words)?;
     make_part(alloc, b"bind", words)
 }
 
+fn binding(words: &mut Words) -> Answer<()>
+    ensures { OnOk result (written words.new ≡ binding_onto (written words.old)) }
+{
+    own_type(words)?;
+    pair(words)
+}
+
 /// From the number of the static type to that of the own one.
-fn own_type(words: &mut Words) -> Answer<()> {
+fn own_type(words: &mut Words) -> Answer<()>
+    ensures { OnOk result (written words.new ≡ own_type_onto (written words.old)) }
+{
     words.go_unless(Op::Beq, Value, Zero, Goal::Bound as u32)?;
     words.copy(Value, Travelling)?;
     words.jalr(Zero, Second, 0)?;
@@ -81,7 +93,9 @@ fn own_type(words: &mut Words) -> Answer<()> {
 }
 
 /// The pair of the number and the word, at the end of the store.
-fn pair(words: &mut Words) -> Answer<()> {
+fn pair(words: &mut Words) -> Answer<()>
+    ensures { OnOk result (written words.new ≡ pair_onto (written words.old)) }
+{
     words.addi(T3, Zero, PAIR)?;
     words.three(Op::Sub, A2, StoreEnd, Store)?;
     words.service_unless(Op::Bgeu, A2, T3, STORE_FULL)?;

@@ -5,6 +5,7 @@
 //! link table, whose first cell is the address of the routine's regions table.
 
 ghost use Rattle.std.specs.Prelude.{◌≡◌, OnOk};
+ghost use Rattle.clu_wir.specs.Plain.{expr_of};
 ghost use Rattle.rv_select.specs.Evaluation.{part_of};
 ghost use Rattle.rv_select.specs.Selection.{invoke_onto};
 ghost use Rattle.rv_select.specs.Steps.{argument_onto, arguments_onto, caller_onto, enter_onto, leave_onto, left_onto, result_onto, results_onto, room_onto, take_onto};
@@ -70,7 +71,7 @@ fn copy_argument(words: &mut Words, argument: u32) -> Answer<()>
 /// Calls the routine whose descriptor's address is the word, with its arguments from the slot on. The jump is the last
 /// word, so that the return address leads to the next step.
 pub(crate) fn invoke(words: &mut Words, routine: &WExpr, slot: u32, scope: Scope) -> Answer<()>
-    ensures { OnOk result (written words.new ≡ invoke_onto (part_of routine.now) slot scope (written words.old)) }
+    ensures { OnOk result (written words.new ≡ invoke_onto (part_of (expr_of routine.now)) slot scope (written words.old)) }
 {
     let descriptor = in_register(words, routine, scope)?;
     slot_address(words, Value, slot)?;

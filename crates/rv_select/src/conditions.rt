@@ -14,14 +14,14 @@ use rv_isa::Op;
 
 /// Where a jump goes.
 #[derive(Clone, Copy)]
-pub(crate) struct Target {
+pub struct Target {
     pub label: u32,
     /// Whether a branch after the last comparison reaches it.
-    is_near: bool,
+    pub is_near: bool,
 }
 
 impl Target {
-    pub fn near(label: u32) -> Target
+    pub(crate) fn near(label: u32) -> Target
         ensures { result ≡ near label }
     {
         Target {
@@ -30,7 +30,7 @@ impl Target {
         }
     }
 
-    pub fn far(label: u32) -> Target
+    pub(crate) fn far(label: u32) -> Target
         ensures { result ≡ far label }
     {
         Target {
@@ -40,7 +40,7 @@ impl Target {
     }
 
     /// Goes on there or not, as is known.
-    pub fn go_always(self, words: &mut Words, is_so: bool) -> Answer<()>
+    pub(crate) fn go_always(self, words: &mut Words, is_so: bool) -> Answer<()>
         ensures { OnOk result (written words.new ≡ always_onto self is_so (written words.old)) }
     {
         if is_so { words.go(self.label) } else { Ok(()) }
@@ -67,7 +67,7 @@ impl Target {
 
 /// A comparison of two words.
 #[derive(Clone, Copy)]
-pub(crate) struct Comparison {
+pub struct Comparison {
     pub op: WOp,
     pub left: Operand,
     pub right: Operand,
@@ -76,7 +76,13 @@ pub(crate) struct Comparison {
 impl Comparison {
     /// Goes on at the target where it holds, if `sense` is true, else where it doesn't hold. The words go into registers.
     #[tactic(auto, unfolding(crate::specs::Conditions::compared_onto))]
-    pub fn go(self, words: &mut Words, sense: bool, target: Target, scope: Scope) -> Answer<()>
+    pub(crate) fn go(
+        self,
+        words: &mut Words,
+        sense: bool,
+        target: Target,
+        scope: Scope,
+    ) -> Answer<()>
         ensures { OnOk result (written words.new ≡ compared_onto self sense target scope (written words.old)) }
     {
         let (left, right) = registers(words, self.left, self.right, scope)?;

@@ -1,7 +1,8 @@
 //! Expressions in registers: the word of each is known, or in a register from its first use to its last.
 
 ghost use Rattle.std.specs.Prelude.{◌≡◌, IfOk, OnOk, if◌then◌else◌, map, pos};
-ghost use Rattle.rv_select.specs.Evaluation.{at_of, bound_onto, byte_at_onto, cell_onto, check_onto, held as held_at, held_onto, hole_word_onto, in_register_at, in_register_onto, inner_scope, jump_of, jump_to, last_onto, load_word_onto, loaded_onto, loaded_whole_onto, onto_of, part_of, plain_jump, same as same_sense, slot_onto};
+ghost use Rattle.clu_wir.specs.Plain.{expr_of, exprs_of};
+ghost use Rattle.rv_select.specs.Evaluation.{at_of, bound_onto, byte_at_onto, cell_onto, check_onto, held as held_at, held_onto, hole_word_onto, in_register_at, in_register_onto, inner_scope, is_held as holds_known, jump_of, jump_to, last_onto, load_word_onto, loaded_onto, loaded_whole_onto, onto_of, part_of, parts_of, plain_jump, same as same_sense, slot_onto};
 ghost use Rattle.rv_select.specs.Operands.{free};
 ghost use Rattle.rv_select.specs.Written.{written};
 ghost use Rattle.rv_select.specs.declared.operand.Operand.TheVariants.{At};
@@ -22,8 +23,8 @@ use rv_isa::Op;
 /// Where the word of an expression is. What the scope keeps stays as it is.
 #[cycle(evaluation)]
 pub(crate) fn value(words: &mut Words, expression: &WExpr, scope: Scope) -> Answer<Operand>
-    ensures operand { IfOk result (λ operand. operand ≡ at_of (part_of expression.now) scope) }
-    ensures written { OnOk result (written words.new ≡ onto_of (part_of expression.now) scope (written words.old)) }
+    ensures operand { IfOk result (λ operand. operand ≡ at_of (part_of (expr_of expression.now)) scope) }
+    ensures written { OnOk result (written words.new ≡ onto_of (part_of (expr_of expression.now)) scope (written words.old)) }
 {
     match known_of(expression, scope) {
         Some(word) => Ok(Operand::Known(word)),
@@ -34,8 +35,8 @@ pub(crate) fn value(words: &mut Words, expression: &WExpr, scope: Scope) -> Answ
 /// The same of an expression that isn't known.
 #[cycle(evaluation)]
 fn unknown(words: &mut Words, expression: &WExpr, scope: Scope) -> Answer<Operand>
-    ensures operand { IfOk result (λ operand. operand ≡ (part_of expression.now).at scope) }
-    ensures written { OnOk result (written words.new ≡ (part_of expression.now).onto scope (written words.old)) }
+    ensures operand { IfOk result (λ operand. operand ≡ (part_of (expr_of expression.now)).at scope) }
+    ensures written { OnOk result (written words.new ≡ (part_of (expr_of expression.now)).onto scope (written words.old)) }
 {
     match expression {
         WExpr::Slot(slot) => slot_word(words, *slot, scope),
@@ -92,7 +93,7 @@ fn unknown(words: &mut Words, expression: &WExpr, scope: Scope) -> Answer<Operan
 #[cycle(evaluation)]
 fn give(words: &mut Words, side: &WExpr, to: Register, end: u32, scope: Scope) -> Answer<Operand>
     ensures operand { IfOk result (λ operand. operand ≡ At to) }
-    ensures written { OnOk result (written words.new ≡ last_onto (part_of side.now) to end scope (written words.old)) }
+    ensures written { OnOk result (written words.new ≡ last_onto (part_of (expr_of side.now)) to end scope (written words.old)) }
 {
     value(words, side, scope)?.put(words, to)?;
     words.label(end)?;
@@ -101,8 +102,8 @@ fn give(words: &mut Words, side: &WExpr, to: Register, end: u32, scope: Scope) -
 
 /// The word of an expression in a register.
 pub(crate) fn in_register(words: &mut Words, expression: &WExpr, scope: Scope) -> Answer<Register>
-    ensures register { IfOk result (λ register. register ≡ in_register_at (part_of expression.now) scope) }
-    ensures written { OnOk result (written words.new ≡ in_register_onto (part_of expression.now) scope (written words.old)) }
+    ensures register { IfOk result (λ register. register ≡ in_register_at (part_of (expr_of expression.now)) scope) }
+    ensures written { OnOk result (written words.new ≡ in_register_onto (part_of (expr_of expression.now)) scope (written words.old)) }
 {
     let word = value(words, expression, scope)?;
     word.register(words, scope.free()?)
@@ -111,8 +112,8 @@ pub(crate) fn in_register(words: &mut Words, expression: &WExpr, scope: Scope) -
 /// The scope of a body in which the words of these expressions are bound.
 #[cycle(evaluation)]
 fn bind_all(words: &mut Words, values: &[WExpr], scope: Scope) -> Answer<Scope>
-    ensures scope { IfOk result (λ inner. inner ≡ inner_scope (map part_of values.now) scope) }
-    ensures written { OnOk result (written words.new ≡ bound_onto (map part_of values.now) scope (written words.old)) }
+    ensures scope { IfOk result (λ inner. inner ≡ inner_scope (parts_of (exprs_of (map expr_of values.now))) scope) }
+    ensures written { OnOk result (written words.new ≡ bound_onto (parts_of (exprs_of (map expr_of values.now))) 0 scope (written words.old)) }
 {
     let mut kept = scope;
     let mut inner = Scope::new(scope.is_leaf);
@@ -131,7 +132,7 @@ fn bind_all(words: &mut Words, values: &[WExpr], scope: Scope) -> Answer<Scope>
 #[cycle(evaluation)]
 fn load(words: &mut Words, address: &WExpr, bytes: u32, scope: Scope) -> Answer<Operand>
     ensures operand { IfOk result (λ operand. operand ≡ At (free scope)) }
-    ensures written { OnOk result (written words.new ≡ loaded_onto (part_of address.now) (pos bytes) scope (written words.old)) }
+    ensures written { OnOk result (written words.new ≡ loaded_onto (part_of (expr_of address.now)) (pos bytes) scope (written words.old)) }
 {
     let distance = i32::try_from(bytes)?;
     load_from(words, address, distance, scope)
@@ -141,7 +142,7 @@ fn load(words: &mut Words, address: &WExpr, bytes: u32, scope: Scope) -> Answer<
 #[cycle(evaluation)]
 fn load_from(words: &mut Words, address: &WExpr, distance: i32, scope: Scope) -> Answer<Operand>
     ensures operand { IfOk result (λ operand. operand ≡ At (free scope)) }
-    ensures written { OnOk result (written words.new ≡ loaded_onto (part_of address.now) distance scope (written words.old)) }
+    ensures written { OnOk result (written words.new ≡ loaded_onto (part_of (expr_of address.now)) distance scope (written words.old)) }
 {
     match address {
         WExpr::Binary(op, base, last) => match added(*op, last, scope) {
@@ -166,17 +167,20 @@ fn load_from(words: &mut Words, address: &WExpr, distance: i32, scope: Scope) ->
 #[cycle(evaluation)]
 fn load_whole(words: &mut Words, address: &WExpr, distance: i32, scope: Scope) -> Answer<Operand>
     ensures operand { IfOk result (λ operand. operand ≡ At (free scope)) }
-    ensures written { OnOk result (written words.new ≡ loaded_whole_onto (part_of address.now) distance scope (written words.old)) }
+    ensures written { OnOk result (written words.new ≡ loaded_whole_onto (part_of (expr_of address.now)) distance scope (written words.old)) }
 {
     let address = value(words, address, scope)?;
     load_word(words, address, distance, scope)
 }
 
-/// Raises a trap where the condition is 0.
+/// Raises a trap where the condition is 0. One that is known to hold becomes no word.
 #[cycle(evaluation)]
 fn check(words: &mut Words, condition: &WExpr, trap: Trap, scope: Scope) -> Answer<()>
-    ensures { OnOk result (written words.new ≡ check_onto (part_of condition.now) trap scope (written words.old)) }
+    ensures { OnOk result (written words.new ≡ check_onto (part_of (expr_of condition.now)) trap scope (written words.old)) }
 {
+    if is_held(known_of(condition, scope)) {
+        return Ok(());
+    }
     let holds = words.fresh()?;
     branch(words, condition, true, Target::near(holds), scope)?;
     raise_trap(words, trap, scope.is_leaf)?;
@@ -192,7 +196,7 @@ pub(crate) fn branch(
     target: Target,
     scope: Scope,
 ) -> Answer<()>
-    ensures { OnOk result (written words.new ≡ jump_of (part_of condition.now) sense target scope (written words.old)) }
+    ensures { OnOk result (written words.new ≡ jump_of (part_of (expr_of condition.now)) sense target scope (written words.old)) }
 {
     match known_of(condition, scope) {
         Some(word) => target.go_always(words, same(sense, word != 0)),
@@ -209,7 +213,7 @@ fn jump(
     target: Target,
     scope: Scope,
 ) -> Answer<()>
-    ensures { OnOk result (written words.new ≡ (part_of condition.now).jump sense target scope (written words.old)) }
+    ensures { OnOk result (written words.new ≡ (part_of (expr_of condition.now)).jump sense target scope (written words.old)) }
 {
     match condition {
         WExpr::Binary(op, left, right) => match told_by(*op, left, right, scope) {
@@ -263,7 +267,7 @@ fn branch_to(
     around: u32,
     scope: Scope,
 ) -> Answer<()>
-    ensures { OnOk result (written words.new ≡ jump_to (part_of condition.now) sense target around scope (written words.old)) }
+    ensures { OnOk result (written words.new ≡ jump_to (part_of (expr_of condition.now)) sense target around scope (written words.old)) }
 {
     branch(words, condition, sense, target, scope)?;
     words.label(around)
@@ -278,7 +282,7 @@ fn jump_on_word(
     target: Target,
     scope: Scope,
 ) -> Answer<()>
-    ensures { OnOk result (written words.new ≡ plain_jump (part_of condition.now) sense target scope (written words.old)) }
+    ensures { OnOk result (written words.new ≡ plain_jump (part_of (expr_of condition.now)) sense target scope (written words.old)) }
 {
     let left = value(words, condition, scope)?;
     let right = Operand::Known(0);
@@ -291,6 +295,15 @@ fn same(sense: bool, is_so: bool) -> bool
     ensures { result ≡ same_sense sense is_so }
 {
     if is_so { sense } else { !sense }
+}
+
+fn is_held(known: Option<u64>) -> bool
+    ensures { result ≡ holds_known known }
+{
+    match known {
+        Some(word) => word != 0,
+        None => false,
+    }
 }
 
 fn chosen(is_first: bool, first: u32, second: u32) -> u32

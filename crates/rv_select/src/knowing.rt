@@ -1,6 +1,7 @@
 //! What is known of expressions before they are evaluated.
 
 ghost use Rattle.std.specs.Prelude.{◌≡◌};
+ghost use Rattle.clu_wir.specs.Plain.{expr_of};
 ghost use Rattle.rv_select.specs.Evaluation.{added_by, bound_word, both_known as known_of_both, compared as comparison_of, is_comparison as compares, is_known as knows, is_opposite as opposes, is_told as tells, part_of, ready_first, ready_side as side_of, short_of, small_word, way_of};
 
 use crate::combining::small;
@@ -9,7 +10,7 @@ use clu_wir::{WExpr, WOp};
 
 /// The word of an expression that is known where its bound words are. Of operations only comparisons are looked at.
 pub(crate) fn known_of(expression: &WExpr, scope: Scope) -> Option<u64>
-    ensures { result ≡ (part_of expression.now).known scope }
+    ensures { result ≡ (part_of (expr_of expression.now)).known scope }
 {
     match expression {
         WExpr::Word(word) => Some(*word),
@@ -49,7 +50,7 @@ fn both_known(op: WOp, left: Option<u64>, right: Option<u64>) -> Option<u64>
 }
 
 /// The most words of a condition and of the choice after it that one branch reaches over: an immediate of it reaches 1,023.
-const REACH: u64 = 1000;
+pub const REACH: u64 = 1000;
 
 /// The side of a choice that is known or in a register already, if one branch reaches over the condition and the other
 /// side, and whether it is the first.
@@ -60,7 +61,7 @@ pub(crate) fn ready_side(
     other: &WExpr,
     scope: Scope,
 ) -> Option<(Operand, bool)>
-    ensures { result ≡ side_of (part_of condition.now) (part_of then.now) (part_of other.now) scope }
+    ensures { result ≡ side_of (part_of (expr_of condition.now)) (part_of (expr_of then.now)) (part_of (expr_of other.now)) scope }
 {
     let sides = then.words().saturating_add(other.words());
     if condition.words().saturating_add(sides) > REACH {
@@ -82,7 +83,7 @@ fn first_ready(then: Option<Operand>, other: Option<Operand>) -> Option<(Operand
 }
 
 fn ready(side: &WExpr, scope: Scope) -> Option<Operand>
-    ensures { result ≡ (part_of side.now).ready scope }
+    ensures { result ≡ (part_of (expr_of side.now)).ready scope }
 {
     match side {
         WExpr::Word(word) => Some(Operand::Known(*word)),
@@ -112,7 +113,7 @@ fn compared(op: WOp, left: u64, right: u64) -> Option<u64>
 
 /// The number that an operation adds to its left word, if it is known and an immediate holds it.
 pub(crate) fn added(op: WOp, right: &WExpr, scope: Scope) -> Option<i32>
-    ensures { result ≡ added_by op (small_word ((part_of right.now).known scope)) }
+    ensures { result ≡ added_by op (small_word ((part_of (expr_of right.now)).known scope)) }
 {
     match op {
         WOp::Add => small_of(right, scope),
@@ -121,7 +122,7 @@ pub(crate) fn added(op: WOp, right: &WExpr, scope: Scope) -> Option<i32>
 }
 
 fn small_of(expression: &WExpr, scope: Scope) -> Option<i32>
-    ensures { result ≡ small_word ((part_of expression.now).known scope) }
+    ensures { result ≡ small_word ((part_of (expr_of expression.now)).known scope) }
 {
     match known_of(expression, scope) {
         Some(word) => small(word.cast_signed()),
@@ -131,7 +132,7 @@ fn small_of(expression: &WExpr, scope: Scope) -> Option<i32>
 
 /// Whether the word of an expression is known to be this one.
 fn is_known(expression: &WExpr, word: u64, scope: Scope) -> bool
-    ensures { result ≡ knows (part_of expression.now) word scope }
+    ensures { result ≡ knows (part_of (expr_of expression.now)) word scope }
 {
     match known_of(expression, scope) {
         Some(known) => known == word,
@@ -151,7 +152,7 @@ fn is_comparison(op: WOp) -> bool
 
 /// Whether the word of an expression is 0 or 1 in any case.
 fn is_truth(expression: &WExpr) -> bool
-    ensures { result ≡ (part_of expression.now).is_truth }
+    ensures { result ≡ (part_of (expr_of expression.now)).is_truth }
 {
     match expression {
         WExpr::Binary(op, _, _) => is_comparison(*op),
@@ -169,7 +170,7 @@ fn is_truth(expression: &WExpr) -> bool
 
 /// What tells an operation as a condition.
 #[derive(Clone, Copy)]
-pub(crate) enum Way {
+pub enum Way {
     /// The left word, which is 0 where it holds.
     Left,
     /// The right word, which is 0 where it holds, or where it doesn't hold.
@@ -181,7 +182,7 @@ pub(crate) enum Way {
 }
 
 pub(crate) fn told_by(op: WOp, left: &WExpr, right: &WExpr, scope: Scope) -> Way
-    ensures { result ≡ way_of op (part_of left.now) (part_of right.now) scope }
+    ensures { result ≡ way_of op (part_of (expr_of left.now)) (part_of (expr_of right.now)) scope }
 {
     if is_opposite(op, left, right, scope) {
         return Way::Left;
@@ -198,7 +199,7 @@ pub(crate) fn told_by(op: WOp, left: &WExpr, right: &WExpr, scope: Scope) -> Way
 
 /// Whether an operation asks whether the left word is 0.
 fn is_opposite(op: WOp, left: &WExpr, right: &WExpr, scope: Scope) -> bool
-    ensures { result ≡ opposes op (part_of left.now) (part_of right.now) scope }
+    ensures { result ≡ opposes op (part_of (expr_of left.now)) (part_of (expr_of right.now)) scope }
 {
     match op {
         WOp::Equal => is_known(right, 0, scope),
@@ -209,7 +210,7 @@ fn is_opposite(op: WOp, left: &WExpr, right: &WExpr, scope: Scope) -> bool
 
 /// Whether words are equal just where the right one is 0, or just where it isn't.
 fn is_told(op: WOp, left: &WExpr, right: &WExpr, scope: Scope) -> bool
-    ensures { result ≡ tells op (part_of left.now) (part_of right.now) scope }
+    ensures { result ≡ tells op (part_of (expr_of left.now)) (part_of (expr_of right.now)) scope }
 {
     match op {
         WOp::Equal => { is_known(left, 0, scope) || (is_known(left, 1, scope) && is_truth(right)) }
@@ -220,7 +221,7 @@ fn is_told(op: WOp, left: &WExpr, right: &WExpr, scope: Scope) -> bool
 /// Whether a choice between two words, as a condition, wants both the first condition and the second word, or one of the
 /// first condition and the other word.
 pub(crate) fn short(second: &WExpr, other: &WExpr, scope: Scope) -> Option<bool>
-    ensures { result ≡ short_of (part_of second.now) (part_of other.now) scope }
+    ensures { result ≡ short_of (part_of (expr_of second.now)) (part_of (expr_of other.now)) scope }
 {
     if is_known(other, 0, scope) {
         return Some(true);

@@ -1,7 +1,12 @@
 //! Routines without a frame. Such a routine finds its arguments at the address that travels, and goes back with its result
 //! as the value that travels.
 
-ghost use Rattle.std.specs.Prelude.{IfOk};
+ghost use Rattle.std.specs.Prelude.{◌≡◌, IfOk, OnOk, true};
+ghost use Rattle.clu_wir.specs.Plain.{expr_of};
+ghost use Rattle.rv_select.specs.Evaluation.{part_of};
+ghost use Rattle.rv_select.specs.Finished.{blank};
+ghost use Rattle.rv_select.specs.Runtime.{HasWords, answer_onto, deed_onto, followed_onto};
+ghost use Rattle.rv_select.specs.Written.{written};
 ghost use Rattle.rv_select.specs.Selected.{IsLeaf};
 
 use crate::error::{Answer, SelectError};
@@ -18,7 +23,8 @@ use std::alloc::Global;
 /// The code of a routine without a frame, which uses no others and counts no nodes. The answer is `NotYet` only where an
 /// expression needs more registers than there are, or a number is too great.
 pub fn select_leaf(alloc: Global, leaf: &WLeaf) -> Result<ObjRoutine, SelectError>
-    ensures { IfOk result (IsLeaf leaf.now) }
+    ensures leaf { IfOk result (IsLeaf leaf.now) }
+    ensures words { IfOk result (HasWords (followed_onto leaf.now.deed (blank 0))) }
 {
     let mut words = Words::new(alloc, 0)?;
     follow(&mut words, &leaf.deed)?;
@@ -27,19 +33,29 @@ pub fn select_leaf(alloc: Global, leaf: &WLeaf) -> Result<ObjRoutine, SelectErro
     make_bare(alloc, name, constants, words)
 }
 
-fn follow(words: &mut Words, deed: &WDeed) -> Answer<()> {
-    let scope = Scope::new(true);
-    match deed {
-        WDeed::Value(given) => answer(words, given, scope)?,
-        WDeed::Put(address, bytes, word) => {
-            put(words, address, i32::try_from(*bytes)?, word, scope)?
-        }
-    }
+fn follow(words: &mut Words, deed: &WDeed) -> Answer<()>
+    ensures { OnOk result (written words.new ≡ followed_onto deed.now (written words.old)) }
+{
+    do_deed(words, deed)?;
     words.copy(Table, Caller)?;
     words.jalr(Zero, Back, 0)
 }
 
-fn answer(words: &mut Words, given: &WExpr, scope: Scope) -> Answer<()> {
-    let word = value(words, given, scope)?;
+fn do_deed(words: &mut Words, deed: &WDeed) -> Answer<()>
+    ensures { OnOk result (written words.new ≡ deed_onto deed.now (written words.old)) }
+{
+    match deed {
+        WDeed::Value(given) => answer(words, given),
+        WDeed::Put(address, bytes, word) => {
+            let distance = i32::try_from(*bytes)?;
+            put(words, address, distance, word, Scope::new(true))
+        }
+    }
+}
+
+fn answer(words: &mut Words, given: &WExpr) -> Answer<()>
+    ensures { OnOk result (written words.new ≡ answer_onto (part_of (expr_of given.now)) (written words.old)) }
+{
+    let word = value(words, given, Scope::new(true))?;
     word.put(words, Value)
 }

@@ -30,9 +30,14 @@ mod tables;
 mod words;
 
 pub use crate::binding::bind_part;
+pub use crate::conditions::{Comparison, Target};
 pub use crate::error::SelectError;
+pub use crate::knowing::{REACH, Way};
 pub use crate::leaf::select_leaf;
-pub use crate::parts::{Part, start_part, trap_part};
+pub use crate::operand::{Operand, Scope};
+pub use crate::parts::{Part, TRAP_ENTRY, start_part, trap_part};
+pub use crate::register::{Register, WORK};
 pub use crate::searching::search_part;
 pub use crate::selecting::select;
 pub use crate::tables::regions_table;
+pub use crate::words::Reference;

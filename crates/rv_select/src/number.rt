@@ -1,8 +1,8 @@
 //! Numbers that are known, in registers.
 
-ghost use Rattle.std.specs.Prelude.{◌≡◌, IfOk, OnOk};
+ghost use Rattle.std.specs.Prelude.{◌≡◌, IfOk, IsTrue, OnOk};
 ghost use Rattle.rv_select.specs.Operands.{known_onto, lower_half as lower_half_of, number_onto, short_onto};
-ghost use Rattle.rv_select.specs.Slots.{above_lowest, lowest as lowest_of};
+ghost use Rattle.rv_select.specs.Slots.{above_lowest, is_reached, lowest as lowest_of};
 ghost use Rattle.rv_select.specs.Written.{written};
 
 use crate::error::{Answer, SelectError};
@@ -14,6 +14,7 @@ use rv_isa::Op;
 pub(crate) fn halves(number: i32) -> Answer<(i32, i32)>
     ensures upper { IfOk result (λ halves. halves.0 ≡ above_lowest number) }
     ensures lower { IfOk result (λ halves. halves.1 ≡ lowest_of number) }
+    ensures reached { OnOk result (IsTrue (is_reached number)) }
 {
     if number > i32::MAX - 2048 {
         return Err(SelectError::NotYet);

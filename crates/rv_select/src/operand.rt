@@ -1,7 +1,7 @@
 //! Where the words of expressions are.
 
-ghost use Rattle.std.specs.Prelude.{◌≡◌, IfOk, OnOk, bit_or, slice_get, slice_set};
-ghost use Rattle.rv_select.specs.Operands.{bit as bit_at, bit_of as bits_of, free as free_in, free_among, free_of, keeping as keeping_in, put_onto, register_of, register_onto, unbound};
+ghost use Rattle.std.specs.Prelude.{◌≡◌, IfOk, IsTrue, OnOk, bit_or, nat_lt, slice_get, slice_set};
+ghost use Rattle.rv_select.specs.Operands.{bit as bit_at, bit_of as bits_of, free as free_in, free_among, free_of, has_free, has_free_among, has_free_of, keeping as keeping_in, put_onto, register_of, register_onto, unbound};
 ghost use Rattle.rv_select.specs.Written.{written};
 
 use crate::error::{Answer, SelectError};
@@ -11,7 +11,7 @@ use crate::words::Words;
 
 /// Where the word of an expression is.
 #[derive(Clone, Copy)]
-pub(crate) enum Operand {
+pub enum Operand {
     At(Register),
     Known(u64),
 }
@@ -19,7 +19,7 @@ pub(crate) enum Operand {
 impl Operand {
     /// A register that holds the word: `to`, where it is in none yet.
     #[tactic(auto, unfolding(crate::specs::Operands::register_onto))]
-    pub fn register(self, words: &mut Words, to: Register) -> Answer<Register>
+    pub(crate) fn register(self, words: &mut Words, to: Register) -> Answer<Register>
         ensures register { IfOk result (λ register. register ≡ register_of self to) }
         ensures written { OnOk result (written words.new ≡ register_onto self to (written words.old)) }
     {
@@ -37,7 +37,7 @@ impl Operand {
 
     /// Gives a register the word.
     #[tactic(auto, unfolding(crate::specs::Operands::put_onto))]
-    pub fn put(self, words: &mut Words, to: Register) -> Answer<()>
+    pub(crate) fn put(self, words: &mut Words, to: Register) -> Answer<()>
         ensures { OnOk result (written words.new ≡ put_onto self to (written words.old)) }
     {
         match self {
@@ -57,17 +57,17 @@ const MOST_BOUND: usize = 4;
 
 /// What the evaluation of an expression finds and leaves.
 #[derive(Clone, Copy)]
-pub(crate) struct Scope {
+pub struct Scope {
     /// Whether the routine has no frame: its slots are the arguments, and what it raises is raised where it was called.
     pub is_leaf: bool,
     /// A bit for each register that is to be left as it is.
-    kept: u32,
-    bound: [Operand; MOST_BOUND],
+    pub kept: u32,
+    pub bound: [Operand; MOST_BOUND],
 }
 
 impl Scope {
     /// At the start of a step.
-    pub fn new(is_leaf: bool) -> Scope
+    pub(crate) fn new(is_leaf: bool) -> Scope
         ensures { result ≡ unbound is_leaf }
     {
         Scope {
@@ -78,14 +78,15 @@ impl Scope {
     }
 
     /// The first register of work that may change.
-    pub fn free(&self) -> Answer<Register>
-        ensures { IfOk result (λ register. register ≡ free_in self.now) }
+    pub(crate) fn free(&self) -> Answer<Register>
+        ensures register { IfOk result (λ register. register ≡ free_in self.now) }
+        ensures fits { OnOk result (IsTrue (has_free self.now)) }
     {
         first_free(self.kept)
     }
 
     /// The same, where the register of a word is to be left too.
-    pub fn keeping(self, operand: Operand) -> Scope
+    pub(crate) fn keeping(self, operand: Operand) -> Scope
         ensures { result ≡ keeping_in operand self }
     {
         Scope {
@@ -95,14 +96,14 @@ impl Scope {
     }
 
     /// The word that is bound by this number.
-    pub fn bound(&self, number: u32) -> Option<Operand>
+    pub(crate) fn bound(&self, number: u32) -> Option<Operand>
         ensures { result ≡ slice_get self.now.bound number }
     {
         self.bound.get(number as usize).copied()
     }
 
     /// The same, with the bound words of another.
-    pub fn with_bound(self, others: Scope) -> Scope
+    pub(crate) fn with_bound(self, others: Scope) -> Scope
         ensures { result ≡ record self { bound = others.bound } }
     {
         let bound = others.bound;
@@ -110,8 +111,9 @@ impl Scope {
     }
 
     /// Binds a word by this number.
-    pub fn bind(&mut self, number: usize, operand: Operand) -> Answer<()>
-        ensures { OnOk result (self.new ≡ record self.old { bound = slice_set self.old.bound number operand }) }
+    pub(crate) fn bind(&mut self, number: usize, operand: Operand) -> Answer<()>
+        ensures bound { OnOk result (self.new ≡ record self.old { bound = slice_set self.old.bound number operand }) }
+        ensures room { OnOk result (IsTrue (nat_lt number 4)) }
     {
         if MOST_BOUND <= number {
             return Err(SelectError::NotYet);
@@ -122,15 +124,17 @@ impl Scope {
 }
 
 /// The first register of work whose bit is not in the set.
-#[tactic(auto, unfolding(crate::specs::Operands::free_of))]
+#[tactic(auto, unfolding(crate::specs::Operands::free_of, crate::specs::Operands::has_free_of))]
 fn first_free(kept: u32) -> Answer<Register>
-    ensures { IfOk result (λ register. register ≡ free_of kept) }
+    ensures register { IfOk result (λ register. register ≡ free_of kept) }
+    ensures fits { OnOk result (IsTrue (has_free_of kept)) }
 {
     first_among(&WORK, kept)
 }
 
 fn first_among(registers: &[Register], kept: u32) -> Answer<Register>
-    ensures { IfOk result (λ register. register ≡ free_among kept registers.now) }
+    ensures register { IfOk result (λ register. register ≡ free_among kept registers.now) }
+    ensures fits { OnOk result (IsTrue (has_free_among kept registers.now)) }
 {
     for register in registers {
         if kept & bit(*register) == 0 {

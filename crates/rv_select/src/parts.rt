@@ -4,10 +4,12 @@
 //! and `unhandled exception: `, the address of the descriptor of the procedure at which the program starts, and for each
 //! trap two words, the address of the string of its name and the word of its object, or 0 if it has none.
 
-ghost use Rattle.std.specs.Prelude.{◌≡◌, IfOk, OnOk, codes};
+ghost use Rattle.std.specs.Prelude.{◌≡◌, IfOk, OnOk, codes, length};
 ghost use Rattle.rv_select.specs.Parts.{part_number};
 ghost use Rattle.rv_select.specs.Evaluation.{trap_distance, trap_onto, trap_to};
 ghost use Rattle.rv_select.specs.Written.{written};
+ghost use Rattle.rv_select.specs.Finished.{blank};
+ghost use Rattle.rv_select.specs.Runtime.{HasWords, raising_trap_onto, start_onto, trap_row_onto, trap_rows_onto, traps_onto};
 ghost use Rattle.rv_select.specs.Selected.{IsBare, IsPart};
 
 use crate::error::{Answer, SelectError};
@@ -58,21 +60,24 @@ const TRAP_ROWS: i32 = 24;
 const TRAP_ROW: i32 = 16;
 
 /// How many bytes of code the part that raises traps has for each, before all else.
-const TRAP_ENTRY: i32 = 8;
+pub const TRAP_ENTRY: i32 = 8;
 
 /// The environment's call that ends a run as it should.
 const RETURNED: i32 = 0;
 
 /// The part where a program starts: it calls the first procedure from no frame, and the run ends when that returns.
 pub fn start_part(alloc: Global) -> Result<ObjRoutine, SelectError>
-    ensures { IfOk result (IsPart (codes "start")) }
+    ensures part { IfOk result (IsPart (codes "start")) }
+    ensures words { IfOk result (HasWords (start_onto (blank 0))) }
 {
     let mut words = Words::new(alloc, 0)?;
     start(&mut words)?;
     make_part(alloc, b"start", words)
 }
 
-fn start(words: &mut Words) -> Answer<()> {
+fn start(words: &mut Words) -> Answer<()>
+    ensures { OnOk result (written words.new ≡ start_onto (written words.old)) }
+{
     words.copy(Frame, Zero)?;
     words.hole(First, HoleKind::Regions, 0)?;
     words.ld(First, First, START)?;
@@ -87,25 +92,49 @@ fn start(words: &mut Words) -> Answer<()> {
 /// The part that raises traps, with the return address after the place of the trap. It is entered at the two words that
 /// each trap has.
 pub fn trap_part(alloc: Global) -> Result<ObjRoutine, SelectError>
-    ensures { IfOk result (IsPart (codes "trap")) }
+    ensures part { IfOk result (IsPart (codes "trap")) }
+    ensures words { IfOk result (HasWords (traps_onto (blank 0))) }
 {
     let mut words = Words::new(alloc, 0)?;
     traps(&mut words)?;
     make_part(alloc, b"trap", words)
 }
 
-fn traps(words: &mut Words) -> Answer<()> {
+fn traps(words: &mut Words) -> Answer<()>
+    ensures { OnOk result (written words.new ≡ traps_onto (written words.old)) }
+{
     let raise = words.fresh()?;
-    for trap in TRAPS {
-        words.addi(First, Zero, place_of(trap, TRAP_ROWS, TRAP_ROW)?)?;
-        words.go(raise)?;
+    trap_rows(words, raise, &TRAPS)?;
+    raise_row(words, raise)
+}
+
+fn trap_rows(words: &mut Words, raise: u32, traps: &[Trap]) -> Answer<()>
+    ensures { OnOk result (written words.new ≡ trap_rows_onto raise traps.now (written words.old)) }
+{
+    for trap in traps {
+        trap_row(words, raise, *trap)?;
     }
+    Ok(())
+}
+
+/// The two words of a trap: where its item is.
+fn trap_row(words: &mut Words, raise: u32, trap: Trap) -> Answer<()>
+    ensures { OnOk result (written words.new ≡ trap_row_onto raise trap (written words.old)) }
+{
+    words.addi(First, Zero, place_of(trap, TRAP_ROWS, TRAP_ROW)?)?;
+    words.go(raise)
+}
+
+/// What all traps have in common: the name, the address of the object, and the search.
+fn raise_row(words: &mut Words, raise: u32) -> Answer<()>
+    ensures { OnOk result (written words.new ≡ raising_trap_onto raise (written words.old)) }
+{
     words.label(raise)?;
     words.hole(Second, HoleKind::Regions, 0)?;
     words.three(Op::Add, Second, Second, First)?;
     words.ld(Value, Second, 0)?;
     words.addi(Objects, Second, 8)?;
-    words.hole(First, HoleKind::Runtime, Part::Search.number())?;
+    part_address(words, First, Part::Search)?;
     words.jalr(Zero, First, 0)
 }
 
@@ -138,7 +167,8 @@ fn go_to_trap(words: &mut Words, link: Register, trap: Trap) -> Answer<()>
 
 /// The routine of a part's words. It has no nodes, and names nothing.
 pub(crate) fn make_part(alloc: Global, name: &[u8], words: Words) -> Answer<ObjRoutine>
-    ensures { IfOk result (IsPart name.now) }
+    ensures part { IfOk result (IsPart name.now) }
+    ensures words { IfOk result (HasWords (written words)) }
 {
     let name = Bytes::from_slice(alloc, name)?;
     let constants = Sequence::from_vec(Vec::new(alloc));
@@ -152,7 +182,8 @@ pub(crate) fn make_bare(
     constants: Sequence<ObjConst>,
     words: Words,
 ) -> Answer<ObjRoutine>
-    ensures { IfOk result (IsBare name constants) }
+    ensures bare { IfOk result (IsBare name constants) }
+    ensures words { IfOk result (HasWords (written words)) }
 {
     let Finished { code, holes } = words.finish()?;
     let made = ObjRoutine {

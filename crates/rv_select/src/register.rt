@@ -11,7 +11,7 @@ use rv_isa::Reg;
 /// A register. From one flat step to the next the first group keeps what it holds, the two words that travel go with a
 /// jump from one routine to another, and the others hold nothing.
 #[derive(Clone, Copy)]
-pub(crate) enum Register {
+pub enum Register {
     Zero = 0,
     /// The top of the stack, which grows up.
     Top = 2,
@@ -62,19 +62,19 @@ pub(crate) enum Register {
 }
 
 /// The registers in which expressions are evaluated.
-pub(crate) const WORK: [Register; 19] = [
+pub const WORK: [Register; 19] = [
     First, Second, T3, T4, T5, A2, A3, A4, A5, A6, S3, S4, S5, S6, S7, S8, S9, S10, S11,
 ];
 
 impl Register {
     /// The register of the machine.
-    pub fn reg(self) -> Reg
+    pub(crate) fn reg(self) -> Reg
         ensures { result ≡ register_number self }
     {
         Reg::new(self.number()).unwrap()
     }
 
-    pub fn number(self) -> u8
+    pub(crate) fn number(self) -> u8
         ensures number { result ≡ register_number self }
         ensures below { result < 32 }
     {

@@ -6,8 +6,12 @@
 //! of the routine takes the exception it becomes failure, if it isn't failure, and the search goes on where the routine
 //! was called. Outside all routines the run ends with the text of failure.
 
-ghost use Rattle.std.specs.Prelude.{IfOk, codes};
+ghost use Rattle.std.specs.Prelude.{◌≡◌, IfOk, OnOk, codes};
+ghost use Rattle.rv_select.specs.Finished.{blank};
+ghost use Rattle.rv_select.specs.Runtime.{HasWords};
 ghost use Rattle.rv_select.specs.Selected.{IsPart};
+ghost use Rattle.rv_select.specs.Searching.{bisect_onto, bottom_onto, copy_bytes_onto, halve_onto, load_failure_onto, outward_onto, regions_onto, search_onto, take_arm_onto, take_store_onto, text_onto};
+ghost use Rattle.rv_select.specs.Written.{written};
 
 use crate::calls::{STORE_FULL, caller_frame};
 use crate::error::{Answer, SelectError};
@@ -59,20 +63,30 @@ const FAILED: i32 = 1;
 /// outward, within `2048 + 256 * a` steps, where a is the number of arms that it looks at and of regions that it leaves,
 /// and names have at most 200 bytes.
 pub fn search_part(alloc: Global) -> Result<ObjRoutine, SelectError>
-    ensures { IfOk result (IsPart (codes "search")) }
+    ensures part { IfOk result (IsPart (codes "search")) }
+    ensures words { IfOk result (HasWords (search_onto (blank 18))) }
 {
     let mut words = Words::new(alloc, GOALS)?;
-    bisect(&mut words)?;
-    regions(&mut words)?;
-    take(&mut words)?;
-    outward(&mut words)?;
-    bottom(&mut words)?;
-    text(&mut words)?;
+    search(&mut words)?;
     make_part(alloc, b"search", words)
 }
 
+#[tactic(auto, unfolding(crate::specs::Searching::search_onto))]
+fn search(words: &mut Words) -> Answer<()>
+    ensures { OnOk result (written words.new ≡ search_onto (written words.old)) }
+{
+    bisect(words)?;
+    regions(words)?;
+    take(words)?;
+    outward(words)?;
+    bottom(words)?;
+    text(words)
+}
+
 /// From the return address to the region in which it was raised.
-fn bisect(words: &mut Words) -> Answer<()> {
+fn bisect(words: &mut Words) -> Answer<()>
+    ensures { OnOk result (written words.new ≡ bisect_onto (written words.old)) }
+{
     // The word where the part is entered is one that nothing inside jumps to, so that each raise is seen there.
     words.copy(Zero, Zero)?;
     // The place is in First, the address of the cut below it in Second, how many cuts are left in T3.
@@ -91,7 +105,9 @@ fn bisect(words: &mut Words) -> Answer<()> {
 }
 
 /// Half of the cuts that are left.
-fn halve(words: &mut Words) -> Answer<()> {
+fn halve(words: &mut Words) -> Answer<()>
+    ensures { OnOk result (written words.new ≡ halve_onto (written words.old)) }
+{
     words.imm(Op::Srli, T4, T3, 1)?;
     words.imm(Op::Slli, T5, T4, 4)?;
     words.three(Op::Add, T5, T5, Second)?;
@@ -106,7 +122,9 @@ fn halve(words: &mut Words) -> Answer<()> {
 }
 
 /// From region to region outward; the row of the region, or 0, is in Second.
-fn regions(words: &mut Words) -> Answer<()> {
+fn regions(words: &mut Words) -> Answer<()>
+    ensures { OnOk result (written words.new ≡ regions_onto (written words.old)) }
+{
     words.label(Goal::Region as u32)?;
     words.go_unless(Op::Bne, Second, Zero, Goal::Outward as u32)?;
     words.ld(First, Second, 8)?;
@@ -124,7 +142,9 @@ fn regions(words: &mut Words) -> Answer<()> {
 }
 
 /// The arm whose row is at First takes it.
-fn take(words: &mut Words) -> Answer<()> {
+fn take(words: &mut Words) -> Answer<()>
+    ensures { OnOk result (written words.new ≡ take_arm_onto (written words.old)) }
+{
     words.label(Goal::Take as u32)?;
     words.ld(Second, First, 8)?;
     words.ld(T3, First, 16)?;
@@ -135,7 +155,9 @@ fn take(words: &mut Words) -> Answer<()> {
 
 /// No arm of the routine takes it: out of the frame. The place of the frame holds the object of a failure that is made
 /// here, since nothing on the stack above it is wanted any more.
-fn outward(words: &mut Words) -> Answer<()> {
+fn outward(words: &mut Words) -> Answer<()>
+    ensures { OnOk result (written words.new ≡ outward_onto (written words.old)) }
+{
     words.label(Goal::Outward as u32)?;
     load_failure(words)?;
     words.go_unless(Op::Bne, Value, Second, Goal::Leave as u32)?;
@@ -153,7 +175,9 @@ fn outward(words: &mut Words) -> Answer<()> {
 
 /// Outside all routines: the run ends with the text of failure. A text that is made here goes to the start of the stack,
 /// which nothing needs any more, and costs no store.
-fn bottom(words: &mut Words) -> Answer<()> {
+fn bottom(words: &mut Words) -> Answer<()>
+    ensures { OnOk result (written words.new ≡ bottom_onto (written words.old)) }
+{
     words.label(Goal::Bottom as u32)?;
     load_failure(words)?;
     words.go_unless(Op::Beq, Value, Second, Goal::Unhandled as u32)?;
@@ -170,14 +194,18 @@ fn bottom(words: &mut Words) -> Answer<()> {
 }
 
 /// The runtime's table to First, and the name of failure to Second.
-fn load_failure(words: &mut Words) -> Answer<()> {
+fn load_failure(words: &mut Words) -> Answer<()>
+    ensures { OnOk result (written words.new ≡ load_failure_onto (written words.old)) }
+{
     words.hole(First, HoleKind::Regions, 0)?;
     words.ld(Second, First, FAILURE)
 }
 
 /// Called with the link in T5: to A2 the address of the text of a failure that is made of the exception, and the name of
 /// failure in place of the exception's.
-fn text(words: &mut Words) -> Answer<()> {
+fn text(words: &mut Words) -> Answer<()>
+    ensures { OnOk result (written words.new ≡ text_onto (written words.old)) }
+{
     words.label(Goal::Text as u32)?;
     words.ld(First, First, UNHANDLED)?;
     words.ld(T3, First, 0)?;
@@ -186,14 +214,16 @@ fn text(words: &mut Words) -> Answer<()> {
     take_store(words)?;
     words.sd(A3, A2, 0)?;
     words.addi(A4, A2, 8)?;
-    copy_bytes(words, First, T3, Goal::Prefix, Goal::Prefixed)?;
-    copy_bytes(words, Value, T4, Goal::Name, Goal::Named)?;
+    copy_bytes(words, First, T3, Goal::Prefix as u32, Goal::Prefixed as u32)?;
+    copy_bytes(words, Value, T4, Goal::Name as u32, Goal::Named as u32)?;
     words.copy(Value, Second)?;
     words.jalr(Zero, T5, 0)
 }
 
 /// To A2 the address of a string of A3 bytes in the store.
-fn take_store(words: &mut Words) -> Answer<()> {
+fn take_store(words: &mut Words) -> Answer<()>
+    ensures { OnOk result (written words.new ≡ take_store_onto (written words.old)) }
+{
     words.addi(A4, A3, 15)?;
     words.imm(Op::Andi, A4, A4, -8)?;
     words.three(Op::Sub, A5, StoreEnd, Store)?;
@@ -207,17 +237,19 @@ fn copy_bytes(
     words: &mut Words,
     string: Register,
     count: Register,
-    next: Goal,
-    done: Goal,
-) -> Answer<()> {
+    next: u32,
+    done: u32,
+) -> Answer<()>
+    ensures { OnOk result (written words.new ≡ copy_bytes_onto string count next done (written words.old)) }
+{
     words.addi(string, string, 8)?;
     words.three(Op::Add, count, count, string)?;
-    words.label(next as u32)?;
-    words.go_unless(Op::Bne, string, count, done as u32)?;
+    words.label(next)?;
+    words.go_unless(Op::Bne, string, count, done)?;
     words.load(Op::Lbu, A5, string, 0)?;
     words.save(Op::Sb, A5, A4, 0)?;
     words.addi(string, string, 1)?;
     words.addi(A4, A4, 1)?;
-    words.go(next as u32)?;
-    words.label(done as u32)
+    words.go(next)?;
+    words.label(done)
 }

@@ -1,9 +1,10 @@
 //! A routine of flat code as an object's routine.
 
-ghost use Rattle.std.specs.Prelude.{◌≡◌, IfOk};
+ghost use Rattle.std.specs.Prelude.{◌≡◌, IfOk, IsTrue, OnOk, map};
 ghost use Rattle.clu_frames.specs.Labels.{IsFlat};
-ghost use Rattle.rv_select.specs.Finished.{all_onto, finished as finished_words};
-ghost use Rattle.rv_select.specs.Instructions.{AreInstructions};
+ghost use Rattle.clu_frames.specs.Plain.{plain_code};
+ghost use Rattle.rv_select.specs.Finished.{all_onto, all_starts, finished as finished_words, is_landed};
+ghost use Rattle.rv_select.specs.Instructions.{AreInstructions, read};
 ghost use Rattle.rv_select.specs.Selected.{HandsOn, IsSelected};
 
 use crate::error::{Answer, SelectError};
@@ -30,9 +31,9 @@ struct Selected {
 /// The steps of a region are its words, and so the word of a call is in the region of its step. No contract shows yet
 /// that each step takes no more words than are counted for it: it is tested of all together.
 pub fn select(alloc: Global, f: &FlatRoutine, r: &Regions) -> Result<ObjRoutine, SelectError>
-    requires { IsFlat f.now.code.items }
+    requires { IsFlat (plain_code f.now.code.items) }
     ensures handed { IfOk result (HandsOn f.now) }
-    ensures selected { IfOk result (IsSelected f.now) }
+    ensures selected { IfOk result (IsSelected f.now r.now) }
 {
     let Selected { finished, starts } = select_steps(alloc, f.code.as_slice(), f.frame)?;
     let regions = map_regions(alloc, r, starts.as_slice())?;
@@ -56,6 +57,7 @@ fn make_routine(
     ensures instructions { IfOk result (λ object. AreInstructions object.code) }
     ensures code { IfOk result (λ object. object.code ≡ finished.code.items) }
     ensures holes { IfOk result (λ object. object.holes ≡ finished.holes.items) }
+    ensures regions { IfOk result (λ object. object.regions ≡ regions) }
 {
     let Finished { code, holes } = finished;
     Ok(ObjRoutine {
@@ -70,9 +72,13 @@ fn make_routine(
     })
 }
 
+#[tactic(auto, using(crate::proofs::Instructions::counting))]
 fn select_steps(alloc: Global, steps: &[Flat], frame: u32) -> Answer<Selected>
-    ensures code { IfOk result (λ all. all.finished.code.items ≡ finished_words (all_onto frame steps.now)) }
-    ensures holes { IfOk result (λ all. all.finished.holes.items ≡ (all_onto frame steps.now).holes) }
+    ensures code { IfOk result (λ all. map read all.finished.code.items ≡ finished_words (all_onto frame (plain_code steps.now))) }
+    ensures landed { OnOk result (IsTrue (is_landed (all_onto frame (plain_code steps.now)))) }
+    ensures fits { OnOk result (IsTrue (all_onto frame (plain_code steps.now)).fits) }
+    ensures starts { IfOk result (λ all. all.starts.items ≡ all_starts frame (plain_code steps.now)) }
+    ensures holes { IfOk result (λ all. all.finished.holes.items ≡ (all_onto frame (plain_code steps.now)).holes) }
 {
     // Each label is a step, and labels are numbered from 0: those of flat code are below the number of steps.
     let mut words = Words::new(alloc, steps.len())?;

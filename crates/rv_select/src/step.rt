@@ -1,6 +1,8 @@
 //! The words of each step of flat code.
 
 ghost use Rattle.std.specs.Prelude.{◌≡◌, OnOk};
+ghost use Rattle.clu_wir.specs.Plain.{expr_of};
+ghost use Rattle.clu_frames.specs.Plain.{step_of};
 ghost use Rattle.rv_select.specs.Evaluation.{part_of};
 ghost use Rattle.rv_select.specs.Selection.{set_onto, step_onto, store_onto};
 ghost use Rattle.rv_select.specs.Written.{written};
@@ -21,7 +23,7 @@ use clu_wir::WExpr;
 
 /// The words of a step of a routine whose frame has so many slots.
 pub(crate) fn select_step(words: &mut Words, step: &Flat, frame: u32) -> Answer<()>
-    ensures { OnOk result (written words.new ≡ step_onto frame step.now (written words.old)) }
+    ensures { OnOk result (written words.new ≡ step_onto frame (step_of step.now) (written words.old)) }
 {
     let scope = Scope::new(false);
     match step {
@@ -49,7 +51,7 @@ pub(crate) fn select_step(words: &mut Words, step: &Flat, frame: u32) -> Answer<
 }
 
 fn set(words: &mut Words, to: u32, word: &WExpr, scope: Scope) -> Answer<()>
-    ensures { OnOk result (written words.new ≡ set_onto to (part_of word.now) scope (written words.old)) }
+    ensures { OnOk result (written words.new ≡ set_onto to (part_of (expr_of word.now)) scope (written words.old)) }
 {
     let register = in_register(words, word, scope)?;
     save_slot(words, register, to)
@@ -63,7 +65,7 @@ pub(crate) fn put(
     word: &WExpr,
     scope: Scope,
 ) -> Answer<()>
-    ensures { OnOk result (written words.new ≡ store_onto (part_of address.now) distance (part_of word.now) scope (written words.old)) }
+    ensures { OnOk result (written words.new ≡ store_onto (part_of (expr_of address.now)) distance (part_of (expr_of word.now)) scope (written words.old)) }
 {
     let register = in_register(words, word, scope)?;
     let base = in_register(words, address, scope.keeping(Operand::At(register)))?;

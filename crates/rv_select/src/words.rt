@@ -18,7 +18,7 @@ pub(crate) struct Words {
 
 /// An instruction whose distance to a label is still 0.
 #[derive(Clone, Copy)]
-pub(crate) struct Reference {
+pub struct Reference {
     /// The number of its word.
     pub at: u32,
     pub label: u32,

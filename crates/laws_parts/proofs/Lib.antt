@@ -1,0 +1,14 @@
+mod Bisecting
+mod Failing
+mod Framing
+mod Laying
+mod Naming
+mod Nested
+mod Outside
+mod Search
+mod Searching
+mod Tabled
+mod Taking
+mod Texting
+mod Walking
+mod Whole

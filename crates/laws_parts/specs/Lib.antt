@@ -1,0 +1,5 @@
+-- The parts of the runtime.
+pub mod Part
+pub mod Regions
+pub mod Search
+pub mod Tables

@@ -1,0 +1,6 @@
+//! That the parts of the runtime do what they are for.
+#![tactic(auto)]
+
+mod laws;
+
+pub use laws::{arms_are_found, search_words_are};

@@ -1,0 +1,13 @@
+//! The laws, each the contract of a function that does nothing.
+
+ghost use Rattle.laws_selection.specs.Laws.{ConditionsTurn, ExpressionsEvaluate};
+
+/// The words of an expression evaluate it.
+pub fn expressions_evaluate()
+    ensures { ExpressionsEvaluate }
+{}
+
+/// The words of a jump on an expression go where its word says.
+pub fn conditions_turn()
+    ensures { ConditionsTurn }
+{}
