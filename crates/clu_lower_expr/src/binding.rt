@@ -1,6 +1,13 @@
 //! Binding of objects to names, results, components and objects of exceptions: where the declared type is any, an object
 //! of another type goes into a pair with the number of its type.
 
+ghost use Rattle.std.specs.Prelude.{◌≡◌, IfOk, Some};
+ghost use Rattle.clu_types.specs.Arena.{type_at, types_of};
+ghost use Rattle.clu_specs.specs.Texts.{type_text};
+ghost use Rattle.clu_wir.specs.Plain.{expr_of};
+ghost use Rattle.clu_lower_expr.specs.Low.{low_of};
+ghost use Rattle.clu_lower_expr.specs.Values.{bound_as, operand_bound, pair_slot, type_number, value_of};
+
 use crate::lowering::Lowering;
 use crate::operands::Operand;
 use clu_core::Checked;
@@ -17,17 +24,26 @@ pub fn bind(
     of: TypeId,
     to_any: bool,
     free: u32,
-) -> Result<WExpr> {
+) -> Result<WExpr>
+    ensures { IfOk result (λ e. bound_as to_any (type_at (types_of types.now) of) free (expr_of value) (low_of out.old) ≡ (expr_of e, low_of out.new)) }
+{
     if !to_any || is_any(types, of) {
         return Ok(value);
     }
-    let slot = match &value {
-        WExpr::Slot(slot) if *slot >= free => *slot,
-        _ => out.take()?,
-    };
+    let slot = pair_slot(out, &value, free)?;
     let number = type_number(out, types, of)?;
     out.push(WStmt::Bind(number, value, slot))?;
     Ok(WExpr::Slot(slot))
+}
+
+/// The slot of a pair: that of a value in a slot that may change, or else a new one.
+fn pair_slot(out: &mut Lowering, value: &WExpr, free: u32) -> Result<u32>
+    ensures { IfOk result (λ slot. pair_slot free (expr_of value.now) (low_of out.old) ≡ (slot, low_of out.new)) }
+{
+    match value {
+        WExpr::Slot(slot) if *slot >= free => Ok(*slot),
+        _ => out.take(),
+    }
 }
 
 /// Values of expressions, each bound as `any` says, once all of them are evaluated. What `any` doesn't speak of is not
@@ -58,7 +74,9 @@ fn bind_operand(
     operand: Operand,
     to_any: bool,
     free: u32,
-) -> Result<WExpr> {
+) -> Result<WExpr>
+    ensures { IfOk result (λ e. operand_bound c.now to_any free (value_of operand) (low_of out.old) ≡ Some (expr_of e, low_of out.new)) }
+{
     let Operand { word, node, .. } = operand;
     if to_any {
         bind(out, &c.types, word, type_of(c, node)?, true, free)
@@ -68,7 +86,9 @@ fn bind_operand(
 }
 
 /// The number of a type in the program.
-pub fn type_number(out: &mut Lowering, types: &TypeArena, of: TypeId) -> Result<WExpr> {
+pub fn type_number(out: &mut Lowering, types: &TypeArena, of: TypeId) -> Result<WExpr>
+    ensures { IfOk result (λ e. type_number (type_text (type_at (types_of types.now) of)) (low_of out.old) ≡ (expr_of e, low_of out.new)) }
+{
     let text = text_of(out.alloc, types, of)?;
     out.type_number(text)
 }

@@ -1,7 +1,8 @@
 //! Constructors of records, structs, arrays and sequences (CLU Reference Manual, section 10.8). The layouts are those of
 //! the operations of these types.
 
-ghost use Rattle.std.specs.Prelude.{◌<◌, length};
+ghost use Rattle.std.specs.Prelude.{◌≡◌, ◌<◌, IfOk, length};
+ghost use Rattle.clu_wir.specs.Plain.{binary, expr_of};
 ghost use Rattle.clu_syntax.specs.Parts.{AreOf};
 
 use crate::binding::bind;
@@ -197,7 +198,9 @@ fn put_word(out: &mut Lowering, slot: u32, place: usize, value: WExpr) -> Result
 }
 
 /// An operation on two words.
-pub fn binary(alloc: Global, op: WOp, left: WExpr, right: WExpr) -> Result<WExpr> {
+pub fn binary(alloc: Global, op: WOp, left: WExpr, right: WExpr) -> Result<WExpr>
+    ensures { IfOk result (λ e. expr_of e ≡ binary op (expr_of left) (expr_of right)) }
+{
     let left = Box::new(alloc, left)?;
     let right = Box::new(alloc, right)?;
     Ok(WExpr::Binary(op, left, right))

@@ -1,6 +1,9 @@
 //! A routine in the making: the statements so far, what they use, and the slots that are taken.
 
-ghost use Rattle.std.specs.Prelude.{IfOk};
+ghost use Rattle.std.specs.Prelude.{◌≡◌, [], IfOk, OnOk, Some, map};
+ghost use Rattle.clu_wir.specs.Plain.{expr_of, stmt_of};
+ghost use Rattle.clu_lower_expr.specs.Low.{appended, declared, empty, low_of, number_of_constant, number_of_operation, pushed, released, took, type_place, used, variable_of, with_code, with_named, with_operation, with_type, with_types};
+ghost use Rattle.clu_lower_expr.specs.Values.{constant_word, string_word, type_cells, type_number};
 ghost use Rattle.clu_lower_expr.specs.Bounds.{IsBounded, IsNamed};
 
 use crate::arms::OpenArm;
@@ -51,7 +54,9 @@ pub struct Lowering {
 
 impl Lowering {
     /// A routine without statements.
-    pub fn new(alloc: Global) -> Lowering {
+    pub fn new(alloc: Global) -> Lowering
+        ensures { low_of result ≡ empty }
+    {
         Lowering {
             alloc,
             statements: Vec::new(alloc),
@@ -92,7 +97,12 @@ impl Lowering {
 
     /// A routine of the statements and the types, which are taken out. What it uses, and its constants, come next.
     fn begun(&mut self, name: Bytes, args: u32, nodes: u32) -> WRoutine
-        ensures { IsNamed name args nodes result }
+        ensures named { IsNamed name args nodes result }
+        ensures body { map stmt_of result.body.items ≡ (low_of self.old).code }
+        ensures slots { result.slots ≡ (low_of self.old).most }
+        ensures types { result.types.items ≡ (low_of self.old).types }
+        ensures uses { (low_of self.new).uses ≡ (low_of self.old).uses }
+        ensures constants { (low_of self.new).constants ≡ (low_of self.old).constants }
     {
         WRoutine {
             name,
@@ -107,34 +117,49 @@ impl Lowering {
     }
 
     /// Adds a statement.
-    pub fn push(&mut self, statement: WStmt) -> Result<()> {
+    pub fn push(&mut self, statement: WStmt) -> Result<()>
+        ensures { OnOk result (low_of self.new ≡ pushed (stmt_of statement) (low_of self.old)) }
+    {
         self.statements.push(statement)?;
         Ok(())
     }
 
     /// Adds statements that were made before.
-    pub fn append(&mut self, mut statements: Vec<WStmt>) -> Result<()> {
+    pub fn append(&mut self, mut statements: Vec<WStmt>) -> Result<()>
+        ensures { OnOk result (low_of self.new ≡ appended (map stmt_of statements.items) (low_of self.old)) }
+    {
         self.statements.append(&mut statements)?;
         Ok(())
     }
 
     /// Begins a list of statements inside the current one, which is handed out.
-    pub fn open(&mut self) -> Vec<WStmt> {
+    pub fn open(&mut self) -> Vec<WStmt>
+        ensures outer { map stmt_of result.items ≡ (low_of self.old).code }
+        ensures inner { low_of self.new ≡ with_code [] (low_of self.old) }
+    {
         mem::replace(&mut self.statements, Vec::new(self.alloc))
     }
 
     /// Ends a list of statements, which is handed out; the one round it goes on.
-    pub fn close(&mut self, outer: Vec<WStmt>) -> Vec<WStmt> {
+    pub fn close(&mut self, outer: Vec<WStmt>) -> Vec<WStmt>
+        ensures inner { map stmt_of result.items ≡ (low_of self.old).code }
+        ensures outer { low_of self.new ≡ with_code (map stmt_of outer.items) (low_of self.old) }
+    {
         mem::replace(&mut self.statements, outer)
     }
 
     /// How many slots are taken.
-    pub fn taken(&self) -> u32 {
+    pub fn taken(&self) -> u32
+        ensures { result ≡ (low_of self.now).taken }
+    {
         self.taken
     }
 
     /// Takes a slot.
-    pub fn take(&mut self) -> Result<u32> {
+    pub fn take(&mut self) -> Result<u32>
+        ensures slot { IfOk result (λ slot. slot ≡ (low_of self.old).taken) }
+        ensures took { OnOk result (low_of self.new ≡ took (low_of self.old)) }
+    {
         let slot = self.taken;
         let Some(taken) = slot.checked_add(1) else {
             return Err(LowerError::NotYet);
@@ -145,78 +170,102 @@ impl Lowering {
     }
 
     /// Gives back all slots but the first `taken`.
-    pub fn release(&mut self, taken: u32) {
+    pub fn release(&mut self, taken: u32)
+        ensures { low_of self.new ≡ released taken (low_of self.old) }
+    {
         self.taken = self.taken.min(taken);
     }
 
     /// The number of what a use names, by its text.
-    pub fn use_number(&mut self, text: Bytes) -> Result<u32> {
+    pub fn use_number(&mut self, text: Bytes) -> Result<u32>
+        ensures { IfOk result (λ n. used text (low_of self.old) ≡ (n, low_of self.new)) }
+    {
         let (number, _) = self.uses.insert_full(text)?;
         place(number)
     }
 
     /// The number of the use of an operation, if it was noted.
-    pub fn named_operation(&self, operation: &TypeOperation) -> Option<u32> {
+    pub fn named_operation(&self, operation: &TypeOperation) -> Option<u32>
+        ensures { result ≡ number_of_operation operation.now (low_of self.now) }
+    {
         self.operation_numbers.get(operation).copied()
     }
 
     /// Notes the number of the use of an operation.
-    pub fn note_operation(&mut self, operation: TypeOperation, number: u32) -> Result<()> {
+    pub fn note_operation(&mut self, operation: TypeOperation, number: u32) -> Result<()>
+        ensures { OnOk result (low_of self.new ≡ with_operation operation number (low_of self.old)) }
+    {
         self.operation_numbers.insert(operation, number)?;
         Ok(())
     }
 
     /// The word of a constant that only the linker knows.
-    pub fn constant(&mut self, constant: ObjConst) -> Result<WExpr> {
+    pub fn constant(&mut self, constant: ObjConst) -> Result<WExpr>
+        ensures { IfOk result (λ e. constant_word constant (low_of self.old) ≡ (expr_of e, low_of self.new)) }
+    {
         let (number, _) = self.constants.insert_full(constant)?;
         Ok(WExpr::Hole(HoleKind::Constant, place(number)?))
     }
 
     /// The number of the file's constant at this place, if it was noted.
-    pub fn named_constant(&self, place: usize) -> Option<u32> {
+    pub fn named_constant(&self, place: usize) -> Option<u32>
+        ensures { result ≡ number_of_constant place (low_of self.now) }
+    {
         self.constant_numbers.get(&place).copied()
     }
 
     /// Notes the number of the file's constant at this place.
-    pub fn note_constant(&mut self, place: usize, number: u32) -> Result<()> {
+    pub fn note_constant(&mut self, place: usize, number: u32) -> Result<()>
+        ensures { OnOk result (low_of self.new ≡ with_named place number (low_of self.old)) }
+    {
         self.constant_numbers.insert(place, number)?;
         Ok(())
     }
 
     /// The word of a string.
-    pub fn string(&mut self, bytes: &[u8]) -> Result<WExpr> {
+    pub fn string(&mut self, bytes: &[u8]) -> Result<WExpr>
+        ensures { IfOk result (λ e. string_word bytes.now (low_of self.old) ≡ (expr_of e, low_of self.new)) }
+    {
         let bytes = Bytes::from_slice(self.alloc, bytes)?;
         self.constant(ObjConst::Value(Const::Str(bytes)))
     }
 
     /// Adds a type, by its text, after all others; the answer is its place.
-    pub fn add_type(&mut self, text: Bytes) -> Result<u32> {
+    pub fn add_type(&mut self, text: Bytes) -> Result<u32>
+        ensures { IfOk result (λ n. with_type text (low_of self.old) ≡ (n, low_of self.new)) }
+    {
         let number = place(self.types.len())?;
         self.types.push(text)?;
         Ok(number)
     }
 
     /// Adds types, by their texts, one after the other; the answer is the place of the first.
-    pub fn add_types(&mut self, texts: Vec<Bytes>) -> Result<u32> {
+    pub fn add_types(&mut self, mut texts: Vec<Bytes>) -> Result<u32>
+        ensures { IfOk result (λ n. with_types texts.items (low_of self.old) ≡ (n, low_of self.new)) }
+    {
         let first = place(self.types.len())?;
-        for text in texts {
-            self.types.push(text)?;
-        }
+        self.types.append(&mut texts)?;
         Ok(first)
     }
 
     /// The address of cells with the numbers of types, by their texts, one after the other.
-    pub fn type_cells(&mut self, texts: Vec<Bytes>) -> Result<WExpr> {
+    pub fn type_cells(&mut self, texts: Vec<Bytes>) -> Result<WExpr>
+        ensures { IfOk result (λ e. type_cells texts.items (low_of self.old) ≡ (expr_of e, low_of self.new)) }
+    {
         Ok(WExpr::Hole(HoleKind::TypeCell, self.add_types(texts)?))
     }
 
     /// The number that a type, by its text, has in the program.
-    pub fn type_number(&mut self, text: Bytes) -> Result<WExpr> {
+    pub fn type_number(&mut self, text: Bytes) -> Result<WExpr>
+        ensures { IfOk result (λ e. type_number text (low_of self.old) ≡ (expr_of e, low_of self.new)) }
+    {
         Ok(WExpr::Hole(HoleKind::TypeWord, self.type_place(text)?))
     }
 
     /// The place of a type that was asked for before, or is added now.
-    fn type_place(&mut self, text: Bytes) -> Result<u32> {
+    fn type_place(&mut self, text: Bytes) -> Result<u32>
+        ensures { IfOk result (λ n. type_place text (low_of self.old) ≡ (n, low_of self.new)) }
+    {
         if let Some(known) = self.type_places.get(&text) {
             return Ok(*known);
         }
@@ -226,7 +275,9 @@ impl Lowering {
     }
 
     /// The variable of this declaration.
-    pub fn variable(&self, place: usize) -> Result<Variable> {
+    pub fn variable(&self, place: usize) -> Result<Variable>
+        ensures { IfOk result (λ v. variable_of place (low_of self.now) ≡ Some v) }
+    {
         match self.variables.get(&place) {
             Some(variable) => Ok(*variable),
             None => Err(LowerError::NotYet),
@@ -234,14 +285,18 @@ impl Lowering {
     }
 
     /// Notes the variable of a declaration.
-    pub fn declare(&mut self, place: usize, variable: Variable) -> Result<()> {
+    pub fn declare(&mut self, place: usize, variable: Variable) -> Result<()>
+        ensures { OnOk result (low_of self.new ≡ declared place variable (low_of self.old)) }
+    {
         self.variables.insert(place, variable)?;
         Ok(())
     }
 }
 
 /// A number in a table of a routine.
-fn place(number: usize) -> Result<u32> {
+fn place(number: usize) -> Result<u32>
+    ensures { IfOk result (λ n. n ≡ number) }
+{
     match u32::try_from(number) {
         Ok(place) => Ok(place),
         Err(_) => Err(LowerError::NotYet),

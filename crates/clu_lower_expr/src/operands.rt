@@ -1,6 +1,11 @@
 //! Values of expressions. A value is an expression, which loads and raises only where it stands: before a statement that comes
 //! before its use it is kept in a slot.
 
+ghost use Rattle.std.specs.Prelude.{◌≡◌, IfOk};
+ghost use Rattle.clu_wir.specs.Plain.{expr_of};
+ghost use Rattle.clu_lower_expr.specs.Low.{low_of};
+ghost use Rattle.clu_lower_expr.specs.Values.{is_fixed, kept, operand_of, value_of};
+
 use crate::lowering::Lowering;
 use clu_lower_types::{LowerError, Result};
 use clu_wir::{WExpr, WStmt};
@@ -22,7 +27,9 @@ const WORDS: u64 = 256;
 
 impl Lowering {
     /// The value of the expression n. If it isn't fixed it may be kept, also after further ones are lowered.
-    pub fn operand(&mut self, word: WExpr, n: u32) -> Result<Operand> {
+    pub fn operand(&mut self, word: WExpr, n: u32) -> Result<Operand>
+        ensures { IfOk result (λ operand. operand_of (expr_of word) n (low_of self.old) ≡ (value_of operand, low_of self.new)) }
+    {
         let slot = self.taken();
         if !is_fixed(&word) {
             let _slot = self.take()?;
@@ -47,7 +54,9 @@ impl Lowering {
     }
 
     /// A value that is fixed: any other is kept in a new slot.
-    pub fn kept(&mut self, value: WExpr) -> Result<WExpr> {
+    pub fn kept(&mut self, value: WExpr) -> Result<WExpr>
+        ensures { IfOk result (λ e. kept (expr_of value) (low_of self.old) ≡ (expr_of e, low_of self.new)) }
+    {
         if is_fixed(&value) {
             return Ok(value);
         }
@@ -68,12 +77,16 @@ impl Lowering {
 }
 
 /// Whether a value loads nothing but a slot, which no statement of an expression sets, and raises nothing.
-pub fn is_fixed(value: &WExpr) -> bool {
+pub fn is_fixed(value: &WExpr) -> bool
+    ensures { result ≡ is_fixed (expr_of value.now) }
+{
     matches!(value, WExpr::Slot(_) | WExpr::Word(_) | WExpr::Hole(_, _))
 }
 
 /// The same word once more, of a value that is fixed.
-pub fn again(value: &WExpr) -> Result<WExpr> {
+pub fn again(value: &WExpr) -> Result<WExpr>
+    ensures { IfOk result (λ e. expr_of e ≡ expr_of value.now) }
+{
     match value {
         WExpr::Slot(slot) => Ok(WExpr::Slot(*slot)),
         WExpr::Word(word) => Ok(WExpr::Word(*word)),

@@ -1,7 +1,10 @@
 //! What is fixed while the statements of a routine are lowered: the checked file, the routine's heading as its body sees
 //! it, what is given of type parameters, and own variables.
 
-ghost use Rattle.std.specs.Prelude.{◌≡◌};
+ghost use Rattle.std.specs.Prelude.{◌≡◌, [], IfOk, None};
+ghost use Rattle.std.specs.List.{find};
+ghost use Rattle.std.specs.Option.{option_copied};
+ghost use Rattle.clu_lower_types.specs.Given.{given, is_demand};
 
 use crate::declarations::Declarations;
 use crate::errors::Result;
@@ -49,7 +52,12 @@ pub struct Fixed<'a> {
 impl<'a> Fixed<'a> {
     /// Nothing is known yet but the file.
     pub fn new(alloc: Global, c: &'a Checked, declarations: &'a Declarations) -> Fixed<'a>
-        ensures { result.syntax.now ≡ c.entry.now.syntax }
+        ensures syntax { result.syntax.now ≡ c.entry.now.syntax }
+        ensures file { result.c.now ≡ c.entry.now }
+        ensures declarations { result.declarations.now ≡ declarations.entry.now }
+        ensures rep { result.rep ≡ None }
+        ensures given { result.given.items ≡ [] }
+        ensures results { result.results.items ≡ [] }
     {
         Fixed {
             alloc,
@@ -84,13 +92,13 @@ impl<'a> Fixed<'a> {
     }
 
     /// The type of the operation of this name that a where clause gives of a type parameter.
-    pub fn given(&self, param: u32, op: &Bytes) -> Option<TypeId> {
-        for demand in self.given.as_slice() {
-            if demand.param == param && demand.op == *op {
-                return Some(demand.wanted);
-            }
+    pub fn given(&self, param: u32, op: &Bytes) -> Option<TypeId>
+        ensures { result ≡ given self.now param op.now }
+    {
+        match demand_of(self.given.as_slice(), param, op) {
+            Some(demand) => Some(demand.wanted),
+            None => None,
         }
-        None
     }
 
     /// For each object of a signal whether its type is any.
@@ -102,8 +110,28 @@ impl<'a> Fixed<'a> {
     }
 }
 
+/// The first of these demands on an operation of this name of a type parameter.
+fn demand_of<'a>(demands: &'a [Demand], param: u32, op: &Bytes) -> Option<&'a Demand>
+    ensures { option_copied result ≡ find (is_demand param op.now) demands.now }
+{
+    for demand in demands {
+        if is_demand(demand, param, op) {
+            return Some(demand);
+        }
+    }
+    None
+}
+
+fn is_demand(demand: &Demand, param: u32, op: &Bytes) -> bool
+    ensures { result ≡ is_demand param op.now demand.now }
+{
+    demand.param == param && demand.op == *op
+}
+
 /// Copies of names.
-pub fn copied_names(alloc: Global, names: &[Bytes]) -> Result<Vec<Bytes>, Memory> {
+pub fn copied_names(alloc: Global, names: &[Bytes]) -> Result<Vec<Bytes>, Memory>
+    ensures { IfOk result (λ copies. copies.items ≡ names.now) }
+{
     let mut copies = Vec::new(alloc);
     for name in names {
         copies.push(name.copy(alloc)?)?;

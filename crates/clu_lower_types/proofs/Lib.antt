@@ -1,0 +1,2 @@
+-- Lemmas of what lowering reads.
+pub mod Listed
