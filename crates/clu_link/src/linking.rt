@@ -6,6 +6,7 @@ ghost use Rattle.clu_trace.specs.Maps.{Maps};
 ghost use Rattle.clu_library.specs.Contents.{Contents, spec_of};
 ghost use Rattle.clu_reach.specs.Causes.{HaveBodies, IsRefusalOf};
 ghost use Rattle.clu_reach.specs.Found.{AreKept};
+ghost use Rattle.clu_reach.specs.Refused.{IsAcceptedFrom, IsRefusedFrom, first_of_start};
 ghost use Rattle.clu_reach.specs.Starts.{MayStart};
 ghost use Rattle.clu_link.specs.Images.{AreUnset};
 
@@ -53,6 +54,8 @@ struct Made<'a> {
 pub fn link(alloc: Global, lib: &Library, start: &Bytes) -> Result<Linked, LinkError>
     ensures started { OnOk result (MayStart (spec_of lib.now start.now)) }
     ensures refused { IfErr result (λ e. IsRefusalOf e lib.now start.now) }
+    ensures reached { OnOk result (IsAcceptedFrom lib.now start.now) }
+    ensures exact { IfErr result (λ e. IsRefusedFrom lib.now start.now e) }
     ensures bodies { IfOk result (λ linked. HaveBodies lib.now linked.modules.items) }
     ensures entry { IfOk result (λ linked. linked.image.entry ≡ 0) }
     ensures unset { IfOk result (λ linked. AreUnset linked.image.area) }
@@ -65,6 +68,8 @@ pub fn link(alloc: Global, lib: &Library, start: &Bytes) -> Result<Linked, LinkE
 pub fn link_traced(alloc: Global, lib: &Library, start: &Bytes) -> Result<Traced, LinkError>
     ensures started { OnOk result (MayStart (spec_of lib.now start.now)) }
     ensures refused { IfErr result (λ e. IsRefusalOf e lib.now start.now) }
+    ensures reached { OnOk result (IsAcceptedFrom lib.now start.now) }
+    ensures exact { IfErr result (λ e. IsRefusedFrom lib.now start.now e) }
     ensures bodies { IfOk result (λ traced. HaveBodies lib.now traced.linked.modules.items) }
     ensures entry { IfOk result (λ traced. traced.linked.image.entry ≡ 0) }
     ensures unset { IfOk result (λ traced. AreUnset traced.linked.image.area) }
@@ -77,6 +82,8 @@ pub fn link_traced(alloc: Global, lib: &Library, start: &Bytes) -> Result<Traced
 /// Links the program whose first instance is this one.
 fn link_from(alloc: Global, lib: &Library, first: Member) -> Result<Linked, LinkError>
     ensures refused { (start : List ℕ) → IfErr result (λ e. IsRefusalOf e lib.now start) }
+    ensures reached { (start : List ℕ) → first ≡ first_of_start start → OnOk result (IsAcceptedFrom lib.now start) }
+    ensures exact { (start : List ℕ) → first ≡ first_of_start start → IfErr result (λ e. IsRefusedFrom lib.now start e) }
     ensures bodies { IfOk result (λ linked. HaveBodies lib.now linked.modules.items) }
     ensures entry { IfOk result (λ linked. linked.image.entry ≡ 0) }
     ensures unset { IfOk result (λ linked. AreUnset linked.image.area) }
@@ -90,6 +97,8 @@ fn link_from(alloc: Global, lib: &Library, first: Member) -> Result<Linked, Link
 /// The same, with a map, which is one of the image.
 fn traced_from(alloc: Global, lib: &Library, first: Member) -> Result<Traced, LinkError>
     ensures refused { (start : List ℕ) → IfErr result (λ e. IsRefusalOf e lib.now start) }
+    ensures reached { (start : List ℕ) → first ≡ first_of_start start → OnOk result (IsAcceptedFrom lib.now start) }
+    ensures exact { (start : List ℕ) → first ≡ first_of_start start → IfErr result (λ e. IsRefusedFrom lib.now start e) }
     ensures bodies { IfOk result (λ traced. HaveBodies lib.now traced.linked.modules.items) }
     ensures entry { IfOk result (λ traced. traced.linked.image.entry ≡ 0) }
     ensures unset { IfOk result (λ traced. AreUnset traced.linked.image.area) }
@@ -113,7 +122,8 @@ fn traced_from(alloc: Global, lib: &Library, first: Member) -> Result<Traced, Li
 
 /// The map of a program.
 fn map_of_made(alloc: Global, made: &Made<'_>) -> Result<TraceMap, LinkError>
-    ensures { (library : Contents) → (start : List ℕ) → IfErr result (λ e. IsRefusalOf e library start) }
+    ensures exact { (library : Contents) → (start : List ℕ) → IfErr result (λ e. IsRefusedFrom library start e) }
+    ensures refused { (library : Contents) → (start : List ℕ) → IfErr result (λ e. IsRefusalOf e library start) }
 {
     match map_of(alloc, &made.program, &made.reached.members, &made.places) {
         Ok(map) => Ok(map),
@@ -124,6 +134,8 @@ fn map_of_made(alloc: Global, made: &Made<'_>) -> Result<TraceMap, LinkError>
 /// Makes the program whose first instance is this one. No step after the first one refuses a program.
 fn make<'a>(alloc: Global, lib: &'a Library, first: Member) -> Result<Made<'a>, LinkError>
     ensures refused { (start : List ℕ) → IfErr result (λ e. IsRefusalOf e lib.now start) }
+    ensures reached { (start : List ℕ) → first ≡ first_of_start start → OnOk result (IsAcceptedFrom lib.now start) }
+    ensures exact { (start : List ℕ) → first ≡ first_of_start start → IfErr result (λ e. IsRefusedFrom lib.now start e) }
     ensures bodies { IfOk result (λ made. HaveBodies lib.now made.linked.modules.items) }
     ensures entry { IfOk result (λ made. made.linked.image.entry ≡ 0) }
     ensures unset { IfOk result (λ made. AreUnset made.linked.image.area) }

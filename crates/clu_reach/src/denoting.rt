@@ -1,6 +1,6 @@
 //! What the uses of a routine denote, among what is kept.
 
-ghost use Rattle.std.specs.Prelude.{◌≡◌, ◌<◌, length, IfOk};
+ghost use Rattle.std.specs.Prelude.{◌≡◌, ◌<◌, length, IfOk, OnOk};
 ghost use Rattle.clu_types.specs.Arena.{type_at, types_of, Grows};
 ghost use Rattle.clu_builtin.specs.Built.{NeedsBelow};
 ghost use Rattle.clu_builtin.specs.Table.{operation};
@@ -44,6 +44,7 @@ pub enum Needs {
 }
 
 /// What the uses of these texts denote, with actual parameters put in; None if one of them denotes nothing.
+#[tactic(auto, using(crate::proofs::Growing::growings))]
 pub fn uses_of(
     alloc: Global,
     lib: &Library,
@@ -51,7 +52,9 @@ pub fn uses_of(
     texts: &[Bytes],
     actuals: &[Actual],
     needs: Needs,
-) -> Result<Option<Vec<Use>>, LinkError> {
+) -> Result<Option<Vec<Use>>, LinkError>
+    ensures { OnOk result (Grows types.old types.new) }
+{
     let mut uses = Vec::new(alloc);
     for text in texts {
         let Some(member) = member_of(alloc, types, text, actuals)? else {
@@ -67,13 +70,16 @@ pub fn uses_of(
 }
 
 /// What a member is, if it denotes something.
+#[tactic(auto, using(crate::proofs::Growing::growings))]
 fn sort_of(
     alloc: Global,
     lib: &Library,
     types: &mut TypeArena,
     member: &Member,
     needs: Needs,
-) -> Result<Option<Sort>, LinkError> {
+) -> Result<Option<Sort>, LinkError>
+    ensures { OnOk result (Grows types.old types.new) }
+{
     match member {
         Member::Module(name, actuals) => {
             Ok(instance_if(is_given(lib, name, actuals.as_slice(), false)))
@@ -115,7 +121,7 @@ fn is_cluster(lib: &Library, types: &TypeArena, of: TypeId) -> Result<Option<boo
 }
 
 /// What an operation is that a built-in type has and whose needs are met.
-#[tactic(auto, using(crate::proofs::Sorts::sort_found))]
+#[tactic(auto, using(crate::proofs::Growing::growings, crate::proofs::Sorts::sort_found))]
 fn sort_of_operation(
     alloc: Global,
     lib: &Library,
@@ -124,7 +130,8 @@ fn sort_of_operation(
     op: &Bytes,
     needs: Needs,
 ) -> Result<Option<Sort>, LinkError>
-    ensures { IfOk result (IsSortOf (operation (type_at (types_of types.old) of) op.now)) }
+    ensures sort { IfOk result (IsSortOf (operation (type_at (types_of types.old) of) op.now)) }
+    ensures kept { OnOk result (Grows types.old types.new) }
 {
     if !types.contains(of) {
         return Err(LinkError::NotYet);
@@ -152,6 +159,7 @@ fn sort_of_built(built: &Builtin) -> Sort
     }
 }
 
+#[tactic(auto, using(crate::proofs::Growing::growings))]
 fn are_met(
     alloc: Global,
     lib: &Library,
@@ -160,6 +168,7 @@ fn are_met(
     asked: Needs,
 ) -> Result<bool, Memory>
     requires { NeedsBelow (length types.old) needs.now }
+    ensures { OnOk result (Grows types.old types.new) }
 {
     if asked == Needs::Met {
         return Ok(true);

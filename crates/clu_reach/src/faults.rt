@@ -1,10 +1,14 @@
 //! What is found wrong with a program while it is reached, and which of it is refused first.
 
-ghost use Rattle.std.specs.Prelude.{◌≡◌, ◌↔◌, ℕ, IfOk, IfSome, IsTrue, List, OnOk};
+ghost use Rattle.std.specs.Prelude.{◌≡◌, ◌↔◌, ℕ, IfOk, IfSome, IsTrue, List, OnOk, Option, Some, []};
 ghost use Rattle.clu_library.specs.Contents.{Contents, body_of};
 ghost use Rattle.clu_library.specs.Staleness.{AreStale, IsStale};
 ghost use Rattle.clu_reach.specs.Causes.{HasBody, IsRefusalOf};
 ghost use Rattle.clu_reach.specs.Found.{AreFaults, IsStaleModule};
+ghost use Rattle.clu_reach.specs.Reach.{Fate, Refusal, bodiless, is_stale, misfit, stale_body, taken};
+ghost use Rattle.clu_reach.specs.Refused.{ErrorIs, IsFirst, IsRefused, IsRefusedFrom};
+ghost use Rattle.clu_reach.specs.Walked.{AreFirst, IsNoted, IsStaleNamed};
+ghost use Rattle.clu_reach.specs.declared.member.Member.{Member};
 
 use crate::errors::LinkError;
 use clu_base::{Bytes, Memory};
@@ -36,7 +40,8 @@ pub struct Faults {
 impl Faults {
     /// No faults; these are the modules whose bodies are stale.
     pub fn new(stale_modules: IndexSet<Bytes>) -> Faults
-        ensures { (library : Contents) → AreStale library stale_modules.keys → AreFaults library result }
+        ensures faults { (library : Contents) → AreStale library stale_modules.keys → AreFaults library result }
+        ensures first { AreFirst [] result }
     {
         Faults {
             no_body: None,
@@ -49,7 +54,8 @@ impl Faults {
 
     /// No body is kept of the module.
     pub fn add_bodiless(&mut self, name: Bytes)
-        ensures { (library : Contents) → body_of library name ≡ None → AreFaults library self.old → AreFaults library self.new }
+        ensures noted { IsNoted (bodiless name) self.old self.new }
+        ensures faults { (library : Contents) → body_of library name ≡ None → AreFaults library self.old → AreFaults library self.new }
     {
         if self.no_body.is_some() {
             return;
@@ -59,7 +65,8 @@ impl Faults {
 
     /// The module's object does not fit what is kept.
     pub fn add_misfit(&mut self, name: Bytes)
-        ensures { (library : Contents) → HasBody library name → AreFaults library self.old → AreFaults library self.new }
+        ensures noted { IsNoted (misfit name) self.old self.new }
+        ensures faults { (library : Contents) → HasBody library name → AreFaults library self.old → AreFaults library self.new }
     {
         if self.misfit.is_some() {
             return;
@@ -68,34 +75,28 @@ impl Faults {
     }
 
     pub fn add_weight(&mut self, weight: u64)
-        ensures { (library : Contents) → AreFaults library self.old → AreFaults library self.new }
+        ensures noted { (us : List Member) → IsNoted (taken weight us) self.old self.new }
+        ensures faults { (library : Contents) → AreFaults library self.old → AreFaults library self.new }
     {
         self.weight = self.weight.saturating_add(weight);
     }
 
-    /// Whether the kept body of a module is stale. Why, is told of the first one.
+    /// Whether the kept body of a module is stale.
     #[tactic(auto, using(crate::proofs::Keeping::causes))]
-    pub fn is_stale(&mut self, alloc: Global, lib: &Library, name: &Bytes) -> Result<bool, Memory>
-        requires { AreFaults lib.now self.old }
-        ensures found { OnOk result (AreFaults lib.now self.new) }
-        ensures stale { IfOk result (λ stale. IsTrue stale ↔ IsStale lib.now name.now) }
+    pub fn is_stale(&self, name: &Bytes) -> bool
+        ensures { (library : Contents) → AreFaults library self.now → (IsTrue result ↔ IsStale library name.now) }
     {
-        let is_stale = self.stale_modules.contains(name);
-        self.add_stale(alloc, lib, name, is_stale)?;
-        Ok(is_stale)
+        self.stale_modules.contains(name)
     }
 
-    fn add_stale(
-        &mut self,
-        alloc: Global,
-        lib: &Library,
-        name: &Bytes,
-        is_stale: bool,
-    ) -> Result<(), Memory>
-        requires { AreFaults lib.now self.old }
-        ensures { OnOk result (AreFaults lib.now self.new) }
+    /// The body of the module is stale. Why, is told of the first one.
+    pub fn add_stale(&mut self, alloc: Global, lib: &Library, name: &Bytes) -> Result<(), Memory>
+        requires faults { AreFaults lib.now self.old }
+        requires stale { IsStale lib.now name.now }
+        ensures found { OnOk result (AreFaults lib.now self.new) }
+        ensures noted { OnOk result (IsNoted (is_stale name.now) self.old self.new) }
     {
-        if !is_stale || self.stale.is_some() {
+        if self.stale.is_some() {
             return Ok(());
         }
         match stale_module(alloc, lib, name)? {
@@ -108,8 +109,10 @@ impl Faults {
     }
 
     /// What is refused first, if there are not too many instances.
+    #[tactic(auto, using(crate::proofs::Firsts::firsts))]
     pub fn first(self) -> Option<LinkError>
-        ensures { (library : Contents) → (start : List ℕ) → AreFaults library self → IfSome result (λ e. IsRefusalOf e library start) }
+        ensures exact { (fates : List Fate) → AreFirst fates self → IsFirst fates result }
+        ensures cause { (library : Contents) → (start : List ℕ) → AreFaults library self → IfSome result (λ e. IsRefusalOf e library start) }
     {
         let Faults {
             no_body,
@@ -135,7 +138,7 @@ impl Faults {
 /// A module and why its body is stale.
 #[tactic(auto, using(crate::proofs::Keeping::causes))]
 fn stale_module(alloc: Global, lib: &Library, name: &Bytes) -> Result<Option<StaleModule>, Memory>
-    ensures { IfOk result (λ found. IfSome found (IsStaleModule lib.now)) }
+    ensures { IfOk result (IsStaleNamed lib.now name.now) }
 {
     match lib.stale(alloc, name)? {
         Some(by) => {
@@ -147,7 +150,8 @@ fn stale_module(alloc: Global, lib: &Library, name: &Bytes) -> Result<Option<Sta
 }
 
 fn stale_error(stale: StaleModule) -> LinkError
-    ensures { (library : Contents) → (start : List ℕ) → IsStaleModule library stale → IsRefusalOf result library start }
+    ensures named { (refusal : Option Refusal) → refusal ≡ Some (stale_body stale.name) → ErrorIs refusal result }
+    ensures cause { (library : Contents) → (start : List ℕ) → IsStaleModule library stale → IsRefusalOf result library start }
 {
     let StaleModule { name, by } = stale;
     let StaleBy {
@@ -165,7 +169,9 @@ fn stale_error(stale: StaleModule) -> LinkError
 
 /// The error of a step that refuses no program.
 pub fn of_step(error: LinkError) -> LinkError
-    ensures { (library : Contents) → (start : List ℕ) → IsRefusalOf result library start }
+    ensures exact { (library : Contents) → (first : Member) → IsRefused library first result }
+    ensures exact_from { (library : Contents) → (start : List ℕ) → IsRefusedFrom library start result }
+    ensures cause { (library : Contents) → (start : List ℕ) → IsRefusalOf result library start }
 {
     match error {
         LinkError::Memory => LinkError::Memory,

@@ -1,5 +1,8 @@
 //! Where the code of an instance comes from, and the actual parameters that it has.
 
+ghost use Rattle.std.specs.Prelude.{IfOk, Some, slice_get};
+ghost use Rattle.clu_reach.specs.Walked.{IsOrigin, IsOriginIn};
+
 use crate::errors::LinkError;
 use crate::member::Member;
 use crate::parameters::copied;
@@ -31,7 +34,9 @@ pub enum Origin {
 }
 
 /// Where the code of a member comes from that is an instance.
-pub fn origin_of(alloc: Global, types: &TypeArena, member: &Member) -> Result<Origin, LinkError> {
+pub fn origin_of(alloc: Global, types: &TypeArena, member: &Member) -> Result<Origin, LinkError>
+    ensures { IfOk result (IsOrigin types.now member.now) }
+{
     match member {
         Member::Module(name, actuals) => Ok(Origin::Module(Kept {
             module: name.copy(alloc)?,
@@ -48,20 +53,45 @@ pub fn origin_of(alloc: Global, types: &TypeArena, member: &Member) -> Result<Or
     }
 }
 
+#[tactic(auto, using(crate::proofs::Steps::origins))]
 fn origin_of_operation(
     alloc: Global,
     types: &TypeArena,
     of: TypeId,
     op: Bytes,
-) -> Result<Origin, LinkError> {
-    match term(types, of)? {
+) -> Result<Origin, LinkError>
+    ensures { IfOk result (IsOriginIn (slice_get types.now of.0) op) }
+{
+    origin_in(alloc, term(types, of)?, of, op)
+}
+
+/// Where the code of an operation of a type with this term comes from.
+fn origin_in(alloc: Global, term: &Term, of: TypeId, op: Bytes) -> Result<Origin, LinkError>
+    ensures { IfOk result (IsOriginIn (Some term.now) op) }
+{
+    match term {
         Term::Cluster(name, actuals) => Ok(Origin::Module(Kept {
             module: name.copy(alloc)?,
             routine: op,
             cluster: Some(of),
             actuals: copied(alloc, actuals.as_slice())?,
         })),
-        other => Ok(Origin::Builtin(of, op, parts_of(alloc, other)?)),
+        Term::Null
+        | Term::Bool
+        | Term::Int
+        | Term::Char
+        | Term::Str
+        | Term::Any
+        | Term::Stream
+        | Term::Array(_)
+        | Term::Sequence(_)
+        | Term::Record(_)
+        | Term::Struct(_)
+        | Term::Oneof(_)
+        | Term::Variant(_)
+        | Term::Proc(_)
+        | Term::Iter(_)
+        | Term::Param(_) => Ok(Origin::Builtin(of, op, parts_of(alloc, term)?)),
     }
 }
 

@@ -1,7 +1,8 @@
 //! Actual parameters put in for the parameters that the texts and constants of a routine name.
 
-ghost use Rattle.std.specs.Prelude.{◌≡◌};
+ghost use Rattle.std.specs.Prelude.{◌≡◌, IfOk, OnOk};
 ghost use Rattle.std.specs.Option.{option_copied};
+ghost use Rattle.clu_types.specs.Arena.{Grows};
 ghost use Rattle.clu_reach.specs.Parameters.{constant_in, constant_of, nth};
 
 use crate::errors::LinkError;
@@ -43,7 +44,9 @@ fn constant_in(actual: &Actual) -> Option<&Const>
 }
 
 /// Copies of actual parameters.
-pub fn copied(alloc: Global, actuals: &[Actual]) -> Result<Vec<Actual>, LinkError> {
+pub fn copied(alloc: Global, actuals: &[Actual]) -> Result<Vec<Actual>, LinkError>
+    ensures { IfOk result (λ copies. copies.items ≡ actuals.now) }
+{
     let mut copies = Vec::new(alloc);
     for actual in actuals {
         copies.push(actual.copy(alloc)?)?;
@@ -53,12 +56,15 @@ pub fn copied(alloc: Global, actuals: &[Actual]) -> Result<Vec<Actual>, LinkErro
 
 /// What the use of this text names; None where the text is none of a use, or names a parameter that is not there or is
 /// of the other kind.
+#[tactic(auto, using(crate::proofs::Growing::growings))]
 pub fn member_of(
     alloc: Global,
     types: &mut TypeArena,
     text: &Bytes,
     actuals: &[Actual],
-) -> Result<Option<Member>, LinkError> {
+) -> Result<Option<Member>, LinkError>
+    ensures { OnOk result (Grows types.old types.new) }
+{
     let mut read = TypeArena::new(alloc);
     match read_use(alloc, &mut read, text.as_slice()) {
         Ok(target) => {
@@ -74,12 +80,15 @@ pub fn member_of(
 }
 
 /// The types of these texts; None where one names a parameter that is not there or is of the other kind.
+#[tactic(auto, using(crate::proofs::Growing::growings))]
 pub fn types_of(
     alloc: Global,
     types: &mut TypeArena,
     texts: &[Bytes],
     actuals: &[Actual],
-) -> Result<Option<Vec<TypeId>>, LinkError> {
+) -> Result<Option<Vec<TypeId>>, LinkError>
+    ensures { OnOk result (Grows types.old types.new) }
+{
     let mut made = Vec::new(alloc);
     for text in texts {
         match type_of(alloc, types, text, actuals)? {
@@ -90,12 +99,15 @@ pub fn types_of(
     Ok(Some(made))
 }
 
+#[tactic(auto, using(crate::proofs::Growing::growings))]
 fn type_of(
     alloc: Global,
     types: &mut TypeArena,
     text: &Bytes,
     actuals: &[Actual],
-) -> Result<Option<TypeId>, LinkError> {
+) -> Result<Option<TypeId>, LinkError>
+    ensures { OnOk result (Grows types.old types.new) }
+{
     let mut read = TypeArena::new(alloc);
     match read_type(alloc, &mut read, text.as_slice()) {
         Ok(of) => {
@@ -142,13 +154,16 @@ fn are_constants_known(given: &[Actual], actuals: &[Actual]) -> bool {
 }
 
 /// What a use names whose types are in `read`, with actuals of `types` put in.
+#[tactic(auto, using(crate::proofs::Growing::growings))]
 fn put_in(
     alloc: Global,
     types: &mut TypeArena,
     read: &TypeArena,
     target: Target,
     actuals: &[Actual],
-) -> Result<Member, LinkError> {
+) -> Result<Member, LinkError>
+    ensures { OnOk result (Grows types.old types.new) }
+{
     match target {
         Target::Module(name, given) => {
             let given = carried(alloc, types, read, given.as_slice(), actuals)?;
@@ -160,13 +175,16 @@ fn put_in(
     }
 }
 
+#[tactic(auto, using(crate::proofs::Growing::growings))]
 fn carried(
     alloc: Global,
     types: &mut TypeArena,
     read: &TypeArena,
     given: &[Actual],
     actuals: &[Actual],
-) -> Result<Vec<Actual>, LinkError> {
+) -> Result<Vec<Actual>, LinkError>
+    ensures { OnOk result (Grows types.old types.new) }
+{
     let mut made = Vec::new(alloc);
     for actual in given {
         made.push(carried_actual(alloc, types, read, actual, actuals)?)?;
@@ -174,13 +192,16 @@ fn carried(
     Ok(made)
 }
 
+#[tactic(auto, using(crate::proofs::Growing::growings))]
 fn carried_actual(
     alloc: Global,
     types: &mut TypeArena,
     read: &TypeArena,
     given: &Actual,
     actuals: &[Actual],
-) -> Result<Actual, LinkError> {
+) -> Result<Actual, LinkError>
+    ensures { OnOk result (Grows types.old types.new) }
+{
     match given {
         Actual::Of(of) => Ok(Actual::Of(carry(alloc, types, read, *of, actuals)?)),
         Actual::Const(value) => Ok(Actual::Const(value.copy(alloc)?)),

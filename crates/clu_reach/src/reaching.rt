@@ -1,12 +1,19 @@
 //! Which routines a program reaches from its start: breadth first, in the order of their uses, each once.
 
-ghost use Rattle.std.specs.Prelude.{◌≡◌, ◌≤◌, ℕ, IfErr, IfOk, IfSome, List, OnOk};
+ghost use Rattle.std.specs.Prelude.{◌≡◌, ◌≤◌, ℕ, IfErr, IfOk, List, None, OnOk, option_copied, slice_get};
 ghost use Rattle.indexmap.specs.IndexMap.{keys};
 ghost use Rattle.indexmap.specs.IndexSet.{index_set_len};
-ghost use Rattle.clu_library.specs.Contents.{Contents, spec_of};
+ghost use Rattle.clu_types.specs.Arena.{Grows};
+ghost use Rattle.clu_library.specs.Contents.{Contents, body_of, spec_of};
+ghost use Rattle.clu_library.specs.Staleness.{IsStale};
 ghost use Rattle.clu_reach.specs.Causes.{HasBody, IsRefusalOf};
 ghost use Rattle.clu_reach.specs.Found.{AreKept, IsKept, IsOf};
+ghost use Rattle.clu_reach.specs.Reach.{IsTaken, RoutineFate, bodiless, is_stale, misfit, UsesFate, routine_in, with_all};
+ghost use Rattle.clu_reach.specs.Refused.{IsAccepted, IsAcceptedFrom, IsRefused, IsRefusedFrom, first_of_start};
 ghost use Rattle.clu_reach.specs.Starts.{IsRefusal, MayStart, is_start, is_start_form};
+ghost use Rattle.clu_reach.specs.Tables.{weight};
+ghost use Rattle.clu_reach.specs.Walked.{IsFate, IsOriginAt, IsStep, IsWalked, KeptStep, NextIs, OriginStep, Walked, instance_of, instances_of, listed};
+ghost use Rattle.clu_reach.specs.declared.member.Member.{Member as InstanceOf};
 
 use crate::bounds::{fits, weight};
 use crate::denoting::{Needs, Use, uses_of};
@@ -94,6 +101,7 @@ struct Parts {
 }
 
 /// What the program with this first instance reaches. The refusals are those of `LinkError` that come after the start.
+#[tactic(auto, using(crate::proofs::From::starts))]
 pub fn reach<'a>(
     alloc: Global,
     lib: &'a Library,
@@ -102,9 +110,13 @@ pub fn reach<'a>(
     ensures few { IfOk result (λ reached. index_set_len reached.value.members ≤ 4096) }
     ensures kept { IfOk result (λ reached. AreKept lib.now (keys reached.value.routines)) }
     ensures refused { (start : List ℕ) → IfErr result (λ e. IsRefusalOf e lib.now start) }
+    ensures accepted { IfOk result (λ reached. IsAccepted lib.now first reached.value) }
+    ensures exact { IfErr result (λ e. IsRefused lib.now first e) }
+    ensures accepted_from { (start : List ℕ) → first ≡ first_of_start start → OnOk result (IsAcceptedFrom lib.now start) }
+    ensures exact_from { (start : List ℕ) → first ≡ first_of_start start → IfErr result (λ e. IsRefusedFrom lib.now start e) }
 {
-    let mut work = Work::new(alloc, lib)?;
-    match work.visit_all(alloc, lib, first) {
+    let mut work = Work::new(alloc, lib, first)?;
+    match work.visit_all(alloc, lib) {
         Ok(()) => work.finish(),
         Err(error) => Err(of_step(error)),
     }
@@ -113,6 +125,8 @@ pub fn reach<'a>(
 /// The instance with which a program starts.
 pub fn start_of(alloc: Global, lib: &Library, start: &Bytes) -> Result<Member, LinkError>
     ensures started { OnOk result (MayStart (spec_of lib.now start.now)) }
+    ensures first { IfOk result (λ first. first ≡ first_of_start start.now) }
+    ensures exact { IfErr result (λ e. IsRefusedFrom lib.now start.now e) }
     ensures refused { IfErr result (λ e. IsRefusal e start.now (spec_of lib.now start.now)) }
     ensures among_all { IfErr result (λ e. IsRefusalOf e lib.now start.now) }
 {
@@ -149,7 +163,7 @@ fn is_start_form(form: &Form) -> bool
 
 /// The routine of this name.
 fn routine_named<'a>(object: &'a Object, name: &Bytes) -> Option<&'a ObjRoutine>
-    ensures { IfSome result (λ routine. routine.now.name ≡ name.now) }
+    ensures { option_copied result ≡ routine_in name.now object.now.routines }
 {
     for routine in object.routines.as_slice() {
         if routine.name == *name {
@@ -160,6 +174,7 @@ fn routine_named<'a>(object: &'a Object, name: &Bytes) -> Option<&'a ObjRoutine>
 }
 
 /// What a routine uses and names with these actual parameters; None if it names what is not there.
+#[tactic(auto, using(crate::proofs::Growing::growings))]
 fn parts_of(
     alloc: Global,
     lib: &Library,
@@ -167,7 +182,9 @@ fn parts_of(
     routine: &ObjRoutine,
     actuals: &[Actual],
     needs: Needs,
-) -> Result<Option<Parts>, LinkError> {
+) -> Result<Option<Parts>, LinkError>
+    ensures { OnOk result (Grows types.old types.new) }
+{
     let Some(named) = types_of(alloc, types, routine.types.as_slice(), actuals)? else {
         return Ok(None);
     };
@@ -178,47 +195,58 @@ fn parts_of(
 }
 
 impl<'a> Work<'a> {
-    fn new(alloc: Global, lib: &Library) -> Result<Work<'a>, Memory>
-        ensures { IfOk result (IsOf lib.now) }
+    fn new(alloc: Global, lib: &Library, first: Member) -> Result<Work<'a>, Memory>
+        ensures of { IfOk result (IsOf lib.now) }
+        ensures walked { IfOk result (Walked lib.now first 0) }
     {
         let stale = lib.stale_modules(alloc)?;
+        let mut members = IndexSet::new(alloc);
+        members.insert(first)?;
         Ok(Work {
-            reached: Box::new(alloc, Reached::new(alloc))?,
+            reached: Box::new(alloc, Reached::new(alloc, members))?,
             faults: Box::new(alloc, Faults::new(stale))?,
         })
     }
 
     /// Visits the first instance and, in the order in which they are reached, all others.
-    fn visit_all(&mut self, alloc: Global, lib: &'a Library, first: Member) -> Result<(), LinkError>
+    #[tactic(auto, using(crate::proofs::Steps::steps))]
+    fn visit_all(&mut self, alloc: Global, lib: &'a Library) -> Result<(), LinkError>
         requires { IsOf lib.now self.old }
-        ensures { OnOk result (IsOf lib.now self.new) }
+        ensures of { OnOk result (IsOf lib.now self.new) }
+        ensures walked { (first : InstanceOf) → Walked lib.now first 0 self.old → OnOk result (IsWalked lib.now first self.new) }
     {
-        self.reached.members.insert(first)?;
         for n in 0..MAX_INSTANCES {
             if !self.visit_next(alloc, lib, n)? {
-                break;
+                return Ok(());
             }
         }
         Ok(())
     }
 
-    /// Visits the n-th instance; whether the one after it is still to be visited. Where there are too many already,
-    /// nothing that is found later changes the answer.
+    /// Visits the n-th instance; whether there was one to visit. Where there are too many already, nothing that is found
+    /// later changes the answer.
+    #[tactic(auto, using(crate::proofs::Steps::steps))]
     fn visit_next(&mut self, alloc: Global, lib: &'a Library, n: usize) -> Result<bool, LinkError>
         requires { IsOf lib.now self.old }
-        ensures { OnOk result (IsOf lib.now self.new) }
+        ensures of { OnOk result (IsOf lib.now self.new) }
+        ensures next { (first : InstanceOf) → Walked lib.now first n self.old → IfOk result (λ more. NextIs lib.now first n more self.new) }
     {
+        if self.reached.members.len() > MAX_INSTANCES {
+            return Ok(false);
+        }
         match self.origin(alloc, n)? {
             Some(origin) => {
                 self.visit(alloc, lib, origin)?;
-                Ok(self.reached.members.len() <= MAX_INSTANCES)
+                Ok(true)
             }
             None => Ok(false),
         }
     }
 
     /// Where the code of the n-th instance comes from.
-    fn origin(&self, alloc: Global, n: usize) -> Result<Option<Origin>, LinkError> {
+    fn origin(&self, alloc: Global, n: usize) -> Result<Option<Origin>, LinkError>
+        ensures { IfOk result (IsOriginAt self.now.reached.value.types (slice_get self.now.reached.value.members.keys n)) }
+    {
         match self.reached.members.get_index(n) {
             Some(member) => Ok(Some(origin_of(alloc, &self.reached.types, member)?)),
             None => Ok(None),
@@ -228,7 +256,8 @@ impl<'a> Work<'a> {
     /// Adds what an instance uses.
     fn visit(&mut self, alloc: Global, lib: &'a Library, origin: Origin) -> Result<(), LinkError>
         requires { IsOf lib.now self.old }
-        ensures { OnOk result (IsOf lib.now self.new) }
+        ensures of { OnOk result (IsOf lib.now self.new) }
+        ensures step { OnOk result (OriginStep lib.now origin self.old self.new) }
     {
         match origin {
             Origin::Module(kept) => self.visit_module(alloc, lib, kept),
@@ -236,27 +265,54 @@ impl<'a> Work<'a> {
         }
     }
 
-    #[tactic(auto, using(crate::proofs::Keeping::causes))]
+    #[tactic(auto, using(crate::proofs::Keeping::causes, crate::proofs::Steps::visits))]
     fn visit_module(&mut self, alloc: Global, lib: &'a Library, kept: Kept) -> Result<(), LinkError>
         requires { IsOf lib.now self.old }
-        ensures { OnOk result (IsOf lib.now self.new) }
+        ensures of { OnOk result (IsOf lib.now self.new) }
+        ensures step { OnOk result (KeptStep lib.now kept self.old self.new) }
     {
         match lib.body(&kept.module) {
             None => {
-                self.faults.add_bodiless(kept.module);
+                self.add_bodiless(kept.module);
                 Ok(())
             }
             Some(body) => {
-                let is_stale = self.faults.is_stale(alloc, lib, &kept.module)?;
-                if is_stale {
-                    return Ok(());
+                if self.faults.is_stale(&kept.module) {
+                    return Ok(self.add_stale(alloc, lib, &kept.module)?);
                 }
                 self.visit_object(alloc, lib, kept, &body.object)
             }
         }
     }
 
+    /// No body is kept of the module.
+    fn add_bodiless(&mut self, name: Bytes)
+        ensures of { (library : Contents) → body_of library name ≡ None → IsOf library self.old → IsOf library self.new }
+        ensures step { IsStep (IsFate (bodiless name)) self.old self.new }
+    {
+        self.faults.add_bodiless(name);
+    }
+
+    /// The body of the module is stale.
+    fn add_stale(&mut self, alloc: Global, lib: &Library, name: &Bytes) -> Result<(), Memory>
+        requires so_far { IsOf lib.now self.old }
+        requires stale { IsStale lib.now name.now }
+        ensures of { OnOk result (IsOf lib.now self.new) }
+        ensures step { OnOk result (IsStep (IsFate (is_stale name.now)) self.old self.new) }
+    {
+        self.faults.add_stale(alloc, lib, name)
+    }
+
+    /// The module's object does not fit what is kept.
+    fn add_misfit(&mut self, name: Bytes)
+        ensures of { (library : Contents) → HasBody library name → IsOf library self.old → IsOf library self.new }
+        ensures step { IsStep (IsFate (misfit name)) self.old self.new }
+    {
+        self.faults.add_misfit(name);
+    }
+
     /// The module has a body that isn't stale, with this object.
+    #[tactic(auto, using(crate::proofs::Steps::visits))]
     fn visit_object(
         &mut self,
         alloc: Global,
@@ -266,14 +322,19 @@ impl<'a> Work<'a> {
     ) -> Result<(), LinkError>
         requires so_far { IsOf lib.now self.old }
         requires body { HasBody lib.now kept.module }
-        ensures { OnOk result (IsOf lib.now self.new) }
+        ensures of { OnOk result (IsOf lib.now self.new) }
+        ensures step { OnOk result (IsStep (RoutineFate kept.module kept.actuals.items (routine_in kept.routine object.now.routines)) self.old self.new) }
     {
         match routine_named(object, &kept.routine) {
-            Some(routine) if fits(routine, kept.actuals.as_slice()) => {
-                self.visit_routine(alloc, lib, kept, routine)
+            Some(routine) => {
+                if fits(routine, kept.actuals.as_slice()) {
+                    return self.visit_routine(alloc, lib, kept, routine);
+                }
+                self.add_misfit(kept.module);
+                Ok(())
             }
-            _ => {
-                self.faults.add_misfit(kept.module);
+            None => {
+                self.add_misfit(kept.module);
                 Ok(())
             }
         }
@@ -288,7 +349,8 @@ impl<'a> Work<'a> {
     ) -> Result<(), LinkError>
         requires so_far { IsOf lib.now self.old }
         requires body { HasBody lib.now kept.module }
-        ensures { OnOk result (IsOf lib.now self.new) }
+        ensures of { OnOk result (IsOf lib.now self.new) }
+        ensures step { OnOk result (IsStep (UsesFate kept.module (weight kept.actuals.items routine.now)) self.old self.new) }
     {
         let Kept {
             module,
@@ -308,7 +370,7 @@ impl<'a> Work<'a> {
                 )
             }
             None => {
-                self.faults.add_misfit(module);
+                self.add_misfit(module);
                 Ok(())
             }
         }
@@ -324,7 +386,8 @@ impl<'a> Work<'a> {
         actuals: Vec<Actual>,
     ) -> Result<(), LinkError>
         requires { IsOf lib.now self.old }
-        ensures { OnOk result (IsOf lib.now self.new) }
+        ensures of { OnOk result (IsOf lib.now self.new) }
+        ensures step { OnOk result (IsStep IsTaken self.old self.new) }
     {
         if let Some(made) = derived(alloc, &self.reached.types, of, &op)? {
             let family = family_of(&self.reached.types, of)?;
@@ -347,7 +410,8 @@ impl<'a> Work<'a> {
     ) -> Result<(), LinkError>
         requires so_far { IsOf lib.now self.old }
         requires named { IsKept lib.now name }
-        ensures { OnOk result (IsOf lib.now self.new) }
+        ensures of { OnOk result (IsOf lib.now self.new) }
+        ensures step { OnOk result (IsStep IsTaken self.old self.new) }
     {
         let routine = code_of(alloc, &made)?;
         let types = &mut self.reached.types;
@@ -366,6 +430,8 @@ impl<'a> Work<'a> {
         ensures few { IfOk result (λ reached. index_set_len reached.value.members ≤ 4096) }
         ensures kept { (library : Contents) → IsOf library self.entry → IfOk result (λ reached. AreKept library (keys reached.value.routines)) }
         ensures refused { (library : Contents) → (start : List ℕ) → IsOf library self.entry → IfErr result (λ e. IsRefusalOf e library start) }
+        ensures accepted { (library : Contents) → (first : InstanceOf) → IsWalked library first self.entry → IfOk result (λ reached. IsAccepted library first reached.value) }
+        ensures exact { (library : Contents) → (first : InstanceOf) → IsWalked library first self.entry → IfErr result (λ e. IsRefused library first e) }
     {
         let Work { reached, faults } = self;
         if reached.members.len() > MAX_INSTANCES {
@@ -379,12 +445,13 @@ impl<'a> Work<'a> {
 }
 
 impl<'a> Reached<'a> {
-    fn new(alloc: Global) -> Reached<'a>
-        ensures { (library : Contents) → AreKept library (keys result.routines) }
+    fn new(alloc: Global, members: IndexSet<Member>) -> Reached<'a>
+        ensures kept { (library : Contents) → AreKept library (keys result.routines) }
+        ensures members { result.members ≡ members }
     {
         Reached {
             types: TypeArena::new(alloc),
-            members: IndexSet::new(alloc),
+            members,
             instances: Vec::new(alloc),
             routines: IndexMap::new(alloc),
             operations: IndexSet::new(alloc),
@@ -401,7 +468,9 @@ impl<'a> Reached<'a> {
         parts: Parts,
         cluster: Option<TypeId>,
     ) -> Result<(), Memory>
-        ensures { (library : Contents) → IsKept library name → AreKept library (keys self.old.routines) → OnOk result (AreKept library (keys self.new.routines)) }
+        ensures kept { (library : Contents) → IsKept library name → AreKept library (keys self.old.routines) → OnOk result (AreKept library (keys self.new.routines)) }
+        ensures members { OnOk result (self.new.members.keys ≡ with_all self.old.members.keys (instances_of parts.uses.items)) }
+        ensures types { OnOk result (self.new.types ≡ self.old.types) }
     {
         let Parts { uses, types } = parts;
         let number = place(&mut self.routines, name, code)?;
@@ -423,7 +492,9 @@ fn callees_of(
     members: &mut IndexSet<Member>,
     operations: &mut IndexSet<Member>,
     uses: Vec<Use>,
-) -> Result<Vec<Callee>, Memory> {
+) -> Result<Vec<Callee>, Memory>
+    ensures { OnOk result (members.new.keys ≡ with_all members.old.keys (instances_of uses.items)) }
+{
     let mut callees = Vec::new(alloc);
     for denoted in uses {
         callees.push(number_of(members, operations, denoted)?)?;
@@ -435,7 +506,9 @@ fn number_of(
     members: &mut IndexSet<Member>,
     operations: &mut IndexSet<Member>,
     denoted: Use,
-) -> Result<Callee, Memory> {
+) -> Result<Callee, Memory>
+    ensures { OnOk result (members.new.keys ≡ listed members.old.keys (instance_of denoted)) }
+{
     match denoted {
         Use::Instance(member) => {
             let (number, _) = members.insert_full(member)?;

@@ -1,0 +1,2 @@
+-- What the law says.
+pub mod Laws
