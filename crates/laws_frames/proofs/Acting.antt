@@ -1,8 +1,7 @@
 -- Statements that change the world: Put, primitives, and binding to type any; and words from slots to slots.
-use Rattle.std.proofs.Common.{◌≡◌, ◌∙◌, ℕ, zero, suc, ◌+◌, ◌%◌, ◌^◌, ◌<◌, ◌≤◌, Bool, true, false, List, [], ◌∷◌, length, Option, Some, None, slice_get, refl, ap, sym, subst, arith, pos}
+use Rattle.std.proofs.Common.{◌≡◌, ◌∙◌, ℕ, suc, ◌+◌, ◌%◌, ◌^◌, ◌<◌, ◌≤◌, Bool, true, false, List, [], ◌∷◌, length, Option, Some, None, slice_get, refl, ap, sym, subst, arith, pos}
 use Rattle.std.specs.Prelude.{max}
 use Rattle.std.proofs.lemmas.Bool.{eqb-true}
-use Rattle.std.proofs.lemmas.Option.{same_Some}
 use Rattle.clu_base.proofs.Lists.{none_is_not}
 use Rattle.clu_wir.specs.Numbers.{primitives}
 use Rattle.clu_wir.specs.Plain.{Expr}
@@ -14,17 +13,17 @@ use Rattle.clu_frames.specs.Plain.{Step}
 use Rattle.clu_frames.specs.Plain as flat
 use Rattle.clu_frames.specs.Flattening.{Made, Round, moves_onto, primitive_onto, pushed, sets_onto}
 use Rattle.clu_word_meaning.specs.World.{Done, World, arity, bound, done, put_word}
-use Rattle.clu_word_meaning.specs.Words.{Computation, Result, State, continue_either_way, counted, either_way, ended, ends, gives, is_same, need, normal, put_slot, puts, sees, stores, takes, valued, values, with_slots, with_state, with_steps, with_world, worlds, wrong}
+use Rattle.clu_word_meaning.specs.Words.{Computation, State, continue_either_way, counted, either_way, ends, gives, is_same, need, put_slot, puts, sees, stores, takes, valued, values, with_slots, with_state, with_steps, with_world, worlds}
 use Rattle.clu_word_meaning.specs.Words.{Entry as WordEntry, does as does_word}
 use Rattle.clu_flat_meaning.specs.Machine.{Comes, Machine, at_offset, by_word, does, does_primitive, next, on_step, put_all, put_at, put_in, puts_world, row_of, running, store_full, with_word}
-use Rattle.clu_flat_meaning.proofs.Runs.{Front, Once, at_push, comes_as, comes_same, comes_then, front_back, front_more, front_push, front_same, length_push, put_other, put_same, room_is}
+use Rattle.clu_flat_meaning.proofs.Runs.{Front, Once, at_push, comes_as, comes_same, comes_then, front_back, front_more, front_push, front_same, length_push, put_other, room_is}
 use Rattle.laws_frames.proofs.Relation.{Begins, Fit, Home, Keeps, Laws, Outcome, Owes, Place, Sees, SeesBy}
-use Rattle.laws_frames.proofs.Sim.{before, keeps_same, keeps_then}
+use Rattle.laws_frames.proofs.Sim.{keeps_same, keeps_then}
 use Rattle.laws_frames.proofs.Simple.{keeps_put, owes, sees_counted, sees_put, stood, valued_from, valued_runs}
 use Rattle.laws_frames.proofs.Control.{DoesNext, step_there}
-use Rattle.laws_frames.proofs.Rows.{AllGood, Homes, Row, front_length, sets_front, values_run}
+use Rattle.laws_frames.proofs.Rows.{AllGood, Homes, values_run}
 use Rattle.laws_frames.proofs.Iterating.{AllBelow}
-use Rattle.laws_frames.proofs.Levels.{put_all_at, put_all_below}
+use Rattle.laws_frames.proofs.Framing.{put_all_at, put_all_below}
 
 put_all_above : (ws : List ℕ) (to : ℕ) (s : ℕ → ℕ) (i : ℕ) → to + length ws ≤ i → put_all to ws s i ≡ s i
 unfolding put_all

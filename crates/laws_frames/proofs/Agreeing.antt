@@ -3,7 +3,7 @@ use Rattle.std.proofs.Common.{◌≡◌, ◌∙◌, ℕ, ◌+◌, ◌%◌, ◌^�
 use Rattle.std.specs.Prelude.{if◌then◌else◌}
 use Rattle.clu_wir.specs.Plain.{Expr, Exprs, expr_and, no_exprs}
 use Rattle.clu_wir.specs.Plain as plain
-use Rattle.clu_wir.specs.Value.{Gives, Raises, Stuck, Value, View, binds, by_truth, meant, of_option, then_word}
+use Rattle.clu_wir.specs.Value.{Gives, Raises, Stuck, Value, View, binds, meant, of_option, then_word}
 
 -- the second is the first, where that is not stuck
 abbrev pub Agree : Value → Value → Type 0

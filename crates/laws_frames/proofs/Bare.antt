@@ -1,5 +1,5 @@
 -- Calls: of routines with a frame, and of routines without one.
-use Rattle.std.proofs.Common.{◌≡◌, ◌∙◌, ℕ, zero, suc, ◌+◌, ◌-◌, ◌*◌, ◌%◌, ◌^◌, ◌<◌, ◌≤◌, Bool, true, false, List, [], ◌∷◌, length, Option, Some, None, slice_get, refl, ap, sym, subst, arith}
+use Rattle.std.proofs.Common.{◌≡◌, ◌∙◌, ℕ, suc, ◌+◌, ◌*◌, ◌%◌, ◌^◌, ◌<◌, ◌≤◌, Bool, true, List, [], ◌∷◌, length, Option, Some, None, slice_get, refl, ap, sym, subst, arith}
 use Rattle.std.specs.Prelude.{if◌then◌else◌, nat_lt}
 use Rattle.std.proofs.lemmas.Bool.Decides.{nat_tests}
 use Rattle.std.proofs.lemmas.Option.{slice_get_within}
@@ -7,15 +7,16 @@ use Rattle.clu_wir.specs.Plain.{Deed, Expr, gives_value, puts_word}
 use Rattle.clu_wir.specs.Traps.{trap_name}
 use Rattle.clu_wir.specs.Value.{Gives, Raises, Stuck, Value, value}
 use Rattle.clu_word_meaning.specs.World.{World, put_word}
-use Rattle.clu_word_meaning.specs.Words.{Computation, Linked, Result, State, by_value, continue_either_way, counted, either_way, ended, ends, gives, normal, out_of_turns, raised, sees, valued, view, with_slots, with_state, worlds}
+use Rattle.clu_word_meaning.specs.Words.{Computation, Linked, State, by_value, continue_either_way, counted, either_way, ended, ends, gives, normal, out_of_turns, raised, sees, valued, view, with_slots, with_state, worlds}
 use Rattle.clu_word_meaning.specs.Words.{Entry as WordEntry}
 use Rattle.clu_word_meaning.specs.Levels.{arguments, deed_done}
-use Rattle.clu_flat_meaning.specs.Image.{Descriptor, Image, Instance, at_deed, at_step}
-use Rattle.clu_flat_meaning.specs.Machine.{Comes, Machine, address_of, by_word, called, calling, does_deed, invoked, leaf_slots, leaf_value, next, puts_world, running, searching, slot_address, view_of, word_below, words_below}
+use Rattle.clu_flat_meaning.specs.Image.{Body, Descriptor, Image, Instance, at_deed, at_step}
+use Rattle.clu_flat_meaning.specs.Machine.{Machine, address_of, by_word, called, calling, does_deed, invoked, leaf_slots, leaf_value, next, puts_world, running, searching, view_of, word_below, words_below}
 use Rattle.clu_flat_meaning.proofs.Runs.{comes_same}
-use Rattle.laws_frames.proofs.Relation.{Backs, Brings, Excepts, Honest, Spends, instance_at}
+use Rattle.laws_frames.specs.Calls.{AtCall, Brings, Called, Context, Spends}
+use Rattle.laws_frames.specs.Promises.{Honest, instance_at}
 use Rattle.laws_frames.proofs.Simple.{fixed_word, stack_word}
-use Rattle.laws_frames.proofs.Entering.{AtCall, AtEntry, BodyOk, Called, Context, EntryOk, FrameOk, Local}
+use Rattle.laws_frames.proofs.Entering.{EntryOk, FrameOk, Local}
 use Rattle.laws_frames.proofs.Agreeing.{Agree, Within, agrees}
 
 -- Words of a row of slots, as the first step of a routine reads them.
@@ -61,13 +62,13 @@ module _ (image : Image) where
       at_site c k e f = ap (λ (i : Instance). image.address i.body (suc c.pc)) e ∙ ap (λ n. image.address k.link.body (suc n)) f
 
   -- the same where the levels are at an end
-  pub frame_stops : (w : ℕ) (who : Instance) → image.descriptor w ≡ Some (record { entry = at_step who.body 0; table = who.table }) → EntryOk image w (λ live body ws turns st. out_of_turns st)
+  pub frame_stops : (w : ℕ) (who : Instance) (shape : Body) → image.body who.body ≡ Some shape → image.descriptor w ≡ Some (record { entry = at_step who.body 0; table = who.table }) → EntryOk image w (λ live body ws turns st. out_of_turns st)
   unfolding called
-  frame_stops w who there = record {
+  frame_stops w who shape own there = record {
     runs = λ k local live room body bok ws t st c slot at.
         let e : Machine = record (calling image slot c) { who = instance_at who.body who.table; pc = 0; clock = suc c.clock } in
         let is : invoked image (image.descriptor w) slot c ≡ e = descriptor_is (image.descriptor w) (record { entry = at_step who.body 0; table = who.table }) slot c there in
-        subst (λ x. Spends image x st) (sym is) (record { machine = e; comes = comes_same image e; output = ap (λ (x : World). x.output) at.world; mode = at.mode; pay = at.pay; within = (at.within.0, at.within.1, at.more, at.within.3, at.within.4) });
+        subst (λ x. Spends image x st) (sym is) (record { machine = e; comes = comes_same image e; there = (shape, own); output = ap (λ (x : World). x.output) at.world; mode = at.mode; pay = at.pay; within = (at.within.0, at.within.1, at.more, at.within.3, at.within.4) });
   }
 
   -- A routine without a frame: all is done at its call.

@@ -1,5 +1,5 @@
 -- Choices.
-use Rattle.std.proofs.Common.{◌≡◌, ◌∙◌, ℕ, zero, suc, ◌+◌, ◌==◌, Bool, true, false, List, length, Option, Some, None, refl, ap, sym, subst, arith}
+use Rattle.std.proofs.Common.{◌≡◌, ◌∙◌, ℕ, zero, suc, ◌+◌, ◌==◌, Bool, true, false, List, length, Some, None, refl, ap, sym, subst, arith}
 use Rattle.clu_frames.specs.Plain.{Step}
 use Rattle.clu_frames.specs.Plain as flat
 use Rattle.clu_frames.specs.declared.surroundings.Turns.{Turns}
@@ -7,7 +7,8 @@ use Rattle.clu_frames.specs.Flattening.{Made, Onto, Round, choice_onto, either_o
 use Rattle.clu_wir.specs.Plain.{Expr}
 use Rattle.clu_word_meaning.specs.World.{World}
 use Rattle.clu_word_meaning.specs.Words.{Computation, Entry, Result, State, broken, chosen, closes, continue_either_way, counted, counted_twice, either, either_way, ended, ends, gives, normal, out_of_turns, takes_a_turn, turned, valued, with_state}
-use Rattle.clu_flat_meaning.specs.Machine.{Comes, Machine, branches, goes_to, next, on_step, place_of, running}
+use Rattle.clu_flat_meaning.specs.Image.{Instance}
+use Rattle.clu_flat_meaning.specs.Machine.{Comes, Machine, branches, goes_to, next, on_step, place_of}
 use Rattle.clu_flat_meaning.proofs.Runs.{Front, Once, at_push, comes_same, comes_then, front_back, front_more, label_place, length_push}
 use Rattle.laws_frames.proofs.Relation.{AtEnd, Begins, Fit, Home, Laws, Outcome, Place, Sees, Starts, cut_top}
 use Rattle.laws_frames.proofs.Sim.{before, keeps_same}
@@ -142,6 +143,7 @@ module _ (p : Place) (Good : Expr → Type 0) (laws : Laws p Good) (once : Once 
       leaves zero = record {
         machine = goes_to (place_of code x.end) c;
         comes = comes_same p.image (goes_to (place_of code x.end) c);
+        there = (p.shape, ap (λ (i : Instance). p.image.body i.body) s.sees.who ∙ laws.at_me);
         output = ap (λ (x : World). x.output) s.sees.world;
         mode = s.mode;
         pay = omega (arith, s.sees.pay);

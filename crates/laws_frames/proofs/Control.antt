@@ -1,5 +1,5 @@
 -- Lists and loops.
-use Rattle.std.proofs.Common.{◌≡◌, ◌∙◌, ℕ, zero, suc, ◌+◌, ◌<◌, ◌≤◌, List, length, Option, Some, None, slice_get, refl, ap, sym, subst, arith}
+use Rattle.std.proofs.Common.{◌≡◌, ◌∙◌, ℕ, zero, suc, ◌+◌, ◌≤◌, List, length, Some, slice_get, refl, ap, sym, subst, arith}
 use Rattle.clu_frames.specs.Plain.{Step}
 use Rattle.clu_frames.specs.Plain as flat
 use Rattle.clu_frames.specs.declared.surroundings.Turns.{Turns}
@@ -7,9 +7,11 @@ use Rattle.clu_frames.specs.Flattening.{Made, Onto, Round, in_loop, labelled, pu
 use Rattle.clu_wir.specs.Plain.{Expr}
 use Rattle.clu_word_meaning.specs.World.{World}
 use Rattle.clu_word_meaning.specs.Words.{Computation, Result, State, broken, continue_either_way, continued, counted, either_way, ended, ends, exited, gives, loop_at, normal, out_of_turns, paid, raised, returned, signalled, spends_a_turn, takes_a_turn, through, turn_ending, turned, with_state, wrong}
+use Rattle.clu_flat_meaning.specs.Image.{Instance}
 use Rattle.clu_flat_meaning.specs.Machine.{Comes, Machine, address_of, goes_to, next, on_step, place_of, running}
 use Rattle.clu_flat_meaning.proofs.Runs.{Front, Once, at_push, comes_same, comes_then, front_back, front_more, label_place, length_push}
-use Rattle.laws_frames.proofs.Relation.{Arrives, ArrivesBy, AtEnd, Begins, Fit, Keeps, Laws, Outcome, Owes, Place, Starts, StartsBy, Within, cut_top}
+use Rattle.laws_frames.specs.Calls.{Within}
+use Rattle.laws_frames.proofs.Relation.{Arrives, ArrivesBy, AtEnd, Begins, Fit, Keeps, Laws, Outcome, Owes, Place, Starts, StartsBy, cut_top}
 use Rattle.laws_frames.proofs.Sim.{before, foot_zero, guards_from, keeps_same, low_from, mark_kept, outcome_from, then_runs}
 use Rattle.laws_frames.proofs.Simple.{Stood, owes, stood, there}
 
@@ -91,7 +93,7 @@ module _ (p : Place) where
     -- a statement's turn
     pub turn_runs : (round : Round) (m : Made) (f : Computation (Unit {0})) (on : Onto) → DoesNext round m f on → DoesAt round m (takes_a_turn f) on
     unfolding takes_a_turn
-    turn_runs round m f on d zero st c front s = record { machine = c; comes = comes_same p.image c; output = ap (λ (x : World). x.output) s.sees.world; mode = s.mode; pay = s.sees.pay; within = s.sees.within }
+    turn_runs round m f on d zero st c front s = record { machine = c; comes = comes_same p.image c; there = (p.shape, ap (λ (i : Instance). p.image.body i.body) s.sees.who ∙ laws.at_me); output = ap (λ (x : World). x.output) s.sees.world; mode = s.mode; pay = s.sees.pay; within = s.sees.within }
     turn_runs round m f on d (suc t) st c front s = d t (turned st) c front (begins_turned round m st c s)
 
     -- the turn of a loop that goes round
@@ -161,11 +163,11 @@ module _ (p : Place) where
     fit_loop round n f = record { work = f.work; mark = f.mark; turns = tt; guards = f.guards }
 
     -- a turn is spent where one is left
-    spends : (round : Round) (at top : ℕ) (s : ℕ → ℕ) (c : Machine) (f : Computation (Unit {0})) (turns : ℕ) (st : State) → c.world ≡ st.world → c.mode ≡ running → st.meters.spent ≤ c.clock → Within (counted 1 st) c →
+    spends : (round : Round) (at top : ℕ) (s : ℕ → ℕ) (c : Machine) (f : Computation (Unit {0})) (turns : ℕ) (st : State) → c.world ≡ st.world → c.who ≡ p.me → c.mode ≡ running → st.meters.spent ≤ c.clock → Within (counted 1 st) c →
         ((turns : ℕ) → Outcome p round at top s c (f turns (paid st))) → Outcome p round at top s c (spends_a_turn f turns st)
     unfolding spends_a_turn
-    spends round at top s c f zero st w m l h k = record { machine = c; comes = comes_same p.image c; output = ap (λ (x : World). x.output) w; mode = m; pay = omega (arith, l); within = h }
-    spends round at top s c f (suc turns) st w m l h k = k turns
+    spends round at top s c f zero st w i m l h k = record { machine = c; comes = comes_same p.image c; there = (p.shape, ap (λ (i : Instance). p.image.body i.body) i ∙ laws.at_me); output = ap (λ (x : World). x.output) w; mode = m; pay = omega (arith, l); within = h }
+    spends round at top s c f (suc turns) st w i m l h k = k turns
 
     -- behind a turn: `back` is where the next one begins
     turn_case : (f : Computation (Unit {0})) (n : ℕ) (round : Round) (m m2 m3 : Made) (l at : ℕ) (st0 : State) (c first : Machine) → Fit p round → Begins p laws.live round m st0 c →
@@ -189,7 +191,7 @@ module _ (p : Place) where
           keeps = o.keeps;
         } in
         before p round at c.top c.stack c d (spends_a_turn (loop_at n f) turns st) a.comes
-        (spends round at c.top c.stack d (loop_at n f) turns st o.sees.world o.mode (omega (arith, o.sees.pay)) (o.sees.within.0, o.sees.within.1, omega (arith, o.sees.within.2), o.sees.within.3, o.sees.within.4)
+        (spends round at c.top c.stack d (loop_at n f) turns st o.sees.world o.sees.who o.mode (omega (arith, o.sees.pay)) (o.sees.within.0, o.sees.within.1, omega (arith, o.sees.within.2), o.sees.within.3, o.sees.within.4)
         (λ t. goes_on round m m st0 (paid st) c c (length m.code) at (loop_at n f t (paid st)) fit s a (again t (paid st) d (begins_owed round m (paid st) d (starts_on round m m st0 (paid st) c c (length m.code) fit s a refl)))))
     turn_case f n round m m2 m3 l at st0 c first fit s k xs xt pl jump pe last front again (ended broken turns st) o =
         let a : ArrivesBy p suc round.work c.top c.stack c (length m3.code) c.top st = record {
@@ -213,7 +215,7 @@ module _ (p : Place) where
           keeps = o.keeps;
         } in
         before p round at c.top c.stack c o.machine (spends_a_turn (loop_at n f) turns st) o.comes
-        (spends round at c.top c.stack o.machine (loop_at n f) turns st o.sees.world o.mode o.sees.pay (o.sees.within.0, o.sees.within.1, omega (arith, o.sees.within.2), o.sees.within.3, o.sees.within.4)
+        (spends round at c.top c.stack o.machine (loop_at n f) turns st o.sees.world o.sees.who o.mode o.sees.pay (o.sees.within.0, o.sees.within.1, omega (arith, o.sees.within.2), o.sees.within.3, o.sees.within.4)
         (λ t. goes_on round m m st0 st c c (length m.code) at (loop_at n f t (paid st)) fit s a (again t (paid st) o.machine (begins_paid round m st o.machine (starts_on round m m st0 st c c (length m.code) fit s a refl)))))
     turn_case f n round m m2 m3 l at st0 c first fit s k xs xt pl jump pe last front again (ended (returned ws) turns st) o = o
     turn_case f n round m m2 m3 l at st0 c first fit s k xs xt pl jump pe last front again (ended (signalled name ws) turns st) o = o
@@ -238,6 +240,7 @@ module _ (p : Place) where
         record {
           machine = next c;
           comes = step_there (length m.code) (flat.Label l) c s.pc (stood p s.sees) s.mode (at_push m.code code (flat.Label l) f1);
+          there = (p.shape, ap (λ (i : Instance). p.image.body i.body) s.sees.who ∙ laws.at_me);
           output = ap (λ (x : World). x.output) s.sees.world;
           mode = s.mode;
           pay = omega (arith, s.sees.pay);

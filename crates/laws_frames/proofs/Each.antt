@@ -1,25 +1,24 @@
 -- Each statement does in flat code what it means, where it stands.
-use Rattle.std.proofs.Common.{◌≡◌, ◌∙◌, ◌⊎◌, inl, inr, ℕ, zero, suc, ◌+◌, ◌<◌, ◌≤◌, Bool, true, false, List, [], ◌∷◌, length, Option, Some, None, slice_get, refl, ap, sym, subst, arith}
+use Rattle.std.proofs.Common.{◌≡◌, ◌∙◌, inl, inr, ℕ, zero, suc, ◌+◌, ◌≤◌, true, List, ◌∷◌, length, Option, Some, None, slice_get, refl, ap, sym, subst, arith}
 use Rattle.std.proofs.lemmas.Option.{same_Some}
 use Rattle.clu_frames.specs.Plain.{Step}
 use Rattle.clu_frames.specs.Plain as flat
-use Rattle.clu_frames.specs.declared.surroundings.Turns.{Turns}
-use Rattle.clu_frames.specs.Flattening.{Guarding, Made, Onto, Round, all_onto, arms_onto, choice_onto, closed, first_of_row, guard_at, in_guard, in_loop, in_turns, labelled, name_of, opened, pushed, results_onto, row_sets, row_slot, sets_onto, slots_of, taken_onto, turns_at, turns_ended, unless_from}
+use Rattle.clu_frames.specs.Flattening.{Guarding, Made, Onto, Round, all_onto, arms_onto, closed, first_of_row, guard_at, in_guard, in_loop, in_turns, labelled, opened, pushed, results_onto, row_sets, row_slot, sets_onto, slots_of, taken_onto, turns_at, turns_ended, unless_from}
 use Rattle.clu_wir.specs.Plain.{Arms, Expr, Stmts}
-use Rattle.clu_wir.specs.Value.{Gives, Value, value}
-use Rattle.clu_word_meaning.specs.Words.{Body, Computation, Entry, Result, State, calls, chosen, continue_either_way, counted, either_way, ended, ends, gives, guard_done, handled, iterates, named_arm, numbered_arm, other_arm, raised, returned, signalled, takes, valued, values, with_state, with_steps, yields}
+use Rattle.clu_wir.specs.Value.{Gives, value}
+use Rattle.clu_word_meaning.specs.Words.{Body, Computation, Entry, Result, State, calls, chosen, continue_either_way, counted, either_way, ends, gives, guard_done, handled, iterates, named_arm, numbered_arm, other_arm, raised, returned, signalled, takes, valued, values, with_state, with_steps, yields}
 use Rattle.clu_flat_meaning.specs.Machine.{Comes, Machine, address_of, by_word, invoked, next, number_at, on_step, put_in, slots_at, view_of}
 use Rattle.clu_flat_meaning.proofs.Runs.{Front, Once, at_push, front_back, front_more, length_push, number_so, put_same}
-use Rattle.laws_frames.proofs.Relation.{Begins, Fit, GuardsLow, Home, IsMark, IsTop, Keeps, Laws, Outcome, Owes, Place, Starts, laws_at}
+use Rattle.laws_frames.proofs.Relation.{Begins, Fit, GuardsLow, Home, IsMark, IsTop, Keeps, Laws, Outcome, Place, Starts, laws_at}
 use Rattle.laws_frames.proofs.Sim.{before, foot_zero, guards_from, keeps_same, low_from, mark_kept, outcome_from}
 use Rattle.laws_frames.proofs.Simple.{keeps_work, owes, sees_counted, sees_work, stood, valued_runs}
 use Rattle.laws_frames.proofs.Control.{DoesAt, DoesNext, Fronts, step_there}
-use Rattle.laws_frames.proofs.Rows.{AllGood, Homes, front_length, leave_at, raise_at, sets_front, signal_at, values_run}
+use Rattle.laws_frames.proofs.Rows.{AllGood, Homes, Wide, front_length, leave_at, raise_at, sets_front, signal_at, values_run}
 use Rattle.laws_frames.proofs.Choosing.{unless_runs}
 use Rattle.laws_frames.proofs.Entering.{BodyOk, EntryOk}
 use Rattle.laws_frames.proofs.Iterating.{AllBelow, iterate_runs, results_front}
 use Rattle.laws_frames.proofs.Yielding.{call_runs, context_of, yield_runs}
-use Rattle.laws_frames.proofs.Fronts.{count_of, front_all, front_arms, front_taken, row_by}
+use Rattle.laws_frames.proofs.Fronts.{count_of, front_arms, front_taken, row_by}
 use Rattle.laws_frames.proofs.Guarding.{ArmsDo, SeekLaw, arms_done, guard_case}
 use Rattle.laws_frames.proofs.Placing.{Placed, placed_run}
 
@@ -65,7 +64,7 @@ module _ (p : Place) (Good : Expr → Type 0) (laws : Laws p Good) (once : Once 
   row_at : (slot : ℕ) (ws : List ℕ) (d : Machine) → d.fp ≡ p.fp → ((i w : ℕ) → slice_get ws i ≡ Some w → d.stack (p.fp + 4 + slot + i) ≡ w) → (i w : ℕ) → slice_get ws i ≡ Some w → d.stack (d.fp + 4 + slot + i) ≡ w
   row_at slot ws d frame row i w e = ap (λ x. d.stack (x + 4 + slot + i)) frame ∙ row i w e
 
-  pub call_by : (o : Option ℕ) (routine : Expr) (es : List Expr) (results : List ℕ) (round : Round) (m : Made) → first_of_row es ≡ o → Fit p round → Good routine → AllGood p Good es → AllBelow p.base results → round.work + length es ≤ p.shape.frame →
+  pub call_by : (o : Option ℕ) (routine : Expr) (es : List Expr) (results : List ℕ) (round : Round) (m : Made) → first_of_row es ≡ o → Fit p round → Good routine → AllGood p Good es → AllBelow p.base results → Wide p o (round.work + length es) →
       Homes p round.region (length m.code) (length (pushed (flat.Invoke routine (row_slot round.work o)) (row_sets round.work es o m)).code) →
       DoesNext p Good laws once round m (values p.linked entries es (λ ws. valued p.linked entries routine (λ w. calls p.linked entries laws.live w ws results)))
       (λ round m. taken_onto results (pushed (flat.Invoke routine (row_slot round.work o)) (row_sets round.work es o m)))
@@ -90,7 +89,7 @@ module _ (p : Place) (Good : Expr → Type 0) (laws : Laws p Good) (once : Once 
       (call_runs p Good laws once entries round m0 slot routine results own front f1 (counted 1 (with_steps x st)) d (starts_counted round m0 (with_steps x st) d (starts_placed round slot m m0 st (with_steps x st) c d ws fit s r)) h w (entry_ok w) ws t
       (row_at slot ws d r.sees.frame r.row) r.wide (omega (arith, r.sees.within.2)))))
 
-  pub yield_by : (o : Option ℕ) (es : List Expr) (round : Round) (m : Made) → first_of_row es ≡ o → Fit p round → AllGood p Good es → round.work + length es ≤ p.shape.frame → Homes p round.region (length m.code) (length (row_sets round.work es o m).code) →
+  pub yield_by : (o : Option ℕ) (es : List Expr) (round : Round) (m : Made) → first_of_row es ≡ o → Fit p round → AllGood p Good es → Wide p o (round.work + length es) → Homes p round.region (length m.code) (length (row_sets round.work es o m).code) →
       DoesNext p Good laws once round m (values p.linked entries es (yields p.linked entries laws.live yielded))
       (λ round m. pushed (flat.Yield (row_slot round.work o) (length es)) (row_sets round.work es o m))
   yield_by o es round m e fit goods wide homes t st c front s =
@@ -103,7 +102,7 @@ module _ (p : Place) (Good : Expr → Type 0) (laws : Laws p Good) (once : Once 
       (λ ws d x n grown r. back_to_start round end c d d (yields p.linked entries laws.live yielded ws t (with_steps x st)) fit r.tops r.keeps
       (yield_runs p Good laws once entries round m0 slot (length es) front (with_steps x st) d (starts_placed round slot m m0 st (with_steps x st) c d ws fit s r) yielded yielded_ok ws (sym n) r.wide r.row t))
 
-  pub leave_by : (o : Option ℕ) (es : List Expr) (round : Round) (m : Made) → first_of_row es ≡ o → Fit p round → AllGood p Good es → round.work + length es ≤ p.shape.frame → Homes p round.region (length m.code) (length (row_sets round.work es o m).code) →
+  pub leave_by : (o : Option ℕ) (es : List Expr) (round : Round) (m : Made) → first_of_row es ≡ o → Fit p round → AllGood p Good es → Wide p o (round.work + length es) → Homes p round.region (length m.code) (length (row_sets round.work es o m).code) →
       DoesNext p Good laws once round m (values p.linked entries es (λ ws. with_state (counted 1) (ends (returned ws))))
       (λ round m. pushed (flat.Leave (row_slot round.work o) (length es)) (row_sets round.work es o m))
   unfolding with_state
@@ -176,7 +175,7 @@ module _ (p : Place) (Good : Expr → Type 0) (laws : Laws p Good) (once : Once 
       (λ i w h. (let z : p.fp + 4 + round.work + 1 + i ≡ p.fp + 4 + (round.work + 1) + i = omega arith in ap d.stack z) ∙ r.row i w h)))
 
   pub iterate_by : (o : Option ℕ) (routine : Expr) (es : List Expr) (items : List ℕ) (inner : ℕ → Computation (Unit {0})) (on : Onto) (round : Round) (m : Made) → first_of_row es ≡ o → Fit p round → Good routine → AllGood p Good es → AllBelow p.base items →
-      round.work + 1 + length es ≤ p.shape.frame → Fronts on →
+      Wide p o (round.work + 1 + length es) → round.work + 1 ≤ p.shape.frame → Fronts on →
       Homes p round.region (length m.code) (length (pushed (flat.Invoke routine (row_slot (round.work + 1) o)) (row_sets (round.work + 1) es o (labelled 2 m))).code) →
       ((now : ℕ) → DoesAt p Good (laws_at p laws now) once (in_turns (turns_at m.labels round.mark) round)
       (results_onto 0 items (pushed (flat.Take round.work) (pushed (flat.Jump (m.labels + 1)) (pushed (flat.Invoke routine (row_slot (round.work + 1) o)) (row_sets (round.work + 1) es o (labelled 2 m)))))) (inner now) on) →
@@ -184,7 +183,7 @@ module _ (p : Place) (Good : Expr → Type 0) (laws : Laws p Good) (once : Once 
       (λ round m. turns_ended on (turns_at m.labels round.mark) round
       (results_onto 0 items (pushed (flat.Take round.work) (pushed (flat.Jump (m.labels + 1)) (pushed (flat.Invoke routine (row_slot (round.work + 1) o)) (row_sets (round.work + 1) es o (labelled 2 m)))))))
   unfolding on_step
-  iterate_by o routine es items inner on round m e fit good goods own wide fronts homes does t st c front s =
+  iterate_by o routine es items inner on round m e fit good goods own wide low fronts homes does t st c front s =
       let slot : ℕ = row_slot (round.work + 1) o in
       let ml = labelled 2 m in
       let m0 = row_sets (round.work + 1) es o ml in
@@ -204,7 +203,7 @@ module _ (p : Place) (Good : Expr → Type 0) (laws : Laws p Good) (once : Once 
       (λ v c. invoked p.image (p.image.descriptor v) slot c) t (with_steps x st) r.sees r.keeps h
       (step_there p Good laws once (length m0.code) (flat.Invoke routine slot) d r.pc (stood p r.sees) r.mode (at_push m0.code code (flat.Invoke routine slot) f1))
       (λ w. back_to_start round end c d (invoked p.image (p.image.descriptor w) slot d) _ fit r.tops r.keeps
-      (iterate_runs p Good laws once entries round fit m0 m.labels items own (omega (arith, wide)) on fronts routine slot front (counted 1 (with_steps x st)) d (starts_counted round m0 (with_steps x st) d (starts_placed round slot m m0 st (with_steps x st) c d ws fit s r)) inner does h w (entry_ok w) ws t
+      (iterate_runs p Good laws once entries round fit m0 m.labels items own (omega (arith, low)) on fronts routine slot front (counted 1 (with_steps x st)) d (starts_counted round m0 (with_steps x st) d (starts_placed round slot m m0 st (with_steps x st) c d ws fit s r)) inner does h w (entry_ok w) ws t
       (row_at slot ws d r.sees.frame r.row) r.wide (omega (arith, r.sees.within.2)))))
     where
       iterate_front : (round : Round) (m1 : Made) (l : ℕ) (items : List ℕ) (on : Onto) → Fronts on →

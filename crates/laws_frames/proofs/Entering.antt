@@ -1,36 +1,16 @@
 -- What is asked of a routine that is called, and of the body of a loop to which an iterator yields.
-use Rattle.std.proofs.Common.{◌≡◌, ℕ, suc, ◌+◌, ◌-◌, ◌*◌, ◌<◌, ◌≤◌, List, [], ◌∷◌, Some, length, slice_get}
-use Rattle.clu_word_meaning.specs.Words.{Body, Ending, Entry, Result, Slots, State, broken, caller_of, continued, counted_twice, ended, exited, normal, out_of_turns, raised, returned, signalled, through, wrong}
-use Rattle.clu_flat_meaning.specs.Image.{Descriptor, Image, Instance}
-use Rattle.clu_flat_meaning.specs.Machine.{Comes, Machine, address_of, invoked, number_at, running, searching, words_below}
-use Rattle.laws_frames.proofs.Relation.{Backs, Brings, Carries, Excepts, Spends, Within}
-
--- What is true of the stack below a routine that was called and of the slots of the loops' routines there, and where what the body
--- of its loop ended with lands.
-pub record Context : Type 1 where
-  pub inv : (ℕ → ℕ) → List Slots → Type 0
-  pub out : Ending → State → Machine → Type 0
-  pub site : ℕ
-  pub caller : ℕ
-  pub link : Instance
-  -- the top of the stack where it was called, and the end of the caller's frame
-  pub last : ℕ
-  pub high : ℕ
+use Rattle.std.proofs.Common.{◌≡◌, ℕ, suc, ◌+◌, ◌-◌, ◌<◌, ◌≤◌, List, ◌∷◌, Some, length}
+use Rattle.clu_word_meaning.specs.Words.{Body, Entry, Result, Slots, State, caller_of, continued, counted_twice, ended, normal, out_of_turns, wrong}
+use Rattle.clu_flat_meaning.specs.Image.{Image, Instance, at_step}
+use Rattle.clu_flat_meaning.specs.Machine.{Comes, Machine, address_of, invoked, number_at, running, words_below}
+use Rattle.laws_frames.specs.Calls.{AtCall, Called, Carries, Context, Spends, Within}
 
 module _ (image : Image) (k : Context) where
-  -- what a call comes to
-  abbrev pub Called : Machine → Result (List ℕ) → Type 0
-  Called c (normal given turns st) = Backs image k.inv k.caller k.link k.last k.high c (suc k.site) running (Brings image k.last given) st
-  Called c (ended (raised name ws) turns st) = Backs image k.inv k.caller k.link k.last k.high c k.site searching (Excepts image k.last name ws) st
-  Called c (ended (through e) turns st) = (d : Machine) × Comes image c d × k.out e (caller_of st) d
-  Called c (ended _ turns st) = Unit {0}
-  Called c (out_of_turns st) = Spends image c st
-
   -- back in the iterator, after its yield: the record is taken off, and its frames are as they were
   pub record Resumes (d : Machine) (st : State) : Type 0 where
     pub machine : Machine
     pub comes : Comes image d machine
-    pub back : (body step : ℕ) → d.stack (d.top - 3) ≡ image.address body step → (machine.who.body ≡ body) × (machine.pc ≡ step)
+    pub back : (body step : ℕ) → image.entry (d.stack (d.top - 3)) ≡ Some (at_step body step) → (machine.who.body ≡ body) × (machine.pc ≡ step)
     pub frame : machine.fp ≡ number_at (d.stack (d.top - 2))
     pub table : machine.who.table ≡ d.stack (d.top - 1)
     pub top : machine.top ≡ d.top - 3
@@ -63,7 +43,7 @@ module _ (image : Image) (k : Context) where
     pub within : Within st d
     pub room : d.top ≤ d.peak
     -- the record can be taken off
-    pub back : (body : ℕ) × (step : ℕ) × (d.stack (d.top - 3) ≡ image.address body step)
+    pub back : (body : ℕ) × (step : ℕ) × (image.entry (d.stack (d.top - 3)) ≡ Some (at_step body step))
     pub saved : (n : ℕ) × (d.stack (d.top - 2) ≡ address_of n)
 
   pub record BodyOk (body : Body) : Type 0 where
@@ -89,26 +69,9 @@ module _ (image : Image) (k : Context) where
     -- what is below depends on the words below alone
     pub on : (s now : ℕ → ℕ) (outer : List Slots) → ((i : ℕ) → i < k.last → now i ≡ s i) → k.inv s outer → k.inv now outer
     pub deep : image.bottom ≤ k.last
+    -- where its end leads
+    pub leads : image.entry (image.address k.link.body (suc k.site)) ≡ Some (at_step k.link.body (suc k.site))
     pub high : k.high ≤ k.last
-
-module _ (image : Image) (k : Context) where
-  -- a machine at a call, with the arguments in its slots
-  pub record AtCall (slot : ℕ) (ws : List ℕ) (st : State) (c : Machine) : Type 0 where
-    pub pc : c.pc ≡ k.site
-    pub who : c.who ≡ k.link
-    pub mode : c.mode ≡ running
-    pub frame : c.fp ≡ k.caller
-    pub top : c.top ≡ k.last
-    pub words : (i w : ℕ) → slice_get ws i ≡ Some w → c.stack (c.fp + 4 + slot + i) ≡ w
-    pub inside : c.fp + 4 + slot + length ws ≤ k.high
-    pub deep : image.bottom ≤ c.fp
-    pub room : k.high ≤ c.peak
-    pub below : k.inv c.stack st.outer
-    pub world : c.world ≡ st.world
-    -- the call is a step
-    pub pay : st.meters.spent ≤ suc c.clock
-    pub within : Within st c
-    pub more : suc c.clock ≤ st.meters.steps
 
 -- A routine with a frame does for its instance what an entry means, for every caller and every body.
 pub record FrameOk (image : Image) (who : Instance) (entry : Entry) : Type 1 where

@@ -1,27 +1,28 @@
 -- Exits to an arm, and exceptions that are signalled on.
-use Rattle.std.proofs.Common.{◌≡◌, ◌≢◌, ◌∙◌, ℕ, suc, ◌+◌, ◌-◌, ◌<◌, ◌≤◌, ◌==◌, Bool, true, false, List, [], ◌∷◌, length, Option, Some, None, slice_get, refl, ap, ap₂, sym, subst, arith}
+use Rattle.std.proofs.Common.{◌≡◌, ◌≢◌, ◌∙◌, ℕ, suc, ◌+◌, ◌-◌, ◌≤◌, ◌==◌, Bool, true, false, List, [], ◌∷◌, length, Option, Some, slice_get, refl, ap, ap₂, sym, subst, arith}
 use Rattle.std.specs.List.{list_any}
 use Rattle.std.specs.Str.{bytes_eq}
 use Rattle.std.specs.Prelude.{if◌then◌else◌, max}
 use Rattle.std.proofs.lemmas.Bool.{eqb-true}
 use Rattle.std.proofs.lemmas.Bool.Decides.{nat_tests}
-use Rattle.clu_wir.specs.Plain.{Expr, Stmts}
+use Rattle.clu_wir.specs.Plain.{Expr}
 use Rattle.clu_frames.specs.Plain.{Step}
 use Rattle.clu_frames.specs.Plain as flat
 use Rattle.clu_frames.specs.Flattening.{Guarding, Made, Onto, Round, armed, closed, in_region, labelled, moves_onto, named_onto, opened, pushed, recut_onto, resignal_onto, sets_onto}
 use Rattle.clu_word_meaning.specs.Words.{Body, Computation, Entry, Result, State, broken, continue_either_way, continued, counted, counted_twice, either, either_way, ended, ends, exited, gives, guard_done, normal, out_of_turns, puts, raised, resignals, returned, signalled, through, values, with_slots, with_state, with_steps, wrong}
 use Rattle.clu_flat_meaning.specs.Image.{Instance}
 use Rattle.clu_flat_meaning.specs.Machine.{Comes, Machine, address_of, arm_at, at_arm, callers, goes_to, is_address, leaving, next, number_at, on_arm, on_step, place_of, running, searching, to_call}
-use Rattle.clu_flat_meaning.proofs.Runs.{Front, Once, address_so, at_push, comes_as, comes_same, comes_then, front_back, front_more, label_place, length_push, number_so, one_search, so_is}
+use Rattle.clu_flat_meaning.proofs.Runs.{Front, Once, address_so, at_push, comes_as, comes_same, comes_then, front_back, front_more, length_push, number_so, one_search, so_is}
 use Rattle.clu_flat_meaning.proofs.Rising.{comes_high}
-use Rattle.laws_frames.proofs.Relation.{Arrives, AtArm, AtSlots, Begins, Fit, Home, IsTop, Keeps, Laws, Outcome, Owes, Place, Seeks, SeesBy, Starts, beyond, instance_at, regions}
-use Rattle.laws_frames.proofs.Sim.{before, foot_zero, keeps_same, mark_kept, top_from}
+use Rattle.laws_frames.specs.Promises.{instance_at}
+use Rattle.laws_frames.proofs.Relation.{Arrives, AtArm, AtSlots, Begins, Fit, IsTop, Keeps, Laws, Outcome, Owes, Place, Seeks, Starts, beyond, regions}
+use Rattle.laws_frames.proofs.Sim.{foot_zero, keeps_same, mark_kept, top_from}
 use Rattle.laws_frames.proofs.Simple.{excepts_less, frame_so, owes, sees_counted, stood}
-use Rattle.laws_frames.proofs.Control.{DoesAt, DoesNext, Fronts, step_there}
-use Rattle.laws_frames.proofs.Rows.{AllGood, Homes, Row, call_is, cut_step, left, sets_front, site_leads, values_run}
+use Rattle.laws_frames.proofs.Control.{DoesAt, Fronts, step_there}
+use Rattle.laws_frames.proofs.Rows.{AllGood, Homes, call_is, cut_step, left, site_leads, values_run}
 use Rattle.laws_frames.proofs.Choosing.{to_jump}
 use Rattle.laws_frames.proofs.Iterating.{AllBelow}
-use Rattle.laws_frames.proofs.Acting.{Moved, moves_by, moves_front}
+use Rattle.laws_frames.proofs.Acting.{moves_by, moves_front}
 use Rattle.laws_frames.proofs.Guarding.{Hits}
 
 module _ (p : Place) (Good : Expr → Type 0) (laws : Laws p Good) (once : Once p.shape.code) (entries : ℕ → Entry) (yielded : Body) where

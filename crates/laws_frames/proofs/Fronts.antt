@@ -12,7 +12,7 @@ use Rattle.clu_flat_meaning.proofs.Runs.{Front, front_more, front_push, front_sa
 abbrev pub count_of : Arms → ℕ
 count_of arms = length (slots_of arms)
 
-front_sets : (es : List Expr) (to : ℕ) (m : Made) → Front m.code (sets_onto to es m).code
+pub front_sets : (es : List Expr) (to : ℕ) (m : Made) → Front m.code (sets_onto to es m).code
 front_sets [] to m = front_same m.code
 front_sets (e ∷ es) to m = front_more _ _ _ (front_push m.code (flat.Set to e)) (front_sets es (to + 1) (pushed (flat.Set to e) m))
 
@@ -23,7 +23,7 @@ row_by work es (Some first) m = front_same m.code
 pub front_row : (work : ℕ) (es : List Expr) (m : Made) → Front m.code (row_onto work es m).code
 front_row work es m = row_by work es (first_of_row es) m
 
-front_results : (n : ℕ) (slots : List ℕ) (m : Made) → Front m.code (results_onto n slots m).code
+pub front_results : (n : ℕ) (slots : List ℕ) (m : Made) → Front m.code (results_onto n slots m).code
 front_results n [] m = front_same m.code
 front_results n (slot ∷ slots) m = front_more _ _ _ (front_push m.code (flat.Result slot n)) (front_results (n + 1) slots (pushed (flat.Result slot n) m))
 
@@ -32,11 +32,11 @@ front_taken [] m = front_same m.code
 front_taken (only ∷ []) m = front_push m.code (flat.Take only)
 front_taken (first ∷ second ∷ rest) m = front_results 0 (first ∷ second ∷ rest) m
 
-front_moves : (slots : List ℕ) (from : ℕ) (m : Made) → Front m.code (moves_onto slots from m).code
+pub front_moves : (slots : List ℕ) (from : ℕ) (m : Made) → Front m.code (moves_onto slots from m).code
 front_moves [] from m = front_same m.code
 front_moves (slot ∷ slots) from m = front_more _ _ _ (front_push m.code (flat.Set slot (plain.slot from))) (front_moves slots (from + 1) (pushed (flat.Set slot (plain.slot from)) m))
 
-front_named : (region mark : ℕ) (names : List (List ℕ)) (m : Made) → Front m.code (named_onto region mark names m).code
+pub front_named : (region mark : ℕ) (names : List (List ℕ)) (m : Made) → Front m.code (named_onto region mark names m).code
 front_named region mark [] m = front_same m.code
 front_named region mark (name ∷ names) m = front_named region mark names (armed region mark name m)
 
@@ -59,7 +59,7 @@ front_next : (t : Option Turns) (m : Made) → Front m.code (continue_onto t m).
 front_next None m = front_same m.code
 front_next (Some t) m = front_push m.code (flat.Jump t.next)
 
-front_recut : (b : Bool) (outside : ℕ) (m : Made) → Front m.code (if b then m else pushed (flat.Cut outside) m).code
+pub front_recut : (b : Bool) (outside : ℕ) (m : Made) → Front m.code (if b then m else pushed (flat.Cut outside) m).code
 front_recut true outside m = front_same m.code
 front_recut false outside m = front_push m.code (flat.Cut outside)
 

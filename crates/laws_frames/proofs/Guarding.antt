@@ -14,15 +14,14 @@ use Rattle.clu_flat_meaning.specs.Image.{FlatArm, Instance}
 use Rattle.clu_flat_meaning.specs.Machine.{Comes, Machine, address_of, arm_at, at_arm, goes_to, is_address, next, number_at, on_arm, on_step, place_of, put_in, running}
 use Rattle.clu_flat_meaning.proofs.Runs.{Front, Once, address_so, at_push, comes_as, comes_same, comes_then, front_back, front_more, label_place, length_push, number_so, one_search, so_is}
 use Rattle.clu_flat_meaning.proofs.Rising.{comes_high}
-use Rattle.laws_frames.proofs.Relation.{Arrives, AtSlots, Carries, Fit, Keeps, Laws, Outcome, Place, Seeks, Sees, Starts, beyond, regions}
+use Rattle.laws_frames.specs.Calls.{Carries}
+use Rattle.laws_frames.proofs.Relation.{Arrives, AtSlots, Fit, Keeps, Laws, Outcome, Place, Seeks, Sees, Starts, beyond, regions}
 use Rattle.laws_frames.proofs.Sim.{before, foot_zero, guards_from, keeps_then, low_from, mark_kept, outcome_from}
 use Rattle.laws_frames.proofs.Simple.{frame_so, keeps_put, owes, sees_counted, sees_put, stood}
 use Rattle.laws_frames.proofs.Control.{DoesAt, Fronts, over_label, step_there}
 use Rattle.laws_frames.proofs.Iterating.{AllBelow, Took, reads_first, results_run}
 use Rattle.laws_frames.proofs.Fronts.{front_all, front_arms}
-
-is_le : (a b : ℕ) → nat_le a b ≡ true → a ≤ b
-is_le a b e = grind (arith, nat_tests, e)
+use Rattle.laws_frames.proofs.Widths.{is_le}
 
 -- whether a list of names has one
 abbrev pub has_name : List ℕ → List (List ℕ) → Bool

@@ -8,16 +8,18 @@ use Rattle.clu_frames.specs.declared.surroundings.Turns.{Turns}
 use Rattle.clu_frames.specs.Flattening.{Guarding, Made, Onto, Round, in_turns, pushed, results_onto, turns_at}
 use Rattle.clu_wir.specs.Plain.{Expr}
 use Rattle.clu_word_meaning.specs.Words.{Body, Computation, Ending, Entry, Result, Slots, State, broken, called_from, caller_of, continue_either_way, continued, counted, counted_twice, either_way, ended, ends, exited, first_of, gives, is_same, iterates, loop_ending, need, normal, out_of_turns, put_slot, puts, raised, rest_of, returned, signalled, takes, through, with_slots, with_state, wrong}
-use Rattle.clu_flat_meaning.specs.Image.{at_step}
+use Rattle.clu_flat_meaning.specs.Image.{Instance, at_step}
 use Rattle.clu_flat_meaning.specs.Machine.{Comes, Machine, address_of, arm_at, goes_to, invoked, is_address, is_record, next, number_at, on_step, or_wrong, place_of, put_in, resumes, resuming, running, travelled, word_below}
 use Rattle.clu_flat_meaning.proofs.Runs.{Front, Once, address_so, at_push, both_so, comes_as, comes_same, comes_then, front_back, front_more, front_push, front_same, label_place, le_so, length_push, number_so, put_other, put_same, so_is}
 use Rattle.clu_flat_meaning.proofs.Rising.{comes_peak}
-use Rattle.laws_frames.proofs.Relation.{Arrives, ArrivesBy, AtArm, AtSlots, Begins, Carries, Fit, Home, IsMark, Keeps, Lands, Laws, Outcome, Place, Sees, Spends, Starts, Within, beyond, instance_at, laws_at, regions}
+use Rattle.laws_frames.specs.Calls.{Called, Carries, Context, Spends, Within}
+use Rattle.laws_frames.specs.Promises.{instance_at}
+use Rattle.laws_frames.proofs.Relation.{Arrives, ArrivesBy, AtArm, AtSlots, Begins, Fit, Home, IsMark, Keeps, Lands, Laws, Outcome, Place, Sees, Starts, beyond, laws_at, regions}
 use Rattle.laws_frames.proofs.Sim.{before, foot_zero, guards_from, keeps_same, keeps_then, mark_kept}
 use Rattle.laws_frames.proofs.Simple.{excepts_less, keeps_put, keeps_work, owes, sees_counted, sees_put, sees_work, stood}
 use Rattle.laws_frames.proofs.Control.{DoesAt, Fronts, over_end, over_label, step_there}
 use Rattle.laws_frames.proofs.Rows.{returns_is}
-use Rattle.laws_frames.proofs.Entering.{AtBody, BodyOk, Called, Context, EntryOk, Local, Resumes, Yielded}
+use Rattle.laws_frames.proofs.Entering.{AtBody, BodyOk, EntryOk, Local, Resumes, Yielded}
 
 -- each slot is one of the routine's own
 abbrev pub AllBelow : ℕ → List ℕ → Type 0
@@ -152,6 +154,7 @@ module _ (p : Place) (Good : Expr → Type 0) (laws : Laws p Good) (once : Once 
 
       local_below : Local p.image loop_context
       local_below = record {
+        leads = laws.honest.leads c.who.body c.pc p.shape (flat.Invoke routine slot) (ap (λ (i : Instance). p.image.body i.body) starts.sees.who ∙ laws.at_me) (ap (slice_get code) starts.pc ∙ at_push m0.code code (flat.Invoke routine slot) f1) refl;
         deep = omega (arith, laws.deep, starts.top);
         high = starts.top;
         on = λ s now outer same b. record {
@@ -208,7 +211,7 @@ module _ (p : Place) (Good : Expr → Type 0) (laws : Laws p Good) (once : Once 
       -- The machine d was yielded to, and goes on at the body of the loop with this stack
 
       module _ (d : Machine) (s : ℕ → ℕ) (high : c.top + 3 ≤ d.top) (kept : Keeps p round.work c.top c.stack d.stack) (held : Keeps p round.work d.top d.stack s)
-          (slot_is : s (p.fp + 4 + round.work) ≡ address_of d.top) (room : d.top ≤ d.peak) (body step : ℕ) (back : d.stack (d.top - 3) ≡ p.image.address body step)
+          (slot_is : s (p.fp + 4 + round.work) ≡ address_of d.top) (room : d.top ≤ d.peak) (body step : ℕ) (back : p.image.entry (d.stack (d.top - 3)) ≡ Some (at_step body step))
           (frame : ℕ) (saved : d.stack (d.top - 2) ≡ address_of frame) where
         from_call : Keeps p round.work c.top c.stack s
         from_call = keeps_then p round.work c.top round.work d.top c.stack d.stack s (omega arith) (omega (arith, high)) kept held
@@ -222,9 +225,9 @@ module _ (p : Place) (Good : Expr → Type 0) (laws : Laws p Good) (once : Once 
             (both_so (nat_le (number_at a) x.peak) _ (le_so (number_at a) x.peak (omega (arith, e, high))) (address_so (x.stack (number_at a - 2)) m (ap (λ k. x.stack (k - 2)) e ∙ em)))))
             ∙ ap (λ k. resuming p.image (k - 3) x) e
 
-        same_site : (b n : ℕ) → p.image.address body step ≡ p.image.address b n → (body ≡ b) × (step ≡ n)
+        same_site : (b n : ℕ) → p.image.entry (d.stack (d.top - 3)) ≡ Some (at_step b n) → (body ≡ b) × (step ≡ n)
         same_site b n e =
-            let same : Some (at_step body step) ≡ Some (at_step b n) = sym (laws.honest.leads body step) ∙ ap p.image.entry e ∙ laws.honest.leads b n in
+            let same : Some (at_step body step) ≡ Some (at_step b n) = sym back ∙ e in
             (cc, cc)
 
         -- the next turn: the record is taken off
@@ -239,16 +242,16 @@ module _ (p : Place) (Good : Expr → Type 0) (laws : Laws p Good) (once : Once 
             ap (λ f. x.stack (f + 4 + round.work)) b.sees.frame ∙ b.keeps.marks round.work fit.work (omega arith) ∙ slot_is in
             let same : (i : ℕ) → c.top ≤ i → i < d.top → x.stack i ≡ d.stack i =
             λ i g h. b.keeps.above i (omega (arith, g, starts.top)) h ∙ held.above i (omega (arith, g, starts.top)) h in
-            let at : x.stack low ≡ p.image.address body step = same low (omega (arith, high)) (omega (arith, high)) ∙ back in
+            let at : p.image.entry (x.stack low) ≡ Some (at_step body step) = ap p.image.entry (same low (omega (arith, high)) (omega (arith, high))) ∙ back in
             let y : Machine = record x { top = low; high = max x.high low; fp = number_at (x.stack (low + 1)); who = instance_at body (x.stack (low + 2)); pc = step; clock = suc x.clock } in
             let is : on_step p.image p.shape (flat.Resume round.work) x ≡ y =
             resumes_is x (x.stack (x.fp + 4 + round.work)) d.top frame t (omega (arith, laws.deep, starts.top, high)) (omega (arith, room, comes_peak p.image d x b.comes)) (same (d.top - 2) (omega (arith, high)) (omega (arith, high)) ∙ saved)
             ∙ returns_is p Good laws once (p.image.entry (x.stack low)) body step
-            (record x { top = low; high = max x.high low; fp = number_at (x.stack (low + 1)); who = record x.who { table = x.stack (low + 2) } }) (ap p.image.entry at ∙ laws.honest.leads body step) in
+            (record x { top = low; high = max x.high low; fp = number_at (x.stack (low + 1)); who = record x.who { table = x.stack (low + 2) } }) at in
             record {
               machine = y;
               comes = comes_then p.image d x y b.comes (comes_as p.image x (on_step p.image p.shape (flat.Resume round.work) x) y is k);
-              back = λ b n e. same_site b n (sym back ∙ e);
+              back = λ b n e. same_site b n e;
               frame = ap number_at ((let z : low + 1 ≡ d.top - 2 = omega (arith, high) in ap x.stack z) ∙ same (d.top - 2) (omega (arith, high)) (omega (arith, high)));
               table = (let z : low + 2 ≡ d.top - 1 = omega (arith, high) in ap x.stack z) ∙ same (d.top - 1) (omega (arith, high)) (omega (arith, high));
               top = refl;
@@ -296,7 +299,7 @@ module _ (p : Place) (Good : Expr → Type 0) (laws : Laws p Good) (once : Once 
         loop_body = λ now given. with_state (counted (suc (length items))) (either_way (takes p.linked entries items given) (λ done. inner now) ends)
 
         yielded_front : (st : State) (d : Machine) (b : Machine) → (e : Machine) → Yielded p.image loop_context e (out_of_turns st) → Comes p.image d e → Spends p.image d st
-        yielded_front st d b e o k = record { machine = o.machine; comes = comes_then p.image d e o.machine k o.comes; output = o.output; mode = o.mode; pay = o.pay; within = o.within }
+        yielded_front st d b e o k = record { machine = o.machine; comes = comes_then p.image d e o.machine k o.comes; there = o.there; output = o.output; mode = o.mode; pay = o.pay; within = o.within }
 
         taken : (now : ℕ) (b : Bool) (ws : List ℕ) (t : ℕ) (st : State) (d : Machine) → d.top ≤ now → b ≡ is_same (length items) (length ws) → AtBody p.image loop_context ws st d →
             Yielded p.image loop_context d (continue_either_way (λ done. inner now) ends (need b (with_state (with_slots (puts items ws)) (gives {A = Unit {0}} tt)) t (counted (suc (length items)) (caller_of st))))
@@ -391,7 +394,7 @@ module _ (p : Place) (Good : Expr → Type 0) (laws : Laws p Good) (once : Once 
         called e home (ended (signalled name ws) t st) o = tt
         called e home (ended (exited inside arm ws) t st) o = tt
         called e home (ended wrong t st) o = tt
-        called e home (out_of_turns st) o = record { machine = o.machine; comes = o.comes; output = o.output; mode = o.mode; pay = o.pay; within = o.within }
+        called e home (out_of_turns st) o = record { machine = o.machine; comes = o.comes; there = o.there; output = o.output; mode = o.mode; pay = o.pay; within = o.within }
 
         -- the call of the iterator, whose arguments lie side by side
         pub iterate_runs : Home p round.region c.pc → (w : ℕ) → EntryOk p.image w (entries w) → (ws : List ℕ) (t : ℕ) → ((i v : ℕ) → slice_get ws i ≡ Some v → c.stack (c.fp + 4 + slot + i) ≡ v) → slot + length ws ≤ p.shape.frame →

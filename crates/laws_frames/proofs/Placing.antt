@@ -1,5 +1,5 @@
 -- Words side by side, in slots for work, or where they lie so already.
-use Rattle.std.proofs.Common.{◌≡◌, ◌∙◌, ℕ, zero, suc, ◌+◌, ◌-◌, ◌^◌, ◌<◌, ◌≤◌, ◌==◌, Bool, true, false, List, [], ◌∷◌, length, Option, Some, None, slice_get, refl, ap, sym, subst, arith, true≢false}
+use Rattle.std.proofs.Common.{◌≡◌, ◌∙◌, ℕ, zero, suc, ◌+◌, ◌-◌, ◌^◌, ◌<◌, ◌≤◌, Bool, true, false, List, [], ◌∷◌, length, Option, Some, None, slice_get, refl, ap, sym, subst, arith, true≢false}
 use Rattle.std.specs.Prelude.{◌&&◌, if◌then◌else◌, min}
 use Rattle.std.proofs.lemmas.Bool.{eqb-true}
 use Rattle.std.proofs.lemmas.Option.{same_Some}
@@ -7,15 +7,12 @@ use Rattle.clu_base.proofs.Lists.{none_is_not}
 use Rattle.clu_wir.specs.Plain.{Expr}
 use Rattle.clu_wir.specs.Plain as plain
 use Rattle.clu_wir.specs.Value.{meant, of_option}
-use Rattle.clu_frames.specs.Plain.{Step}
 use Rattle.clu_frames.specs.Flattening.{Made, Round, are_row, first_of_row, first_slot, is_slot, row_from, row_sets, row_slot, slot_of}
 use Rattle.clu_word_meaning.specs.Words.{Computation, Entry, State, by_value, counted, ends, valued, values, with_steps}
 use Rattle.clu_flat_meaning.specs.Machine.{Machine, running}
 use Rattle.clu_flat_meaning.proofs.Runs.{Front, Once}
-use Rattle.laws_frames.proofs.Relation.{Begins, Fit, Home, Keeps, Laws, Outcome, Owes, Place}
-use Rattle.laws_frames.proofs.Sim.{keeps_same}
-use Rattle.laws_frames.proofs.Simple.{sees_counted}
-use Rattle.laws_frames.proofs.Rows.{AllGood, Homes, Row, values_run}
+use Rattle.laws_frames.proofs.Relation.{Fit, Keeps, Laws, Outcome, Owes, Place}
+use Rattle.laws_frames.proofs.Rows.{AllGood, Homes, Wide, values_run}
 
 by_row : (b : Bool) (f first : ℕ) → (if b then Some f else None) ≡ Some first → (b ≡ true) × (f ≡ first)
 by_row true f first e = (refl, same_Some f first e)
@@ -82,7 +79,7 @@ module _ (p : Place) (Good : Expr → Type 0) (laws : Laws p Good) (once : Once 
         (λ w h. slots_run es (first + 1) (λ ws. f (w ∷ ws)) (counted 1 st) after good.1 see (first_goes es first w f st own (see first w own h) (subst (λ x. Goes (x ∷ es) first f st) is k))))
 
   pub placed_run : (o : Option ℕ) (round : Round) (end bound : ℕ) (s : ℕ → ℕ) (es : List Expr) (work : ℕ) (m : Made) (f : List ℕ → Computation (Unit {0})) (turns : ℕ) (st : State) (c : Machine) → first_of_row es ≡ o → Fit p round → AllGood p Good es → round.work ≤ work →
-      work + length es ≤ p.shape.frame → Homes p round.region (length m.code) (length (row_sets work es o m).code) → Front (row_sets work es o m).code p.shape.code → c.pc ≡ length m.code → c.mode ≡ running → Owes p st c → Keeps p round.work bound s c.stack →
+      Wide p o (work + length es) → Homes p round.region (length m.code) (length (row_sets work es o m).code) → Front (row_sets work es o m).code p.shape.code → c.pc ≡ length m.code → c.mode ≡ running → Owes p st c → Keeps p round.work bound s c.stack →
       ((ws : List ℕ) (d : Machine) (x : ℕ) → length ws ≡ length es → c.high ≤ d.high → Placed round (row_slot work o) c.top bound s (length (row_sets work es o m).code) (with_steps x st) c ws d → Outcome p round end bound s d (f ws turns (with_steps x st))) →
       Outcome p round end bound s c (values p.linked entries es f turns st)
   placed_run None round end bound s es work m f turns st c e fit good low wide homes front pc mode see keep k =

@@ -1,5 +1,5 @@
 -- At each level each routine of a program does in flat code what it means in word code.
-use Rattle.std.proofs.Common.{◌≡◌, ℕ, zero, suc, List, Option, None, Some, refl, arith, inl, slice_get}
+use Rattle.std.proofs.Common.{◌≡◌, ℕ, zero, suc, List, Option, None, Some, refl, arith, inl}
 use Rattle.clu_base.proofs.Lists.{none_is_not}
 use Rattle.clu_base.specs.declared.constants.ObjConst.{ObjConst}
 use Rattle.clu_frames.specs.Plain as flat
@@ -11,9 +11,10 @@ use Rattle.clu_word_meaning.specs.Levels.{Callee, WordRoutine, bare, entered, en
 use Rattle.clu_flat_meaning.specs.Image.{FlatArm, Image, Instance, at_step}
 use Rattle.clu_flat_meaning.specs.Image as parts
 use Rattle.clu_flat_meaning.proofs.Runs.{Front}
+use Rattle.laws_frames.specs.Calls.{Context}
 use Rattle.laws_frames.proofs.Relation.{Fit}
-use Rattle.laws_frames.proofs.Entering.{BodyOk, Context, EntryOk, FrameOk, Local}
-use Rattle.laws_frames.proofs.Levels.{Compiled, enter_ok, laws_on, place_on}
+use Rattle.laws_frames.proofs.Entering.{BodyOk, EntryOk, FrameOk, Local}
+use Rattle.laws_frames.proofs.Framing.{Compiled, enter_ok, laws_on, place_on}
 use Rattle.laws_frames.proofs.Fronts.{front_all}
 use Rattle.laws_frames.proofs.Bare.{Bare, bare_ok, frame_call, frame_stops}
 use Rattle.laws_frames.proofs.Whole.{OkAll, does_all}
@@ -35,7 +36,7 @@ module _ (image : Image) where
   fit_outermost : (w : ℕ) (q : WordRoutine) (f : Flattened w q) (k : Context) → Fit (place_on image f.who q f.shape f.seek f.Good k) (outermost f.constants q.slots)
   fit_outermost w q f k = record { work = omega arith; mark = inl (omega arith); turns = tt; guards = λ n g e. absurd (none_is_not g e) }
 
-  routine_ok : (w : ℕ) (q : WordRoutine) (f : Flattened w q) (entries : ℕ → WordEntry) → ((v : ℕ) → EntryOk image v (entries v)) → FrameOk image f.who (enters entries q)
+  pub routine_ok : (w : ℕ) (q : WordRoutine) (f : Flattened w q) (entries : ℕ → WordEntry) → ((v : ℕ) → EntryOk image v (entries v)) → FrameOk image f.who (enters entries q)
   routine_ok w q f entries entry_ok =
       enter_ok image f.who q f.shape f.seek f.Good f.compiled f.constants (all_onto q.body) f.front (front_all q.body) entries
       (λ k local live body ok.
@@ -61,7 +62,7 @@ module _ (image : Image) where
     unentered_ok w None e = record { runs = λ k local live room body bok ws t st c slot at. tt }
     unentered_ok w (Some (framed q)) e = record {
       runs = λ k local live room body bok ws t st c slot at.
-          let f = frames w q e in (frame_stops image w f.who f.there).runs k local live room body bok ws t st c slot at;
+          let f = frames w q e in (frame_stops image w f.who f.shape f.compiled.there f.there).runs k local live room body bok ws t st c slot at;
     }
     unentered_ok w (Some (bare l deed)) e = record {
       runs = λ k local live room body bok ws t st c slot at.

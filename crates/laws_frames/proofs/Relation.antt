@@ -1,73 +1,15 @@
 -- How a state of word code and its outcomes are seen in flat code on one stack.
-use Rattle.std.proofs.Common.{◌≡◌, ◌⊎◌, ℕ, suc, ◌+◌, ◌*◌, ◌^◌, ◌<◌, ◌≤◌, ◌==◌, Bool, true, false, List, [], ◌∷◌, length, Option, Some, None, slice_get}
+use Rattle.std.proofs.Common.{◌≡◌, ◌⊎◌, ℕ, suc, ◌+◌, ◌^◌, ◌<◌, ◌≤◌, List, length, Option, Some, None, slice_get}
 use Rattle.clu_frames.specs.declared.surroundings.Turns.{Turns}
 use Rattle.clu_frames.specs.Flattening.{Guarding, Made, Round}
 use Rattle.clu_wir.specs.Plain.{Expr}
 use Rattle.clu_wir.specs.Plain as plain
-use Rattle.clu_wir.specs.Traps.{trap_name}
 use Rattle.clu_wir.specs.Value.{Gives, Raises, Stuck, Value, value}
-use Rattle.clu_wir.specs.declared.trap.Trap.{Trap}
-use Rattle.clu_word_meaning.specs.World.{World, failure_name}
 use Rattle.clu_word_meaning.specs.Words.{Ending, Linked, Result, Slots, State, broken, caller_of, continued, ended, exited, normal, out_of_turns, puts, raised, returned, signalled, through, view, with_slots, wrong}
 use Rattle.clu_flat_meaning.specs.Image.{Body, FlatArm, FlatRegion, Image, Instance, at_step}
-use Rattle.clu_flat_meaning.specs.Machine.{Comes, Machine, Mode, address_of, arm_at, number_at, place_of, running, searching, slots_at, view_of, word_below}
-
--- What an image says of addresses, names and traps, as an instance knows them, where nothing is full.
-pub record Honest (image : Image) (linked : Linked) : Type 0 where
-  pub leads : (body step : ℕ) → image.entry (image.address body step) ≡ Some (at_step body step)
-  pub names : (v : ℕ) (name : List ℕ) → image.name_of v ≡ Some name → linked.name_word name ≡ v
-  pub failure : image.name_of image.failure ≡ Some failure_name
-  pub traps : (t : Trap) → image.name_of (image.trap_name t) ≡ Some (trap_name t)
-  pub objects : (t : Trap) (i w : ℕ) → slice_get (linked.trap_words t) i ≡ Some w → (image.trap_objects t + 8 * i < address_of image.bottom) × (image.fixed (image.trap_objects t + 8 * i) ≡ Some w)
-  pub stack : (n : ℕ) → image.has_stack n ≡ true
-  pub store : (n : ℕ) → image.has_store n ≡ true
-  pub bottom : 0 < image.bottom
-
-abbrev pub instance_at : ℕ → ℕ → Instance
-instance_at body table = record { body = body; table = table }
-
--- words that travel: they stand above a number, or are fixed, so that what is put below it doesn't change them
-pub record Carries (image : Image) (from : ℕ) (ws : List ℕ) (c : Machine) : Type 0 where
-  pub at : (i w : ℕ) → slice_get ws i ≡ Some w → (s : ℕ → ℕ) → ((n : ℕ) → from ≤ n → s n ≡ c.stack n) → word_below image c.peak s (c.words + 8 * i) ≡ Some w
-
--- results: one is the value that travels
-abbrev pub Brings : Image → ℕ → List ℕ → Machine → Type 0
-Brings image from [] c = Unit {0}
-Brings image from (w ∷ []) c = c.value ≡ w
-Brings image from (w ∷ v ∷ ws) c = Carries image from (w ∷ v ∷ ws) c
-
-pub record Excepts (image : Image) (from : ℕ) (name ws : List ℕ) (c : Machine) : Type 0 where
-  pub named : image.name_of c.value ≡ Some name
-  pub words : Carries image from ws c
-
--- the frames and records of the stack were within the most live words, and the store within its meter
-abbrev pub Within : State → Machine → Type 0
-Within st c = (c.peak ≤ st.meters.most) × (c.used ≤ st.meters.store) × (c.clock ≤ st.meters.steps) × (c.high ≤ st.meters.most) × (c.top ≤ c.high)
-
--- the machine comes back to where a routine was called: the caller, its frame, and the top of the stack as it was
-pub record Backs (image : Image) (inv : (ℕ → ℕ) → List Slots → Type 0) (caller : ℕ) (link : Instance) (last high : ℕ) (c : Machine) (at : ℕ) (into : Mode) (brought : Machine → Type 0) (st : State) : Type 0 where
-  pub machine : Machine
-  pub comes : Comes image c machine
-  pub pc : machine.pc ≡ at
-  pub who : machine.who ≡ link
-  pub frame : machine.fp ≡ caller
-  pub mode : machine.mode ≡ into
-  pub brings : brought machine
-  pub below : inv machine.stack st.outer
-  pub world : machine.world ≡ st.world
-  pub pay : st.meters.spent ≤ machine.clock
-  pub within : Within st machine
-  pub room : high ≤ machine.peak
-  -- where an exception is searched, what was left may still be on the stack
-  pub top : into ≡ running → machine.top ≡ last
-
-pub record Spends (image : Image) (c : Machine) (st : State) : Type 0 where
-  pub machine : Machine
-  pub comes : Comes image c machine
-  pub output : machine.world.output ≡ st.world.output
-  pub mode : machine.mode ≡ running
-  pub pay : st.meters.spent ≤ machine.clock
-  pub within : Within st machine
+use Rattle.clu_flat_meaning.specs.Machine.{Comes, Machine, Mode, address_of, arm_at, number_at, place_of, running, searching, slots_at, view_of}
+use Rattle.laws_frames.specs.Calls.{Backs, Brings, Excepts, Spends, Within}
+use Rattle.laws_frames.specs.Promises.{Honest}
 
 -- A routine that runs in its frame: the image, the code, the instance and what it knows, how many slots it names; the place of
 -- its frame; what is true of the stack below; where what a loop's body ended with lands, while it passes; the arm of a name in a
@@ -258,6 +200,8 @@ module _ (p : Place) where
     pub live : ℕ
     pub honest : Honest p.image p.linked
     pub at_me : p.image.body p.me.body ≡ Some p.shape
+    -- where a return leads
+    pub leads : p.image.entry (p.image.address p.link.body (suc p.site)) ≡ Some (at_step p.link.body (suc p.site))
     pub local : (s now : ℕ → ℕ) (outer : List Slots) → ((i : ℕ) → i < p.fp → now i ≡ s i) → p.inv s outer → p.inv now outer
     pub small : p.base ≤ p.shape.frame
     pub deep : p.image.bottom ≤ p.fp

@@ -8,13 +8,15 @@ use Rattle.clu_frames.specs.Plain as flat
 use Rattle.clu_frames.specs.declared.surroundings.Turns.{Turns}
 use Rattle.clu_frames.specs.Flattening.{Made, Round, break_onto, continue_onto, cut_onto, pushed, sets_onto}
 use Rattle.clu_wir.specs.Plain.{Expr}
-use Rattle.clu_word_meaning.specs.Words.{Computation, State, broken, continued, counted, counted_twice, ends, raised, returned, signalled, values, valued, with_state, with_steps}
+use Rattle.clu_word_meaning.specs.Words.{Computation, State, broken, continued, counted, counted_twice, ends, raised, returned, signalled, values, with_state, with_steps}
 use Rattle.clu_word_meaning.specs.Words.{Entry as WordEntry}
 use Rattle.clu_flat_meaning.specs.Image.{Entry, at_step}
 use Rattle.clu_flat_meaning.specs.Machine.{Comes, Machine, address_of, arm_at, callers, excepted, goes_to, is_address, leaving, next, number_at, on_step, place_of, put_in, returns, running, searching, to_call, with_results, word_below}
-use Rattle.clu_flat_meaning.proofs.Runs.{Front, Once, address_so, at_push, comes_as, comes_same, comes_then, front_back, front_more, front_push, front_same, label_place, length_push, number_so, put_other, put_same, so_is}
-use Rattle.laws_frames.proofs.Relation.{ArrivesBy, AtEnd, AtNext, Begins, Brings, Carries, CutLow, CutTop, Excepts, Fit, Home, IsTop, Keeps, Laws, Outcome, Owes, Place, Sees, beyond, cut_top, instance_at, regions}
-use Rattle.laws_frames.proofs.Sim.{before, keeps_same, keeps_then}
+use Rattle.clu_flat_meaning.proofs.Runs.{Front, Once, address_so, at_push, comes_as, comes_then, front_back, front_more, front_push, front_same, length_push, number_so, put_other, put_same, so_is}
+use Rattle.laws_frames.specs.Calls.{Brings, Carries, Excepts}
+use Rattle.laws_frames.specs.Promises.{instance_at}
+use Rattle.laws_frames.proofs.Relation.{ArrivesBy, AtEnd, AtNext, CutLow, CutTop, Fit, Home, IsTop, Keeps, Laws, Outcome, Owes, Place, Sees, beyond, cut_top, regions}
+use Rattle.laws_frames.proofs.Sim.{keeps_same, keeps_then}
 use Rattle.laws_frames.proofs.Simple.{keeps_work, owes, sees_counted, sees_work, stack_word, stood, valued_runs}
 use Rattle.laws_frames.proofs.Control.{DoesNext, step_there}
 
@@ -25,6 +27,11 @@ module _ (p : Place) where
   -- places of a region
   pub record Homes (region : Option ℕ) (low high : ℕ) : Type 0 where
     pub home : (i : ℕ) → low ≤ i → i < high → Home p region i
+
+  -- slots that lie side by side already need no room for work
+  abbrev pub Wide : Option ℕ → ℕ → Type 0
+  Wide None n = n ≤ p.shape.frame
+  Wide (Some first) n = Unit {0}
 
   abbrev pub AllGood : (Expr → Type 0) → List Expr → Type 0
   AllGood Good [] = Unit {0}
@@ -194,7 +201,7 @@ module _ (p : Place) where
     call_is o body step c e = rw e refl
 
     pub site_leads : (c : Machine) (st : State) → Owes p st c → c.stack p.fp ≡ p.image.address p.link.body (suc p.site) → p.image.entry (c.stack c.fp) ≡ Some (at_step p.link.body (suc p.site))
-    site_leads c st see site = ap p.image.entry (ap c.stack see.frame ∙ site) ∙ laws.honest.leads p.link.body (suc p.site)
+    site_leads c st see site = ap p.image.entry (ap c.stack see.frame ∙ site) ∙ laws.leads
 
     results_brought : (slot : ℕ) (ws : List ℕ) (c : Machine) → c.fp ≡ p.fp → p.fp + 4 + slot + length ws ≤ c.peak → ((i w : ℕ) → slice_get ws i ≡ Some w → c.stack (p.fp + 4 + slot + i) ≡ w) →
         (d : Machine) → d.stack ≡ c.stack → d.peak ≡ c.peak → d.words ≡ (with_results p.image slot (length ws) c).words → d.value ≡ (with_results p.image slot (length ws) c).value → Brings p.image p.fp ws d

@@ -1,11 +1,12 @@
 -- Flat code does what word code means.
-use Rattle.std.proofs.Common.{◌≡◌, ◌∙◌, inl, inr, ℕ, suc, ◌+◌, ◌-◌, ◌<◌, ◌≤◌, List, length, Option, Some, None, slice_get, refl, ap, sym, arith}
+use Rattle.std.proofs.Common.{◌≡◌, ◌∙◌, inl, inr, ℕ, suc, ◌+◌, ◌-◌, ◌≤◌, List, Option, Some, None, slice_get, refl, ap, sym, arith}
 use Rattle.clu_frames.specs.declared.surroundings.Turns.{Turns}
 use Rattle.clu_frames.specs.Flattening.{Guarding, Round}
 use Rattle.clu_word_meaning.specs.Words.{Computation, Ending, Result, State, broken, continue_either_way, continued, ended, ends, exited, normal, out_of_turns, raised, returned, signalled, through, wrong}
 use Rattle.clu_flat_meaning.specs.Machine.{Comes, Machine, Mode, address_of, number_at, running, searching}
 use Rattle.clu_flat_meaning.proofs.Runs.{comes_then}
-use Rattle.laws_frames.proofs.Relation.{Arrives, ArrivesBy, AtArm, AtEnd, AtNext, AtSlots, Brings, CutFits, CutLow, CutTop, Excepts, Fit, GuardsLow, IsMark, IsTop, Keeps, Lands, Leaves, Outcome, Place, TurnsFit, cut_top}
+use Rattle.laws_frames.specs.Calls.{Brings, Excepts}
+use Rattle.laws_frames.proofs.Relation.{Arrives, ArrivesBy, AtArm, AtEnd, AtNext, AtSlots, CutFits, CutLow, CutTop, Fit, GuardsLow, IsMark, IsTop, Keeps, Lands, Leaves, Outcome, Place, TurnsFit, cut_top}
 
 module _ (p : Place) where
   -- What is kept
@@ -78,7 +79,7 @@ module _ (p : Place) where
   pub before : (round : Round) (at top : ℕ) (s : ℕ → ℕ) (a b : Machine) (r : Result (Unit {0})) → Comes p.image a b → Outcome p round at top s b r → Outcome p round at top s a r
   before round at top s a b (normal u turns st) k o = record { machine = o.machine; comes = comes_then p.image a b o.machine k o.comes; pc = o.pc; top = o.top; mode = o.mode; sees = o.sees; keeps = o.keeps }
   before round at top s a b (ended e turns st) k o = before_lands round top s a b e st k o
-  before round at top s a b (out_of_turns st) k o = record { machine = o.machine; comes = comes_then p.image a b o.machine k o.comes; output = o.output; mode = o.mode; pay = o.pay; within = o.within }
+  before round at top s a b (out_of_turns st) k o = record { machine = o.machine; comes = comes_then p.image a b o.machine k o.comes; there = o.there; output = o.output; mode = o.mode; pay = o.pay; within = o.within }
 
   -- An earlier stack in the place of a later one
 
@@ -143,7 +144,7 @@ module _ (p : Place) where
   pub outcome_from : (round : Round) (at top : ℕ) (a b : ℕ → ℕ) (c : Machine) (r : Result (Unit {0})) → Fit p round → Keeps p round.work top a b → Outcome p round at top b c r → Outcome p round at top a c r
   outcome_from round at top a b c (normal u turns st) f k o = arrives_from round.work top a b c at top top st k refl o
   outcome_from round at top a b c (ended e turns st) f k o = lands_from round top a b c e st f k o
-  outcome_from round at top a b c (out_of_turns st) f k o = record { machine = o.machine; comes = o.comes; output = o.output; mode = o.mode; pay = o.pay; within = o.within }
+  outcome_from round at top a b c (out_of_turns st) f k o = record { machine = o.machine; comes = o.comes; there = o.there; output = o.output; mode = o.mode; pay = o.pay; within = o.within }
 
   -- One computation behind another
 

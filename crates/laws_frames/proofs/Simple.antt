@@ -14,7 +14,9 @@ use Rattle.clu_word_meaning.specs.Words.{Computation, Entry, Slots, State, by_va
 use Rattle.clu_flat_meaning.specs.Image.{Image, Instance}
 use Rattle.clu_flat_meaning.specs.Machine.{Comes, Machine, address_of, by_word, is_address, is_frame, next, number_at, on_step, put_at, put_in, running, searching, with_word, word_below}
 use Rattle.clu_flat_meaning.proofs.Runs.{Front, Once, address_is, at_push, both_so, comes_same, le_so, length_push, number_is, one, put_other, put_same}
-use Rattle.laws_frames.proofs.Relation.{Agree, Begins, Carries, Excepts, Fit, Home, Honest, Keeps, Laws, Outcome, Owes, Place, Sees, SeesBy, Starts, StartsBy, beyond}
+use Rattle.laws_frames.specs.Calls.{Carries, Excepts}
+use Rattle.laws_frames.specs.Promises.{Honest}
+use Rattle.laws_frames.proofs.Relation.{Agree, Begins, Fit, Home, Keeps, Laws, Outcome, Owes, Place, Sees, SeesBy, Starts, StartsBy, beyond}
 use Rattle.laws_frames.proofs.Sim.{before, keeps_same}
 
 -- a slot of word code that is put

@@ -6,13 +6,12 @@ use Rattle.clu_frames.specs.declared.surroundings.Turns.{Turns}
 use Rattle.clu_frames.specs.Flattening.{Guarding, Made, Onto, Round, all_onto, arm_begun, arm_onto, arms_onto, break_onto, choice_onto, closed, continue_onto, end_of_turns, end_uncut, exit_of, first_of_row, guard_at, guard_exit_onto, in_guard, in_loop, in_region, in_turns, is_none, labelled, name_of, onto, opened, other_onto, pushed, row_sets, row_slot, sets_onto, slots_of, turns_at, turns_begun, unless_from}
 use Rattle.clu_wir.specs.Plain.{Arms, Expr, Stmt, Stmts, arm_and, no_arms, no_stmts, stmt_and}
 use Rattle.clu_wir.specs.Plain as plain
-use Rattle.clu_word_meaning.specs.Words.{Body, Computation, Entry, at_start, broken, chosen, continued, counted, counted_twice, either, ends, exec, exec_all, exited, gives, named_arm, numbered_arm, other_arm, valued, values, with_state}
-use Rattle.clu_flat_meaning.specs.Machine.{Machine}
+use Rattle.clu_word_meaning.specs.Words.{Body, Computation, Entry, at_start, broken, chosen, continued, counted, counted_twice, either, ends, exec, exec_all, exited, gives, valued, values, with_state}
 use Rattle.clu_flat_meaning.proofs.Runs.{Front, Once}
 use Rattle.laws_frames.proofs.Relation.{Fit, Home, Laws, Outcome, Place, laws_at}
 use Rattle.laws_frames.proofs.Simple.{set_runs}
 use Rattle.laws_frames.proofs.Control.{DoesAt, DoesNext, and_runs, loop_runs, none_runs, turn_runs}
-use Rattle.laws_frames.proofs.Rows.{AllGood, Homes, break_runs, continue_runs}
+use Rattle.laws_frames.proofs.Rows.{AllGood, Homes, Wide, break_runs, continue_runs}
 use Rattle.laws_frames.proofs.Choosing.{both_run, exit_runs, when_runs}
 use Rattle.laws_frames.proofs.Entering.{BodyOk, EntryOk}
 use Rattle.laws_frames.proofs.Iterating.{AllBelow}
@@ -66,7 +65,7 @@ module _ (p : Place) (Good : Expr → Type 0) (laws : Laws p Good) (once : Once 
     pub Ok : Stmt → Round → Made → Type 0
     Ok (plain.set n e) round m = (n < p.base) × Good e × Home p round.region (length m.code)
     Ok (plain.put address bytes e) round m = Good address × Good e × Home p round.region (length m.code)
-    Ok (plain.call routine es results) round m = Good routine × AllGood p Good es × AllBelow p.base results × (round.work + length es ≤ p.shape.frame)
+    Ok (plain.call routine es results) round m = Good routine × AllGood p Good es × AllBelow p.base results × Wide p (first_of_row es) (round.work + length es)
         × Homes p round.region (length m.code) (length (pushed (flat.Invoke routine (row_slot round.work (first_of_row es))) (row_sets round.work es (first_of_row es) m)).code)
     Ok (plain.prim number es results) round m = AllGood p Good es × AllBelow p.base results × (round.work + length es ≤ p.shape.frame) × (round.work + length results ≤ p.shape.frame) × Homes p round.region (length m.code) (length (sets_onto round.work es m).code)
     Ok (plain.bind number e to) round m = Good number × Good e × (to < p.base) × Home p round.region (length m.code)
@@ -76,11 +75,11 @@ module _ (p : Place) (Good : Expr → Type 0) (laws : Laws p Good) (once : Once 
     Ok (plain.loop body) round m = OkAll body (in_loop m.labels round) (pushed (flat.Label m.labels) (labelled 2 m))
     Ok plain.break_loop round m = (t : Turns) × (round.turns ≡ Some t)
     Ok plain.next_turn round m = (t : Turns) × (round.turns ≡ Some t)
-    Ok (plain.iterate routine es items body) round m = Good routine × AllGood p Good es × AllBelow p.base items × (round.work + 1 + length es ≤ p.shape.frame)
+    Ok (plain.iterate routine es items body) round m = Good routine × AllGood p Good es × AllBelow p.base items × Wide p (first_of_row es) (round.work + 1 + length es) × (round.work + 1 ≤ p.shape.frame)
         × Homes p round.region (length m.code) (length (pushed (flat.Invoke routine (row_slot (round.work + 1) (first_of_row es))) (row_sets (round.work + 1) es (first_of_row es) (labelled 2 m))).code)
         × OkAll body (in_turns (turns_at m.labels round.mark) round) (turns_begun routine es items round m)
-    Ok (plain.yield_words es) round m = AllGood p Good es × (round.work + length es ≤ p.shape.frame) × Homes p round.region (length m.code) (length (row_sets round.work es (first_of_row es) m).code)
-    Ok (plain.leave_with es) round m = AllGood p Good es × (round.work + length es ≤ p.shape.frame) × Homes p round.region (length m.code) (length (row_sets round.work es (first_of_row es) m).code)
+    Ok (plain.yield_words es) round m = AllGood p Good es × Wide p (first_of_row es) (round.work + length es) × Homes p round.region (length m.code) (length (row_sets round.work es (first_of_row es) m).code)
+    Ok (plain.leave_with es) round m = AllGood p Good es × Wide p (first_of_row es) (round.work + length es) × Homes p round.region (length m.code) (length (row_sets round.work es (first_of_row es) m).code)
     Ok (plain.raise_name name es) round m = Named p (name_of round.constants name) name × AllGood p Good es × (round.work + 1 + length es ≤ p.shape.frame)
         × Homes p round.region (length m.code) (length (pushed (flat.Raise round.work) (sets_onto (round.work + 1) es (pushed (flat.Set round.work (name_of round.constants name)) m))).code)
     Ok (plain.signal_name name es) round m = Named p (name_of round.constants name) name × AllGood p Good es × (round.work + 1 + length es ≤ p.shape.frame)
@@ -154,8 +153,8 @@ module _ (p : Place) (Good : Expr → Type 0) (laws : Laws p Good) (once : Once 
         subst (λ o. Front (continue_onto o m).code code2 → Outcome p round (length (continue_onto o m).code) c.top c.stack c (with_state (counted 1) (ends continued) t st)) (sym ok.1) (λ f. continue_runs p Good (at live) once ok.0 round m ok.1 fit t st c f s) front)
     does live (plain.iterate routine es items body) round m fit ok =
         turn_runs p Good (at live) once round m (exec p.linked entries yielded live (plain.iterate routine es items body)) (onto (plain.iterate routine es items body)) (λ t st c front s.
-        iterate_by p Good (at live) once entries entry_ok yielded yielded_ok (first_of_row es) routine es items (λ now. exec_all p.linked entries yielded now body) (all_onto body) round m refl fit ok.0 ok.1 ok.2 ok.3 (front_all body) ok.4
-        (λ now. does_all now body (in_turns (turns_at m.labels round.mark) round) (turns_begun routine es items round m) (fit_in_turns p Good (at live) once entries entry_ok yielded yielded_ok m.labels round fit) ok.5) t st c front s)
+        iterate_by p Good (at live) once entries entry_ok yielded yielded_ok (first_of_row es) routine es items (λ now. exec_all p.linked entries yielded now body) (all_onto body) round m refl fit ok.0 ok.1 ok.2 ok.3 ok.4 (front_all body) ok.5
+        (λ now. does_all now body (in_turns (turns_at m.labels round.mark) round) (turns_begun routine es items round m) (fit_in_turns p Good (at live) once entries entry_ok yielded yielded_ok m.labels round fit) ok.6) t st c front s)
     does live (plain.yield_words es) round m fit ok =
         turn_runs p Good (at live) once round m (exec p.linked entries yielded live (plain.yield_words es)) (onto (plain.yield_words es)) (λ t st c front s.
         yield_by p Good (at live) once entries entry_ok yielded yielded_ok (first_of_row es) es round m refl fit ok.0 ok.1 ok.2 t st c front s)

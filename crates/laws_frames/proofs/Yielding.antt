@@ -1,5 +1,5 @@
 -- Yields, and calls of routines.
-use Rattle.std.proofs.Common.{◌≡◌, ◌∙◌, ℕ, zero, suc, ◌+◌, ◌-◌, ◌*◌, ◌<◌, ◌≤◌, Bool, true, false, List, [], ◌∷◌, length, Option, Some, None, slice_get, refl, ap, ap₂, sym, subst, arith}
+use Rattle.std.proofs.Common.{◌≡◌, ◌∙◌, ℕ, zero, suc, ◌+◌, ◌-◌, ◌<◌, ◌≤◌, Bool, true, false, List, [], ◌∷◌, length, Option, Some, slice_get, refl, ap, ap₂, sym, subst, arith}
 use Rattle.std.specs.Prelude.{◌&&◌, max, nat_le}
 use Rattle.std.proofs.lemmas.Bool.{eqb-true}
 use Rattle.std.proofs.lemmas.Option.{slice_get_within}
@@ -15,12 +15,14 @@ use Rattle.clu_flat_meaning.specs.Machine.{Comes, Machine, address_of, arm_at, h
 use Rattle.clu_flat_meaning.specs.Image.{Entry as PlaceEntry}
 use Rattle.clu_flat_meaning.proofs.Runs.{Front, Once, address_so, at_push, both_so, comes_as, comes_same, comes_then, le_so, length_push, number_so, put_other, put_same, room_is, so_is}
 use Rattle.clu_flat_meaning.proofs.Rising.{comes_peak}
-use Rattle.laws_frames.proofs.Relation.{Arrives, Backs, Begins, Brings, Carries, Home, Keeps, Laws, Outcome, Place, Sees, Within, beyond, instance_at, regions}
+use Rattle.laws_frames.specs.Calls.{Backs, Brings, Called, Carries, Context, Within}
+use Rattle.laws_frames.specs.Promises.{instance_at}
+use Rattle.laws_frames.proofs.Relation.{Arrives, Begins, Home, Keeps, Laws, Outcome, Place, Sees, beyond, regions}
 use Rattle.laws_frames.proofs.Sim.{keeps_then}
 use Rattle.laws_frames.proofs.Simple.{carries_less, excepts_less, keeps_put, owes, sees_counted, sees_put, stood}
 use Rattle.laws_frames.proofs.Control.{step_there}
 use Rattle.laws_frames.proofs.Rows.{row_carries}
-use Rattle.laws_frames.proofs.Entering.{AtBody, BodyOk, Called, Context, EntryOk, Local, Resumes, Yielded}
+use Rattle.laws_frames.proofs.Entering.{BodyOk, EntryOk, Local, Resumes, Yielded}
 use Rattle.laws_frames.proofs.Iterating.{AllBelow, Took, reads_first, results_run}
 
 -- what stands below a routine that runs in its frame
@@ -68,10 +70,13 @@ module _ (p : Place) (Good : Expr → Type 0) (laws : Laws p Good) (once : Once 
           ∙ so_is (nat_le p.image.bottom c.top && is_address (c.stack (c.fp + 1))) go c
           (both_so (nat_le p.image.bottom c.top) (is_address (c.stack (c.fp + 1))) (le_so p.image.bottom c.top (omega (arith, laws.deep, starts.top))) (address_so (c.stack (c.fp + 1)) p.caller (ap (λ n. c.stack (n + 1)) starts.sees.frame ∙ starts.caller)))
           ∙ ap (λ y. to_body p.image (p.image.entry (c.stack c.fp)) (yielding p.image y)) (handed_same count)
-          ∙ body_is (p.image.entry (c.stack c.fp)) p.link.body (suc p.site) (yielding p.image x) (ap p.image.entry (ap c.stack starts.sees.frame ∙ starts.site) ∙ laws.honest.leads p.link.body (suc p.site))
+          ∙ body_is (p.image.entry (c.stack c.fp)) p.link.body (suc p.site) (yielding p.image x) (ap p.image.entry (ap c.stack starts.sees.frame ∙ starts.site) ∙ laws.leads)
           ∙ ap (λ y. record (yielding p.image y) { who = instance_at p.link.body (c.stack (c.fp + 2)); pc = suc (suc p.site); clock = suc c.clock }) (sym (handed_same count)) in
           comes_as p.image c (on_step p.image p.shape (flat.Yield slot count) c) yielded z
           (step_there p Good laws once (length m0.code) (flat.Yield slot count) c starts.pc (stood p starts.sees) starts.mode (at_push m0.code code (flat.Yield slot count) front))
+
+      own_leads : p.image.entry (p.image.address c.who.body (suc c.pc)) ≡ Some (at_step c.who.body (suc c.pc))
+      own_leads = laws.honest.leads c.who.body c.pc p.shape (flat.Yield slot count) (ap (λ (i : Instance). p.image.body i.body) starts.sees.who ∙ laws.at_me) (ap (slice_get code) starts.pc ∙ at_push m0.code code (flat.Yield slot count) front) refl
 
       same_who : (a b : Instance) → a.body ≡ b.body → a.table ≡ b.table → a ≡ b
       same_who a b e f = ap₂ instance_at e f
@@ -80,7 +85,7 @@ module _ (p : Place) (Good : Expr → Type 0) (laws : Laws p Good) (once : Once 
           d.stack c.top ≡ p.image.address c.who.body (suc c.pc) → d.stack (c.top + 1) ≡ address_of c.fp → d.stack (c.top + 2) ≡ c.who.table → (st : State) → Resumes p.image (context_of p) d st → Arrives p round.work c.top c.stack c after c.top (counted_twice (back_to st0.slots st))
       back_again d k top same pc fp who st r =
           let now : (i : ℕ) → p.fp ≤ i → i < c.top → r.machine.stack i ≡ c.stack i = λ i g h. r.same i g (omega (arith, h, top)) ∙ same i h in
-          let site = r.back c.who.body (suc c.pc) (ap d.stack (let z : d.top - 3 ≡ c.top = omega (arith, top) in z) ∙ pc) in
+          let site = r.back c.who.body (suc c.pc) (ap (λ n. p.image.entry (d.stack n)) (let z : d.top - 3 ≡ c.top = omega (arith, top) in z) ∙ ap p.image.entry pc ∙ own_leads) in
           let come : Comes p.image c r.machine = comes_then p.image c d r.machine k r.comes in
           record {
             machine = r.machine;
@@ -121,7 +126,7 @@ module _ (p : Place) (Good : Expr → Type 0) (laws : Laws p Good) (once : Once 
       behind d k top same pc fp who (ended (raised name ws) t st) o = (o.0, comes_then p.image c d o.0 k o.1, o.2)
       behind d k top same pc fp who (ended (exited inside arm ws) t st) o = (o.0, comes_then p.image c d o.0 k o.1, o.2)
       behind d k top same pc fp who (ended (through e) t st) o = (o.0, comes_then p.image c d o.0 k o.1, o.2)
-      behind d k top same pc fp who (out_of_turns st) o = record { machine = o.machine; comes = comes_then p.image c d o.machine k o.comes; output = o.output; mode = o.mode; pay = o.pay; within = o.within }
+      behind d k top same pc fp who (out_of_turns st) o = record { machine = o.machine; comes = comes_then p.image c d o.machine k o.comes; there = o.there; output = o.output; mode = o.mode; pay = o.pay; within = o.within }
 
       pub yield_runs : (body : Body) → BodyOk p.image (context_of p) body → (ws : List ℕ) → count ≡ length ws → slot + length ws ≤ p.shape.frame → ((i w : ℕ) → slice_get ws i ≡ Some w → c.stack (p.fp + 4 + slot + i) ≡ w) → (turns : ℕ) →
           Outcome p round after c.top c.stack c (yields_word p.linked entries laws.live body ws turns st0)
@@ -162,7 +167,7 @@ module _ (p : Place) (Good : Expr → Type 0) (laws : Laws p Good) (once : Once 
             pay = omega (arith, starts.sees.pay);
             within = (omega (arith, starts.sees.within.0, starts.low, peak), omega (arith, starts.sees.within.1, used), omega (arith, starts.sees.within.2), omega (arith, starts.sees.within.3, starts.low, high), omega (arith, top, high));
             room = omega (arith, top, peak);
-            back = (c.who.body, suc c.pc, ap d.stack (let z : d.top - 3 ≡ c.top = omega (arith, top) in z) ∙ at0);
+            back = (c.who.body, suc c.pc, ap (λ n. p.image.entry (d.stack n)) (let z : d.top - 3 ≡ c.top = omega (arith, top) in z) ∙ ap p.image.entry at0 ∙ own_leads);
             saved = (c.fp, ap d.stack (let z : d.top - 2 ≡ c.top + 1 = omega (arith, top) in z) ∙ at1);
           }))
 
@@ -266,10 +271,10 @@ module _ (p : Place) (Good : Expr → Type 0) (laws : Laws p Good) (once : Once 
     called e home (ended (signalled name ws) t st) o = tt
     called e home (ended (exited inside arm ws) t st) o = tt
     called e home (ended wrong t st) o = tt
-    called e home (out_of_turns st) o = record { machine = o.machine; comes = o.comes; output = o.output; mode = o.mode; pay = o.pay; within = o.within }
+    called e home (out_of_turns st) o = record { machine = o.machine; comes = o.comes; there = o.there; output = o.output; mode = o.mode; pay = o.pay; within = o.within }
 
     local_call : Local p.image call_context
-    local_call = record { on = λ s now outer same b i h. same i h ∙ b i h; deep = omega (arith, laws.deep, starts.top); high = starts.top }
+    local_call = record { on = λ s now outer same b i h. same i h ∙ b i h; leads = laws.honest.leads c.who.body c.pc p.shape (flat.Invoke routine slot) (ap (λ (i : Instance). p.image.body i.body) starts.sees.who ∙ laws.at_me) (ap (slice_get code) starts.pc ∙ at_push m0.code code (flat.Invoke routine slot) first) refl; deep = omega (arith, laws.deep, starts.top); high = starts.top }
 
     pub call_runs : Home p round.region c.pc → (w : ℕ) → EntryOk p.image w (entries w) → (ws : List ℕ) (t : ℕ) → ((i v : ℕ) → slice_get ws i ≡ Some v → c.stack (c.fp + 4 + slot + i) ≡ v) → slot + length ws ≤ p.shape.frame → suc c.clock ≤ st0.meters.steps →
         Outcome p round done c.top c.stack (invoked p.image (p.image.descriptor w) slot c) (calls p.linked entries laws.live w ws results t st0)

@@ -1,33 +1,35 @@
 -- Routines that are entered, and routines without a frame.
-use Rattle.std.proofs.Common.{◌≡◌, ◌≢◌, ◌∙◌, ◌⊎◌, inl, inr, ⊎_elim, ℕ, zero, suc, ◌+◌, ◌-◌, ◌*◌, ◌/◌, ◌^◌, ◌<◌, ◌≤◌, ◌==◌, Bool, true, false, List, [], ◌∷◌, length, Option, Some, None, slice_get, refl, ap, sym, subst, arith, true≢false}
-use Rattle.std.specs.Prelude.{if◌then◌else◌, max, nat_le, nat_lt}
+use Rattle.std.proofs.Common.{◌≡◌, ◌≢◌, ◌∙◌, ℕ, zero, suc, ◌+◌, ◌-◌, ◌*◌, ◌^◌, ◌<◌, ◌≤◌, ◌==◌, Bool, true, false, List, [], ◌∷◌, length, Option, Some, None, slice_get, refl, ap, sym, arith}
+use Rattle.std.specs.Prelude.{max, nat_le}
 use Rattle.std.specs.Str.{bytes_eq}
 use Rattle.std.proofs.lemmas.Bool.{eqb-true}
 use Rattle.std.proofs.lemmas.Bool.Decides.{nat_tests}
-use Rattle.std.proofs.lemmas.Option.{same_Some, slice_get_within}
+use Rattle.std.proofs.lemmas.Option.{same_Some}
+use Rattle.clu_base.proofs.Bools.{same_truth}
 use Rattle.clu_base.proofs.Lists.{as_bytes, none_is_not, same_bytes}
 use Rattle.clu_frames.specs.Plain.{Step}
 use Rattle.clu_frames.specs.Plain as flat
-use Rattle.clu_frames.specs.Flattening.{Guarding, Made, Onto, Round, begun, outermost, pushed}
+use Rattle.clu_frames.specs.Flattening.{Guarding, Onto, Round, begun, outermost, pushed}
 use Rattle.clu_base.specs.declared.constants.ObjConst.{ObjConst}
 use Rattle.clu_wir.specs.Plain.{Expr}
 use Rattle.clu_wir.specs.Plain as plain
 use Rattle.clu_wir.specs.Value.{value}
 use Rattle.clu_word_meaning.specs.World.{World, failure_name, unhandled_text, with_string}
-use Rattle.clu_word_meaning.specs.Words.{Body, Computation, Ending, Linked, Result, State, broken, caller_of, continue_either_way, continued, counted, either, either_way, ended, ends, exec_all, exited, gives, is_same, need, normal, out_of_turns, paid, raised, returned, sees, signalled, spends_a_turn, stores, through, view, with_state, with_world, wrong}
+use Rattle.clu_word_meaning.specs.Words.{Body, Computation, Ending, Result, State, broken, continue_either_way, continued, counted, either, either_way, ended, ends, exec_all, exited, gives, is_same, need, normal, out_of_turns, paid, raised, returned, sees, signalled, spends_a_turn, stores, through, view, with_state, with_world, wrong}
 use Rattle.clu_word_meaning.specs.Words.{Entry as WordEntry}
-use Rattle.clu_word_meaning.specs.Levels.{WordRoutine, arguments, entering, enters, fails, fails_as, inside, routine_ending}
+use Rattle.clu_word_meaning.specs.Levels.{WordRoutine, entering, enters, fails, fails_as, inside, routine_ending}
 use Rattle.clu_flat_meaning.specs.Image.{Entry, FlatArm, Image, Instance, at_step}
-use Rattle.clu_flat_meaning.specs.Machine.{Comes, Machine, Mode, address_of, arm_at, callers, failing, framed, is_address, is_frame, next, number_at, on_arm, on_step, outward, passing, put_all, put_at, running, searching, slots_at, stack_full, store_full, to_call, view_of, where_so, word_below, words_below}
+use Rattle.clu_flat_meaning.specs.Machine.{Comes, Machine, Mode, address_of, arm_at, callers, failing, framed, is_address, next, number_at, on_arm, on_step, outward, passing, put_all, put_at, running, searching, slots_at, stack_full, store_full, to_call, view_of, where_so, word_below, words_below}
 use Rattle.clu_flat_meaning.specs.Image as parts
 use Rattle.clu_flat_meaning.specs.Machine.{entered as framed_with, enters as frame_made}
-use Rattle.clu_flat_meaning.proofs.Runs.{Front, Once, address_so, at_push, both_so, comes_as, comes_same, comes_then, first_step, front_back, front_more, number_so, one_search, put_other, put_same, room_is, so_is, le_so}
-use Rattle.clu_flat_meaning.proofs.Rising.{comes_high, comes_peak}
-use Rattle.laws_frames.proofs.Relation.{Agree, Arrives, Backs, Brings, Carries, Excepts, Honest, Lands, Laws, Outcome, Owes, Place, Seeks, Starts, beyond, instance_at, regions}
+use Rattle.clu_flat_meaning.proofs.Runs.{Front, Once, address_so, at_push, comes_as, comes_same, comes_then, first_step, front_back, front_more, number_so, one_search, put_other, put_same, room_is, so_is, le_so}
+use Rattle.laws_frames.specs.Calls.{Backs, Brings, Called, Context, Excepts}
+use Rattle.laws_frames.specs.Promises.{Honest, instance_at}
+use Rattle.laws_frames.proofs.Relation.{Agree, Arrives, Lands, Laws, Outcome, Owes, Place, Seeks, Starts, beyond, regions}
 use Rattle.laws_frames.proofs.Simple.{excepts_less, frame_so, stack_word, stood}
-use Rattle.laws_frames.proofs.Control.{DoesAt, Fronts, step_there}
+use Rattle.laws_frames.proofs.Control.{DoesAt, Fronts}
 use Rattle.laws_frames.proofs.Rows.{call_is, leave_at}
-use Rattle.laws_frames.proofs.Entering.{AtEntry, BodyOk, Called, Context, FrameOk, Local}
+use Rattle.laws_frames.proofs.Entering.{AtEntry, BodyOk, FrameOk, Local}
 
 -- Words that are put side by side.
 
@@ -41,12 +43,6 @@ unfolding put_all
 put_all_at [] to s j w e = absurd (none_is_not w e)
 put_all_at (v ∷ ws) to s zero w e = put_all_below ws (suc to) (put_at to v s) (to + 0) (omega arith) ∙ put_same to (to + 0) v s (omega arith) ∙ same_Some v w e
 put_all_at (v ∷ ws) to s (suc j) w e = (let z : to + suc j ≡ suc to + j = omega arith in ap (put_all (suc to) ws (put_at to v s)) z) ∙ put_all_at ws (suc to) (put_at to v s) j w e
-
--- two tests that are true together
-together : (a b : Bool) → (a ≡ true → b ≡ true) → (b ≡ true → a ≡ true) → a ≡ b
-together true b f g = sym (f refl)
-together false true f g = g refl
-together false false f g = refl
 
 module _ (image : Image) (who : Instance) (q : WordRoutine) (shape : parts.Body) (seek : Option ℕ → ℕ → Option FlatArm) (Good : Expr → Type 0) where
   -- the place of the routine's frame, on what stands below
@@ -73,7 +69,7 @@ module _ (image : Image) (who : Instance) (q : WordRoutine) (shape : parts.Body)
     outer = outermost constants q.slots
 
     abbrev pub laws_on : (k : Context) → Local image k → ℕ → Laws (place_on k) Good
-    laws_on k local live = record { live = live; honest = compiled.honest; at_me = compiled.there; local = local.on; small = compiled.slots; deep = local.deep; high = local.high; few = compiled.few; slot_good = compiled.slot_good; agrees = compiled.agrees k }
+    laws_on k local live = record { live = live; honest = compiled.honest; at_me = compiled.there; leads = local.leads; local = local.on; small = compiled.slots; deep = local.deep; high = local.high; few = compiled.few; slot_good = compiled.slot_good; agrees = compiled.agrees k }
 
     module _ (entries : ℕ → WordEntry) (k : Context) (local : Local image k) (c : Machine) where
       abbrev p : Place
@@ -151,7 +147,7 @@ module _ (image : Image) (who : Instance) (q : WordRoutine) (shape : parts.Body)
         -- An exception that no arm takes.
 
         at_failure : (name : List ℕ) (x : Machine) → image.name_of x.value ≡ Some name → (x.value == image.failure) ≡ bytes_eq name failure_name
-        at_failure name x e = together (x.value == image.failure) (bytes_eq name failure_name)
+        at_failure name x e = same_truth (x.value == image.failure) (bytes_eq name failure_name)
             (λ t. let z : x.value ≡ image.failure = eqb-true x.value image.failure t in as_bytes name failure_name (same_Some name failure_name (sym e ∙ ap image.name_of z ∙ compiled.honest.failure)))
             (λ t.
             let z : name ≡ failure_name = same_bytes name failure_name t in
@@ -210,7 +206,7 @@ module _ (image : Image) (who : Instance) (q : WordRoutine) (shape : parts.Body)
           passes : passing image x ≡ record (callers image x) { who = instance_at k.link.body (x.stack (x.fp + 2)); pc = suc k.site - 1; mode = searching; clock = suc x.clock }
           passes =
               so_is (is_address (x.stack (x.fp + 1))) (to_call image (image.entry (x.stack x.fp)) (callers image x)) x (address_so (x.stack (x.fp + 1)) k.caller at_one)
-              ∙ call_is p Good (laws_on k local 0) compiled.once (image.entry (x.stack x.fp)) k.link.body (suc k.site) (callers image x) (ap image.entry at_zero ∙ compiled.honest.leads k.link.body (suc k.site))
+              ∙ call_is p Good (laws_on k local 0) compiled.once (image.entry (x.stack x.fp)) k.link.body (suc k.site) (callers image x) (ap image.entry at_zero ∙ local.leads)
 
           as_failure : bytes_eq name failure_name ≡ true → Called image k c (ended (raised name objects) t (counted 1 here))
           unfolding outward
@@ -232,7 +228,7 @@ module _ (image : Image) (who : Instance) (q : WordRoutine) (shape : parts.Body)
               ∙ ap (λ w. failing image w x) (ap (with_string (unhandled_text name)) o.sees.world ∙ e)
               ∙ room_is (image.has_store w.next) store_full (where_so (is_address (x.stack (x.fp + 1))) go x) x (compiled.honest.store w.next)
               ∙ so_is (is_address (x.stack (x.fp + 1))) go x (address_so (x.stack (x.fp + 1)) k.caller at_one)
-              ∙ call_is p Good (laws_on k local 0) compiled.once (image.entry (x.stack x.fp)) k.link.body (suc k.site) y (ap image.entry at_zero ∙ compiled.honest.leads k.link.body (suc k.site)) in
+              ∙ call_is p Good (laws_on k local 0) compiled.once (image.entry (x.stack x.fp)) k.link.body (suc k.site) y (ap image.entry at_zero ∙ local.leads) in
               outside d (comes_as image x (outward image (x.value == image.failure) (image.name_of x.value) x) d is searched) refl refl refl refl refl refl refl refl failure_name (here.world.next ∷ [])
               (counted 1 (stores w.next (with_world w here)))
               (record { named = compiled.honest.failure; words = record { at = text_at d } })
@@ -294,7 +290,7 @@ module _ (image : Image) (who : Instance) (q : WordRoutine) (shape : parts.Body)
         unfolding continue_either_way with_state gives
         outcome (normal x t now) a o = reaches_end t now a o
         outcome (ended e t now) a o = ends_as t e now a o
-        outcome (out_of_turns now) a o = record { machine = o.machine; comes = comes_then image c made o.machine a o.comes; output = o.output; mode = o.mode; pay = o.pay; within = o.within }
+        outcome (out_of_turns now) a o = record { machine = o.machine; comes = comes_then image c made o.machine a o.comes; there = o.there; output = o.output; mode = o.mode; pay = o.pay; within = o.within }
 
         module _ (body_of : Computation (Unit {0})) (does : DoesAt p Good (laws_on k local up) compiled.once outer (begun q.args) body_of on) where
           -- the first step of the routine
@@ -314,7 +310,7 @@ module _ (image : Image) (who : Instance) (q : WordRoutine) (shape : parts.Body)
               Called image k c (need b (spends_a_turn (with_state (entering up ws) (either_way body_of (λ done. with_state (counted 1) (gives [])) routine_ending))) t st)
           unfolding need spends_a_turn with_state either_way ends
           runs_by false t e = tt
-          runs_by true zero e = record { machine = c; comes = comes_same image c; output = ap (λ (x : World). x.output) at.world; mode = at.mode; pay = omega (arith, at.pay); within = (at.within.0, at.within.1, omega (arith, at.within.2), at.within.3, at.within.4) }
+          runs_by true zero e = record { machine = c; comes = comes_same image c; there = (shape, ap (λ (i : Instance). image.body i.body) at.who ∙ compiled.there); output = ap (λ (x : World). x.output) at.world; mode = at.mode; pay = omega (arith, at.pay); within = (at.within.0, at.within.1, omega (arith, at.within.2), at.within.3, at.within.4) }
           runs_by true (suc t) e =
               let n : q.args ≡ length ws = eqb-true q.args (length ws) (sym e) in
               outcome (body_of t (entering up ws (paid st))) (enters_frame n)
