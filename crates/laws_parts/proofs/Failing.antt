@@ -1,7 +1,7 @@
 -- A failure is made of an exception, and the run ends at the bottom.
-use Rattle.std.proofs.Common.{◌≡◌, ◌∙◌, ◌≢◌, ◌⊎◌, inl, inr, ℕ, zero, suc, ℤ, pos, negsuc, ◌+◌, ◌-◌, ◌*◌, ◌/◌, ◌%◌, ◌^◌, ◌<◌, ◌≤◌, ◌==◌, Bool, true, false, not, List, [], ◌∷◌, length, slice_get, Option, Some, None, refl, ap, sym, subst, arith}
-use Rattle.std.specs.Prelude.{nat_lt, nat_le, if◌then◌else◌, slice_index, slice_set, bit_and}
-use Rattle.std.specs.Int.{w64, w8}
+use Rattle.std.proofs.Common.{◌≡◌, ◌∙◌, ℕ, pos, negsuc, ◌+◌, ◌-◌, ◌*◌, ◌/◌, ◌%◌, ◌^◌, ◌<◌, ◌≤◌, List, length, Some, refl, ap, subst, arith}
+use Rattle.std.specs.Prelude.{bit_and}
+use Rattle.std.specs.Int.{w64}
 use Rattle.std.proofs.lemmas.Bool.Decides.{nat_tests}
 use Rattle.std.proofs.lemmas.Nat.Bits.{and_high_mask}
 use Rattle.rv_isa.specs.declared.instr.Instr.TheVariants as instr
@@ -9,13 +9,11 @@ use Rattle.rv_isa.specs.declared.op.Op.TheVariants as op
 use Rattle.rv_machine.specs.State.{State, register, store_start, read_at, written_at}
 use Rattle.rv_machine.specs.declared.trap.Trap.TheVariants as trap
 use Rattle.rv_machine.specs.Steps.{Goes, Stops, executed, next, word_of}
-use Rattle.rv_machine.specs.Values.{sum, unsigned}
-use Rattle.laws_selection.specs.Growing.{address}
+use Rattle.rv_machine.specs.Values.{sum}
 use Rattle.laws_selection.specs.Running.{At}
-use Rattle.laws_parts.proofs.Searching.{S, aligned, hole, hop, imm, jumps, ld, passes, runs_none, runs_step, runs_then, three, turns}
+use Rattle.laws_parts.proofs.Searching.{imm, jumps, ld, passes, runs_none, runs_step, runs_then, three, turns}
 use Rattle.laws_parts.proofs.Texting.{Bytes, Source, Stays, copiedName, copiedPrefix, sd_goes, source_stays, stays_then, stood_stays, written_stays}
 use Rattle.laws_parts.specs.Part.{Regs, Runs, Stood, listed, place}
-use Rattle.laws_parts.specs.Search.{is_hole, search_code}
 
 pub ecall_stops : (s : State) → At s.code s.pc instr.Ecall → next s ≡ Stops trap.Call s
 unfolding next executed

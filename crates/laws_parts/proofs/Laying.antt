@@ -1,5 +1,5 @@
 -- The words of a regions table in memory are the rows that the search reads.
-use Rattle.std.proofs.Common.{◌≡◌, ◌∙◌, ◌≢◌, ◌⊎◌, inl, inr, ℕ, zero, suc, ◌+◌, ◌*◌, ◌%◌, ◌^◌, ◌<◌, ◌≤◌, ◌==◌, Bool, true, false, not, List, [], ◌∷◌, ◌++◌, length, take, drop, slice_get, Option, Some, None, refl, ap, sym, subst, arith, append_assoc, append-nil}
+use Rattle.std.proofs.Common.{◌≡◌, ◌∙◌, ℕ, zero, suc, ◌+◌, ◌*◌, ◌^◌, ◌<◌, ◌≤◌, ◌==◌, Bool, true, false, not, List, [], ◌∷◌, ◌++◌, length, take, drop, slice_get, Option, Some, None, refl, ap, sym, subst, arith, append_assoc, append-nil}
 use Rattle.std.specs.Prelude.{if◌then◌else◌}
 use Rattle.std.specs.Int.{w64}
 use Rattle.std.proofs.lemmas.List.{length-append}
@@ -7,7 +7,7 @@ use Rattle.clu_wir.specs.declared.region.Arm.{Arm}
 use Rattle.clu_handlers.specs.declared.region.Cut.{Cut}
 use Rattle.clu_object.specs.declared.object.Region.{Region}
 use Rattle.rv_machine.specs.State.{State, read_at}
-use Rattle.rv_select.specs.Tables.{added, arm_row, arms_behind, behind, code_address, cut_row, cuts_behind, is_others, named_behind, others_behind, own_behind, region_address, region_row, regions_behind, row_address, table_words}
+use Rattle.rv_select.specs.Tables.{added, arm_row, arms_behind, code_address, cut_row, cuts_behind, is_others, named_behind, others_behind, own_behind, region_address, region_row, regions_behind, row_address, table_words}
 use Rattle.laws_parts.specs.Regions.{FlatArm, FlatRegion}
 use Rattle.laws_parts.specs.Tables.{ArmRow, ArmRows, RegionRow, row_of}
 

@@ -5,8 +5,10 @@ mod Laying
 mod Naming
 mod Nested
 mod Outside
+mod Placed
 mod Search
 mod Searching
+mod Starting
 mod Tabled
 mod Taking
 mod Texting

@@ -1,15 +1,14 @@
 -- Out of a frame as failure, and the end of the run at the bottom.
-use Rattle.std.proofs.Common.{◌≡◌, ◌∙◌, ◌≢◌, ℕ, zero, suc, ℤ, pos, negsuc, ◌+◌, ◌-◌, ◌*◌, ◌/◌, ◌%◌, ◌^◌, ◌<◌, ◌≤◌, ◌==◌, Bool, true, false, not, List, [], ◌∷◌, length, slice_get, Option, Some, None, refl, ap, sym, subst, arith}
-use Rattle.std.specs.Prelude.{nat_lt, nat_le, if◌then◌else◌, slice_index, slice_set}
-use Rattle.std.specs.Int.{w64, w8}
+use Rattle.std.proofs.Common.{◌≡◌, ◌∙◌, ◌≢◌, ℕ, pos, ◌+◌, ◌-◌, ◌*◌, ◌%◌, ◌^◌, ◌<◌, ◌≤◌, ◌==◌, Bool, true, false, not, List, length, Some, refl, ap, subst, arith}
+use Rattle.std.specs.Int.{w64}
 use Rattle.std.proofs.lemmas.Bool.Decides.{nat_tests}
 use Rattle.std.proofs.lemmas.Bool.{eqb-true}
 use Rattle.rv_isa.specs.declared.instr.Instr.TheVariants as instr
 use Rattle.rv_isa.specs.declared.op.Op.TheVariants as op
 use Rattle.rv_machine.specs.State.{State, register, store_start, stack_start, read_at, written_at}
 use Rattle.rv_machine.specs.declared.trap.Trap.TheVariants as trap
-use Rattle.rv_machine.specs.Steps.{Goes, Stops, next, word_of}
-use Rattle.rv_machine.specs.Values.{sum, unsigned}
+use Rattle.rv_machine.specs.Steps.{Goes, Stops, next}
+use Rattle.rv_machine.specs.Values.{sum}
 use Rattle.laws_selection.specs.Growing.{address}
 use Rattle.laws_parts.proofs.Searching.{aligned, hole, hop, imm, ld, lui, passes, runs_none, runs_step, runs_then, turns}
 use Rattle.laws_parts.proofs.Texting.{Stays, sd_goes, stood_stays, written_stays}

@@ -1,23 +1,19 @@
 -- The text of a failure that is made of an exception.
-use Rattle.std.proofs.Common.{◌≡◌, ◌∙◌, ◌≢◌, ◌⊎◌, inl, inr, ℕ, zero, suc, ℤ, pos, negsuc, ◌+◌, ◌-◌, ◌*◌, ◌/◌, ◌%◌, ◌^◌, ◌<◌, ◌≤◌, ◌==◌, Bool, true, false, not, List, [], ◌∷◌, length, slice_get, Option, Some, None, refl, ap, sym, subst, arith}
-use Rattle.std.specs.Prelude.{nat_lt, nat_le, if◌then◌else◌, slice_index, slice_set, bit_and}
+use Rattle.std.proofs.Common.{◌≡◌, ◌∙◌, ℕ, suc, ℤ, pos, ◌+◌, ◌-◌, ◌*◌, ◌%◌, ◌^◌, ◌<◌, ◌≤◌, ◌==◌, Bool, true, false, List, [], ◌∷◌, length, slice_get, Option, Some, None, refl, ap, sym, subst, arith}
+use Rattle.std.specs.Prelude.{nat_le, if◌then◌else◌, slice_index, slice_set}
 use Rattle.std.specs.Int.{Width, byte_len, w64, w8}
 use Rattle.std.proofs.lemmas.Bool.Decides.{nat_tests}
-use Rattle.std.proofs.lemmas.Nat.Bits.{and_high_mask}
-use Rattle.rv_isa.specs.declared.instr.Instr.{Instr}
 use Rattle.rv_isa.specs.declared.instr.Instr.TheVariants as instr
 use Rattle.rv_isa.specs.declared.op.Op.TheVariants as op
 use Rattle.rv_machine.specs.State.{State, image_start, store_start, stack_start, is_inside, number_at, read_at, register, stored, with_written, written_at}
 use Rattle.rv_machine.specs.declared.memory.Location.{Location}
 use Rattle.rv_machine.specs.declared.memory.Location.TheVariants.{Image, Store, Stack}
-use Rattle.rv_machine.specs.declared.trap.Trap.TheVariants as trap
-use Rattle.rv_machine.specs.Steps.{Goes, Stops, advanced, executed, next, word_of}
-use Rattle.rv_machine.specs.Values.{sum, unsigned}
-use Rattle.laws_selection.specs.Growing.{address}
+use Rattle.rv_machine.specs.Steps.{Goes, advanced, executed, next, word_of}
+use Rattle.rv_machine.specs.Values.{sum}
 use Rattle.laws_selection.proofs.Evaluating.{next_address}
 use Rattle.laws_selection.specs.Running.{At, Code}
 use Rattle.laws_selection.proofs.Running.{byte_goes, save_goes}
-use Rattle.laws_parts.proofs.Searching.{S, hop, imm, jumps, ld, passes, runs_none, runs_step, runs_then, three, turns}
+use Rattle.laws_parts.proofs.Searching.{hop, imm, passes, runs_none, runs_step, runs_then, turns}
 use Rattle.laws_parts.specs.Part.{Regs, Runs, Stood, listed, place}
 use Rattle.laws_parts.specs.Search.{is_hole, search_code}
 

@@ -1,12 +1,12 @@
 -- A regions table in memory is laid out as the search reads it.
-use Rattle.std.proofs.Common.{◌≡◌, ◌∙◌, ◌≢◌, ◌⊎◌, inl, inr, ℕ, zero, suc, ◌+◌, ◌*◌, ◌%◌, ◌^◌, ◌<◌, ◌≤◌, ◌==◌, Bool, true, false, not, List, [], ◌∷◌, ◌++◌, length, take, drop, slice_get, Option, Some, None, refl, ap, sym, subst, arith}
+use Rattle.std.proofs.Common.{◌≡◌, ℕ, zero, suc, ◌+◌, ◌*◌, ◌^◌, ◌<◌, ◌≤◌, ◌==◌, List, [], ◌∷◌, ◌++◌, length, drop, slice_get, Some, refl, ap, subst, arith}
 use Rattle.std.specs.Prelude.{if◌then◌else◌}
 use Rattle.std.specs.Int.{w64}
 use Rattle.clu_handlers.specs.declared.region.Cut.{Cut}
 use Rattle.clu_handlers.specs.Cuts.{no_region}
 use Rattle.clu_object.specs.declared.object.Region.{Region}
 use Rattle.rv_machine.specs.State.{State, read_at}
-use Rattle.rv_select.specs.Tables.{AreCutsOf, IsTable, code_address, row_address, rows_at, table_words}
+use Rattle.rv_select.specs.Tables.{code_address, row_address, rows_at, table_words}
 use Rattle.laws_parts.proofs.Laying.{Parents, Words, arm_count, arm_rows, cut_rows, cuts_there, flat_regions, region_rows, regions_there, table_is, words_split}
 use Rattle.laws_parts.specs.Tables.{Cuts, RegionRow, Rows}
 

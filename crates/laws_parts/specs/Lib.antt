@@ -2,4 +2,5 @@
 pub mod Part
 pub mod Regions
 pub mod Search
+pub mod Start
 pub mod Tables

@@ -6,6 +6,9 @@ use Rattle.rv_isa.specs.declared.op.Op.TheVariants as op
 use Rattle.rv_machine.specs.State.{State}
 use Rattle.rv_machine.specs.Steps.{Goes}
 use Rattle.rv_machine.specs.Values.{sum, unsigned}
+use Rattle.clu_flat_meaning.specs.Image.{Image}
+use Rattle.rv_select.specs.declared.parts.Part.TheVariants as part
+use Rattle.laws_selection.specs.Standing.{Standing}
 use Rattle.laws_selection.specs.Running.{At, Code, run}
 use Rattle.laws_selection.specs.Growing.{address}
 use Rattle.laws_parts.specs.Search.{is_hole, search_code}
@@ -60,6 +63,10 @@ pub record Stood (code : Code) (base table : ℕ) : Type 0 where
   pub upper : (k : ℕ) → is_hole k ≡ true → is_hole (suc k) ≡ true → At code (address base k) (instr.Upper op.Lui 5 (high k))
   pub adds : (k : ℕ) → is_hole k ≡ true → is_hole (suc k) ≡ true → At code (address base (suc k)) (instr.Imm op.Addi 5 5 (low k))
   pub whole : (k : ℕ) → sum (unsigned (high k)) (unsigned (low k)) ≡ table
+
+-- the part of an image that the linker places stands so
+abbrev pub SearchStands : Type 0
+SearchStands = (image : Image) (m : State) (standing : Standing image m) → Stood m.code (standing.part part.Search) standing.runtime
 
 -- a state of this memory at a word of the part
 abbrev pub place : State → ℕ → ℕ → List ℕ → State

@@ -3,4 +3,4 @@
 
 mod laws;
 
-pub use laws::{arms_are_found, search_words_are};
+pub use laws::{arms_are_found, search_stands, search_words_are, start_follows};

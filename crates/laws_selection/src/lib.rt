@@ -3,4 +3,4 @@
 
 mod laws;
 
-pub use laws::{conditions_turn, expressions_evaluate};
+pub use laws::{conditions_turn, expressions_evaluate, steps_follow};
