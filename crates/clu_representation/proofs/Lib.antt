@@ -1,0 +1,11 @@
+pub mod Apart
+pub mod ArrayPuts
+pub mod Changes
+pub mod Heaps
+pub mod Lists
+pub mod OwnPuts
+pub mod Reading
+pub mod StaysShown
+pub mod Taking
+pub mod Whole
+pub mod Writing

@@ -1,0 +1,11 @@
+//! What the code of the operations comes to beside what the operations come to, as laws alone, over the definitions of `clu_layout`
+//! and `clu_wir`.
+#![tactic(auto)]
+
+mod laws;
+
+pub use laws::{
+    cells_do_as_their_rows, leaves_come_in_one_step, loads_do_as_their_rows,
+    numbers_do_as_their_rows, pairs_do_as_their_rows, puts_do_as_their_rows,
+    searches_do_as_their_rows, selectors_do_as_their_rows, words_tell_objects_apart,
+};
