@@ -1,0 +1,9 @@
+pub mod Composed
+pub mod Following
+pub mod Machines
+pub mod Meant
+pub mod Prefixes
+pub mod Refused
+pub mod Runs
+pub mod Samples
+pub mod Sizes

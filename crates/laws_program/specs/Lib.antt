@@ -1,0 +1,5 @@
+pub mod Observed
+pub mod Stands
+pub mod Layers
+pub mod Refused
+pub mod Samples
