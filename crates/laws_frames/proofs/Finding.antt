@@ -22,7 +22,7 @@ use Rattle.clu_flat_meaning.specs.Machine as flat
 use Rattle.laws_frames.specs.Finding.{WordsTell, searched}
 use Rattle.laws_frames.specs.Tables.{arm_word, flat_arm, flat_arms, flat_region, table_of}
 
-if_true : {A : Type 0} (b : Bool) (x y : A) → b ≡ true → (if b then x else y) ≡ x
+pub if_true : {A : Type 0} (b : Bool) (x y : A) → b ≡ true → (if b then x else y) ≡ x
 if_true b x y e = rw e refl
 
 if_false : {A : Type 0} (b : Bool) (x y : A) → b ≡ false → (if b then x else y) ≡ y

@@ -16,6 +16,7 @@ use Rattle.clu_flat_meaning.specs.Image.{Body, Descriptor, Image, at_end, at_ste
 use Rattle.laws_frames.specs.Ending.{IsClosed, SomeImage}
 use Rattle.laws_frames.specs.Flattened.{descriptor_of}
 use Rattle.laws_frames.specs.Promises.{Honest, instance_at}
+use Rattle.laws_frames.proofs.Finding.{if_true}
 
 abbrev only : Body
 only = record { code = flat.Enter 0 ∷ flat.Leave 0 0 ∷ []; frame = 0 }
@@ -82,9 +83,6 @@ trap_named trap.IllegalChar = refl
 trap_named trap.WrongTag = refl
 trap_named trap.Uninitialized = refl
 
-by_true : {A : Type 0} (b : Bool) (x y : A) → b ≡ true → (if b then x else y) ≡ x
-by_true b x y e = rw e refl
-
 only_zero : (b : Bool) (n : ℕ) (body : Body) → (n == 0) ≡ b → (if b then Some only else None) ≡ Some body → n ≡ 0
 only_zero true n body t e = eqb-true n 0 t
 only_zero false n body t e = none_is_not body e
@@ -92,7 +90,7 @@ only_zero false n body t e = none_is_not body e
 at_each : (n step : ℕ) (body : Body) → image.body n ≡ Some body → image.entry (image.address n step) ≡ Some (at_step n step)
 at_each n step body e =
     let z : n ≡ 0 = only_zero (n == 0) n body refl e in
-    by_true (nat_le 100 (100 + step)) (Some (at_step 0 ((100 + step) - 100))) _ (grind (arith, nat_tests)) ∙ (let y : (100 + step) - 100 ≡ step = omega arith in ap (λ k. Some (at_step 0 k)) y) ∙ ap (λ k. Some (at_step k step)) (sym z)
+    if_true (nat_le 100 (100 + step)) (Some (at_step 0 ((100 + step) - 100))) _ (grind (arith, nat_tests)) ∙ (let y : (100 + step) - 100 ≡ step = omega arith in ap (λ k. Some (at_step 0 k)) y) ∙ ap (λ k. Some (at_step k step)) (sym z)
 
 pub honest : Honest image linked
 unfolding failure_name

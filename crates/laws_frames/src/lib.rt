@@ -1,4 +1,4 @@
-//! The law that flattened code does what its word code means: for each statement, and for routines at each level of turns.
+//! The law that flattened code does what its word code means: for routines at each level of turns, and for whole programs.
 #![tactic(auto)]
 
 mod laws;

@@ -30,10 +30,10 @@ use Rattle.laws_operations.specs.Steps.{Place}
 use Rattle.laws_operations.proofs.ComponentLoads.{of_cell_variant, variant_fields}
 use Rattle.laws_operations.proofs.Doing.{doing, nothing_after, tried}
 use Rattle.laws_operations.proofs.Invoking.{Returns, bound_in, returns_of}
-use Rattle.laws_operations.proofs.Pairs.{slot_value, word_value}
-use Rattle.laws_operations.proofs.Puts.{two_given}
+use Rattle.laws_operations.proofs.Puts.{slot_value, two_given}
 use Rattle.laws_operations.proofs.Running.{leave_nothing, put_step}
 use Rattle.laws_operations.proofs.Selected.{first_one, found}
+use Rattle.laws_operations.proofs.Sameness.{word_value}
 
 -- ---- the row
 

@@ -34,11 +34,12 @@ use Rattle.laws_operations.proofs.Ending.{Ends, ends_of}
 use Rattle.laws_operations.proofs.Invoking.{Returns, bound_in, returns_of}
 use Rattle.laws_operations.proofs.LowBounds.{below_least, below_others}
 use Rattle.laws_operations.proofs.NewCells.{NewCell, new_cell}
-use Rattle.laws_operations.proofs.Pairs.{one_argument, slot_value, word_value}
-use Rattle.laws_operations.proofs.Puts.{two_given}
+use Rattle.laws_operations.proofs.Pairs.{one_argument}
+use Rattle.laws_operations.proofs.Puts.{slot_value, two_given}
 use Rattle.laws_operations.proofs.Running.{allocate_step, leave_step, put_step, signal_step, skip_step}
 use Rattle.laws_operations.proofs.Variants.{Fits, with_its_room}
 use Rattle.laws_operations.proofs.Words as words
+use Rattle.laws_operations.proofs.Sameness.{word_value}
 
 module _ (image : Image) (map : Layout) (place : Place) (t : CluType) (low : ℤ) (v : ℕ) (e : Expr) (w : World) (st : State) (whole : Stored map st.world) (heap : Heap image map w.cells) (there : AreThere map w.cells) (room : st.world.next + 8 * 6 ≤ whole.limit)
     (is : IsInt low v) (fits : v < 2 ^ 64) (bounds : has_int_bounds (fresh_array t low []) ≡ true) where

@@ -7,11 +7,8 @@ use Rattle.clu_layout.specs.Places.{is_int}
 use Rattle.clu_wir.specs.declared.expression.WOp.TheVariants as op
 use Rattle.clu_wir.specs.Value.{op_word}
 use Rattle.laws_operations.proofs.ArrayLoads.{high_word}
-use Rattle.laws_operations.proofs.Results.{fits_of, less_of, not_less_of}
+use Rattle.laws_operations.proofs.Results.{fits_of, less_of, not_less_of, small_is_int}
 use Rattle.laws_operations.proofs.Words.{word}
-
-small : (m : ℕ) → m < 2 ^ 63 → nat_lt m (2 ^ 63) ≡ true
-small m l = grind arith
 
 large : (m : ℕ) → 2 ^ 63 ≤ m → nat_lt m (2 ^ 63) ≡ false
 large m l = grind arith
@@ -24,10 +21,10 @@ below_least (negsuc a) (negsuc m) p e f = large m (omega (arith, ints, e, f, les
 
 -- each other int has one
 pub below_others : (low z : ℤ) → is_int low ≡ true → word low ≢ 2 ^ 63 → z ≡ low -ℤ pos 1 → is_int z ≡ true
-below_others (pos a) (pos m) p k f = small m (omega (arith, ints, f, less_of a (2 ^ 63) p))
-below_others (pos a) (negsuc m) p k f = small m (omega (arith, ints, f, less_of a (2 ^ 63) p))
+below_others (pos a) (pos m) p k f = small_is_int m (omega (arith, ints, f, less_of a (2 ^ 63) p))
+below_others (pos a) (negsuc m) p k f = small_is_int m (omega (arith, ints, f, less_of a (2 ^ 63) p))
 below_others (negsuc a) (pos m) p k f = absurd (omega (arith, ints, f, less_of a (2 ^ 63) p))
-below_others (negsuc a) (negsuc m) p k f = small m (below_it a m (less_of a (2 ^ 63) p) k f)
+below_others (negsuc a) (negsuc m) p k f = small_is_int m (below_it a m (less_of a (2 ^ 63) p) k f)
   where
     below_it : (a m : ℕ) → a < 2 ^ 63 → word (negsuc a) ≢ 2 ^ 63 → negsuc m ≡ negsuc a -ℤ pos 1 → m < 2 ^ 63
     below_it a m l k f = by (suc a == 2 ^ 63) refl

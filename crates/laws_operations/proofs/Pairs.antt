@@ -32,14 +32,8 @@ use Rattle.laws_operations.proofs.Doing.{doing, nothing_after, tried}
 use Rattle.laws_operations.proofs.Invoking.{Returns, bound_in, returns_of}
 use Rattle.laws_operations.proofs.Running.{allocate_step, leave_step, put_step}
 use Rattle.laws_operations.proofs.Selected.{first_one, found}
-
-pub word_value : (view : View) (n : ℕ) → value view (word n) ≡ Gives n
-unfolding meant
-word_value view n = refl
-
-pub slot_value : (view : View) (n u : ℕ) → view.slot n ≡ Some u → value view (slot n) ≡ Gives u
-unfolding meant
-slot_value view n u e = rw e refl
+use Rattle.laws_operations.proofs.Puts.{slot_value}
+use Rattle.laws_operations.proofs.Sameness.{word_value}
 
 -- ---- what the code does
 

@@ -108,9 +108,9 @@ module _ (image : Image) (map : Layout) (view : View) (row : PutRow) where
 
 -- ---- store of arrays
 
-slot_word : (view : View) (n u : ℕ) → view.slot n ≡ Some u → value view (slot n) ≡ Gives u
+pub slot_value : (view : View) (n u : ℕ) → view.slot n ≡ Some u → value view (slot n) ≡ Gives u
 unfolding meant
-slot_word view n u e = rw e refl
+slot_value view n u e = rw e refl
 
 index_is : (view : View) (u v low size room first block : ℕ) → view.slot 0 ≡ Some u → view.slot 1 ≡ Some v → Header view u low size room first block →
     value view at_index ≡ by_truth (op_word op.Sltu (op_word op.Sub v low) size) (place_in (op_word op.Sub v low) room first block) (Raises trap.Bounds)
@@ -157,7 +157,7 @@ module _ (image : Image) (map : Layout) (view : View) (seen : Seen map view) (w 
         c = c;
         address_is = its_place k e ∙ ap (λ b. if b then Raises trap.Bounds else place_in k a.room held.first held.block) (truth k (length a.items) l)
             ∙ place_is k a.room held.first held.block inside held.first_inside (room_end image map view seen c a held u at a.room refl (omega (arith, inside)));
-        word_is = slot_word view 2 x r;
+        word_is = slot_value view 2 x r;
         at = whole there (seen.below there (cell_is_somebodys map c there mine));
         mine = mine;
         heap = element_put image map w.cells c a held k o x heap l shown;
@@ -243,7 +243,7 @@ module _ (fs : Fields) (s : List ℕ) (t : CluType) (field : type_of_field fs s 
           p = place;
           c = c;
           address_is = set_is view u (place_of_field fs s) p ∙ ap Gives (sum u (map.address c) (place_of_field fs s) at (seen.below place (cell_is_somebodys map c place mine)));
-          word_is = slot_word view 1 x q;
+          word_is = slot_value view 1 x q;
           at = whole place (seen.below place (cell_is_somebodys map c place mine));
           mine = mine;
           heap = component_put image map w.cells c fs os ys s y t x heap is e field shown;

@@ -116,14 +116,14 @@ iters_right args results signals = (
 pub strings_right : Each (Right string_type) string_rows
 strings_right = (λ image map view os w around h. row_does image map (value view copy_code) string_type (codes "copy") os w (λ v. copies image map view string_type os v h), tt)
 
-word_is : (view : View) (n : ℕ) → value view (word n) ≡ Gives n
+pub word_value : (view : View) (n : ℕ) → value view (word n) ≡ Gives n
 unfolding meant
-word_is view n = refl
+word_value view n = refl
 
 primary : (image : Image) (map : Layout) (view : View) (s : Stream) (os : List Object) → InSlots image map view no_types 0 os → (w : World) →
     Comes image map (type_and stream_type no_types) (λ x. x ≡ w) (stream_primary s os w) (value view (word (stream_number s)))
 unfolding with_none gives_all
-primary image map view s [] h w = subst (λ x. Comes image map (type_and stream_type no_types) (λ x. x ≡ w) (gives (stream_object s) w) x) (sym (word_is view (stream_number s))) (refl, refl)
+primary image map view s [] h w = subst (λ x. Comes image map (type_and stream_type no_types) (λ x. x ≡ w) (gives (stream_object s) w) x) (sym (word_value view (stream_number s))) (refl, refl)
 primary image map view s (a ∷ os) h w = absurd h
 
 same_streams : (s t : Stream) → (stream_number s == stream_number t) ≡ same_stream s t

@@ -36,8 +36,7 @@ use Rattle.laws_operations.proofs.Ending.{Ends, ends_of}
 use Rattle.laws_operations.proofs.Finding.{cell_is_somebodys}
 use Rattle.laws_operations.proofs.Invoking.{bound_in}
 use Rattle.laws_operations.proofs.LowBounds.{below_least, below_others, is_past_it, not_past, past}
-use Rattle.laws_operations.proofs.Pairs.{slot_value}
-use Rattle.laws_operations.proofs.Puts.{two_given}
+use Rattle.laws_operations.proofs.Puts.{slot_value, two_given}
 use Rattle.laws_operations.proofs.Running.{leave_nothing, put_step, signal_step, skip_step}
 use Rattle.laws_operations.proofs.Words as words
 

@@ -29,9 +29,11 @@ use Rattle.laws_operations.specs.Steps.{HasRoom, Made, Place}
 use Rattle.laws_operations.proofs.Doing.{doing, nothing_after, tried}
 use Rattle.laws_operations.proofs.Invoking.{Returns, bound_in, returns_of}
 use Rattle.laws_operations.proofs.NewCells.{NewCell, new_cell}
-use Rattle.laws_operations.proofs.Pairs.{one_argument, slot_value, word_value}
+use Rattle.laws_operations.proofs.Pairs.{one_argument}
 use Rattle.laws_operations.proofs.Running.{allocate_step, leave_step, put_step}
 use Rattle.laws_operations.proofs.Selected.{first_one, found}
+use Rattle.laws_operations.proofs.Puts.{slot_value}
+use Rattle.laws_operations.proofs.Sameness.{word_value}
 
 -- ---- the row
 

@@ -1,5 +1,5 @@
-//! What the code of the operations comes to beside what the operations come to, as laws alone, over the definitions of `clu_layout`
-//! and `clu_wir`.
+//! That the code of operations, as plain trees of word code, does what the rows of the meaning say, on objects that words show.
+//! Laws alone.
 #![tactic(auto)]
 
 mod laws;

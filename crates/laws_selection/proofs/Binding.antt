@@ -25,7 +25,7 @@ use Rattle.laws_selection.specs.Growing.{Adds, Front}
 use Rattle.laws_selection.specs.Evaluating.{Gave, Here, HoldsWord, IsPlaced, Outcome, Raised, Scoped, Turned}
 use Rattle.laws_selection.proofs.Registers.{stays_own}
 use Rattle.laws_selection.proofs.Running.{done_less, done_same, done_then, reaches_same, reaches_then}
-use Rattle.laws_selection.proofs.Growing.{Stood, adds_same, adds_then, binding_adds, front_adds, taking_adds, tested}
+use Rattle.laws_selection.proofs.Growing.{Stood, adds_same, adds_then, binding_adds, front_adds, length_set, set_other, set_same, taking_adds, tested}
 use Rattle.laws_selection.proofs.Evaluating.{gave_same, here_tested}
 use Rattle.laws_selection.proofs.Combining.{Numbers, keeps_more, register_adds, register_gives}
 use Rattle.laws_selection.proofs.Known.{number_adds, numbers}
@@ -45,23 +45,6 @@ get_push xs x n y e false q = ((λ t. absurd (cc)), (λ f. front xs x n y (λ sa
     front [] x (suc n) y d e = absurd (cc)
     front (z ∷ xs) x zero y d e = e
     front (z ∷ xs) x (suc n) y d e = front xs x n y (λ s. d (ap suc s)) e
-
-set_other : {A : Type 0} (xs : List A) (n l : ℕ) (x : A) → l ≢ n → slice_get (slice_set xs n x) l ≡ slice_get xs l
-set_other [] n l x d = refl
-set_other (y ∷ xs) zero zero x d = absurd (d refl)
-set_other (y ∷ xs) zero (suc l) x d = refl
-set_other (y ∷ xs) (suc n) zero x d = refl
-set_other (y ∷ xs) (suc n) (suc l) x d = set_other xs n l x (λ e. d (ap suc e))
-
-set_same : {A : Type 0} (xs : List A) (n : ℕ) (x : A) → n < length xs → slice_get (slice_set xs n x) n ≡ Some x
-set_same [] n x h = absurd (omega arith)
-set_same (y ∷ xs) zero x h = refl
-set_same (y ∷ xs) (suc n) x h = set_same xs n x (omega arith)
-
-length_set : {A : Type 0} (xs : List A) (n : ℕ) (x : A) → length (slice_set xs n x) ≡ length xs
-length_set [] n x = refl
-length_set (y ∷ xs) zero x = refl
-length_set (y ∷ xs) (suc n) x = ap suc (length_set xs n x)
 
 push_length : {A : Type 0} (xs : List A) (x : A) → length (xs ++ x ∷ []) ≡ suc (length xs)
 push_length [] x = refl

@@ -191,19 +191,19 @@ pub referred_length : (i : Instr) (l : ℕ) (w : Written) → length (referred i
 unfolding noted emitted
 referred_length i l w = omega (arith, length-append w.code (i ∷ []))
 
-set_other : {A : Type 0} (xs : List A) (n l : ℕ) (x : A) → l ≢ n → slice_get (slice_set xs n x) l ≡ slice_get xs l
+pub set_other : {A : Type 0} (xs : List A) (n l : ℕ) (x : A) → l ≢ n → slice_get (slice_set xs n x) l ≡ slice_get xs l
 set_other [] n l x d = refl
 set_other (y ∷ xs) zero zero x d = absurd (d refl)
 set_other (y ∷ xs) zero (suc l) x d = refl
 set_other (y ∷ xs) (suc n) zero x d = refl
 set_other (y ∷ xs) (suc n) (suc l) x d = set_other xs n l x (λ e. d (ap suc e))
 
-set_same : {A : Type 0} (xs : List A) (n : ℕ) (x : A) → n < length xs → slice_get (slice_set xs n x) n ≡ Some x
+pub set_same : {A : Type 0} (xs : List A) (n : ℕ) (x : A) → n < length xs → slice_get (slice_set xs n x) n ≡ Some x
 set_same [] n x h = absurd (omega arith)
 set_same (y ∷ xs) zero x h = refl
 set_same (y ∷ xs) (suc n) x h = set_same xs n x (omega arith)
 
-length_set : {A : Type 0} (xs : List A) (n : ℕ) (x : A) → length (slice_set xs n x) ≡ length xs
+pub length_set : {A : Type 0} (xs : List A) (n : ℕ) (x : A) → length (slice_set xs n x) ≡ length xs
 length_set [] n x = refl
 length_set (y ∷ xs) zero x = refl
 length_set (y ∷ xs) (suc n) x = ap suc (length_set xs n x)

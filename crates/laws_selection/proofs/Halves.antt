@@ -11,7 +11,7 @@ use Rattle.rv_select.specs.Operands.{lower_half, upper_half}
 pub half : (n : ℕ) → (n % 4096 < 2048) ⊎ (2048 ≤ n % 4096)
 half n = grind arith
 
-shifted : (u : ℕ) → u * 2 ^ 20 % 2 ^ 32 ≡ (u % 4096) * 2 ^ 20
+pub shifted : (u : ℕ) → u * 2 ^ 20 % 2 ^ 32 ≡ (u % 4096) * 2 ^ 20
 shifted u = omega arith
 
 -- by the 32 bits of a number

@@ -5,7 +5,7 @@ use Rattle.std.specs.Ordering.{int_eq}
 use Rattle.std.proofs.lemmas.Bool.Decides.{nat_tests}
 use Rattle.rv_machine.specs.Values.{sum, unsigned}
 use Rattle.rv_select.specs.Slots.{above_lowest, is_near, is_reached, lowest}
-use Rattle.laws_selection.proofs.Halves.{low_bits_large}
+use Rattle.laws_selection.proofs.Halves.{half, low_bits_large, shifted}
 
 -- a distance in two parts: one that an immediate holds, and one of LUI
 pub record Splits (d : ℤ) : Type 0 where
@@ -16,12 +16,6 @@ pub record Splits (d : ℤ) : Type 0 where
 abbrev pub IsRanged : ℤ → Type 0
 IsRanged (pos n) = Unit {0}
 IsRanged (negsuc n) = n < 2048
-
-half : (n : ℕ) → (n % 4096 < 2048) ⊎ (2048 ≤ n % 4096)
-half n = grind arith
-
-shifted : (n : ℕ) → n * 2 ^ 20 % 2 ^ 32 ≡ (n % 4096) * 2 ^ 20
-shifted n = omega arith
 
 low_small : (n : ℕ) → n % 4096 < 2048 → lowest (pos n) ≡ pos (n % 4096)
 low_small n s = rw (shifted n) (grind (arith, nat_tests))

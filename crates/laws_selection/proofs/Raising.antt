@@ -48,7 +48,7 @@ first_word p l = grind arith
 cleared_low : (p : ℕ) → p % 4 ≡ 0 → p < 2 ^ 32 → (let b = sum p (word_of (pos 0)) in b - b % 2) ≡ p
 cleared_low p e l = grind arith
 
-four_of : (a : ℕ) → a % 4 ≡ 0 → (a % 4 == 0) ≡ true
+pub four_of : (a : ℕ) → a % 4 ≡ 0 → (a % 4 == 0) ≡ true
 four_of a e = grind (arith, nat_tests, e)
 
 module _ (image : Image) (m : State) (standing : Standing image m) (c : Machine) (b : Body) (is : image.body c.who.body ≡ Some b) (fits : Fits b) (instance : standing.is_instance c.who.body c.who.table ≡ true) where

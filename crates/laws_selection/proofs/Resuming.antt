@@ -36,6 +36,7 @@ use Rattle.laws_selection.proofs.Stepping.{Framed, base, cells, here, stands}
 use Rattle.laws_selection.proofs.Stepping as stepping
 use Rattle.laws_selection.proofs.Trapping.{set_other}
 use Rattle.laws_selection.proofs.Travelling.{first_spare}
+use Rattle.laws_selection.proofs.Raising.{four_of}
 
 -- the record below an address
 taken_off : (a low : ℕ) → a ≡ 8 * (low + 3) → a < 2 ^ 64 → sum a (word_of (negsuc 23)) ≡ 8 * low
@@ -43,9 +44,6 @@ taken_off a low e l = grind arith
 
 record_word : (low n : ℕ) → 8 * low < 2 ^ 63 → n < 3 → sum (8 * low) (word_of (pos (8 * n))) ≡ 8 * (low + n)
 record_word low n l h = grind arith
-
-four_times : (a : ℕ) → a % 4 ≡ 0 → (a % 4 == 0) ≡ true
-four_times a e = grind (arith, nat_tests, e)
 
 record_low : (a bottom : ℕ) → a % 8 ≡ 0 → bottom + 3 ≤ a / 8 → a ≡ 8 * (a / 8 - 3 + 3)
 record_low a bottom e l = omega (arith, e, l)
@@ -134,7 +132,7 @@ module _ (image : Image) (m : State) (standing : Standing image m) (c : Machine)
       let six : register t4 6 ≡ n2 = set_other t3 9 n4 6 _ (differ 6 9 refl) (set_other t2 18 n3 6 _ (differ 6 18 refl) (get_or-set_same t1.registers 6 n2 0 (among t1.registers 6 (count1 ∙ count) refl))) in
       let lands : jalr_target t4 6 (word_of (pos 0)) ≡ n2 = ap (λ k. let d = sum k (word_of (pos 0)) in d - d % 2) six ∙ cleared n2 (h.sized.stack low) even in
       let t5 = record t4 { pc = jalr_target t4 6 (word_of (pos 0)) } in
-      let g5 = jalr_goes t4 0 6 (pos 0) at5 (ap (λ k. k % 4 == 0) lands ∙ four_times n2 even) in
+      let g5 = jalr_goes t4 0 6 (pos 0) at5 (ap (λ k. k % 4 == 0) lands ∙ four_of n2 even) in
       record {
         state = t5;
         reaches = reaches_then (reaches_one s t1 g1) (reaches_then (reaches_one t1 t2 g2) (reaches_then (reaches_one t2 t3 g3) (reaches_then (reaches_one t3 t4 g4) (reaches_one t4 t5 g5))));
